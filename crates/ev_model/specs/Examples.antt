@@ -1,0 +1,4 @@
+pub mod OneStation
+pub mod TwoStations
+pub mod NoStation
+pub mod TwoCustomers

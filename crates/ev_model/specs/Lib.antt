@@ -1,0 +1,10 @@
+pub mod Curve
+pub mod Network
+pub mod Plan
+pub mod Levels
+pub mod Time
+pub mod Feasible
+pub mod Route
+pub mod Fastest
+pub mod Fleet
+pub mod Examples
