@@ -1,10 +1,10 @@
 -- Charge times are linear between breakpoints, and whole at whole levels.
-use Rattle.std.proofs.Common.{◌≡◌, ◌∙◌, ℕ, zero, suc, ◌+◌, ◌-◌, ◌*◌, ◌/◌, ◌%◌, ◌<◌, ◌≤◌, sym, ap, subst, refl, List, [], ◌∷◌, ◌++◌, arith, inl, inr, true, false, nat_le}
+use Rattle.std.proofs.Common.{◌≡◌, ◌∙◌, ℕ, zero, suc, ◌+◌, ◌-◌, ◌*◌, ◌/◌, ◌%◌, ◌<◌, ◌≤◌, sym, ap, subst, refl, List, [], ◌∷◌, ◌++◌, arith, inl, inr}
 use Rattle.std.specs.Int.{◌∣◌, IsGcd}
-use Rattle.std.proofs.Math.Nat.{div-mul_cancel, div-mul-le_self, mul-div_cancel', dvd-mul_left, dvd-mul_right, dvd_trans, mod-lt, div-one, mod-one, mul-le-mul_left}
+use Rattle.std.proofs.Math.Nat.{div-mul_cancel, div-mul-le_self, mul-div_cancel', dvd-mul_right, mod-lt, div-one, mod-one, mul-le-mul_left}
 use Rattle.std.proofs.lemmas.Bool.{cases_lt, le-leb, lt-leb}
 use Rattle.std.proofs.lemmas.Nat.Gcd.{IsGcd-from_mod, IsGcd-from_zero}
-use Rattle.ev_model.specs.Curve.{IsCurve, IsMultipleOfSlopes, IsReducedDenominator, Rises, charge_time, charge_time_in, last_charge}
+use Rattle.ev_model.specs.Curve.{IsCurve, IsMultipleOfSlopes, IsReducedDenominator, Rises, charge_time, charge_time_in}
 
 -- two numbers have a greatest common divisor
 gcd_exists : (fuel a b : ℕ) → b ≤ fuel → (g : ℕ) × IsGcd a b g
@@ -29,7 +29,7 @@ slope_is_whole d p q multiple =
     let t_is : g * (t / g) ≡ t = mul-div_cancel' g is.0 in
     let d_is : r * (d / r) ≡ d = mul-div_cancel' r dr in
     let product : d * t ≡ c * ((d / r) * (t / g)) =
-        ap (λ x. d * x) (sym t_is) ∙ ap (λ x. x * (g * (t / g))) (sym d_is) ∙ omega arith ∙ ap (λ x. x * ((d / r) * (t / g))) whole in
+    ap (λ x. d * x) (sym t_is) ∙ ap (λ x. x * (g * (t / g))) (sym d_is) ∙ omega arith ∙ ap (λ x. x * ((d / r) * (t / g))) whole in
     subst (λ x. c ∣ x) (sym product) (dvd-mul_right c ((d / r) * (t / g)))
 
 -- on the first segment
@@ -68,9 +68,9 @@ from_second d full p q ps level rises multiple below le = elim (cases_lt q.1 lev
   | inr not_past ↦
       let same : level ≡ q.1 = omega (arith, le, not_past) in
       let at_end : charge_time d (p ∷ q ∷ ps) q.1 ≡ d * q.0 =
-          charge_time-first d p q ps q.1 (omega arith) ∙ segment_end d p q rises.0 (slope_is_whole d p q (multiple.0 below)) in
+      charge_time-first d p q ps q.1 (omega arith) ∙ segment_end d p q rises.0 (slope_is_whole d p q (multiple.0 below)) in
       subst (λ (x : ℕ). charge_time d (p ∷ q ∷ ps) x ≡ charge_time d (q ∷ ps) x) (sym same)
-          (at_end ∙ sym (charge_time-start d q ps rises.2))
+      (at_end ∙ sym (charge_time-start d q ps rises.2))
 ]
 
 -- charges rise along the breakpoints
@@ -115,7 +115,7 @@ pub interpolates : (d full : ℕ) (before : List (ℕ × ℕ)) (p q : ℕ × ℕ
 interpolates d full before p q after level curve multiple below low high =
     ap (λ x. x * (q.1 - p.1)) (charge_time-within d full before p q after level curve.rises multiple below low high)
     ∙ linear p.0 d (q.0 - p.0) (q.1 - p.1) (level - p.1) (d * (q.0 - p.0) / (q.1 - p.1))
-        (div-mul_cancel (q.1 - p.1) (whole_within d full before p q after multiple below))
+    (div-mul_cancel (q.1 - p.1) (whole_within d full before p q after multiple below))
 
 -- at a breakpoint
 pub at_breakpoint : (d full : ℕ) (before : List (ℕ × ℕ)) (p : ℕ × ℕ) (after : List (ℕ × ℕ)) →
@@ -141,9 +141,11 @@ pub grows_evenly : (d full : ℕ) (before : List (ℕ × ℕ)) (p q : ℕ × ℕ
     × ((level : ℕ) → p.1 ≤ level → level < q.1 → charge_time d (before ++ p ∷ q ∷ after) (level + 1) ≡ charge_time d (before ++ p ∷ q ∷ after) level + step)
 grows_evenly d full before p q after curve multiple below =
     let step = d * (q.0 - p.0) / (q.1 - p.1) in
-    let within = λ (level : ℕ) (low : p.1 ≤ level) (high : level ≤ q.1). charge_time-within d full before p q after level curve.rises multiple below low high in
-    (step, div-mul_cancel (q.1 - p.1) (whole_within d full before p q after multiple below),
-    λ level low high. within (level + 1) (omega (arith, low)) (omega (arith, high)) ∙ one_more (d * p.0) step p.1 level low ∙ ap (λ x. x + step) (sym (within level low (omega (arith, high)))))
+    let within = λ (level : ℕ) (low : p.1 ≤ level) (high : level ≤ q.1). charge_time-within d full before p q after level curve.rises multiple below low high in (
+      step,
+      div-mul_cancel (q.1 - p.1) (whole_within d full before p q after multiple below),
+      λ level low high. within (level + 1) (omega (arith, low)) (omega (arith, high)) ∙ one_more (d * p.0) step p.1 level low ∙ ap (λ x. x + step) (sym (within level low (omega (arith, high)))),
+    )
 
 -- no time is below the first breakpoint's
 at_least_first : (d : ℕ) (p : ℕ × ℕ) (ps : List (ℕ × ℕ)) (level : ℕ) → Rises (p ∷ ps) → d * p.0 ≤ charge_time d (p ∷ ps) level

@@ -1,3 +1,4 @@
 pub mod Cut
 pub mod ChargeTime
-
+pub mod Visits
+pub mod Fits

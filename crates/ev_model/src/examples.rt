@@ -1,7 +1,6 @@
 //! The worked examples, computed from the definitions by the checker. Each is the contract of an empty function.
 
 ghost use Rattle.std.specs.Prelude.{◌≡◌, ◌∷◌, []};
-
 ghost use Rattle.ev_model.specs.Examples.NoStation.{no_station as network_without_station, there_and_back};
 ghost use Rattle.ev_model.specs.Examples.OneStation.{charging_after, charging_before, charging_customer, inserted_customer, one_station as network, one_station_within, station_twice, without_charging};
 ghost use Rattle.ev_model.specs.Examples.TwoCustomers.{apart, together, twice, two_customers as customers, unserved};

@@ -2,7 +2,6 @@
 
 ghost use Rattle.std.specs.Prelude.{◌≡◌, ◌↔◌, ◌+◌, ◌-◌, ◌*◌, ◌<◌, ◌≤◌, ◌∷◌, ◌++◌, List, ℕ, false};
 ghost use Rattle.std.specs.List.{Contains};
-
 ghost use Rattle.ev_model.specs.Curve.{charge_time, charge_time_in, IsCurve, IsMultipleOfSlopes};
 ghost use Rattle.ev_model.specs.Levels.{level_after, levels_from, node_after};
 ghost use Rattle.ev_model.specs.Network.{Network};
@@ -25,7 +24,7 @@ pub fn charge_time_is_linear()
         IsCurve full (before ++ p ∷ q ∷ after) → IsMultipleOfSlopes full (before ++ p ∷ q ∷ after) d → p.1 < full →
         (step : ℕ) × (step * (q.1 - p.1) ≡ d * (q.0 - p.0))
         × ((level : ℕ) → p.1 ≤ level → level < q.1 →
-            charge_time d (before ++ p ∷ q ∷ after) (level + 1) ≡ charge_time d (before ++ p ∷ q ∷ after) level + step) }
+        charge_time d (before ++ p ∷ q ∷ after) (level + 1) ≡ charge_time d (before ++ p ∷ q ∷ after) level + step) }
 {}
 
 /// Charging to a higher level takes no less time.

@@ -3,6 +3,10 @@ use Rattle.std.specs.Prelude.{ℕ, List, [], ◌∷◌, Some, None, true, false}
 use Rattle.ev_model.specs.Network.{Network}
 use Rattle.ev_model.specs.declared.Stop.{Stop}
 
+-- the station's curve: a unit takes half a unit of time up to 8, and 3 above
+abbrev pub curve : List (ℕ × ℕ)
+curve = (0, 0) ∷ (4, 8) ∷ (10, 10) ∷ []
+
 -- node 1 is the customer and node 2 the station; slopes are 1/2 and 3, so times are counted in halves
 abbrev pub one_station : Network
 one_station = record {
@@ -10,7 +14,7 @@ one_station = record {
   energies = (0 ∷ 6 ∷ 3 ∷ []) ∷ (6 ∷ 0 ∷ 2 ∷ []) ∷ (5 ∷ 2 ∷ 0 ∷ []) ∷ [];
   times = (0 ∷ 10 ∷ 8 ∷ []) ∷ (10 ∷ 0 ∷ 3 ∷ []) ∷ (8 ∷ 3 ∷ 0 ∷ []) ∷ [];
   process_times = 0 ∷ 0 ∷ 0 ∷ [];
-  curves = None ∷ None ∷ Some ((0, 0) ∷ (4, 8) ∷ (10, 10) ∷ []) ∷ [];
+  curves = None ∷ None ∷ Some curve ∷ [];
   denominator = 2;
   limit = 500000000000000000;
 }

@@ -1,7 +1,7 @@
 -- A depot, one customer and two stations that both stand on each way: examples/two_stations.json.
 use Rattle.std.specs.Prelude.{List, [], ◌∷◌, Some, None}
 use Rattle.ev_model.specs.Network.{Network}
-use Rattle.ev_model.specs.Examples.OneStation.{at, via}
+use Rattle.ev_model.specs.Examples.OneStation.{at, curve, via}
 use Rattle.ev_model.specs.declared.Stop.{Stop}
 
 -- node 1 is the customer, nodes 2 and 3 are stations; an arc of 11 is out of reach
@@ -11,7 +11,7 @@ two_stations = record {
   energies = (0 ∷ 11 ∷ 8 ∷ 11 ∷ []) ∷ (11 ∷ 0 ∷ 11 ∷ 4 ∷ []) ∷ (8 ∷ 11 ∷ 0 ∷ 8 ∷ []) ∷ (11 ∷ 4 ∷ 8 ∷ 0 ∷ []) ∷ [];
   times = (0 ∷ 11 ∷ 8 ∷ 11 ∷ []) ∷ (11 ∷ 0 ∷ 11 ∷ 4 ∷ []) ∷ (8 ∷ 11 ∷ 0 ∷ 8 ∷ []) ∷ (11 ∷ 4 ∷ 8 ∷ 0 ∷ []) ∷ [];
   process_times = 0 ∷ 0 ∷ 0 ∷ 0 ∷ [];
-  curves = None ∷ None ∷ Some ((0, 0) ∷ (4, 8) ∷ (10, 10) ∷ []) ∷ Some ((0, 0) ∷ (4, 8) ∷ (10, 10) ∷ []) ∷ [];
+  curves = None ∷ None ∷ Some curve ∷ Some curve ∷ [];
   denominator = 2;
   limit = 500000000000000000;
 }
