@@ -1,0 +1,4 @@
+pub mod Points
+pub mod CutCurve
+pub mod Faults
+pub mod Scaled

@@ -1,0 +1,16 @@
+//! Charging curves: piecewise linear, concave, cut at a full battery, and scaled to whole times
+//! (Montoya, Gueret, Mendoza, Villegas 2017).
+#![tactic(auto)]
+
+mod curve;
+
+mod fault;
+
+
+pub use curve::Curve;
+
+pub use fault::CurveFault;
+
+
+
+
