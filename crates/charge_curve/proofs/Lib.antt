@@ -1,2 +1,4 @@
 pub mod Falls
 pub mod Accepted
+pub mod Denominators
+pub mod Curves

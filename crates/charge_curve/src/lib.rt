@@ -3,11 +3,13 @@
 #![tactic(auto)]
 
 mod curve;
+mod denominator;
 
 mod fault;
 
 
 pub use curve::Curve;
+pub use denominator::common_denominator;
 
 pub use fault::CurveFault;
 

@@ -43,12 +43,16 @@ pub record IsCurve (full : ℕ) (points : List (ℕ × ℕ)) : Type 0 where
 abbrev pub IsReducedDenominator : ℕ × ℕ → ℕ × ℕ → ℕ → Type 0
 IsReducedDenominator p q r = (common : ℕ) × IsGcd (q.0 - p.0) (q.1 - p.1) common × (r * common ≡ q.1 - p.1)
 
+-- d is a multiple of the slope's reduced denominator
+abbrev pub IsMultipleOfSlope : ℕ × ℕ → ℕ × ℕ → ℕ → Type 0
+IsMultipleOfSlope p q d = (r : ℕ) → IsReducedDenominator p q r → r ∣ d
+
 -- d is a multiple of the reduced denominators of all slopes, over the segments that begin below the level full
 abbrev pub IsMultipleOfSlopes : ℕ → List (ℕ × ℕ) → ℕ → Type 0
 IsMultipleOfSlopes full [] d = Unit {0}
 IsMultipleOfSlopes full (p ∷ []) d = Unit {0}
 IsMultipleOfSlopes full (p ∷ q ∷ ps) d =
-    (p.1 < full → (r : ℕ) → IsReducedDenominator p q r → r ∣ d) × IsMultipleOfSlopes full (q ∷ ps) d
+    (p.1 < full → IsMultipleOfSlope p q d) × IsMultipleOfSlopes full (q ∷ ps) d
 
 -- d is the denominator of curves: the least common multiple of the reduced denominators of all their slopes, 1 where there is none
 pub record IsDenominator (full : ℕ) (curves : List (List (ℕ × ℕ))) (d : ℕ) : Type 0 where

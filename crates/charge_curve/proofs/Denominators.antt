@@ -1,0 +1,120 @@
+-- Common multiples of slopes, one segment after another.
+use Rattle.std.proofs.Common.{◌≡◌, ◌∙◌, ◌↔◌, ℕ, zero, suc, ◌+◌, ◌-◌, ◌*◌, ◌/◌, ◌<◌, ◌≤◌, List, [], ◌∷◌, length, length-drop, get_or, drop, refl, sym, ap, subst, arith}
+use Rattle.std.specs.Int.{◌∣◌, IsGcd}
+use Rattle.std.proofs.Math.Nat.{div-mul_cancel, dvd-mul_left, dvd-mul_right, dvd_trans, mul-div_right, div-eq_of_eq-mul_right, pos_of_dvd_of_pos}
+use Rattle.std.proofs.Math.Seq.{drop-cons}
+use Rattle.std.proofs.lemmas.Nat.Gcd.{le_of_dvd, same_from_IsGcd}
+use Rattle.ev_model.specs.Curve.{IsMultipleOfSlope, IsMultipleOfSlopes, IsReducedDenominator, Rises}
+use Rattle.ev_units.specs.Units.{IsLcm, IsLcmPast}
+
+same_factor : (g m n : ℕ) → 0 < g → m * g ≡ n * g → m ≡ n
+same_factor g m n some e =
+    let left : m * g ≡ g * m = omega arith in
+    let right : n * g ≡ g * n = omega arith in
+    sym (mul-div_right m some) ∙ div-eq_of_eq-mul_right some (sym left ∙ e ∙ right)
+
+-- the quotient by the greatest common divisor is the reduced denominator
+pub reduced_is : (p q : ℕ × ℕ) (g : ℕ) → p.1 < q.1 → IsGcd (q.0 - p.0) (q.1 - p.1) g → (0 < (q.1 - p.1) / g) × ((e : ℕ) → (((q.1 - p.1) / g) ∣ e) ↔ IsMultipleOfSlope p q e)
+reduced_is p q g less gcd =
+    let gap = q.1 - p.1 in
+    let r = gap / g in
+    let some : 0 < gap = omega (arith, less) in
+    let whole : r * g ≡ gap = div-mul_cancel g gcd.1 in
+    let some_g : 0 < g = pos_of_dvd_of_pos gcd.1 some in
+    let some_r : 0 < r = pos_of_dvd_of_pos (subst (λ x. r ∣ x) whole (dvd-mul_right r g)) some in
+    let one_way : (e : ℕ) → (r ∣ e) → IsMultipleOfSlope p q e = λ e divides other reduced.
+        let same : reduced.0 ≡ g = same_from_IsGcd (q.0 - p.0) gap reduced.0 g reduced.1 gcd in
+        let again : other * g ≡ gap = ap (λ x. other * x) (sym same) ∙ reduced.2 in
+        subst (λ x. x ∣ e) (same_factor g r other some_g (whole ∙ sym again)) divides in
+    (some_r, λ e. (one_way e, λ multiple. multiple r (g, gcd, whole)))
+
+-- one more slope: d is the least common multiple with its reduced denominator
+pub with_slope_is : (p q : ℕ × ℕ) (base r d : ℕ) → ((e : ℕ) → (r ∣ e) ↔ IsMultipleOfSlope p q e) → IsLcm base r d → (e : ℕ) → (d ∣ e) ↔ ((base ∣ e) × IsMultipleOfSlope p q e)
+with_slope_is p q base r d reduced least e = (
+  λ divides. (dvd_trans base least.0 divides, (reduced e).0 (dvd_trans r least.1 divides)),
+  λ both. least.2 e both.0 ((reduced e).1 both.1))
+
+-- the least common multiple is past the limit, and so is each common multiple
+pub past_slope : (p q : ℕ × ℕ) (base r limit : ℕ) → ((e : ℕ) → (r ∣ e) ↔ IsMultipleOfSlope p q e) → IsLcmPast limit base r → (e : ℕ) → 0 < e → base ∣ e → IsMultipleOfSlope p q e → limit < e
+past_slope p q base r limit reduced past e some base_divides multiple =
+    let divides : past.0 ∣ e = past.1.2 e base_divides ((reduced e).1 multiple) in
+    let le : past.0 ≤ e = le_of_dvd some divides in
+    omega (arith, le, past.2)
+
+-- the multiples of `common` among those of the rest are the multiples of `base` among those of all
+abbrev pub Leaves : ℕ → List (ℕ × ℕ) → ℕ → ℕ → List (ℕ × ℕ) → Type 0
+Leaves full points base common rest =
+    (e : ℕ) → ((common ∣ e) × IsMultipleOfSlopes full rest e) ↔ ((base ∣ e) × IsMultipleOfSlopes full points e)
+
+-- two points from an index on
+two_from : (points : List (ℕ × ℕ)) (index : ℕ) (d : ℕ × ℕ) → index + 1 < length points →
+    (rest : List (ℕ × ℕ)) × (drop index points ≡ get_or points index d ∷ get_or points (index + 1) d ∷ rest) × (drop (index + 1) points ≡ get_or points (index + 1) d ∷ rest)
+two_from points index d less =
+    let next : suc index ≡ index + 1 = omega arith in
+    let first : drop index points ≡ get_or points index d ∷ drop (index + 1) points = subst (λ n. drop index points ≡ get_or points index d ∷ drop n points) next (drop-cons points index d (omega (arith, less))) in
+    let second = drop-cons points (index + 1) d less in
+    (drop (suc (index + 1)) points, first ∙ ap (λ xs. get_or points index d ∷ xs) second, second)
+
+pub rises_at : (points : List (ℕ × ℕ)) (index : ℕ) (d : ℕ × ℕ) → Rises points → index + 1 < length points →
+    ((get_or points index d).0 < (get_or points (index + 1) d).0) × ((get_or points index d).1 < (get_or points (index + 1) d).1)
+rises_at [] index d rises less = absurd (omega (arith, less))
+rises_at (p ∷ []) index d rises less = absurd (omega (arith, less))
+rises_at (p ∷ q ∷ ps) zero d rises less = (rises.0, rises.1)
+rises_at (p ∷ q ∷ ps) (suc index) d rises less =
+    let next : suc index + 1 ≡ suc (index + 1) = omega arith in
+    rw next (rises_at (q ∷ ps) index d rises.2 (omega (arith, less)))
+
+-- a segment that begins below full
+pub leaves_within : (full base common next : ℕ) (points : List (ℕ × ℕ)) (index : ℕ) (d : ℕ × ℕ) → index + 1 < length points →
+    (get_or points index d).1 < full →
+    ((e : ℕ) → (next ∣ e) ↔ ((common ∣ e) × IsMultipleOfSlope (get_or points index d) (get_or points (index + 1) d) e)) →
+    Leaves full points base common (drop index points) → Leaves full points base next (drop (index + 1) points)
+leaves_within full base common next points index d less below is leaves e =
+    let p = get_or points index d in
+    let q = get_or points (index + 1) d in
+    let two = two_from points index d less in
+    let from : ((common ∣ e) × IsMultipleOfSlopes full (p ∷ q ∷ two.0) e) ↔ ((base ∣ e) × IsMultipleOfSlopes full points e) =
+        subst (λ (xs : List (ℕ × ℕ)). ((common ∣ e) × IsMultipleOfSlopes full xs e) ↔ ((base ∣ e) × IsMultipleOfSlopes full points e)) two.1 (leaves e) in
+    let to : ((next ∣ e) × IsMultipleOfSlopes full (q ∷ two.0) e) ↔ ((base ∣ e) × IsMultipleOfSlopes full points e) = (
+      λ have. let parts = (is e).0 have.0 in from.0 (parts.0, (λ low. parts.1, have.1)),
+      λ all. let parts = from.1 all in ((is e).1 (parts.0, parts.1.0 below), parts.1.1)) in
+    subst (λ (xs : List (ℕ × ℕ)). ((next ∣ e) × IsMultipleOfSlopes full xs e) ↔ ((base ∣ e) × IsMultipleOfSlopes full points e)) (sym two.2) to
+
+-- a segment that begins at full or above
+pub leaves_above : (full base common : ℕ) (points : List (ℕ × ℕ)) (index : ℕ) (d : ℕ × ℕ) → index + 1 < length points →
+    full ≤ (get_or points index d).1 → Leaves full points base common (drop index points) → Leaves full points base common (drop (index + 1) points)
+leaves_above full base common points index d less above leaves e =
+    let p = get_or points index d in
+    let q = get_or points (index + 1) d in
+    let two = two_from points index d less in
+    let from : ((common ∣ e) × IsMultipleOfSlopes full (p ∷ q ∷ two.0) e) ↔ ((base ∣ e) × IsMultipleOfSlopes full points e) =
+        subst (λ (xs : List (ℕ × ℕ)). ((common ∣ e) × IsMultipleOfSlopes full xs e) ↔ ((base ∣ e) × IsMultipleOfSlopes full points e)) two.1 (leaves e) in
+    let to : ((common ∣ e) × IsMultipleOfSlopes full (q ∷ two.0) e) ↔ ((base ∣ e) × IsMultipleOfSlopes full points e) = (
+      λ have. from.0 (have.0, (λ low. absurd (omega (arith, low, above)), have.1)),
+      λ all. let parts = from.1 all in (parts.0, parts.1.1)) in
+    subst (λ (xs : List (ℕ × ℕ)). ((common ∣ e) × IsMultipleOfSlopes full xs e) ↔ ((base ∣ e) × IsMultipleOfSlopes full points e)) (sym two.2) to
+
+-- no common multiple is within the limit
+pub none_within : (full base common limit : ℕ) (points : List (ℕ × ℕ)) (index : ℕ) (d : ℕ × ℕ) → index + 1 < length points →
+    (get_or points index d).1 < full →
+    ((e : ℕ) → 0 < e → common ∣ e → IsMultipleOfSlope (get_or points index d) (get_or points (index + 1) d) e → limit < e) →
+    Leaves full points base common (drop index points) → (e : ℕ) → 0 < e → base ∣ e → IsMultipleOfSlopes full points e → limit < e
+none_within full base common limit points index d less below past leaves e some base_divides multiple =
+    let two = two_from points index d less in
+    let p = get_or points index d in
+    let q = get_or points (index + 1) d in
+    let parts = (leaves e).1 (base_divides, multiple) in
+    let slopes : IsMultipleOfSlopes full (p ∷ q ∷ two.0) e = subst (λ (xs : List (ℕ × ℕ)). IsMultipleOfSlopes full xs e) two.1 parts.1 in
+    past e some parts.0 (slopes.0 below)
+
+short_is_multiple : (full : ℕ) (points : List (ℕ × ℕ)) (e : ℕ) → length points ≤ 1 → IsMultipleOfSlopes full points e
+short_is_multiple full [] e le = tt
+short_is_multiple full (p ∷ []) e le = tt
+short_is_multiple full (p ∷ q ∷ ps) e le = absurd (omega (arith, le))
+
+-- no segment is left
+pub leaves_end : (full base common : ℕ) (points : List (ℕ × ℕ)) (index : ℕ) → length points ≤ index + 1 →
+    Leaves full points base common (drop index points) → (e : ℕ) → (common ∣ e) ↔ ((base ∣ e) × IsMultipleOfSlopes full points e)
+leaves_end full base common points index le leaves e = (
+  λ divides. (leaves e).0 (divides, short_is_multiple full (drop index points) e (omega (arith, length-drop index points, le))),
+  λ all. ((leaves e).1 all).0)
