@@ -47,7 +47,7 @@ Leaves full points base common rest =
     (e : ℕ) → ((common ∣ e) × IsMultipleOfSlopes full rest e) ↔ ((base ∣ e) × IsMultipleOfSlopes full points e)
 
 -- two points from an index on
-two_from : (points : List (ℕ × ℕ)) (index : ℕ) (d : ℕ × ℕ) → index + 1 < length points →
+pub two_from : (points : List (ℕ × ℕ)) (index : ℕ) (d : ℕ × ℕ) → index + 1 < length points →
     (rest : List (ℕ × ℕ)) × (drop index points ≡ get_or points index d ∷ get_or points (index + 1) d ∷ rest) × (drop (index + 1) points ≡ get_or points (index + 1) d ∷ rest)
 two_from points index d less =
     let next : suc index ≡ index + 1 = omega arith in

@@ -4,10 +4,17 @@ use Rattle.std.specs.List.{All}
 use Rattle.ev_model.specs.Curve.{charge_time}
 use Rattle.charge_curve.specs.Points.{ArePoints, IsSlowing, last_level}
 
+-- a breakpoint (time, charge) as (level, scaled time)
+abbrev pub scaled : ℕ → ℕ × ℕ → ℕ × ℕ
+scaled d p = (p.1, d * p.0)
+
+-- the breakpoints whose charge is below full
+abbrev pub below : ℕ → List (ℕ × ℕ) → List (ℕ × ℕ)
+below full points = filter (λ p. nat_lt p.1 full) points
+
 -- the breakpoints below full and full itself, each as (level, scaled time)
 abbrev pub breaks_of : ℕ → ℕ → List (ℕ × ℕ) → List (ℕ × ℕ)
-breaks_of d full points =
-    map (λ p. (p.1, d * p.0)) (filter (λ p. nat_lt p.1 full) points) ++ (full, charge_time d points full) ∷ []
+breaks_of d full points = map (scaled d) (below full points) ++ (full, charge_time d points full) ∷ []
 
 abbrev pub BeginsEmpty : List (ℕ × ℕ) → Type 0
 BeginsEmpty [] = ⊥

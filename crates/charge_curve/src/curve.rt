@@ -71,4 +71,9 @@ impl Curve {
     {
         self.points.as_slice()
     }
+
+    /// The allocator that [`Curve::new`] was given.
+    pub(crate) fn allocator(&self) -> &Global {
+        self.points.allocator()
+    }
 }
