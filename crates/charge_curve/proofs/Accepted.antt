@@ -1,9 +1,9 @@
 -- Where no rule is broken, the breakpoints are a curve.
-use Rattle.std.proofs.Common.{◌≡◌, ◌≢◌, ℕ, zero, suc, ◌+◌, ◌-◌, ◌*◌, ◌<◌, ◌≤◌, List, [], ◌∷◌, length, get_or, Option, None, Some, refl, true, false, ap, sym, subst, inl, inr, arith, Bool, ◌&&◌, nat_lt, nat_le, nat_eq, if◌then◌else◌}
+use Rattle.std.proofs.Common.{◌≡◌, ℕ, suc, ◌+◌, ◌-◌, ◌*◌, ◌<◌, ◌≤◌, List, [], ◌∷◌, length, get_or, Option, None, Some, refl, true, false, sym, arith, Bool, nat_lt, nat_le, nat_eq, if◌then◌else◌}
 use Rattle.std.proofs.lemmas.Bool.{and_parts, eqb-true, leb-true, ltb-true, false≢true}
 use Rattle.std.proofs.lemmas.Option.{none-some}
-use Rattle.ev_model.specs.Curve.{BeginsEmpty, IsConcave, IsCurve, IsNoFaster, Rises, last_charge}
-use Rattle.charge_curve.specs.CutCurve.{CutCurve, IsAccepted, IsSmall}
+use Rattle.ev_model.specs.Curve.{BeginsEmpty, IsConcave, Rises, last_charge}
+use Rattle.charge_curve.specs.CutCurve.{IsAccepted, IsSmall}
 use Rattle.charge_curve.specs.declared.fault.CurveFault.{CurveFault}
 use Rattle.charge_curve.specs.declared.fault.CurveFault.TheVariants.{Start, Rise, Concave, Short, TooMany}
 use Rattle.charge_curve.specs.Faults.{curve_fault, end_fault, first_fall, first_faster, has_start, is_no_faster, or_concave, or_rise, rises}
@@ -73,7 +73,7 @@ is_accepted full points small none =
     let concave = no_concave_fault (first_faster 2 points) (end_fault full points) rising.1 in
     let ends = end_from full points concave.1 in
     record {
-      curve = record { begins = begins_from points started.0; rises = rises_from 1 points rising.0; concave = concave_from 2 points concave.0; reaches = ends.0; };
+      curve = record { begins = begins_from points started.0; rises = rises_from 1 points rising.0; concave = concave_from 2 points concave.0; reaches = ends.0 };
       small = small;
       few = ends.1;
     }

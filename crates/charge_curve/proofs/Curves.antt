@@ -1,9 +1,8 @@
 -- The denominator of several curves.
-use Rattle.std.proofs.Common.{◌≡◌, ◌↔◌, ℕ, ◌*◌, ◌<◌, ◌≤◌, List, [], ◌∷◌, sym, subst, arith}
+use Rattle.std.proofs.Common.{◌≡◌, ◌↔◌, ℕ, ◌*◌, ◌<◌, List, [], ◌∷◌, sym, subst, arith}
 use Rattle.std.specs.Int.{◌∣◌}
 use Rattle.std.specs.List.{All}
 use Rattle.std.proofs.Math.Nat.{dvd-mul_right}
-use Rattle.std.proofs.lemmas.Nat.Gcd.{le_of_dvd}
 use Rattle.std.proofs.lemmas.List.Elements.{All-cons, All-head, All-nil, All-tail}
 use Rattle.ev_model.specs.Curve.{IsDenominator, IsMultipleOfSlopes}
 use Rattle.charge_curve.specs.CutCurve.{CutCurve, points_of}
@@ -24,7 +23,8 @@ multiples full (c ∷ cs) e same =
     let rest = multiples full cs e (All-tail (λ (x : CutCurve). x.full ≡ full) c cs same) in
     let P : List (ℕ × ℕ) → Type 0 = λ points. IsMultipleOfSlopes full points e in (
       λ both. All-cons P c.points (points_of cs) (subst (λ f. IsMultipleOfSlopes f c.points e) here both.0) (rest.0 both.1),
-      λ all. (subst (λ f. IsMultipleOfSlopes f c.points e) (sym here) (All-head P c.points (points_of cs) all), rest.1 (All-tail P c.points (points_of cs) all)))
+      λ all. (subst (λ f. IsMultipleOfSlopes f c.points e) (sym here) (All-head P c.points (points_of cs) all), rest.1 (All-tail P c.points (points_of cs) all)),
+    )
 
 pub is_denominator : (curves : List CutCurve) (d : ℕ) → 0 < d → ((e : ℕ) → (d ∣ e) ↔ IsMultipleOfAll curves e) → (full : ℕ) → All (λ c. c.full ≡ full) curves → IsDenominator full (points_of curves) d
 is_denominator curves d some is full same = record {

@@ -1,16 +1,14 @@
 -- The breakpoints of a scaled curve, one after another.
-use Rattle.std.proofs.Common.{◌≡◌, ◌∙◌, ℕ, zero, suc, ◌+◌, ◌-◌, ◌*◌, ◌/◌, ◌%◌, ◌^◌, ◌<◌, ◌≤◌, List, [], ◌∷◌, ◌++◌, filter, map, refl, sym, ap, subst, arith, inl, inr, nat_lt, if◌then◌else◌}
+use Rattle.std.proofs.Common.{◌≡◌, ◌∙◌, ℕ, ◌+◌, ◌-◌, ◌*◌, ◌/◌, ◌%◌, ◌<◌, ◌≤◌, List, [], ◌∷◌, filter, refl, sym, ap, arith, inl, inr, nat_lt, if◌then◌else◌}
 use Rattle.std.specs.Int.{◌∣◌}
 use Rattle.std.proofs.lemmas.Nat.Gcd.{mod-eq-zero_of_dvd}
 use Rattle.std.proofs.Math.Nat.{div-mul_cancel, mul-div_cancel, mul-mod_left, mul-le-mul_left, mul-pos, mul-sub, le_of_mul-le-mul_left}
-use Rattle.std.proofs.lemmas.Bool.{cases_lt, le-leb, lt-leb, lt-ltb, le-ltb}
-use Rattle.std.proofs.lemmas.List.Elements.{All-cons, All-head, All-nil, All-tail}
-use Rattle.ev_model.specs.Curve.{IsConcave, IsMultipleOfSlopes, Rises, charge_time, last_charge}
-use Rattle.ev_model.proofs.ChargeTime.{charge_time-first, charge_time-later, slope_is_whole}
-use Rattle.charge_curve.specs.Points.{ArePoints, IsSlowing, last_level, slope, time_on}
-use Rattle.charge_curve.specs.Scaled.{below, breaks_of, scaled}
+use Rattle.std.proofs.lemmas.Bool.{cases_lt, lt-ltb, le-ltb}
+use Rattle.ev_model.specs.Curve.{Rises, last_charge}
+use Rattle.ev_model.proofs.ChargeTime.{charge_time-first, charge_time-later}
+use Rattle.charge_curve.specs.Points.{slope}
+use Rattle.charge_curve.specs.Scaled.{breaks_of, scaled}
 use Rattle.charge_curve.proofs.Steps.{slope-scaled}
-
 
 -- the scaled time for a unit of charge from p to q
 abbrev pub unit : ℕ → ℕ × ℕ → ℕ × ℕ → ℕ
@@ -24,7 +22,6 @@ abbrev pub cut : ℕ → ℕ → List (ℕ × ℕ) → List (ℕ × ℕ)
 cut d full [] = []
 cut d full (p ∷ []) = scaled d p ∷ []
 cut d full (p ∷ q ∷ ps) = scaled d p ∷ (if nat_lt q.1 full then cut d full (q ∷ ps) else cut_at d full p q ∷ [])
-
 
 -- from a breakpoint at full on, none is below full
 pub none_below : (full : ℕ) (p : ℕ × ℕ) (ps : List (ℕ × ℕ)) → Rises (p ∷ ps) → full ≤ p.1 → filter (λ x. nat_lt x.1 full) (p ∷ ps) ≡ []

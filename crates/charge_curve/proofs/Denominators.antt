@@ -1,10 +1,10 @@
 -- Common multiples of slopes, one segment after another.
-use Rattle.std.proofs.Common.{◌≡◌, ◌∙◌, ◌↔◌, ℕ, zero, suc, ◌+◌, ◌-◌, ◌*◌, ◌/◌, ◌<◌, ◌≤◌, List, [], ◌∷◌, length, length-drop, get_or, drop, refl, sym, ap, subst, arith}
+use Rattle.std.proofs.Common.{◌≡◌, ◌∙◌, ◌↔◌, ℕ, zero, suc, ◌+◌, ◌-◌, ◌*◌, ◌/◌, ◌<◌, ◌≤◌, List, [], ◌∷◌, length, length-drop, get_or, drop, sym, ap, subst, arith}
 use Rattle.std.specs.Int.{◌∣◌, IsGcd}
-use Rattle.std.proofs.Math.Nat.{div-mul_cancel, dvd-mul_left, dvd-mul_right, dvd_trans, mul-div_right, div-eq_of_eq-mul_right, pos_of_dvd_of_pos}
+use Rattle.std.proofs.Math.Nat.{div-mul_cancel, dvd-mul_right, dvd_trans, mul-div_right, div-eq_of_eq-mul_right, pos_of_dvd_of_pos}
 use Rattle.std.proofs.Math.Seq.{drop-cons}
 use Rattle.std.proofs.lemmas.Nat.Gcd.{le_of_dvd, same_from_IsGcd}
-use Rattle.ev_model.specs.Curve.{IsMultipleOfSlope, IsMultipleOfSlopes, IsReducedDenominator, Rises}
+use Rattle.ev_model.specs.Curve.{IsMultipleOfSlope, IsMultipleOfSlopes, Rises}
 use Rattle.ev_units.specs.Units.{IsLcm, IsLcmPast}
 
 same_factor : (g m n : ℕ) → 0 < g → m * g ≡ n * g → m ≡ n
@@ -23,16 +23,17 @@ reduced_is p q g less gcd =
     let some_g : 0 < g = pos_of_dvd_of_pos gcd.1 some in
     let some_r : 0 < r = pos_of_dvd_of_pos (subst (λ x. r ∣ x) whole (dvd-mul_right r g)) some in
     let one_way : (e : ℕ) → (r ∣ e) → IsMultipleOfSlope p q e = λ e divides other reduced.
-        let same : reduced.0 ≡ g = same_from_IsGcd (q.0 - p.0) gap reduced.0 g reduced.1 gcd in
-        let again : other * g ≡ gap = ap (λ x. other * x) (sym same) ∙ reduced.2 in
-        subst (λ x. x ∣ e) (same_factor g r other some_g (whole ∙ sym again)) divides in
+    let same : reduced.0 ≡ g = same_from_IsGcd (q.0 - p.0) gap reduced.0 g reduced.1 gcd in
+    let again : other * g ≡ gap = ap (λ x. other * x) (sym same) ∙ reduced.2 in
+    subst (λ x. x ∣ e) (same_factor g r other some_g (whole ∙ sym again)) divides in
     (some_r, λ e. (one_way e, λ multiple. multiple r (g, gcd, whole)))
 
 -- one more slope: d is the least common multiple with its reduced denominator
 pub with_slope_is : (p q : ℕ × ℕ) (base r d : ℕ) → ((e : ℕ) → (r ∣ e) ↔ IsMultipleOfSlope p q e) → IsLcm base r d → (e : ℕ) → (d ∣ e) ↔ ((base ∣ e) × IsMultipleOfSlope p q e)
 with_slope_is p q base r d reduced least e = (
   λ divides. (dvd_trans base least.0 divides, (reduced e).0 (dvd_trans r least.1 divides)),
-  λ both. least.2 e both.0 ((reduced e).1 both.1))
+  λ both. least.2 e both.0 ((reduced e).1 both.1),
+)
 
 -- the least common multiple is past the limit, and so is each common multiple
 pub past_slope : (p q : ℕ × ℕ) (base r limit : ℕ) → ((e : ℕ) → (r ∣ e) ↔ IsMultipleOfSlope p q e) → IsLcmPast limit base r → (e : ℕ) → 0 < e → base ∣ e → IsMultipleOfSlope p q e → limit < e
@@ -74,10 +75,11 @@ leaves_within full base common next points index d less below is leaves e =
     let q = get_or points (index + 1) d in
     let two = two_from points index d less in
     let from : ((common ∣ e) × IsMultipleOfSlopes full (p ∷ q ∷ two.0) e) ↔ ((base ∣ e) × IsMultipleOfSlopes full points e) =
-        subst (λ (xs : List (ℕ × ℕ)). ((common ∣ e) × IsMultipleOfSlopes full xs e) ↔ ((base ∣ e) × IsMultipleOfSlopes full points e)) two.1 (leaves e) in
+    subst (λ (xs : List (ℕ × ℕ)). ((common ∣ e) × IsMultipleOfSlopes full xs e) ↔ ((base ∣ e) × IsMultipleOfSlopes full points e)) two.1 (leaves e) in
     let to : ((next ∣ e) × IsMultipleOfSlopes full (q ∷ two.0) e) ↔ ((base ∣ e) × IsMultipleOfSlopes full points e) = (
       λ have. let parts = (is e).0 have.0 in from.0 (parts.0, (λ low. parts.1, have.1)),
-      λ all. let parts = from.1 all in ((is e).1 (parts.0, parts.1.0 below), parts.1.1)) in
+      λ all. let parts = from.1 all in ((is e).1 (parts.0, parts.1.0 below), parts.1.1),
+    ) in
     subst (λ (xs : List (ℕ × ℕ)). ((next ∣ e) × IsMultipleOfSlopes full xs e) ↔ ((base ∣ e) × IsMultipleOfSlopes full points e)) (sym two.2) to
 
 -- a segment that begins at full or above
@@ -88,10 +90,11 @@ leaves_above full base common points index d less above leaves e =
     let q = get_or points (index + 1) d in
     let two = two_from points index d less in
     let from : ((common ∣ e) × IsMultipleOfSlopes full (p ∷ q ∷ two.0) e) ↔ ((base ∣ e) × IsMultipleOfSlopes full points e) =
-        subst (λ (xs : List (ℕ × ℕ)). ((common ∣ e) × IsMultipleOfSlopes full xs e) ↔ ((base ∣ e) × IsMultipleOfSlopes full points e)) two.1 (leaves e) in
+    subst (λ (xs : List (ℕ × ℕ)). ((common ∣ e) × IsMultipleOfSlopes full xs e) ↔ ((base ∣ e) × IsMultipleOfSlopes full points e)) two.1 (leaves e) in
     let to : ((common ∣ e) × IsMultipleOfSlopes full (q ∷ two.0) e) ↔ ((base ∣ e) × IsMultipleOfSlopes full points e) = (
       λ have. from.0 (have.0, (λ low. absurd (omega (arith, low, above)), have.1)),
-      λ all. let parts = from.1 all in (parts.0, parts.1.1)) in
+      λ all. let parts = from.1 all in (parts.0, parts.1.1),
+    ) in
     subst (λ (xs : List (ℕ × ℕ)). ((common ∣ e) × IsMultipleOfSlopes full xs e) ↔ ((base ∣ e) × IsMultipleOfSlopes full points e)) (sym two.2) to
 
 -- no common multiple is within the limit
@@ -117,4 +120,5 @@ pub leaves_end : (full base common : ℕ) (points : List (ℕ × ℕ)) (index : 
     Leaves full points base common (drop index points) → (e : ℕ) → (common ∣ e) ↔ ((base ∣ e) × IsMultipleOfSlopes full points e)
 leaves_end full base common points index le leaves e = (
   λ divides. (leaves e).0 (divides, short_is_multiple full (drop index points) e (omega (arith, length-drop index points, le))),
-  λ all. ((leaves e).1 all).0)
+  λ all. ((leaves e).1 all).0,
+)

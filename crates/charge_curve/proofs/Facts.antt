@@ -1,6 +1,5 @@
 -- A scaled curve has the times of its breakpoints, and no piece is faster than the one before it.
-use Rattle.std.proofs.Common.{◌≡◌, ◌∙◌, ℕ, zero, suc, ◌+◌, ◌-◌, ◌*◌, ◌/◌, ◌%◌, ◌^◌, ◌<◌, ◌≤◌, List, [], ◌∷◌, refl, sym, ap, subst, arith, inl, inr}
-use Rattle.std.specs.Int.{◌∣◌}
+use Rattle.std.proofs.Common.{◌≡◌, ◌∙◌, ℕ, zero, suc, ◌+◌, ◌-◌, ◌*◌, ◌/◌, ◌^◌, ◌<◌, ◌≤◌, List, [], ◌∷◌, refl, sym, ap, subst, arith, inl, inr}
 use Rattle.std.specs.List.{All}
 use Rattle.std.proofs.Math.Nat.{mul-le-mul}
 use Rattle.std.proofs.lemmas.Bool.{cases_lt, le-leb, lt-leb}
@@ -10,8 +9,7 @@ use Rattle.ev_model.proofs.ChargeTime.{charge_time-first, charge_time-later, slo
 use Rattle.charge_curve.specs.CutCurve.{CutCurve, IsAccepted}
 use Rattle.charge_curve.specs.Points.{ArePoints, IsSlowing, last_level, slope, time_on}
 use Rattle.charge_curve.specs.Scaled.{IsScaledCurve, breaks_of, scaled}
-use Rattle.charge_curve.proofs.Cut.{IsPiece, breaks_are_cut, cut, cut_at, cut_over, cut_piece, cut_under, none_below, slower, unit, whole_piece}
-use Rattle.charge_curve.proofs.Steps.{slope-scaled}
+use Rattle.charge_curve.proofs.Cut.{IsPiece, breaks_are_cut, cut, cut_at, cut_over, cut_piece, cut_under, none_below, slower, whole_piece}
 
 abbrev pub IsSmallTime : ℕ × ℕ → Type 0
 IsSmallTime x = x.1 ≤ 10 ^ 18
@@ -169,11 +167,11 @@ scaling d (suc n) (p ∷ q ∷ ps) curve small times small_d multiple =
     let full = suc n in
     let none : p.1 ≡ 0 = ap (λ (x : ℕ × ℕ). x.1) curve.begins in
     let less : p.1 < full = omega (arith, none) in
-    let known : IsRest d full p (q ∷ ps) = record { below = less; rises = curve.rises; concave = curve.concave; reaches = curve.reaches; multiple = multiple; small = times; } in
+    let known : IsRest d full p (q ∷ ps) = record { below = less; rises = curve.rises; concave = curve.concave; reaches = curve.reaches; multiple = multiple; small = times } in
     subst (λ (xs : List (ℕ × ℕ)). IsScaling d full (p ∷ q ∷ ps) xs) (sym (breaks_are_cut d full p (q ∷ ps) curve.rises less curve.reaches))
-        (scaling_of d full p q ps small curve.begins (fine d full p q ps small_d known))
+    (scaling_of d full p q ps small curve.begins (fine d full p q ps small_d known))
 
 pub is_scaling : (c : CutCurve) (d : ℕ) (breaks : List (ℕ × ℕ)) → IsAccepted c → d ≤ 10 ^ 9 → IsMultipleOfSlopes c.full c.points d → breaks ≡ breaks_of d c.full c.points → IsScaling d c.full c.points breaks
 is_scaling c d breaks accepted small_d multiple are =
     subst (λ (xs : List (ℕ × ℕ)). IsScaling d c.full c.points xs) (sym are)
-        (scaling d c.full c.points accepted.curve accepted.small.full accepted.small.times small_d multiple)
+    (scaling d c.full c.points accepted.curve accepted.small.full accepted.small.times small_d multiple)

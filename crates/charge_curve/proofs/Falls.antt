@@ -1,5 +1,5 @@
 -- The searches for the first broken place, at their end.
-use Rattle.std.proofs.Common.{◌≡◌, ℕ, zero, suc, ◌+◌, ◌<◌, ◌≤◌, List, [], ◌∷◌, length, length-drop, get_or, drop, refl, None, Some, arith}
+use Rattle.std.proofs.Common.{◌≡◌, ℕ, ◌+◌, ◌≤◌, List, [], ◌∷◌, length, length-drop, drop, refl, None, arith}
 use Rattle.charge_curve.specs.Faults.{first_fall, first_faster}
 
 short_has_no_fall : (n : ℕ) (points : List (ℕ × ℕ)) → length points ≤ 1 → first_fall n points ≡ None

@@ -1,16 +1,14 @@
 //! Curves that were accepted.
 
 ghost use Rattle.std.specs.Prelude.{◌≡◌, ◌≢◌, ◌↔◌, ◌*◌, ◌<◌, ◌≤◌, ◌^◌, None, Some, OnOk, IfOk, ℕ};
-
 ghost use Rattle.charge_curve.specs.CutCurve.{CutCurve, IsAccepted, IsSmall};
 ghost use Rattle.charge_curve.specs.Faults.{curve_fault};
 ghost use Rattle.charge_curve.specs.declared.fault.CurveFault.{CurveFault};
 ghost use Rattle.charge_curve.specs.declared.fault.CurveFault.TheVariants.{Memory};
 
+use crate::fault::{CurveFault, first_fault};
 use std::alloc::Global;
 use std::marker::Model;
-
-use crate::fault::{first_fault, CurveFault};
 
 /// A charging curve up to a full battery.
 ///

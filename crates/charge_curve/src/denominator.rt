@@ -3,14 +3,12 @@
 ghost use Rattle.std.specs.Prelude.{◌≡◌, ◌↔◌, ◌<◌, ◌≤◌, ℕ, IfNone, IfSome};
 ghost use Rattle.std.specs.Int.{◌∣◌};
 ghost use Rattle.std.specs.List.{All};
-
 ghost use Rattle.charge_curve.specs.CutCurve.{points_of};
 ghost use Rattle.charge_curve.specs.Multiples.{IsMultipleOfAll};
 ghost use Rattle.ev_model.specs.Curve.{IsDenominator, IsMultipleOfSlope, IsMultipleOfSlopes, Rises};
 
-use ev_units::{gcd, lcm_below};
-
 use crate::curve::Curve;
+use ev_units::{gcd, lcm_below};
 
 /// The denominator of curves that are cut at the same full battery: the least common multiple of the
 /// reduced denominators of the slopes (time over charge) of all segments that begin below full. It is

@@ -2,7 +2,6 @@
 
 ghost use Rattle.std.specs.Prelude.{◌≡◌, ◌+◌, ◌*◌, ◌<◌, ◌≤◌, ◌^◌, length, IsTrue, drop};
 ghost use Rattle.std.specs.List.{All};
-
 ghost use Rattle.charge_curve.specs.CutCurve.{IsSmall};
 ghost use Rattle.charge_curve.specs.Faults.{curve_fault, end_fault, first_fall, first_faster, has_start, is_no_faster, rises};
 ghost use Rattle.ev_model.specs.Curve.{last_charge};

@@ -4,17 +4,13 @@
 
 mod curve;
 mod denominator;
-
 mod fault;
 mod scaled;
 
-
 pub use curve::Curve;
 pub use denominator::common_denominator;
-
 pub use fault::CurveFault;
 pub use scaled::Scaled;
 
-
-
-
+#[cfg(test)]
+mod tests;

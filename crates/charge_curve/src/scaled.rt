@@ -2,16 +2,14 @@
 
 ghost use Rattle.std.specs.Prelude.{◌≡◌, ◌+◌, ◌-◌, ◌*◌, ◌<◌, ◌≤◌, ◌^◌, ℕ, IfOk, length, map};
 ghost use Rattle.std.specs.List.{All};
-
 ghost use Rattle.charge_curve.specs.CutCurve.{IsAccepted};
 ghost use Rattle.charge_curve.specs.Points.{ArePoints, last_level, slope, time_on};
 ghost use Rattle.charge_curve.specs.Scaled.{below, breaks_of, IsScaledCurve, scaled};
 ghost use Rattle.ev_model.specs.Curve.{charge_time, IsMultipleOfSlopes, Rises};
 
+use crate::curve::Curve;
 use std::alloc::AllocError;
 use std::marker::Model;
-
-use crate::curve::Curve;
 
 /// A curve with scaled times, cut at a full battery.
 ///

@@ -20,14 +20,14 @@ reduced_divides p q g part r some times charges whole (common, gcd, is) =
     let both : g * (r * c) ≡ g * part = moved ∙ ap (λ x. r * x) common_is ∙ is ∙ sym whole in
     subst (λ x. r ∣ x) (same_factor g (r * c) part some both) (dvd-mul_right r c)
 
-pub curve_fits : IsMultipleOfSlopes 10 curve 2
-curve_fits = (
+pub curve_fits : (full : ℕ) → IsMultipleOfSlopes full curve 2
+curve_fits full = (
   λ below r reduced. reduced_divides (0, 0) (4, 8) 4 2 r (omega arith) (dvd-mul_right 4 1) (dvd-mul_right 4 2) refl reduced,
   (λ below r reduced. dvd_trans r (reduced_divides (4, 8) (10, 10) 2 1 r (omega arith) (dvd-mul_right 2 3) (dvd-mul_right 2 1) refl reduced) (dvd-mul_right 1 2), tt),
 )
 
 pub has_fitting_curve : HasFittingCurve 10 2 (Some curve)
-has_fitting_curve = (record { begins = refl; rises = search rules; concave = search rules; reaches = search rules }, curve_fits)
+has_fitting_curve = (record { begins = refl; rises = search rules; concave = search rules; reaches = search rules }, curve_fits 10)
 
 one_more : (curves : List (Option (List (ℕ × ℕ)))) → All (HasFittingCurve 10 2) curves → All (HasFittingCurve 10 2) (Some curve ∷ curves)
 one_more curves fit = All-cons (HasFittingCurve 10 2) (Some curve) curves has_fitting_curve fit

@@ -1,4 +1,3 @@
-use Rattle.std.proofs.Common.{arith}
 use Rattle.charge_curve.proofs.Denominators.{past_slope, with_slope_is}
 use Rattle.charge_curve.proofs.denominator.with_slope.Goals as goal
 
@@ -7,7 +6,8 @@ returns-in-Some-clause-some c = (
   c.in-Some.ensures.positive,
   c.in-Some.ensures.within,
   with_slope_is c.args.from c.args.to c.args.denominator c.reduced_denominator-reduced.result c.in-Some.common
-    c.reduced_denominator-reduced.ensures.exact c.in-Some.ensures.multiple)
+      c.reduced_denominator-reduced.ensures.exact c.in-Some.ensures.multiple,
+)
 
 pub returns-in-None-clause-none : goal.returns-in-None-clause-none
 returns-in-None-clause-none c =

@@ -9,5 +9,8 @@ pub with_slope-requires-clause-higher : goal.with_slope-requires-clause-higher
 with_slope-requires-clause-higher c = (rises_at c.args.points.now c.loop-index.index (0, 0) c.requires.rises (omega arith)).1
 
 pub returns-clause-some : goal.returns-clause-some
-returns-clause-some c = (c.loop-index.invariant.0, c.loop-index.invariant.1,
-    leaves_end c.args.full c.args.denominator c.loop-index.common c.args.points.now c.loop-index.index (omega arith) c.loop-index.invariant.2)
+returns-clause-some c = (
+  c.loop-index.invariant.0,
+  c.loop-index.invariant.1,
+  leaves_end c.args.full c.args.denominator c.loop-index.common c.args.points.now c.loop-index.index (omega arith) c.loop-index.invariant.2,
+)

@@ -1,4 +1,4 @@
-use Rattle.std.proofs.Common.{◌<◌, ◌≤◌, ℕ, drop, length}
+use Rattle.std.proofs.Common.{◌<◌, ◌≤◌, drop}
 use Rattle.charge_curve.proofs.Denominators.{Leaves}
 use Rattle.charge_curve.proofs.denominator.with_slopes.Given as goal
 
