@@ -1,5 +1,5 @@
 -- How far a loop over the reads or writes of std has come.
-use Rattle.std.proofs.Common.{◌≡◌, ◌∙◌, sym, ap, refl, ℕ, ◌+◌, ◌-◌, ◌≤◌, List, [], ◌++◌, length, take, Option, Some, None, IfSome, arith, append_assoc, length-append, length-drop, subst, drop}
+use Rattle.std.proofs.Common.{◌≡◌, ◌∙◌, sym, ap, ℕ, ◌+◌, ◌-◌, ◌≤◌, List, ◌++◌, length, take, Option, Some, None, IfSome, arith, append_assoc, length-append, length-drop, subst, drop}
 use Rattle.std.proofs.lemmas.List.{append-nil, take_all, take-append-drop, take_rest}
 use Rattle.std.proofs.Math.Seq.{take-append_seam, take-add}
 use Rattle.std.specs.Io.KnownBytes.{Consumes, Appends, Keeps, IsAtEnd}
@@ -32,19 +32,19 @@ pub HasRead-full : (a c : Option (List ℕ)) (old new : List ℕ) (most : ℕ) �
 HasRead-full None c old new most h = tt
 HasRead-full (Some whole) None old new most h = absurd h.consumed
 HasRead-full (Some whole) (Some rest) old new most h =
-  let counted : length h.part ≡ most = omega (arith, h.counted) in
-  let taken : take most whole ≡ h.part = ap (λ n. take n whole) (sym counted) ∙ ap (λ xs. take (length h.part) xs) h.consumed ∙ take-append_seam h.part rest in
-  h.appended ∙ ap (λ xs. old ++ xs) (sym taken)
+    let counted : length h.part ≡ most = omega (arith, h.counted) in
+    let taken : take most whole ≡ h.part = ap (λ n. take n whole) (sym counted) ∙ ap (λ xs. take (length h.part) xs) h.consumed ∙ take-append_seam h.part rest in
+    h.appended ∙ ap (λ xs. old ++ xs) (sym taken)
 
 -- The source has nothing more.
 pub HasRead-end : (a c : Option (List ℕ)) (old new : List ℕ) (most left : ℕ) → HasRead a c old new most left → IsAtEnd c → IfSome a (λ whole. new ≡ old ++ take most whole)
 HasRead-end None c old new most left h end = tt
 HasRead-end (Some whole) None old new most left h end = absurd h.consumed
 HasRead-end (Some whole) (Some rest) old new most left h end =
-  let all : whole ≡ h.part = h.consumed ∙ ap (λ xs. h.part ++ xs) end ∙ append-nil h.part in
-  let short : length whole ≤ most = omega (arith, h.counted, ap length all) in
-  let taken : take most whole ≡ whole = take_all most whole short in
-  h.appended ∙ ap (λ xs. old ++ xs) (sym all ∙ sym taken)
+    let all : whole ≡ h.part = h.consumed ∙ ap (λ xs. h.part ++ xs) end ∙ append-nil h.part in
+    let short : length whole ≤ most = omega (arith, h.counted, ap length all) in
+    let taken : take most whole ≡ whole = take_all most whole short in
+    h.appended ∙ ap (λ xs. old ++ xs) (sym all ∙ sym taken)
 
 pub Appends-append : (a b c : Option (List ℕ)) (xs ys : List ℕ) → Appends a b xs → Appends b c ys → Appends a c (xs ++ ys)
 Appends-append None b c xs ys p q = p
@@ -55,9 +55,9 @@ Appends-append (Some a) (Some b) (Some c) xs ys p q = q ∙ ap (λ n. n ++ ys) p
 -- A write that took the next `count` bytes.
 pub Appends-take-more : (a b c : Option (List ℕ)) (bytes : List ℕ) (at count : ℕ) → Appends a b (take at bytes) → Appends b c (take count (take (length bytes - at) (drop at bytes))) → Appends a c (take (at + count) bytes)
 Appends-take-more a b c bytes at count p q =
-  let e : take at bytes ++ take count (take (length bytes - at) (drop at bytes)) ≡ take (at + count) bytes = ap (λ xs. take at bytes ++ take count xs) (take_rest bytes at) ∙ sym (take-add at count bytes) in
-  let P : List ℕ → Type 0 = λ xs. Appends a c xs in
-  subst P e (Appends-append a b c (take at bytes) (take count (take (length bytes - at) (drop at bytes))) p q)
+    let e : take at bytes ++ take count (take (length bytes - at) (drop at bytes)) ≡ take (at + count) bytes = ap (λ xs. take at bytes ++ take count xs) (take_rest bytes at) ∙ sym (take-add at count bytes) in
+    let P : List ℕ → Type 0 = λ xs. Appends a c xs in
+    subst P e (Appends-append a b c (take at bytes) (take count (take (length bytes - at) (drop at bytes))) p q)
 
 -- A write takes no more than is left.
 pub within-rest : (bytes : List ℕ) (at count : ℕ) → at ≤ length bytes → count ≤ length (take (length bytes - at) (drop at bytes)) → at + count ≤ length bytes

@@ -22,7 +22,7 @@ state_of shelf = record {
   failed_reads = map (λ name. string_bytes name) shelf.failed_reads.items;
   failed_writes = map (λ name. string_bytes name) shelf.failed_writes.items;
   calls = shelf.calls;
-  fails = shelf.fails.items
+  fails = shelf.fails.items;
 }
 
 -- how often a name stands in a list of names

@@ -1,5 +1,5 @@
 -- What a sink in memory holds, and how it counts.
-use Rattle.std.specs.Prelude.{◌≡◌, ℕ, Contains, List}
+use Rattle.std.specs.Prelude.{ℕ, Contains, List}
 
 -- a sink in memory: the bytes that were written, the counts of its calls and of its faults, and the
 -- numbers of the calls that are to fail

@@ -6,6 +6,10 @@ use Rattle.ev_outside.specs.Counts.{IsPrefixOf}
 abbrev pub Files : Type 0
 Files = List ℕ → Option (List ℕ)
 
+-- what a shelf tells that doesn't tell its files
+abbrev pub untold : Option Files
+untold = None
+
 -- what a read of a name gives: a name that isn't there gives nothing
 abbrev pub bytes_under : Files → List ℕ → List ℕ
 bytes_under files name = unwrap_or (files name) []

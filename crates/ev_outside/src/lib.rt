@@ -20,3 +20,5 @@ pub use output::OutSink;
 pub use shelf::{Shelf, ShelfFault};
 pub use sink::{Sink, SinkFault};
 
+#[cfg(test)]
+mod tests;

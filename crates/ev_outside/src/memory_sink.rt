@@ -68,7 +68,11 @@ impl Sink for MemorySink {
         ensures memory { IsErrOf result SinkFault.Memory → self.new ≡ self.old }
     {
         let fails = self.fails.contains(&self.calls);
-        let kept = if fails { &bytes[..bytes.len() / 2] } else { bytes };
+        let kept = if fails {
+            &bytes[..bytes.len() / 2]
+        } else {
+            bytes
+        };
         if self.bytes.extend_from_slice(kept).is_err() {
             return Err(SinkFault::Memory);
         }

@@ -1,5 +1,7 @@
 //! The standard output.
-ghost use Rattle.std.specs.Prelude.{◌≡◌, ◌≤◌, ℕ, List, Option, None, OnOk, OnErr, IsErrOf};
+ghost use Rattle.ev_outside.specs.Counts.{one_more, Rose};
+ghost use Rattle.ev_outside.specs.Sink.{Adds, AddsPrefix};
+ghost use Rattle.std.specs.Prelude.{◌≡◌, ◌≤◌, ℕ, None, OnOk, OnErr, IsErrOf};
 
 use super::sink::{Sink, SinkFault};
 use super::streams::write_whole;
@@ -34,7 +36,17 @@ impl<'a, R: Print> Sink for OutSink<'a, R> {
 
     ghost faults = { λ sink. sink };
 
-    fn put(&mut self, bytes: &[u8]) -> Result<(), SinkFault> {
+    fn put(&mut self, bytes: &[u8]) -> Result<(), SinkFault>
+        ensures bytes { OnOk result (Adds None None bytes.now) }
+        ensures prefix { OnErr result (AddsPrefix None None bytes.now) }
+        ensures failed { IsErrOf result SinkFault.Failed → Rose self.old self.new }
+        ensures counts { self.old ≤ self.new }
+
+        // Exactly what this sink counts.
+        ensures counted { IsErrOf result SinkFault.Failed → self.new ≡ one_more self.old }
+        ensures never_memory { IsErrOf result SinkFault.Memory → ⊥ }
+        ensures uncounted { (IsErrOf result SinkFault.Failed → ⊥) → self.new ≡ self.old }
+    {
         let mut writer = io::writer(self.rt);
         if write_whole(&mut writer, bytes) {
             return Ok(());

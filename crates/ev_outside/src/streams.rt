@@ -11,7 +11,11 @@ use std::io::{Read, Write};
 const CHUNK: usize = 4096;
 
 /// Appends what the source still gives, or its first `most` bytes.
-pub(crate) fn read_up_to<F: Read>(source: &mut F, most: usize, into: &mut Vec<u8>) -> Result<(), ShelfFault>
+pub(crate) fn read_up_to<F: Read>(
+    source: &mut F,
+    most: usize,
+    into: &mut Vec<u8>,
+) -> Result<(), ShelfFault>
     ensures bytes { OnOk result (IfSome (F.remaining source.old) (λ rest. into.new.items ≡ into.old.items ++ take most rest)) }
     ensures prefix { IsPrefixOf into.old.items into.new.items }
     ensures most { length into.new.items ≤ length into.old.items + most }

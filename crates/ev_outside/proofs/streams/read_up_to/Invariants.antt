@@ -1,4 +1,3 @@
-use Rattle.std.proofs.Common.{◌≤◌, ℕ}
 use Rattle.ev_outside.proofs.StreamLemmas.{HasRead}
 use Rattle.ev_outside.proofs.streams.read_up_to.Given as goal
 

@@ -4,5 +4,5 @@ use Rattle.ev_outside.proofs.memory_sink.MemorySinkSink.put.Goals as goal
 
 pub returns-then-fails-2-clause-prefix : goal.returns-then-fails-2-clause-prefix
 returns-then-fails-2-clause-prefix c =
-  let half = length c.args.bytes.now / 2 in
-  (take half c.args.bytes.now, take-IsPrefixOf half c.args.bytes.now, search rules)
+    let half = length c.args.bytes.now / 2 in
+    (take half c.args.bytes.now, take-IsPrefixOf half c.args.bytes.now, search rules)
