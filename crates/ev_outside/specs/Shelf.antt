@@ -1,0 +1,34 @@
+-- What calls on named files do. A shelf that doesn't tell its bytes has `None` in place of its files.
+use Rattle.std.specs.Prelude.{◌≡◌, ◌≢◌, ℕ, ◌+◌, ◌≤◌, List, [], ◌++◌, length, take, Option, Some, None, unwrap_or}
+use Rattle.ev_outside.specs.Counts.{IsPrefixOf}
+
+-- which names hold which bytes: no bytes at all where a name isn't there
+abbrev pub Files : Type 0
+Files = List ℕ → Option (List ℕ)
+
+-- what a shelf tells that doesn't tell its files
+abbrev pub untold : Option Files
+untold = None
+
+-- what a read of a name gives: a name that isn't there gives nothing
+abbrev pub bytes_under : Files → List ℕ → List ℕ
+bytes_under files name = unwrap_or (files name) []
+
+-- The bytes of the name, or its first `most` bytes, were appended; where the shelf doesn't tell
+-- them, up to `most` bytes were.
+abbrev pub AppendsFile : Option Files → List ℕ → ℕ → List ℕ → List ℕ → Type 0
+AppendsFile None name most old new = IsPrefixOf old new × (length new ≤ length old + most)
+AppendsFile (Some files) name most old new = new ≡ old ++ take most (bytes_under files name)
+
+-- The name holds exactly these bytes.
+abbrev pub HoldsUnder : Option Files → List ℕ → List ℕ → Type 0
+HoldsUnder None name bytes = Unit {0}
+HoldsUnder (Some files) name bytes = files name ≡ Some bytes
+
+-- Every other name holds what it held, or isn't there as before. Whether a shelf tells its bytes
+-- doesn't change.
+abbrev pub KeepsOthers : List ℕ → Option Files → Option Files → Type 0
+KeepsOthers name None None = Unit {0}
+KeepsOthers name (Some old) (Some new) = (other : List ℕ) → other ≢ name → new other ≡ old other
+KeepsOthers name None (Some new) = ⊥
+KeepsOthers name (Some old) None = ⊥

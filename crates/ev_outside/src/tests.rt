@@ -1,0 +1,129 @@
+use super::*;
+use std::alloc::Global;
+use std::fs;
+use std::test::Fail;
+
+/// What a read of at most `most` bytes appends to a buffer that holds one byte already.
+fn read_from<S: Shelf>(
+    alloc: Global,
+    shelf: &mut S,
+    name: &str,
+    most: usize,
+) -> Result<Vec<u8>, ShelfFault> {
+    let mut into = Vec::new(alloc);
+    if into.push(b'>').is_err() {
+        return Err(ShelfFault::Memory);
+    }
+    shelf.read(name, most, &mut into)?;
+    Ok(into)
+}
+
+/// Writes by the trait alone.
+fn write_to<S: Shelf>(shelf: &mut S, name: &str, bytes: &[u8]) -> Result<(), ShelfFault> {
+    shelf.write(name, bytes)
+}
+
+/// Puts by the trait alone.
+fn put_into<K: Sink>(sink: &mut K, bytes: &[u8]) -> Result<(), SinkFault> {
+    sink.put(bytes)
+}
+
+#[test]
+fn real_files_and_the_output_take_what_is_written(rt: HostRuntime) -> Result<(), Fail> {
+    let alloc = rt.alloc();
+    let name = "ev_outside_real_file";
+    let mut shelf = FileShelf::new(&rt);
+
+    // A file of several pieces, read whole, and up to a byte inside a piece.
+    let mut long = Vec::new(alloc);
+    for at in 0..10000u32 {
+        long.push((at % 251) as u8)?;
+    }
+    write_to(&mut shelf, name, long.as_slice())?;
+    for (most, want) in [
+        (20000usize, 10000usize),
+        (10000, 10000),
+        (9999, 9999),
+        (4096, 4096),
+        (0, 0),
+    ] {
+        let read = read_from(alloc, &mut shelf, name, most)?;
+        assert_eq!(rt; read.len(), 1 + want, "of at most {most}");
+        assert_eq!(rt; read.first().copied(), Some(b'>'), "of at most {most}");
+        assert!(rt; long.starts_with(&read[1..]), "of at most {most}");
+    }
+
+    // A shorter text takes the place of the longer one.
+    write_to(&mut shelf, name, b"short")?;
+    assert_eq!(rt;
+        read_from(alloc, &mut shelf, name, 100)?.as_slice(),
+        b">short".as_slice()
+    );
+    write_to(&mut shelf, name, b"")?;
+    assert_eq!(rt;
+        read_from(alloc, &mut shelf, name, 100)?.as_slice(),
+        b">".as_slice()
+    );
+
+    // What isn't there can't be read, and no folder can be written.
+    fs::remove_file(&rt, name)?;
+    assert_eq!(rt;
+        read_from(alloc, &mut shelf, name, 100).err(),
+        Some(ShelfFault::Failed)
+    );
+    assert_eq!(rt; write_to(&mut shelf, "/", b"text"), Err(ShelfFault::Failed));
+
+    let mut out = OutSink::new(&rt);
+    put_into(&mut out, b"the output takes this line\n")?;
+    put_into(&mut out, b"")?;
+    Ok(())
+}
+
+#[test]
+fn a_shelf_in_memory_fails_where_it_is_told_to(rt: HostRuntime) -> Result<(), Fail> {
+    let alloc = rt.alloc();
+    let mut shelf = MemoryShelf::new(alloc, [1, 3].to_vec(alloc)?);
+    shelf.set("plan", b"first")?;
+    assert_eq!(rt; shelf.get("plan"), Some(b"first".as_slice()));
+    assert_eq!(rt; shelf.get("certificate"), None);
+
+    // The calls 0 to 6: the calls 1 and 3 fail, and so does a read of what isn't there.
+    assert_eq!(rt;
+        read_from(alloc, &mut shelf, "plan", 3)?.as_slice(),
+        b">fir".as_slice()
+    );
+    assert_eq!(rt;
+        write_to(&mut shelf, "plan", b"second"),
+        Err(ShelfFault::Failed)
+    );
+    assert_eq!(rt; shelf.get("plan"), Some(b"first".as_slice()));
+    write_to(&mut shelf, "plan", b"second")?;
+    assert_eq!(rt;
+        read_from(alloc, &mut shelf, "plan", 100).err(),
+        Some(ShelfFault::Failed)
+    );
+    assert_eq!(rt;
+        read_from(alloc, &mut shelf, "plan", 100)?.as_slice(),
+        b">second".as_slice()
+    );
+    assert_eq!(rt;
+        read_from(alloc, &mut shelf, "absent", 100).err(),
+        Some(ShelfFault::Failed)
+    );
+    write_to(&mut shelf, "absent", b"")?;
+    assert_eq!(rt; shelf.get("absent"), Some(b"".as_slice()));
+    assert_eq!(rt; shelf.get("plan"), Some(b"second".as_slice()));
+    Ok(())
+}
+
+#[test]
+fn a_failing_sink_in_memory_keeps_the_first_half(rt: HostRuntime) -> Result<(), Fail> {
+    let alloc = rt.alloc();
+    let mut sink = MemorySink::new(alloc, [1, 2].to_vec(alloc)?);
+    put_into(&mut sink, b"whole;")?;
+    assert_eq!(rt; put_into(&mut sink, b"12345"), Err(SinkFault::Failed));
+    assert_eq!(rt; put_into(&mut sink, b"x"), Err(SinkFault::Failed));
+    put_into(&mut sink, b";end")?;
+    assert_eq!(rt; sink.bytes(), b"whole;12;end".as_slice());
+    Ok(())
+}
