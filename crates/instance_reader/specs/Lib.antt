@@ -1,0 +1,12 @@
+pub mod Places
+pub mod Search
+pub mod Values
+pub mod Contents
+pub mod RequiredKeys
+pub mod Kinds
+pub mod Sizes
+pub mod Shapes
+pub mod Nodes
+pub mod Types
+pub mod Views
+pub mod Refusal

@@ -1,0 +1,10 @@
+-- How a rule is refused.
+use Rattle.std.specs.Prelude.{◌≡◌, Option, Some}
+use Rattle.instance_reader.specs.declared.faults.PlaceFault.{PlaceFault}
+use Rattle.instance_reader.specs.declared.faults.PlaceFault.TheVariants.{At, Memory}
+use Rattle.instance_reader.specs.declared.places.Place.{Place}
+
+-- a refusal other than want of memory names the first broken place
+abbrev pub RefusesAt : Option Place → PlaceFault → Type 0
+RefusesAt broken (At place) = broken ≡ Some place
+RefusesAt broken Memory = Unit {0}

@@ -1,0 +1,10 @@
+//! Reads an instance of the problem from the bytes of a JSON file.
+#![tactic(auto)]
+
+mod faults;
+mod fields;
+mod kinds;
+mod places;
+mod required_keys;
+
+pub use places::{Key, Part, Place};
