@@ -1,5 +1,5 @@
 -- What a refusal of one search says of several searches, tried one after another.
-use Rattle.std.proofs.Common.{◌≡◌, Option, None, Some, refl, arith}
+use Rattle.std.proofs.Common.{◌≡◌, Option, None, Some, refl}
 use Rattle.std.specs.Option.{option_or}
 use Rattle.instance_reader.specs.Refusal.{RefusesAt}
 use Rattle.instance_reader.specs.declared.faults.PlaceFault.{PlaceFault}
@@ -21,3 +21,5 @@ RefusesAt-then (Some p) b e n h = cc
 pub option_or-none : (a b : Option Place) → a ≡ None → option_or a b ≡ b
 option_or-none None b n = refl
 option_or-none (Some p) b n = cc
+
+pub ruleset several = (RefusesAt-first, RefusesAt-then, option_or-none)

@@ -8,4 +8,4 @@ pub list_of-items_of : (ds : List Data) → list_of (items_of ds) ≡ ds
 list_of-items_of [] = refl
 list_of-items_of (d ∷ ds) = ap (λ xs. d ∷ xs) (list_of-items_of ds)
 
-ruleset values_lemmas = list_of-items_of
+pub ruleset values_lemmas = (list_of-items_of)

@@ -1,6 +1,6 @@
 -- The contents of an instance file, once each value in it is of its field's kind.
 -- What is of another kind counts as 0 or as an empty list here: such a file is refused before its contents are looked at.
-use Rattle.std.specs.Prelude.{ℕ, List, [], Option, Some, map, unwrap_or, option_and_then, codes, zip, length}
+use Rattle.std.specs.Prelude.{ℕ, List, [], Option, Some, map, unwrap_or, option_and_then, zip, length}
 use Rattle.serde_json.specs.Data.{Data}
 use Rattle.serde_json.specs.Find.{get}
 use Rattle.instance_reader.specs.Places.{part_text}

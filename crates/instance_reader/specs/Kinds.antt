@@ -1,5 +1,5 @@
 -- The rule on kinds: each value is of its field's kind.
-use Rattle.std.specs.Prelude.{◌≡◌, ℕ, ◌&&◌, List, [], ◌∷◌, Option, None, Some, is_none, not, option_and_then, Bool}
+use Rattle.std.specs.Prelude.{◌&&◌, List, [], ◌∷◌, Option, None, Some, is_none, option_and_then}
 use Rattle.std.specs.Bool.{then_some}
 use Rattle.serde_json.specs.Data.{Data}
 use Rattle.serde_json.specs.Find.{get, as_null, as_object}

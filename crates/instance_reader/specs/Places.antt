@@ -1,5 +1,5 @@
 -- Places in an instance file.
-use Rattle.std.specs.Prelude.{ℕ, List, Option, None, Some, is_none, if◌then◌else◌, codes}
+use Rattle.std.specs.Prelude.{ℕ, List, None, Some, is_none, if◌then◌else◌, codes}
 use Rattle.instance_reader.specs.declared.places.Key.{Key}
 use Rattle.instance_reader.specs.declared.places.Key.TheVariants.{MaxQ, Css, Breaks, Service, Energy, Time, TMax, MaxT}
 use Rattle.instance_reader.specs.declared.places.Part.{Part}
