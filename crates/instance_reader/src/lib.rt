@@ -6,5 +6,7 @@ mod fields;
 mod kinds;
 mod places;
 mod required_keys;
+mod shapes;
+mod sizes;
 
 pub use places::{Key, Part, Place};
