@@ -1,2 +1,4 @@
+pub mod ListLemmas
 pub mod ValuesLemmas
 pub mod SearchLemmas
+pub mod NodesLemmas

@@ -1,5 +1,5 @@
--- The rule on the nodes of stations.
-use Rattle.std.specs.Prelude.{ℕ, ◌+◌, ◌||◌, List, [], ◌∷◌, ◌++◌, Option, None, Bool, not, nat_eq, nat_lt}
+-- The rule on the nodes of stations, and the stations by node.
+use Rattle.std.specs.Prelude.{◌≡◌, ℕ, ◌+◌, ◌<◌, ◌||◌, List, [], ◌∷◌, ◌++◌, Option, None, Some, Bool, find, length, not, nat_eq, nat_lt, slice_get, slice_index_or}
 use Rattle.std.specs.Bool.{then_some}
 use Rattle.std.specs.List.{list_any}
 use Rattle.std.specs.Option.{option_or}
@@ -27,3 +27,17 @@ wrong_node_in nodes number earlier (s ∷ ss) = option_or
 -- the first place of a node that the instance doesn't have, or that has a station already
 unfoldable pub first_wrong_node : Contents → Option Place
 first_wrong_node c = wrong_node_in (nodes_of c) 0 [] c.stations
+
+-- the station at a node
+abbrev pub station_at : List Station → ℕ → Option Station
+station_at stations node = find (λ s. nat_eq s.node node) stations
+
+-- the number of the station at a node, if there is one
+abbrev pub IsStationNumber : List Station → ℕ → Option ℕ → Type 0
+IsStationNumber stations node None = station_at stations node ≡ None
+IsStationNumber stations node (Some number) = (number < length stations) × (station_at stations node ≡ slice_get stations number)
+
+-- the numbers of the stations, by node
+pub record AreStationNumbers (stations : List Station) (nodes : ℕ) (numbers : List (Option ℕ)) : Type 0 where
+  pub all : length numbers ≡ nodes
+  pub each : (node : ℕ) → node < nodes → IsStationNumber stations node (slice_index_or numbers node None)

@@ -4,9 +4,11 @@
 mod faults;
 mod fields;
 mod kinds;
+mod nodes;
 mod places;
 mod required_keys;
 mod shapes;
 mod sizes;
+mod types;
 
 pub use places::{Key, Part, Place};
