@@ -2,3 +2,4 @@ pub mod ListLemmas
 pub mod ValuesLemmas
 pub mod SearchLemmas
 pub mod NodesLemmas
+pub mod TypesLemmas

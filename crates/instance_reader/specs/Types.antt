@@ -5,11 +5,16 @@ use Rattle.std.specs.List.{list_any}
 use Rattle.std.specs.Option.{option_or}
 use Rattle.instance_reader.specs.Contents.{Contents, Station, CurveOfType}
 use Rattle.instance_reader.specs.Places.{at_key, item_of, part_of}
-use Rattle.instance_reader.specs.Search.{first, look_along}
+use Rattle.instance_reader.specs.Search.{first, first_along}
 use Rattle.instance_reader.specs.Values.{Name, same_name}
+use Rattle.instance_reader.specs.declared.places.Key.{Key}
 use Rattle.instance_reader.specs.declared.places.Key.TheVariants.{Breaks, Css}
 use Rattle.instance_reader.specs.declared.places.Place.{Place}
 use Rattle.instance_reader.specs.declared.places.Part.TheVariants as part
+
+-- the place of the type of an entry of a list
+abbrev pub type_place : Key → ℕ → Place
+type_place key number = part_of (item_of (at_key key) number) part.TypeName
 
 -- the name is one of these
 abbrev pub is_among : Name → List Name → Bool
@@ -22,16 +27,16 @@ names_of curves = map (λ curve. curve.type_name) curves
 abbrev pub repeated_in : ℕ → List Name → List Name → Option Place
 repeated_in number earlier [] = None
 repeated_in number earlier (name ∷ names) = option_or
-    (then_some (is_among name earlier) (part_of (item_of (at_key Breaks) number) part.TypeName))
+    (then_some (is_among name earlier) (type_place Breaks number))
     (repeated_in (number + 1) (earlier ++ name ∷ []) names)
 
 -- a station whose type is none of the names
-abbrev pub unlisted : List Name → Place → Station → Option Place
-unlisted names place s = then_some (not (is_among s.type_name names)) (part_of place part.TypeName)
+abbrev pub unlisted : List Name → ℕ → Station → Option Place
+unlisted names number s = then_some (not (is_among s.type_name names)) (type_place Css number)
 
 -- the first place of a type that is listed already, and then of a station's type that isn't listed
 unfoldable pub first_wrong_type : Contents → Option Place
 first_wrong_type c = first
     ( repeated_in 0 [] (names_of c.curves)
-    ∷ look_along (unlisted (names_of c.curves)) (at_key Css) c.stations
+    ∷ first_along (unlisted (names_of c.curves)) 0 c.stations
     ∷ [])

@@ -2,7 +2,7 @@
 
 ghost use Rattle.std.specs.Prelude.{◌≡◌, None, [], map, IfOk, IfErr};
 ghost use Rattle.instance_reader.specs.Refusal.{RefusesAt};
-ghost use Rattle.instance_reader.specs.Types.{names_of, repeated_in};
+ghost use Rattle.instance_reader.specs.Types.{names_of, repeated_in, type_place};
 ghost use Rattle.instance_reader.specs.Views.{curve_view, name_view};
 
 use crate::faults::PlaceFault;
@@ -10,6 +10,13 @@ use crate::fields::{CurveEntry, StationEntry, TypeName};
 use crate::places::{Key, Part, Place};
 use indexmap::IndexSet;
 use std::alloc::Global;
+
+/// The place of the type of an entry under a key.
+fn type_place(key: Key, index: usize) -> Place
+    ensures { result ≡ type_place key index }
+{
+    Place::at_key(key).item(index).part(Part::TypeName)
+}
 
 /// The types in the order of their entries, or the place of the first that is listed already.
 fn numbered<'a>(alloc: Global, curves: &'a [CurveEntry]) -> Result<IndexSet<&'a TypeName>, PlaceFault>
@@ -23,7 +30,7 @@ fn numbered<'a>(alloc: Global, curves: &'a [CurveEntry]) -> Result<IndexSet<&'a 
             Ok(true) => {}
             Ok(false) => {
                 return Err(PlaceFault::At {
-                    place: Place::at_key(Key::Breaks).item(index).part(Part::TypeName),
+                    place: type_place(Key::Breaks, index),
                 });
             }
             Err(_) => return Err(PlaceFault::Memory),
