@@ -1,13 +1,13 @@
 -- Types by name, as the code compares and numbers them.
-use Rattle.std.proofs.Common.{◌≡◌, ◌≢◌, ◌∙◌, ℕ, ◌+◌, ◌<◌, ◌||◌, Bool, true, false, List, [], ◌∷◌, ◌++◌, Some, length, map, take, drop, get_or, not, refl, sym, ap, add-one}
+use Rattle.std.proofs.Common.{◌≡◌, ◌≢◌, ◌∙◌, ℕ, ◌+◌, ◌<◌, ◌||◌, Bool, true, false, List, [], ◌∷◌, ◌++◌, Option, None, Some, IfSome, cond, length, map, take, drop, get_or, not, refl, sym, ap, add-one}
 use Rattle.std.proofs.lemmas.List.{take_more, map-append}
 use Rattle.std.proofs.Math.Seq.{drop-cons}
 use Rattle.std.specs.Borrow.{Bor}
-use Rattle.std.specs.List.{list_any}
+use Rattle.std.specs.List.{list_any, position_or_len}
 use Rattle.indexmap.specs.IndexSet.{insert_key}
 use Rattle.instance_reader.specs.Types.{is_among, names_of, repeated_in, type_place}
-use Rattle.instance_reader.specs.Values.{Name, same_name}
-use Rattle.instance_reader.specs.Views.{curve_view, name_view}
+use Rattle.instance_reader.specs.Values.{same_name}
+use Rattle.instance_reader.specs.Views.{curve_view, name_view, names_in}
 use Rattle.instance_reader.specs.contracts.fields.TypeNamePartialEq.TheImpl as derived
 use Rattle.instance_reader.specs.declared.fields.CurveEntry.{CurveEntry}
 use Rattle.instance_reader.specs.declared.fields.TypeName.{TypeName}
@@ -20,10 +20,6 @@ eq-same_name (Text s) (Text t) = refl
 eq-same_name (Text s) (Whole n) = refl
 eq-same_name (Whole m) (Text t) = refl
 eq-same_name (Whole m) (Whole n) = refl
-
--- the names of keys
-abbrev pub names_in : List (Bor TypeName) → List Name
-names_in keys = map (λ key. name_view key.now) keys
 
 -- a key is found by its name
 pub list_any-keys : (key : TypeName) (keys : List (Bor TypeName)) →
@@ -80,3 +76,18 @@ pub fresh_here : (xs : List CurveEntry) (i : ℕ) (x : CurveEntry) → i < lengt
     repeated_in (i + 1) (names_of (map curve_view (take (i + 1) xs))) (names_of (map curve_view (drop (i + 1) xs)))
     ≡ repeated_in i (names_of (map curve_view (take i xs))) (names_of (map curve_view (drop i xs)))
 fresh_here xs i x h is fresh = rw (names_from xs i x h is, fresh, next_name xs i x h is) refl
+
+-- a key has the number of its name
+pub position_or_len-keys : (key : TypeName) (keys : List (Bor TypeName)) →
+    position_or_len (λ other. (derived.ghosts).eq key other.now) keys ≡ position_or_len (same_name (name_view key)) (names_in keys)
+position_or_len-keys key [] = refl
+position_or_len-keys key (k ∷ keys) = rw (eq-same_name key k.now, position_or_len-keys key keys) refl
+
+some_is : (k n : ℕ) (b : Bool) → Some k ≡ cond b (Some n) None → k ≡ n
+some_is k n true h = cc
+some_is k n false h = cc
+
+-- what is found at a position is that position
+pub found_is : (o : Option ℕ) (n : ℕ) (b : Bool) → o ≡ cond b (Some n) None → IfSome o (λ k. k ≡ n)
+found_is None n b h = tt
+found_is (Some k) n b h = some_is k n b h

@@ -8,5 +8,6 @@ pub mod Sizes
 pub mod Shapes
 pub mod Nodes
 pub mod Types
+pub mod Meaning
 pub mod Views
 pub mod Refusal

@@ -1,7 +1,7 @@
 -- The rule on types: each is listed once, and each station's type is listed.
 use Rattle.std.specs.Prelude.{ℕ, ◌+◌, List, [], ◌∷◌, ◌++◌, Option, None, Bool, not, map}
 use Rattle.std.specs.Bool.{then_some}
-use Rattle.std.specs.List.{list_any}
+use Rattle.std.specs.List.{list_any, position_or_len}
 use Rattle.std.specs.Option.{option_or}
 use Rattle.instance_reader.specs.Contents.{Contents, Station, CurveOfType}
 use Rattle.instance_reader.specs.Places.{at_key, item_of, part_of}
@@ -34,9 +34,17 @@ repeated_in number earlier (name ∷ names) = option_or
 abbrev pub unlisted : List Name → ℕ → Station → Option Place
 unlisted names number s = then_some (not (is_among s.type_name names)) (type_place Css number)
 
--- the first place of a type that is listed already, and then of a station's type that isn't listed
-unfoldable pub first_wrong_type : Contents → Option Place
-first_wrong_type c = first
-    ( repeated_in 0 [] (names_of c.curves)
-    ∷ first_along (unlisted (names_of c.curves)) 0 c.stations
+-- the first type that is listed already, and then the first type of a station that isn't listed
+abbrev pub wrong_type_in : List CurveOfType → List Station → Option Place
+wrong_type_in curves stations = first
+    ( repeated_in 0 [] (names_of curves)
+    ∷ first_along (unlisted (names_of curves)) 0 stations
     ∷ [])
+
+-- the first place of a type that breaks the rule; here alone the places of breakpoints_by_type come before those of css
+unfoldable pub first_wrong_type : Contents → Option Place
+first_wrong_type c = wrong_type_in c.curves c.stations
+
+-- the number of a station's curve; the number of curves, where its type isn't listed
+abbrev pub type_number : List CurveOfType → Station → ℕ
+type_number curves s = position_or_len (same_name s.type_name) (names_of curves)

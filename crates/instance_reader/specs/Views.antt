@@ -1,6 +1,6 @@
 -- What the types of the code stand for.
 use Rattle.std.specs.Borrow.{Bor}
-use Rattle.std.specs.Prelude.{Option, map, option_map, string_bytes}
+use Rattle.std.specs.Prelude.{List, Option, map, option_map, string_bytes}
 use Rattle.serde_json.specs.Data.{Data}
 use Rattle.serde_json.specs.View.{view}
 use Rattle.serde_json.specs.declared.value.Value.{Value}
@@ -36,3 +36,7 @@ contents_view f = record {
 -- the data of a value that may be absent
 abbrev pub data_of : Option (Bor Value) → Option Data
 data_of value = option_map (λ v. view v.now) value
+
+-- the names that keys stand for
+abbrev pub names_in : List (Bor TypeName) → List Name
+names_in keys = map (λ key. name_view key.now) keys
