@@ -3,3 +3,4 @@ pub mod ValuesLemmas
 pub mod SearchLemmas
 pub mod NodesLemmas
 pub mod TypesLemmas
+pub mod InstanceLemmas

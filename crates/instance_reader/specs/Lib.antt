@@ -9,5 +9,7 @@ pub mod Shapes
 pub mod Nodes
 pub mod Types
 pub mod Meaning
+pub mod Instance
+pub mod Inside
 pub mod Views
 pub mod Refusal

@@ -1,8 +1,10 @@
 //! Reads an instance of the problem from the bytes of a JSON file.
 #![tactic(auto)]
 
+mod curves;
 mod faults;
 mod fields;
+mod instance;
 mod kinds;
 mod nodes;
 mod places;
@@ -11,4 +13,5 @@ mod shapes;
 mod sizes;
 mod types;
 
+pub use instance::Instance;
 pub use places::{Key, Part, Place};
