@@ -4,3 +4,4 @@ pub mod SearchLemmas
 pub mod NodesLemmas
 pub mod TypesLemmas
 pub mod InstanceLemmas
+pub mod CustomersLemmas

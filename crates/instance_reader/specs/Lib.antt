@@ -11,5 +11,6 @@ pub mod Types
 pub mod Meaning
 pub mod Instance
 pub mod Inside
+pub mod Customers
 pub mod Views
 pub mod Refusal

@@ -2,6 +2,7 @@
 #![tactic(auto)]
 
 mod curves;
+mod customers;
 mod faults;
 mod fields;
 mod instance;
