@@ -12,5 +12,8 @@ pub mod Meaning
 pub mod Instance
 pub mod Inside
 pub mod Customers
+pub mod Curves
+pub mod Limits
+pub mod Faults
 pub mod Views
 pub mod Refusal

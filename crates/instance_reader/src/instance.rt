@@ -1,10 +1,12 @@
 //! An instance of the problem.
 
-ghost use Rattle.std.specs.Prelude.{◌≡◌, ◌*◌, ◌^◌, ◌<◌, ◌≤◌, None, MatchOption};
+ghost use Rattle.std.specs.Prelude.{◌≡◌, ◌*◌, ◌^◌, ◌<◌, ◌≤◌, None, IfOk, IfErr, MatchOption};
 ghost use Rattle.ev_model.specs.Network.{IsNetwork, curve_at, energy, node_count, process_time, scaled_limit, travel_time};
 ghost use Rattle.instance_reader.specs.Instance.{IsCurveAt, IsCustomerNumber, customer_nodes};
 
 use crate::curves::StationCurve;
+use crate::faults::LimitFault;
+use crate::limits::is_past_horizon;
 use charge_curve::Scaled;
 use std::marker::Model;
 
@@ -129,5 +131,21 @@ impl Instance {
         ensures { IsCustomerNumber self.now node result }
     {
         self.customer_numbers[node]
+    }
+
+    /// The instance with another limit, whether smaller or larger. It is refused exactly where the
+    /// denominator times the limit is past 10^18.
+    pub fn with_limit(mut self, l: u64) -> Result<Instance, LimitFault>
+        ensures ok { IfOk result (λ inst. (inst ≡ record self { limit = l }) × (l * self.denominator ≤ 10 ^ 18)) }
+        ensures err { IfErr result (λ e. (e.inst ≡ self) × (e.limit ≡ l) × (10 ^ 18 < l * self.denominator)) }
+    {
+        if is_past_horizon(self.denominator, l) {
+            return Err(LimitFault {
+                inst: self,
+                limit: l,
+            });
+        }
+        self.limit = l;
+        Ok(self)
     }
 }

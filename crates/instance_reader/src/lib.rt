@@ -7,6 +7,7 @@ mod faults;
 mod fields;
 mod instance;
 mod kinds;
+mod limits;
 mod nodes;
 mod places;
 mod required_keys;
@@ -14,5 +15,6 @@ mod shapes;
 mod sizes;
 mod types;
 
+pub use faults::{LimitFault, ReadFault};
 pub use instance::Instance;
 pub use places::{Key, Part, Place};

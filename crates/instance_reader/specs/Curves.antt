@@ -1,0 +1,18 @@
+-- The rule on curves.
+use Rattle.std.specs.Prelude.{ℕ, List, Option, map, option_map}
+use Rattle.charge_curve.specs.Faults.{curve_fault}
+use Rattle.instance_reader.specs.Contents.{Contents, CurveOfType, points_of}
+use Rattle.instance_reader.specs.Search.{first_along}
+use Rattle.instance_reader.specs.declared.faults.ReadFault.{ReadFault}
+use Rattle.instance_reader.specs.declared.faults.ReadFault.TheVariants.{BadCurve}
+
+-- the breakpoints of all curves, used or not
+abbrev pub all_points : List CurveOfType → List (List (ℕ × ℕ))
+all_points curves = map points_of curves
+
+abbrev pub bad_curve : ℕ → ℕ → CurveOfType → Option ReadFault
+bad_curve capacity number curve = option_map (BadCurve number) (curve_fault capacity (points_of curve))
+
+-- the first entry whose breakpoints are no curve up to the capacity
+abbrev pub bad_curve_in : ℕ → List CurveOfType → Option ReadFault
+bad_curve_in capacity curves = first_along (bad_curve capacity) 0 curves
