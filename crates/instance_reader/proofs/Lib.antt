@@ -5,3 +5,4 @@ pub mod NodesLemmas
 pub mod TypesLemmas
 pub mod InstanceLemmas
 pub mod CustomersLemmas
+pub mod CurvesLemmas
