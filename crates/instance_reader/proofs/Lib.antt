@@ -6,3 +6,4 @@ pub mod TypesLemmas
 pub mod InstanceLemmas
 pub mod CustomersLemmas
 pub mod CurvesLemmas
+pub mod CheckedLemmas

@@ -13,6 +13,7 @@ mod places;
 mod required_keys;
 mod shapes;
 mod sizes;
+mod stations;
 mod types;
 
 pub use faults::{LimitFault, ReadFault};
