@@ -7,3 +7,4 @@ pub mod InstanceLemmas
 pub mod CustomersLemmas
 pub mod CurvesLemmas
 pub mod CheckedLemmas
+pub mod StationsLemmas

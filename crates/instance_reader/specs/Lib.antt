@@ -16,5 +16,6 @@ pub mod Curves
 pub mod Limits
 pub mod Faults
 pub mod Checked
+pub mod Parts
 pub mod Views
 pub mod Refusal

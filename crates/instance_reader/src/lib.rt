@@ -1,6 +1,7 @@
 //! Reads an instance of the problem from the bytes of a JSON file.
 #![tactic(auto)]
 
+mod build;
 mod curves;
 mod customers;
 mod faults;
