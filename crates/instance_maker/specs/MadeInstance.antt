@@ -16,7 +16,7 @@ array_of values = array (items_of values)
 -- The charging curve of a type: a full battery holds 1600, and the curve bends at 1360 and at 1520.
 abbrev pub curve_value : List ℕ → List ℕ → Data
 curve_value kind times =
-  object
+    object
     (member (codes "charge") (array_of (map whole (0 ∷ 1360 ∷ 1520 ∷ 1600 ∷ [])))
     (member (codes "cs_type") (string kind)
     (member (codes "time") (array_of (map whole times))
@@ -24,7 +24,7 @@ curve_value kind times =
 
 abbrev pub curves_value : Data
 curves_value =
-  array_of
+    array_of
     (curve_value (codes "fast") (0 ∷ 310 ∷ 390 ∷ 510 ∷ [])
     ∷ curve_value (codes "slow") (0 ∷ 1260 ∷ 1540 ∷ 2040 ∷ [])
     ∷ [])
@@ -49,11 +49,11 @@ distances_value places = array_of (map (λ from. array_of (map (λ to. whole (di
 abbrev pub process_times_value : ℕ → ℕ → Data
 process_times_value customers stations = array_of (whole 0 ∷ replicate customers (whole 5) ++ replicate stations (whole 0))
 
--- Driving takes as much time and energy as the distance.
-abbrev pub made_value : ℕ → ℕ → ℕ → Data
+-- The value of a made instance. Driving takes as much time and energy as the distance.
+unfoldable pub made_value : ℕ → ℕ → ℕ → Data
 made_value seed customers stations =
-  let places = places_of seed (1 + customers + stations) in
-  object
+    let places = places_of seed (1 + customers + stations) in
+    object
     (member (codes "breakpoints_by_type") curves_value
     (member (codes "css") (stations_value customers stations)
     (member (codes "energy_matrix") (distances_value places)

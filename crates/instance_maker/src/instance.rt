@@ -41,7 +41,12 @@ fn curve(alloc: Global, kind: &str, times: &[u64]) -> Result<Value, AllocError>
 {
     let mut members = Map::new(alloc);
     put(&mut members, alloc, "charge", numbers(alloc, &CHARGES)?)?;
-    put(&mut members, alloc, "cs_type", Value::try_from_str(alloc, kind)?)?;
+    put(
+        &mut members,
+        alloc,
+        "cs_type",
+        Value::try_from_str(alloc, kind)?,
+    )?;
     put(&mut members, alloc, "time", numbers(alloc, times)?)?;
     Ok(Value::from(members))
 }
@@ -62,7 +67,12 @@ fn station(alloc: Global, number: u64, node: u64) -> Result<Value, AllocError>
 {
     let kind = if number % 2 == 0 { "fast" } else { "slow" };
     let mut members = Map::new(alloc);
-    put(&mut members, alloc, "cs_type", Value::try_from_str(alloc, kind)?)?;
+    put(
+        &mut members,
+        alloc,
+        "cs_type",
+        Value::try_from_str(alloc, kind)?,
+    )?;
     put(&mut members, alloc, "node_id", Value::from(node))?;
     Ok(Value::from(members))
 }
@@ -123,7 +133,13 @@ fn process_times(alloc: Global, customers: u32, stations: u32) -> Result<Value, 
 }
 
 /// The value of the made instance.
-pub(crate) fn instance_value(alloc: Global, seed: u64, customers: u32, stations: u32) -> Result<Value, AllocError>
+#[tactic(auto, unfolding(crate::specs::MadeInstance::made_value))]
+pub(crate) fn instance_value(
+    alloc: Global,
+    seed: u64,
+    customers: u32,
+    stations: u32,
+) -> Result<Value, AllocError>
     requires { seed < MODULUS }
     ensures { IfOk result (λ value. view value ≡ made_value seed customers stations) }
 {
@@ -131,10 +147,30 @@ pub(crate) fn instance_value(alloc: Global, seed: u64, customers: u32, stations:
     let places = draw_places(alloc, seed, nodes)?;
     let mut members = Map::new(alloc);
     put(&mut members, alloc, "breakpoints_by_type", curves(alloc)?)?;
-    put(&mut members, alloc, "css", station_entries(alloc, customers, stations)?)?;
-    put(&mut members, alloc, "energy_matrix", distances(alloc, places.as_slice())?)?;
+    put(
+        &mut members,
+        alloc,
+        "css",
+        station_entries(alloc, customers, stations)?,
+    )?;
+    put(
+        &mut members,
+        alloc,
+        "energy_matrix",
+        distances(alloc, places.as_slice())?,
+    )?;
     put(&mut members, alloc, "max_q", Value::from(BATTERY))?;
-    put(&mut members, alloc, "process_times", process_times(alloc, customers, stations)?)?;
-    put(&mut members, alloc, "time_matrix", distances(alloc, places.as_slice())?)?;
+    put(
+        &mut members,
+        alloc,
+        "process_times",
+        process_times(alloc, customers, stations)?,
+    )?;
+    put(
+        &mut members,
+        alloc,
+        "time_matrix",
+        distances(alloc, places.as_slice())?,
+    )?;
     Ok(Value::from(members))
 }

@@ -33,7 +33,12 @@ pub enum MakerFault {
 ///
 /// Its nodes are the depot, so many customers, and so many stations, in this order. Their places
 /// are drawn by the minimal standard generator of Park and Miller from the seed on.
-pub fn make_instance(alloc: Global, seed: u64, customers: u32, stations: u32) -> Result<Vec<u8>, MakerFault>
+pub fn make_instance(
+    alloc: Global,
+    seed: u64,
+    customers: u32,
+    stations: u32,
+) -> Result<Vec<u8>, MakerFault>
     ensures range { IsErrOf result MakerFault.Range ↔ IsOutOfRange seed customers stations }
     ensures text { IfOk result (λ text. text.items ≡ made_text seed customers stations) }
     ensures reads_back { IfOk result (λ text. read text.items ≡ Some (made_value seed customers stations)) }
@@ -48,7 +53,12 @@ pub fn make_instance(alloc: Global, seed: u64, customers: u32, stations: u32) ->
 }
 
 /// The text of the made instance.
-fn instance_text(alloc: Global, seed: u64, customers: u32, stations: u32) -> Result<Vec<u8>, AllocError>
+fn instance_text(
+    alloc: Global,
+    seed: u64,
+    customers: u32,
+    stations: u32,
+) -> Result<Vec<u8>, AllocError>
     requires seed { seed < MODULUS }
     requires places { customers + stations ≤ MOST_PLACES }
     ensures text { IfOk result (λ text. text.items ≡ made_text seed customers stations) }
@@ -58,3 +68,6 @@ fn instance_text(alloc: Global, seed: u64, customers: u32, stations: u32) -> Res
 {
     instance_value(alloc, seed, customers, stations)?.to_vec(alloc)
 }
+
+#[cfg(test)]
+mod tests;
