@@ -7,8 +7,8 @@ use Rattle.serde_json.specs.View.{items_of}
 use Rattle.serde_json.specs.Written.{has_float, items_have_float, members_have_float, compact_text, items_text, members_text, comma_if}
 use Rattle.serde_json.proofs.OnLiterals.{serde_json_on_literals}
 use Rattle.instance_maker.specs.Lists.{tabulate}
-use Rattle.instance_maker.specs.Places.{place_of, places_of, distance_between}
-use Rattle.instance_maker.specs.declared.plane.Place.{Place}
+use Rattle.instance_maker.specs.Locations.{location_of, locations_of, distance_between}
+use Rattle.instance_maker.specs.declared.plane.Location.{Location}
 use Rattle.instance_maker.specs.MadeInstance.{whole, array_of, curve_value, curves_value, type_of, station_value, stations_value, distances_value, process_times_value, made_value}
 
 -- No number of the value is a float, and its depth and the length of its text are within bounds.
@@ -21,8 +21,8 @@ abbrev pub AllOf : {A : Type 0} → (A → Type 0) → List A → Type 0
 AllOf P [] = Unit {0}
 AllOf P (x ∷ xs) = P x × AllOf P xs
 
--- The place is within the square of 1000 by 1000.
-abbrev pub IsInSquare : Place → Type 0
+-- The location is within the square of 1000 by 1000.
+abbrev pub IsInSquare : Location → Type 0
 IsInSquare p = (p.x < 1000) × (p.y < 1000)
 
 abbrev pub AllSmall : ℕ → ℕ → List Data → Type 0
@@ -159,20 +159,20 @@ IsSmall-stations customers stations few =
     let each = AllSmall-tabulate 1 40 entry stations (λ k below. IsSmall-station k (1 + customers + k) (omega arith)) in
     IsSmall-within _ _ 2 16400 _ (IsSmall-array 1 40 (tabulate entry stations) each) (lit≤ tt) (omega (arith, length-tabulate entry stations))
 
-distance-below : (p q : Place) → IsInSquare p → IsInSquare q → distance_between p q < 10 ^ 4
+distance-below : (p q : Location) → IsInSquare p → IsInSquare q → distance_between p q < 10 ^ 4
 distance-below p q h k = omega (arith, h.0, h.1, k.0, k.1)
 
-IsSmall-row : (from : Place) (places : List Place) → IsInSquare from → AllOf IsInSquare places → length places ≤ 400 → IsSmall 1 2002 (array_of (map (λ to. whole (distance_between from to)) places))
-IsSmall-row from places here inside few =
-    let entry : Place → Data = λ to. whole (distance_between from to) in
-    let each = λ (to : Place) (h : IsInSquare to). let below : distance_between from to < 10 ^ 4 = distance-below from to here h in IsSmall-whole 4 (distance_between from to) (lit< tt) below (omega (arith, below)) in
-    IsSmall-within _ _ 1 2002 _ (IsSmall-array 0 4 (map entry places) (AllSmall-map 0 4 entry IsInSquare places inside each)) (lit≤ tt) (omega (arith, length-map places entry))
+IsSmall-row : (from : Location) (locations : List Location) → IsInSquare from → AllOf IsInSquare locations → length locations ≤ 400 → IsSmall 1 2002 (array_of (map (λ to. whole (distance_between from to)) locations))
+IsSmall-row from locations here inside few =
+    let entry : Location → Data = λ to. whole (distance_between from to) in
+    let each = λ (to : Location) (h : IsInSquare to). let below : distance_between from to < 10 ^ 4 = distance-below from to here h in IsSmall-whole 4 (distance_between from to) (lit< tt) below (omega (arith, below)) in
+    IsSmall-within _ _ 1 2002 _ (IsSmall-array 0 4 (map entry locations) (AllSmall-map 0 4 entry IsInSquare locations inside each)) (lit≤ tt) (omega (arith, length-map locations entry))
 
-IsSmall-distances : (places : List Place) → AllOf IsInSquare places → length places ≤ 400 → IsSmall 2 801300 (distances_value places)
-IsSmall-distances places inside few =
-    let row : Place → Data = λ from. array_of (map (λ to. whole (distance_between from to)) places) in
-    let each = λ (from : Place) (h : IsInSquare from). IsSmall-row from places h inside few in
-    IsSmall-within _ _ 2 801300 _ (IsSmall-array 1 2002 (map row places) (AllSmall-map 1 2002 row IsInSquare places inside each)) (lit≤ tt) (omega (arith, length-map places row))
+IsSmall-distances : (locations : List Location) → AllOf IsInSquare locations → length locations ≤ 400 → IsSmall 2 801300 (distances_value locations)
+IsSmall-distances locations inside few =
+    let row : Location → Data = λ from. array_of (map (λ to. whole (distance_between from to)) locations) in
+    let each = λ (from : Location) (h : IsInSquare from). IsSmall-row from locations h inside few in
+    IsSmall-within _ _ 2 801300 _ (IsSmall-array 1 2002 (map row locations) (AllSmall-map 1 2002 row IsInSquare locations inside each)) (lit≤ tt) (omega (arith, length-map locations row))
 
 IsSmall-process_times : (customers stations : ℕ) → customers + stations ≤ 399 → IsSmall 1 810 (process_times_value customers stations)
 IsSmall-process_times customers stations few =
@@ -186,9 +186,9 @@ IsSmall-process_times customers stations few =
 pub IsSmall-made : (seed customers stations : ℕ) → customers + stations ≤ 399 → IsSmall 4 1700000 (made_value seed customers stations)
 unfolding serde_json_on_literals made_value
 IsSmall-made seed customers stations few =
-    let places : List Place = places_of seed (1 + customers + stations) in
-    let inside = AllOf-tabulate IsInSquare (place_of seed) (1 + customers + stations) (λ node. (omega arith, omega arith)) in
-    let matrix = IsSmall-distances places inside (omega (arith, length-tabulate (place_of seed) (1 + customers + stations))) in
+    let locations : List Location = locations_of seed (1 + customers + stations) in
+    let inside = AllOf-tabulate IsInSquare (location_of seed) (1 + customers + stations) (λ node. (omega arith, omega arith)) in
+    let matrix = IsSmall-distances locations inside (omega (arith, length-tabulate (location_of seed) (1 + customers + stations))) in
     let m6 = AreSmall-member 3 801300 2 1 (codes "time_matrix") _ _ matrix (lit≤ tt) (AreSmall-none 3) in
     let m5 = AreSmall-member 3 810 1 _ (codes "process_times") _ _ (IsSmall-process_times customers stations few) (lit≤ tt) m6 in
     let m4 = AreSmall-member 3 4 0 _ (codes "max_q") _ _ (IsSmall-whole 4 1600 (lit< tt) (lit< tt) (lit< tt)) (lit≤ tt) m5 in

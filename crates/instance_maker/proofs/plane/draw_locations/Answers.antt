@@ -1,7 +1,7 @@
 use Rattle.std.proofs.Common.{◌≡◌, ◌∙◌, ap, ℕ, ◌+◌, ◌*◌, ◌%◌, arith}
 use Rattle.instance_maker.specs.Generator.{state_after, drawn}
-use Rattle.instance_maker.proofs.GeneratorLemmas.{state_after-more, places_of-more}
-use Rattle.instance_maker.proofs.plane.draw_places.Goals as goal
+use Rattle.instance_maker.proofs.GeneratorLemmas.{state_after-more, locations_of-more}
+use Rattle.instance_maker.proofs.plane.draw_locations.Goals as goal
 
 pub loop-node-preserved : goal.loop-node-preserved
 loop-node-preserved c =
@@ -14,6 +14,6 @@ loop-node-preserved c =
     let is_y : c.draw-y.result ≡ drawn seed (2 * node + 2) = c.draw-y.ensures.number ∙ ap (λ s. s % 1000) second in
     let after : 2 * node + 2 ≡ 2 * (node + 1) = omega arith in
     record {
-      drawn_so_far = c.in_ok-push.ensures.items ∙ places_of-more seed node c.draw-x.result c.draw-y.result _ c.loop-node.invariant.drawn_so_far is_x is_y;
+      drawn_so_far = c.in_ok-push.ensures.items ∙ locations_of-more seed node c.draw-x.result c.draw-y.result _ c.loop-node.invariant.drawn_so_far is_x is_y;
       state = second ∙ ap (λ draws. state_after seed draws) after;
     }
