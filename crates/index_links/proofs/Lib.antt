@@ -1,0 +1,9 @@
+pub mod Calls
+pub mod Chains
+pub mod Forest
+pub mod Growing
+pub mod ListChanges
+pub mod Members
+pub mod Queue
+pub mod Rewiring
+pub mod Splicing
