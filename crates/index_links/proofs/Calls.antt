@@ -1,7 +1,6 @@
 -- What the calls of `Rings` leave, from the equations of their steps.
-use Rattle.std.proofs.Common.{◌≡◌, ℕ, ◌<◌, List, [], ◌∷◌, ◌++◌, inl, inr, length, map, set, get_or, refl, sym, ◌∙◌, ap, subst, arith, Option, Some, None, length-set, get_or-set_same, get_or-set_other}
+use Rattle.std.proofs.Common.{◌≡◌, ℕ, ◌<◌, List, [], ◌∷◌, ◌++◌, inl, inr, length, set, get_or, refl, sym, ◌∙◌, ap, subst, arith, Option, Some, None, length-set, get_or-set_same, get_or-set_other}
 use Rattle.std.proofs.lemmas.List.{append-nil, get_or_default, length-map}
-use Rattle.std.proofs.lemmas.Option.{none-some}
 use Rattle.std.specs.Prelude.{slice_get, IfSome, is_some, Bool, true}
 use Rattle.index_links.specs.Lists.{Lists, IsIn, EachOnce, IsLinked, AreDisjoint, list_at, lists_with_before, lists_with_last, lists_without, with_before, without}
 use Rattle.index_links.specs.declared.rings.Slot.{Slot}
@@ -193,3 +192,14 @@ linked_iff es s i v b o h is ve be = (
 
 pub disjoint_now : (es : List Ends) (s : List Slot) (o : Lists) → Spells es s (spelled_lists es s) → view es s ≡ o → AreDisjoint o
 disjoint_now es s o h is = subst (λ (o : Lists). AreDisjoint o) is (are_disjoint es s (spelled_lists es s) h)
+
+-- what `first` and `next` answer stands in a list
+pub first_linked : (o : Lists) (k : ℕ) (r : Option ℕ) → r ≡ slice_get (list_at o.lists k) 0 → IfSome r (IsLinked o.lists)
+first_linked o k None e = tt
+first_linked o k (Some x) e = (k, head_in (list_at o.lists k) x (sym e))
+
+pub next_linked : (o : Lists) (i : ℕ) (r : Option ℕ) → IsLinked o.lists i → ((k : ℕ) (before after : List ℕ) → list_at o.lists k ≡ before ++ i ∷ after → r ≡ slice_get after 0) → IfSome r (IsLinked o.lists)
+next_linked o i None m says = tt
+next_linked o i (Some x) m says =
+    let p = split i (list_at o.lists m.0) m.1 in
+    (m.0, subst (λ (l : List ℕ). IsIn x l) (sym p.2) (in-append_right x p.0 (i ∷ p.1) (inr (head_in p.1 x (sym (says m.0 p.0 p.1 p.2))))))

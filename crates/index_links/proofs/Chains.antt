@@ -4,7 +4,7 @@ use Rattle.std.proofs.lemmas.List.{ext_get_or, length-map, get_or-map, get_or_pa
 use Rattle.std.proofs.lemmas.Bool.{cases_lt}
 use Rattle.std.proofs.lemmas.Option.{same_Some, none-some}
 use Rattle.std.specs.Prelude.{slice_get}
-use Rattle.index_links.specs.Lists.{Lists, IsIn, EachOnce, list_at, AreDisjoint}
+use Rattle.index_links.specs.Lists.{IsIn, EachOnce, list_at, AreDisjoint}
 use Rattle.index_links.specs.declared.rings.Slot.{Slot}
 use Rattle.index_links.specs.declared.rings.Ends.{Ends}
 use Rattle.index_links.specs.Links.{slot_at, ends_at, no_ends, items_from, last_of, IsChain, IsRing, Spells, spelled_lists}

@@ -7,3 +7,4 @@ pub mod Members
 pub mod Queue
 pub mod Rewiring
 pub mod Splicing
+pub mod Walk

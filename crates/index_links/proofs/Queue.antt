@@ -1,11 +1,11 @@
 -- The queue as one tree of its items.
 use Rattle.std.proofs.Common.{◌≡◌, ℕ, zero, suc, ◌<◌, ◌+◌, ◌-◌, List, [], ◌++◌, ◌⊎◌, inl, inr, length, max, replicate, set, refl, sym, ◌∙◌, ap, subst, arith, length-set, get_or-set_same, get_or-set_other, Option, Some, None}
-use Rattle.std.specs.Prelude.{true, false, is_some, IfSome, IsNone, ◌↔◌}
+use Rattle.std.specs.Prelude.{true, false, is_some}
 use Rattle.std.proofs.lemmas.Bool.{cases_eq, cases_lt}
 use Rattle.std.proofs.lemmas.List.{get_or_past, length-append, length-replicate}
 use Rattle.std.proofs.lemmas.Option.{same_Some, none-some}
 use Rattle.index_links.specs.Lists.{Lists, IsIn, IsLinked, list_at, lists_padded, lists_with_last, lists_without}
-use Rattle.index_links.specs.Queue.{key_at, HasPair, IsEmpty, IsLeast, Precedes}
+use Rattle.index_links.specs.Queue.{key_at, HasPair, IsLeast, Precedes}
 use Rattle.index_links.specs.Forest.{IsAbove, IsForest, IsHeap, IsCut}
 use Rattle.index_links.proofs.ListChanges.{get_or-padded, with_last_in, with_last_keeps, with_last_has, without_in, without_keeps}
 use Rattle.index_links.proofs.Forest.{held_within, above_first, above_second, above_apart, above_chain, forest_link, forest_unlink, with_lists}

@@ -1,13 +1,13 @@
 -- What two writes of links and one of a slot leave.
-use Rattle.std.proofs.Common.{◌≡◌, ℕ, ◌<◌, List, [], ◌∷◌, ◌++◌, inl, inr, length, set, refl, sym, ◌∙◌, ap, subst, arith, Option, Some, None, get_or-set_same, get_or-set_other, length-set}
+use Rattle.std.proofs.Common.{◌≡◌, ℕ, ◌<◌, List, [], ◌∷◌, inl, inr, length, set, refl, sym, ◌∙◌, ap, subst, arith, Option, Some, None, get_or-set_same, get_or-set_other, length-set}
 use Rattle.std.proofs.lemmas.Bool.{cases_eq, cases_lt}
 use Rattle.std.proofs.lemmas.List.{get_or_past}
-use Rattle.std.proofs.lemmas.Option.{same_Some, none-some}
+use Rattle.std.proofs.lemmas.Option.{same_Some}
 use Rattle.index_links.specs.Lists.{IsIn, EachOnce, list_at}
 use Rattle.index_links.specs.declared.rings.Slot.{Slot}
 use Rattle.index_links.specs.declared.rings.Ends.{Ends}
 use Rattle.index_links.specs.Links.{slot_at, unlinked, ends_at, no_ends, last_of, IsChain, IsRing, Spells, slots_with_next, slots_with_prev, ends_with_first, ends_with_last}
-use Rattle.index_links.proofs.Chains.{SameSlot, chain_frame, chain_slot, last_in, last_some}
+use Rattle.index_links.proofs.Chains.{chain_frame, chain_slot, last_in, last_some}
 
 -- the forward link of p was set
 pub record NextSet (s t : List Slot) (p to : Option ℕ) : Type 0 where

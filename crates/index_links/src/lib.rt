@@ -9,3 +9,6 @@ mod rings;
 
 pub use heap::IndexHeap;
 pub use rings::Rings;
+
+#[cfg(test)]
+mod tests;

@@ -168,6 +168,7 @@ impl Rings {
     pub fn first(&self, list: usize) -> Option<usize>
         requires { list < length self.now.lists }
         ensures first { result ≡ slice_get (list_at self.now.lists list) 0 }
+        ensures linked { IfSome result (IsLinked self.now.lists) }
         ensures disjoint { AreDisjoint self.now }
     {
         self.links.ends[list].first
@@ -177,6 +178,7 @@ impl Rings {
     pub fn next(&self, i: usize) -> Option<usize>
         requires { IsLinked self.now.lists i }
         ensures next { (k : ℕ) (before after : List ℕ) → list_at self.now.lists k ≡ before ++ i ∷ after → result ≡ slice_get after 0 }
+        ensures linked { IfSome result (IsLinked self.now.lists) }
         ensures disjoint { AreDisjoint self.now }
     {
         self.links.slots[i].next

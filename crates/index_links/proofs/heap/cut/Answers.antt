@@ -1,4 +1,4 @@
-use Rattle.std.proofs.Common.{List, sym, ◌∙◌, subst, Some, ℕ, refl}
+use Rattle.std.proofs.Common.{sym, ◌∙◌, subst, Some, refl}
 use Rattle.index_links.specs.Lists.{Lists, list_at}
 use Rattle.index_links.specs.Forest.{IsForest, IsCut}
 use Rattle.index_links.proofs.Members.{head_in, only_item}

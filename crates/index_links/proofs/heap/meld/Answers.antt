@@ -1,7 +1,7 @@
-use Rattle.std.proofs.Common.{◌<◌, length, ℕ, sym, ◌∙◌, ap, subst}
+use Rattle.std.proofs.Common.{◌<◌, length, sym, ◌∙◌, ap, subst}
 use Rattle.index_links.specs.Lists.{Lists, IsIn, IsLinked, list_at, lists_with_last}
 use Rattle.index_links.specs.Forest.{IsForest, SameLinked}
-use Rattle.index_links.proofs.Forest.{with_lists, loser_in, loser_free, meld_forest, meld_same, meld_shorter, meld_winner}
+use Rattle.index_links.proofs.Forest.{with_lists, loser_free, meld_forest, meld_same, meld_shorter, meld_winner}
 use Rattle.index_links.proofs.heap.meld.Goals as goal
 
 pub ranked-winner-requires-clause-a : goal.ranked-winner-requires-clause-a

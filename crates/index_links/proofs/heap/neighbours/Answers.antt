@@ -1,4 +1,4 @@
-use Rattle.std.proofs.Common.{ℕ, sym, ◌∙◌}
+use Rattle.std.proofs.Common.{sym, ◌∙◌}
 use Rattle.index_links.specs.Lists.{list_at}
 use Rattle.index_links.proofs.Members.{head_in}
 use Rattle.index_links.proofs.Forest.{behind, no_item, only_one}

@@ -1,7 +1,7 @@
 use Rattle.std.proofs.Common.{◌≡◌, ℕ, List, sym, ◌∙◌, subst, Option, Some, None, refl}
 use Rattle.std.proofs.lemmas.List.{get_or_default}
 use Rattle.std.specs.Prelude.{IfSome}
-use Rattle.index_links.specs.Queue.{key_at, IsEmpty, IsLeast}
+use Rattle.index_links.specs.Queue.{IsEmpty, IsLeast}
 use Rattle.index_links.proofs.Forest.{held_within}
 use Rattle.index_links.proofs.Queue.{none_held, root_least}
 use Rattle.index_links.proofs.heap.IndexHeap.least_key.Goals as goal

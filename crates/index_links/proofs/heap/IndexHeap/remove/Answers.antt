@@ -1,4 +1,4 @@
-use Rattle.std.proofs.Common.{◌≡◌, ◌<◌, ℕ, List, set, sym, ◌∙◌, ap, subst, Option, Some, None}
+use Rattle.std.proofs.Common.{◌<◌, ℕ, List, set, sym, ◌∙◌, ap, subst, Option, Some, None}
 use Rattle.std.proofs.lemmas.Option.{none-some}
 use Rattle.index_links.specs.Lists.{Lists, IsLinked, lists_with_last}
 use Rattle.index_links.specs.Queue.{key_at, HasPair}

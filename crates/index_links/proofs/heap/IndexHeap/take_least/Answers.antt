@@ -1,4 +1,4 @@
-use Rattle.std.proofs.Common.{◌≡◌, ℕ, List, set, ap, subst, Option, None, refl}
+use Rattle.std.proofs.Common.{ℕ, List, subst, Option, refl}
 use Rattle.index_links.specs.Queue.{IsEmpty, IsLeast}
 use Rattle.index_links.specs.Forest.{IsForest, IsCut}
 use Rattle.index_links.proofs.Queue.{none_held, root_least, take_root}

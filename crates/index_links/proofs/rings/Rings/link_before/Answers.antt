@@ -1,9 +1,8 @@
 use Rattle.std.proofs.Common.{◌≡◌, ◌<◌, length, sym, ◌∙◌, ap, arith, Some}
 use Rattle.std.proofs.lemmas.Option.{none-some}
 use Rattle.index_links.specs.declared.rings.Slot.{Slot}
-use Rattle.index_links.specs.Lists.{Lists}
 use Rattle.index_links.specs.Links.{spelled_lists}
-use Rattle.index_links.proofs.Calls.{linked_now, linked_slot, same_ends, same_slots, same_slots_back, slot_read, link_before_done}
+use Rattle.index_links.proofs.Calls.{linked_now, linked_slot, same_ends, same_slots, slot_read, link_before_done}
 use Rattle.index_links.proofs.rings.Rings.link_before.Goals as goal
 
 pub index-behind-requires : goal.index-behind-requires
