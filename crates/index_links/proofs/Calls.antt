@@ -133,17 +133,6 @@ within_some : (s : List Slot) (p : Option ℕ) → ((x : ℕ) → p ≡ Some x �
 within_some s None h = tt
 within_some s (Some x) h = h x refl
 
--- no write of a link changes the number of lists or slots
-pub same_ends : (es fs : List Ends) (k : ℕ) (p a : Option ℕ) → fs ≡ ends_with_first es k p a → length fs ≡ length es
-same_ends es fs k None a e = ap length e ∙ length-set es k (record { first = a; last = (ends_at es k).last })
-same_ends es fs k (Some p) a e = ap length e
-
-pub same_slots : (s t : List Slot) (p a : Option ℕ) → t ≡ slots_with_next s p a → length t ≡ length s
-same_slots s t p a e = (next_set s t p a e).len
-
-pub same_slots_back : (t u : List Slot) (n b : Option ℕ) → u ≡ slots_with_prev t n b → length u ≡ length t
-same_slots_back t u n b e = (prev_set t u n b e).len
-
 -- the last item of a list is in range
 pub last_within : (es : List Ends) (s : List Slot) (ls : List (List ℕ)) → Spells es s ls → (k : ℕ) → k < length es → (p : Option ℕ) → p ≡ (ends_at es k).last → IfSome p (λ x. x < length s)
 last_within es s ls h k lk p pe =

@@ -137,8 +137,8 @@ module _ (keys : List (Option ℕ)) (o : Lists) (parent a b w l : ℕ) (f : IsFo
   meld_winner = with_last_keeps (lists_without o.lists l) w l w parent winner_within (without_keeps o.lists l w parent winner_in apart)
 
 -- the last tree taken off
-pub same_none : (ls : List (List ℕ)) → SameLinked ls ls
-same_none ls j = (λ m. m, λ m. m)
+pub same_refl : (ls : List (List ℕ)) → SameLinked ls ls
+same_refl ls j = (λ m. m, λ m. m)
 
 pub same_chain : (a b c : List (List ℕ)) → SameLinked a b → SameLinked b c → SameLinked a c
 same_chain a b c p q j = (λ m. (p j).0 ((q j).0 m), λ m. (q j).1 ((p j).1 m))

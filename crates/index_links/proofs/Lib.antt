@@ -5,6 +5,7 @@ pub mod Growing
 pub mod ListChanges
 pub mod Members
 pub mod Queue
+pub mod QueueChanges
 pub mod Rewiring
 pub mod Splicing
 pub mod Walk

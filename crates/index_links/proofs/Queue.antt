@@ -2,12 +2,13 @@
 use Rattle.std.proofs.Common.{◌≡◌, ℕ, zero, suc, ◌<◌, ◌+◌, ◌-◌, List, [], ◌++◌, ◌⊎◌, inl, inr, length, max, replicate, set, refl, sym, ◌∙◌, ap, subst, arith, length-set, get_or-set_same, get_or-set_other, Option, Some, None}
 use Rattle.std.specs.Prelude.{true, false, is_some}
 use Rattle.std.proofs.lemmas.Bool.{cases_eq, cases_lt}
-use Rattle.std.proofs.lemmas.List.{get_or_past, length-append, length-replicate}
+use Rattle.std.proofs.lemmas.List.{length-append, length-replicate}
 use Rattle.std.proofs.lemmas.Option.{same_Some, none-some}
 use Rattle.index_links.specs.Lists.{Lists, IsIn, IsLinked, list_at, lists_padded, lists_with_last, lists_without}
 use Rattle.index_links.specs.Queue.{key_at, HasPair, IsLeast, Precedes}
 use Rattle.index_links.specs.Forest.{IsAbove, IsForest, IsHeap, IsCut}
 use Rattle.index_links.proofs.ListChanges.{get_or-padded, with_last_in, with_last_keeps, with_last_has, without_in, without_keeps}
+use Rattle.index_links.proofs.QueueChanges.{key_at-removed}
 use Rattle.index_links.proofs.Forest.{held_within, above_first, above_second, above_apart, above_chain, forest_link, forest_unlink, with_lists}
 
 -- a value that is there, and one that is not
@@ -25,10 +26,6 @@ unheld (Some k) h = absurd (h k refl)
 
 comes : (a b c d r s j : ℕ) → a ≡ b → c ≡ d → r ≡ s → Precedes a r c j → Precedes b s d j
 comes a b c d r s j e f g l = elim l [ inl x ↦ inl (omega arith) | inr x ↦ inr (omega arith, omega arith) ]
-
--- nothing is held where the key was taken
-pub gone : (keys : List (Option ℕ)) (i : ℕ) → key_at (set keys i None) i ≡ None
-gone keys i = elim (cases_lt i (length keys)) [ inl l ↦ get_or-set_same keys i None None l | inr g ↦ get_or_past (set keys i None) i None (omega (arith, length-set keys i None)) ]
 
 module _ (keys : List (Option ℕ)) (o : Lists) (root : Option ℕ) (h : IsHeap keys o root) where
   abbrev Reached : ℕ → Type 0
@@ -181,7 +178,7 @@ module _ (keys : List (Option ℕ)) (o n : Lists) (root : Option ℕ) (h : IsHea
   left_held : (p v : ℕ) → HasPair fewer v p → (p ≡ i → ⊥) × (HasPair keys v p)
   left_held p v e =
       elim (cases_eq p i) [
-        | inl q ↦ absurd (none-some v (sym (gone keys i) ∙ ap (key_at fewer) (sym q) ∙ e))
+        | inl q ↦ absurd (none-some v (sym (key_at-removed keys i) ∙ ap (key_at fewer) (sym q) ∙ e))
         | inr d ↦ (d, sym (get_or-set_other keys i p None None d) ∙ e)
       ]
 
@@ -306,22 +303,6 @@ grow_heap keys more o root n h e =
       rooted = λ i k q. elim (h.rooted i k (sym (same i) ∙ q)) [ inl x ↦ inl x | inr m ↦ inr (m.0, subst (λ (z : List ℕ). IsIn i z) (sym (lists m.0)) m.1) ];
       top = λ r q. let g = h.top r q in ((g.0.0, same r ∙ g.0.1), λ m. g.1 (m.0, subst (λ (z : List ℕ). IsIn r z) (lists m.0) m.1));
     }
-
--- two pairs that are both least are one
-pub IsLeast-same : (keys : List (Option ℕ)) (key i other j : ℕ) → IsLeast keys key i → IsLeast keys other j → (key ≡ other) × (i ≡ j)
-IsLeast-same keys key i other j a b =
-    let e : i ≡ j =
-    elim (a.least other j b.held) [
-      | inl q ↦ sym q
-      | inr x ↦ elim (b.least key i a.held) [
-        | inl q ↦ q
-        | inr y ↦ elim x [
-          | inl u ↦ elim y [ inl v ↦ absurd (omega arith) | inr v ↦ absurd (omega arith) ]
-          | inr u ↦ elim y [ inl v ↦ absurd (omega arith) | inr v ↦ absurd (omega arith) ]
-        ]
-      ]
-    ] in
-    (same_Some key other (sym a.held ∙ ap (key_at keys) e ∙ b.held), e)
 
 -- a new item melded with the root
 pub put_melded : (keys : List (Option ℕ)) (o : Lists) (root : Option ℕ) (h : IsHeap keys o root) (i key : ℕ) → i < length keys → key_at keys i ≡ None

@@ -46,6 +46,8 @@ impl Links {
         requires prev { IfSome prev (λ p. p < length self.old.slots.items) }
         ensures ends { self.new.ends.items ≡ ends_with_first self.old.ends.items list prev to }
         ensures slots { self.new.slots.items ≡ slots_with_next self.old.slots.items prev to }
+        ensures lists { length self.new.ends.items ≡ length self.old.ends.items }
+        ensures items { length self.new.slots.items ≡ length self.old.slots.items }
     {
         match prev {
             Some(p) => self.slots[p].next = to,
@@ -59,6 +61,8 @@ impl Links {
         requires next { IfSome next (λ n. n < length self.old.slots.items) }
         ensures ends { self.new.ends.items ≡ ends_with_last self.old.ends.items list next to }
         ensures slots { self.new.slots.items ≡ slots_with_prev self.old.slots.items next to }
+        ensures lists { length self.new.ends.items ≡ length self.old.ends.items }
+        ensures items { length self.new.slots.items ≡ length self.old.slots.items }
     {
         match next {
             Some(n) => self.slots[n].prev = to,

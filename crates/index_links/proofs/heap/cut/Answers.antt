@@ -2,13 +2,13 @@ use Rattle.std.proofs.Common.{sym, ◌∙◌, subst, Some, refl}
 use Rattle.index_links.specs.Lists.{Lists, list_at}
 use Rattle.index_links.specs.Forest.{IsForest, IsCut}
 use Rattle.index_links.proofs.Members.{head_in, only_item}
-use Rattle.index_links.proofs.Forest.{cut_some, forest_unlink, goes_on, same_chain, same_none}
+use Rattle.index_links.proofs.Forest.{cut_some, forest_unlink, goes_on, same_chain, same_refl}
 use Rattle.index_links.proofs.heap.cut.Goals as goal
 
 pub loop-a-init : goal.loop-a-init
 loop-a-init c = record {
   forest = c.requires.forest;
-  same = same_none c.args.children.now.lists;
+  same = same_refl c.args.children.now.lists;
   child = head_in (list_at c.args.children.now.lists c.args.parent) c.in-Some.first (sym c.first.ensures.first ∙ c.in-Some.is);
 }
 

@@ -1,8 +1,8 @@
-use Rattle.std.proofs.Common.{◌≡◌, ◌<◌, length, sym, ◌∙◌, ap, arith, Some}
+use Rattle.std.proofs.Common.{◌<◌, length, sym, ◌∙◌, ap, arith}
 use Rattle.std.proofs.lemmas.Option.{none-some}
 use Rattle.index_links.specs.declared.rings.Slot.{Slot}
 use Rattle.index_links.specs.Links.{spelled_lists}
-use Rattle.index_links.proofs.Calls.{linked_now, linked_slot, same_ends, same_slots, slot_read, link_before_done}
+use Rattle.index_links.proofs.Calls.{linked_now, linked_slot, slot_read, link_before_done}
 use Rattle.index_links.proofs.rings.Rings.link_before.Goals as goal
 
 pub index-behind-requires : goal.index-behind-requires
@@ -35,7 +35,6 @@ set_prev-requires-clause-list c =
     let is = slot_read es s c.args.next c.index-behind.result.now c.args.self.now c.self.invariant c.self.view_is c.requires.next c.index-behind.ensures in
     let linked = linked_slot es s (spelled_lists es s) c.self.invariant c.args.next c.in-Some.list c.index-behind.result.now is c.in-Some.is in
     let list : c.in-Some.list < length es = linked.list in
-    let len : length c.set_next.new.self.ends.items ≡ length es = same_ends es c.set_next.new.self.ends.items c.in-Some.list c.index-behind.result.now.prev (Some c.args.i) c.set_next.ensures.ends in
     omega arith
 
 pub set_prev-requires-clause-next : goal.set_prev-requires-clause-next
@@ -44,7 +43,6 @@ set_prev-requires-clause-next c =
     let s = c.self.inside.links.slots.items in
     let is = slot_read es s c.args.next c.index-behind.result.now c.args.self.now c.self.invariant c.self.view_is c.requires.next c.index-behind.ensures in
     let linked = linked_slot es s (spelled_lists es s) c.self.invariant c.args.next c.in-Some.list c.index-behind.result.now is c.in-Some.is in
-    let len : length c.set_next.new.self.slots.items ≡ length s = same_slots s c.set_next.new.self.slots.items c.index-behind.result.now.prev (Some c.args.i) c.set_next.ensures.slots in
     let item : c.args.next < length s = linked.item in
     omega arith
 

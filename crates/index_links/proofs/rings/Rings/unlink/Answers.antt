@@ -1,8 +1,8 @@
-use Rattle.std.proofs.Common.{◌≡◌, ◌<◌, length, sym, ◌∙◌, ap, arith}
+use Rattle.std.proofs.Common.{◌<◌, length, sym, ◌∙◌, ap, arith}
 use Rattle.std.proofs.lemmas.Option.{none-some}
 use Rattle.index_links.specs.declared.rings.Slot.{Slot}
 use Rattle.index_links.specs.Links.{spelled_lists}
-use Rattle.index_links.proofs.Calls.{linked_now, linked_slot, same_ends, same_slots, same_slots_back, slot_read, unlink_done}
+use Rattle.index_links.proofs.Calls.{linked_now, linked_slot, slot_read, unlink_done}
 use Rattle.index_links.proofs.rings.Rings.unlink.Goals as goal
 
 pub index-slot-requires : goal.index-slot-requires
@@ -35,7 +35,6 @@ set_prev-requires-clause-list c =
     let is = slot_read es s c.args.i c.index-slot.result.now c.args.self.now c.self.invariant c.self.view_is c.requires c.index-slot.ensures in
     let linked = linked_slot es s (spelled_lists es s) c.self.invariant c.args.i c.in-Some.list c.index-slot.result.now is c.in-Some.is in
     let list : c.in-Some.list < length es = linked.list in
-    let len : length c.set_next.new.self.ends.items ≡ length es = same_ends es c.set_next.new.self.ends.items c.in-Some.list c.index-slot.result.now.prev c.index-slot.result.now.next c.set_next.ensures.ends in
     omega arith
 
 pub set_prev-requires-clause-next : goal.set_prev-requires-clause-next
@@ -44,8 +43,7 @@ set_prev-requires-clause-next c =
     let s = c.self.inside.links.slots.items in
     let is = slot_read es s c.args.i c.index-slot.result.now c.args.self.now c.self.invariant c.self.view_is c.requires c.index-slot.ensures in
     let linked = linked_slot es s (spelled_lists es s) c.self.invariant c.args.i c.in-Some.list c.index-slot.result.now is c.in-Some.is in
-    let len : length c.set_next.new.self.slots.items ≡ length s = same_slots s c.set_next.new.self.slots.items c.index-slot.result.now.prev c.index-slot.result.now.next c.set_next.ensures.slots in
-    rw len linked.next
+    rw c.set_next.ensures.items linked.next
 
 pub index_mut-requires : goal.index_mut-requires
 index_mut-requires c =
@@ -54,9 +52,6 @@ index_mut-requires c =
     let is = slot_read es s c.args.i c.index-slot.result.now c.args.self.now c.self.invariant c.self.view_is c.requires c.index-slot.ensures in
     let linked = linked_slot es s (spelled_lists es s) c.self.invariant c.args.i c.in-Some.list c.index-slot.result.now is c.in-Some.is in
     let item : c.args.i < length s = linked.item in
-    let len : length c.set_next.new.self.slots.items ≡ length s = same_slots s c.set_next.new.self.slots.items c.index-slot.result.now.prev c.index-slot.result.now.next c.set_next.ensures.slots in
-    let len_back : length c.set_prev.new.self.slots.items ≡ length c.set_next.new.self.slots.items =
-    same_slots_back c.set_next.new.self.slots.items c.set_prev.new.self.slots.items c.index-slot.result.now.next c.index-slot.result.now.prev c.set_prev.ensures.slots in
     omega arith
 
 pub invariant_of-self : goal.invariant_of-self
