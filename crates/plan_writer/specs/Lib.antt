@@ -1,1 +1,2 @@
 pub mod FixedText
+pub mod RefusalText

@@ -2,5 +2,7 @@
 #![tactic(auto)]
 
 mod fixed;
+mod refusal;
 
-pub use fixed::push_fixed_over;
+pub use fixed::{push_fixed_over, push_infeasible};
+pub use refusal::{push_refusal, Refusal};
