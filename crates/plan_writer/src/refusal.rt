@@ -3,7 +3,7 @@
 ghost use Rattle.std.specs.Prelude.{◌≡◌, ◌++◌, IfOk, OnErr, OnOk, decimal, codes, string_bytes};
 
 ghost use Rattle.ev_outside.specs.Counts.{IsPrefixOf};
-ghost use Rattle.plan_writer.specs.RefusalText.{cause_text, curve_text, HasLine, instance_text, place_text, refusal_text, route_text, slash_index};
+ghost use Rattle.plan_writer.specs.RefusalText.{cause_text, curve_text, instance_text, place_text, refusal_text, route_text, slash_index};
 
 use charge_curve::CurveFault;
 use instance_reader::{Place, ReadFault};
@@ -26,11 +26,10 @@ pub enum Refusal {
 }
 
 /// Appends the line of a refusal: its kind, the number of the broken rule, and the place or the
-/// number that breaks it. Want of memory has no line.
+/// number that breaks it. Want of memory is no rule: callers handle it before.
 ///
 /// After a refusal `out` has kept its old bytes as a prefix.
 pub fn push_refusal(alloc: Global, out: &mut Vec<u8>, refusal: &Refusal) -> Result<(), AllocError>
-    requires { HasLine refusal.now }
     ensures ok { OnOk result (out.new.items ≡ out.old.items ++ refusal_text refusal.now) }
     ensures err { OnErr result (IsPrefixOf out.old.items out.new.items) }
 {
