@@ -8,3 +8,4 @@ pub mod CustomersLemmas
 pub mod CurvesLemmas
 pub mod CheckedLemmas
 pub mod StationsLemmas
+pub mod PartsLemmas
