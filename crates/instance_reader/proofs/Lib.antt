@@ -9,3 +9,4 @@ pub mod CurvesLemmas
 pub mod CheckedLemmas
 pub mod StationsLemmas
 pub mod PartsLemmas
+pub mod FaultsLemmas

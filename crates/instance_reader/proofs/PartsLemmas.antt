@@ -22,7 +22,7 @@ use Rattle.instance_reader.specs.declared.curves.StationCurve.{StationCurve}
 use Rattle.instance_reader.specs.declared.instance.Instance.TheInside.{Inside}
 
 -- what holds of what each element stands for
-All-unmap : {X Y : Type 0} (P : Y → Type 0) (f : X → Y) (xs : List X) → All P (map f xs) → All (λ x. P (f x)) xs
+pub All-unmap : {X Y : Type 0} (P : Y → Type 0) (f : X → Y) (xs : List X) → All P (map f xs) → All (λ x. P (f x)) xs
 All-unmap P f xs all k d within =
     subst P (get_or-map f xs k d (f d) within) (All-get_or P (map f xs) k (f d) (rw length-map within) all)
 
