@@ -1,43 +1,76 @@
 -- The rules in their order, and what each step of the reading knows of the contents.
-use Rattle.std.proofs.Common.{◌≡◌, ◌≢◌, ◌∙◌, ℕ, ◌*◌, ◌/◌, ◌<◌, ◌≤◌, ◌^◌, List, [], ◌∷◌, Option, None, Some, Bool, true, false, All, length, map, get_or, nat_lt, option_map, unwrap_or, refl, sym, ap, subst, arith}
+use Rattle.std.proofs.Common.{◌≡◌, ◌≢◌, ◌∙◌, ℕ, ◌*◌, ◌/◌, ◌<◌, ◌≤◌, ◌^◌, List, [], ◌∷◌, Option, None, Some, Result, Ok, Err, IfErr, Bool, true, false, All, length, map, get_or, nat_lt, option_map, unwrap_or, refl, sym, ap, subst, arith}
 use Rattle.std.proofs.lemmas.Bool.Decides.{nat_tests}
 use Rattle.std.proofs.lemmas.List.Elements.{All-map}
 use Rattle.std.proofs.lemmas.Nat.Gcd.{dvd_antisymm}
 use Rattle.std.proofs.lemmas.Simd.{map-map}
+use Rattle.std.specs.Bool.{then_some}
 use Rattle.std.specs.Option.{option_or}
 use Rattle.charge_curve.specs.CutCurve.{CutCurve, IsAccepted, points_of}
 use Rattle.ev_model.specs.Curve.{IsCurve, IsDenominator, IsMultipleOfSlopes}
 use Rattle.ev_model.specs.Network.{Network}
+use Rattle.serde_json.specs.Data.{Data}
 use Rattle.instance_reader.proofs.CheckedLemmas.{neither, shaped_contents, small_contents}
 use Rattle.instance_reader.proofs.PartsLemmas.{All-unmap}
 use Rattle.instance_reader.specs.Checked.{HasShape, HasSmallNumbers}
-use Rattle.instance_reader.specs.Contents.{Contents}
+use Rattle.instance_reader.specs.Contents.{Contents, contents_of}
 use Rattle.instance_reader.specs.Curves.{all_points, bad_curve_in, cut_curve}
-use Rattle.instance_reader.specs.Faults.{AreGood, IsFirstFaultIn, IsMeantBy, first_fault_in, size_fault, station_fault}
+use Rattle.instance_reader.specs.Faults.{AreGood, IsFirstFault, IsFirstFaultIn, IsFirstFaultOf, IsMeantBy, first_fault_in, longest, size_fault, station_fault}
 use Rattle.instance_reader.specs.Instance.{TellsChargeTime}
+use Rattle.instance_reader.specs.Kinds.{first_wrong_kind}
 use Rattle.instance_reader.specs.Limits.{IsDenominatorOf, past_horizon}
 use Rattle.instance_reader.specs.Meaning.{AreCurveNumbers, given_limit, limit_of, network_of}
 use Rattle.instance_reader.specs.Parts.{AreParts}
+use Rattle.instance_reader.specs.RequiredKeys.{first_missing}
 use Rattle.instance_reader.specs.Shapes.{first_wrong_shape}
 use Rattle.instance_reader.specs.Sizes.{first_large}
+use Rattle.instance_reader.specs.Values.{IsValueOf}
 use Rattle.instance_reader.specs.declared.curves.StationCurve.{StationCurve}
 use Rattle.instance_reader.specs.declared.faults.ReadFault.{ReadFault}
 use Rattle.instance_reader.specs.declared.faults.ReadFault.TheVariants as fault
+use Rattle.instance_reader.specs.declared.places.Place.{Place}
+
+-- the fault is one of the contents of a file
+abbrev IsOfContents : ReadFault → Type 0
+IsOfContents (fault.TooLong len) = ⊥
+IsOfContents fault.NotJson = ⊥
+IsOfContents other = Unit {0}
 
 -- a fault is the first where it is so for each denominator
-first_in : (c : Contents) (e : ReadFault) → ((d : ℕ) → IsDenominatorOf c d → first_fault_in d c ≡ Some e) → IsFirstFaultIn c e
-first_in c (fault.TooLong len) h = h
-first_in c fault.NotJson h = h
-first_in c (fault.Missing key) h = h
-first_in c (fault.Kind place) h = h
-first_in c (fault.TooLarge place) h = h
-first_in c (fault.Shape place) h = h
-first_in c (fault.Node place) h = h
-first_in c (fault.TypeName place) h = h
-first_in c (fault.BadCurve index curve) h = h
-first_in c fault.Denominator h = h
-first_in c (fault.Horizon limit) h = h
-first_in c fault.Memory h = tt
+first_in : (c : Contents) (e : ReadFault) → IsOfContents e → ((d : ℕ) → IsDenominatorOf c d → first_fault_in d c ≡ Some e) → IsFirstFaultIn c e
+first_in c (fault.TooLong len) of h = absurd of
+first_in c fault.NotJson of h = absurd of
+first_in c (fault.Missing key) of h = h
+first_in c (fault.Kind place) of h = h
+first_in c (fault.TooLarge place) of h = h
+first_in c (fault.Shape place) of h = h
+first_in c (fault.Node place) of h = h
+first_in c (fault.TypeName place) of h = h
+first_in c (fault.BadCurve index curve) of h = h
+first_in c fault.Denominator of h = h
+first_in c (fault.Horizon limit) of h = h
+first_in c fault.Memory of h = tt
+
+-- the rules on sizes and shapes are the first
+size_fault_of : (large shape : Option Place) (e : ReadFault) →
+    option_or (option_map fault.TooLarge large) (option_or (option_map fault.Shape shape) None) ≡ Some e → IsOfContents e
+size_fault_of None None e h = cc
+size_fault_of None (Some place) (fault.Shape other) h = tt
+size_fault_of None (Some place) e h = cc
+size_fault_of (Some place) shape (fault.TooLarge other) h = tt
+size_fault_of (Some place) shape e h = cc
+
+pub size_fault_first : (c : Contents) (e : ReadFault) → size_fault c ≡ Some e → IsFirstFaultIn c e
+size_fault_first c e h = first_in c e (size_fault_of (first_large c) (first_wrong_shape c) e h) (λ d is. rw h refl)
+
+past_horizon_of : (d : ℕ) (limit : ℕ) (b : Bool) (e : ReadFault) → then_some b (fault.Horizon limit) ≡ Some e → IsOfContents e
+past_horizon_of d limit false e h = cc
+past_horizon_of d limit true (fault.Horizon other) h = tt
+past_horizon_of d limit true e h = cc
+
+past_horizon_is : (d : ℕ) (given : Option ℕ) (e : ReadFault) → past_horizon d given ≡ Some e → IsOfContents e
+past_horizon_is d None e h = cc
+past_horizon_is d (Some limit) e h = past_horizon_of d limit (nat_lt (10 ^ 18) (d * limit)) e h
 
 unmapped : {A B : Type 0} (f : A → B) (o : Option A) → option_map f o ≡ None → o ≡ None
 unmapped f None h = refl
@@ -93,7 +126,7 @@ same_denominator full curves d e h i = dvd_antisymm (h.least e i.multiple) (i.le
 -- the rule on the limit is the first that is broken
 pub horizon_fault : (c : Contents) (curves : List CutCurve) (d : ℕ) (e : ReadFault) → AreGood c curves →
     IsDenominator c.capacity (all_points c.curves) d → d ≤ 10 ^ 9 → past_horizon d (given_limit c) ≡ Some e → IsFirstFaultIn c e
-horizon_fault c curves d e h is small past = first_in c e (λ other is_other.
+horizon_fault c curves d e h is small past = first_in c e (past_horizon_is d (given_limit c) e past) (λ other is_other.
     let same : other ≡ d = same_denominator c.capacity (all_points c.curves) other d (is_other (all_curves c curves h)) is in
     let test : nat_lt (10 ^ 9) d ≡ false = grind (arith, nat_tests, small) in
     rw (h.sizes, h.stations, h.good, same, test, past) refl)
@@ -125,3 +158,45 @@ meant_by c curves d limit g h is small within is_limit made =
     let test : nat_lt (10 ^ 9) d ≡ false = grind (arith, nat_tests, small) in
     let accepted : first_fault_in d c ≡ None = rw (h.sizes, h.stations, h.good, test, within) refl in
     rw (made, is_limit) (record { denominator = is; accepted = accepted; network = refl })
+
+-- ---- the value and the bytes
+
+-- the first broken rule of the contents is that of a value whose keys and kinds are right
+fault_of_value : (top : Data) (e : ReadFault) → first_missing top ≡ None → first_wrong_kind top ≡ None → IsFirstFaultIn (contents_of top) e → IsFirstFaultOf top e
+fault_of_value top (fault.TooLong len) keys kinds h = h
+fault_of_value top fault.NotJson keys kinds h = h
+fault_of_value top (fault.Missing key) keys kinds h = λ d is. rw (keys, kinds, h d is) refl
+fault_of_value top (fault.Kind place) keys kinds h = λ d is. rw (keys, kinds, h d is) refl
+fault_of_value top (fault.TooLarge place) keys kinds h = λ d is. rw (keys, kinds, h d is) refl
+fault_of_value top (fault.Shape place) keys kinds h = λ d is. rw (keys, kinds, h d is) refl
+fault_of_value top (fault.Node place) keys kinds h = λ d is. rw (keys, kinds, h d is) refl
+fault_of_value top (fault.TypeName place) keys kinds h = λ d is. rw (keys, kinds, h d is) refl
+fault_of_value top (fault.BadCurve index curve) keys kinds h = λ d is. rw (keys, kinds, h d is) refl
+fault_of_value top fault.Denominator keys kinds h = λ d is. rw (keys, kinds, h d is) refl
+fault_of_value top (fault.Horizon limit) keys kinds h = λ d is. rw (keys, kinds, h d is) refl
+fault_of_value top fault.Memory keys kinds h = tt
+
+pub result_of_value : (top : Data) (r : Result Network ReadFault) → first_missing top ≡ None → first_wrong_kind top ≡ None →
+    IfErr r (IsFirstFaultIn (contents_of top)) → IfErr r (IsFirstFaultOf top)
+result_of_value top (Ok g) keys kinds h = tt
+result_of_value top (Err e) keys kinds h = fault_of_value top e keys kinds h
+
+-- the first broken rule of the value is that of the bytes
+fault_of_bytes : (bytes : List ℕ) (top : Data) (e : ReadFault) → length bytes ≤ longest → IsValueOf bytes top → IsFirstFaultOf top e → IsFirstFault bytes e
+fault_of_bytes bytes top (fault.TooLong len) short value h = absurd h
+fault_of_bytes bytes top fault.NotJson short value h = absurd h
+fault_of_bytes bytes top (fault.Missing key) short value h = (short, (top, value, h))
+fault_of_bytes bytes top (fault.Kind place) short value h = (short, (top, value, h))
+fault_of_bytes bytes top (fault.TooLarge place) short value h = (short, (top, value, h))
+fault_of_bytes bytes top (fault.Shape place) short value h = (short, (top, value, h))
+fault_of_bytes bytes top (fault.Node place) short value h = (short, (top, value, h))
+fault_of_bytes bytes top (fault.TypeName place) short value h = (short, (top, value, h))
+fault_of_bytes bytes top (fault.BadCurve index curve) short value h = (short, (top, value, h))
+fault_of_bytes bytes top fault.Denominator short value h = (short, (top, value, h))
+fault_of_bytes bytes top (fault.Horizon limit) short value h = (short, (top, value, h))
+fault_of_bytes bytes top fault.Memory short value h = tt
+
+pub result_of_bytes : (bytes : List ℕ) (top : Data) (r : Result Network ReadFault) → length bytes ≤ longest → IsValueOf bytes top →
+    IfErr r (IsFirstFaultOf top) → IfErr r (IsFirstFault bytes)
+result_of_bytes bytes top (Ok g) short value h = tt
+result_of_bytes bytes top (Err e) short value h = fault_of_bytes bytes top e short value h

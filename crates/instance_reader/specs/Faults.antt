@@ -65,14 +65,18 @@ longest = 2 ^ 26
 abbrev pub IsRead : List ℕ → (Data → Type 0) → Type 0
 IsRead bytes P = (length bytes ≤ longest) × ((top : Data) × IsValueOf bytes top × P top)
 
--- the fault is the first broken rule of the contents. Want of memory is no rule
+-- the fault is the first broken rule of the contents. Want of memory is no rule, and two rules are not on contents
 abbrev pub IsFirstFaultIn : Contents → ReadFault → Type 0
 IsFirstFaultIn c fault.Memory = Unit {0}
+IsFirstFaultIn c (fault.TooLong len) = ⊥
+IsFirstFaultIn c fault.NotJson = ⊥
 IsFirstFaultIn c other = (d : ℕ) → IsDenominatorOf c d → first_fault_in d c ≡ Some other
 
 -- the fault is the first broken rule of the value
 abbrev pub IsFirstFaultOf : Data → ReadFault → Type 0
 IsFirstFaultOf top fault.Memory = Unit {0}
+IsFirstFaultOf top (fault.TooLong len) = ⊥
+IsFirstFaultOf top fault.NotJson = ⊥
 IsFirstFaultOf top other = (d : ℕ) → IsDenominatorOf (contents_of top) d → first_fault d top ≡ Some other
 
 -- the fault is the first broken rule of these bytes. Want of memory is no rule
