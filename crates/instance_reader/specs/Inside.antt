@@ -27,8 +27,8 @@ pub record AreCustomerNumbers (g : Network) (numbers : List (Option ℕ)) : Type
 
 pub record IsInstance (a : Inside) : Type 0 where
   pub network : IsNetwork (network_inside a)
-  pub energy_rows : All (λ row. vec_len row ≡ vec_len a.energies) a.energies.items
-  pub time_rows : All (λ row. vec_len row ≡ vec_len a.energies) a.times.items
+  pub energy_rows : All (λ row. length row.items ≡ length a.energies.items) a.energies.items
+  pub time_rows : All (λ row. length row.items ≡ length a.energies.items) a.times.items
   pub known : All (λ o. IfSome o (λ number. number < length a.curves.items)) a.curve_numbers.items
   pub scaled : All (λ c. TellsChargeTime a.max_q a.denominator c.curve.points c.scaled) a.curves.items
   pub customers : a.customers.items ≡ customer_nodes (network_inside a)
