@@ -1,0 +1,12 @@
+//! Decimals to whole units: a JSON text whose numbers under the keys of times and energies are
+//! written as whole numbers, each rounded up, while every other byte stays.
+#![tactic(auto)]
+
+mod digits;
+mod fault;
+mod literal;
+mod nesting;
+mod rounding;
+mod token;
+
+pub use fault::ImportFault;
