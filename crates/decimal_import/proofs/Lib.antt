@@ -5,3 +5,8 @@ pub mod Ceilings
 pub mod Places
 pub mod Points
 pub mod Wholes
+pub mod Tokens
+pub mod Fronts
+pub mod Cuts
+pub mod Steps
+pub mod Faults

@@ -2,6 +2,7 @@
 //! written as whole numbers, each rounded up, while every other byte stays.
 #![tactic(auto)]
 
+mod conversion;
 mod digits;
 mod fault;
 mod literal;
@@ -9,4 +10,8 @@ mod nesting;
 mod rounding;
 mod token;
 
+pub use conversion::convert;
 pub use fault::ImportFault;
+
+#[cfg(test)]
+mod tests;

@@ -1,9 +1,13 @@
 //! The braces and brackets that are open, and the units of the numbers in them.
-ghost use Rattle.std.specs.Prelude.{◌≡◌, [], Some, None, OnOk, OnErr, IsTrue, ◌↔◌};
+ghost use Rattle.std.specs.Prelude.{◌≡◌, [], Some, None, IfErr, OnOk, OnErr, IsTrue, ◌↔◌};
 ghost use Rattle.std.specs.Bool.{OnTrue, OnFalse};
+ghost use Rattle.decimal_import.specs.Conversion.{nested, ok_or, Refuses};
+ghost use Rattle.decimal_import.specs.Token.{cut};
+ghost use Rattle.decimal_import.specs.View.{token_of};
 ghost use Rattle.decimal_import.specs.Nesting.{unit_here, opened, closed, under_key, unit_of_key, is_among, time_keys, energy_keys};
 
-use crate::token::Bracket;
+use crate::fault::ImportFault;
+use crate::token::{Bracket, Token, is_colon_next};
 use std::alloc::{AllocError, Global};
 use std::marker::Model;
 
@@ -82,6 +86,38 @@ impl Nesting {
         match self.opens.pop() {
             Some(open) => open.bracket == bracket,
             None => false,
+        }
+    }
+
+    /// Opens, closes or takes a key, as this token says that stands at this place, with these bytes behind it.
+    pub(crate) fn pass(
+        &mut self,
+        token: &Token<'_>,
+        rest: &[u8],
+        at: usize,
+    ) -> Result<(), ImportFault>
+        ensures ok { OnOk result (nested self.old (token_of token.now) (cut rest.now).0 ≡ Some self.new) }
+        ensures fault { IfErr result (λ fault. Refuses fault (ok_or (nested self.old (token_of token.now) (cut rest.now).0) (ImportFault.Token at))) }
+    {
+        match token {
+            Token::Opening(bracket) => match self.open(*bracket) {
+                Ok(()) => Ok(()),
+                Err(_) => Err(ImportFault::Memory),
+            },
+            Token::Closing(bracket) => {
+                if self.close(*bracket) {
+                    Ok(())
+                } else {
+                    Err(ImportFault::Token { at })
+                }
+            }
+            Token::Text(key) => {
+                if is_colon_next(rest) {
+                    self.set_key(key);
+                }
+                Ok(())
+            }
+            _ => Ok(()),
         }
     }
 
