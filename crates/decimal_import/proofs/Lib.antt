@@ -10,3 +10,4 @@ pub mod Fronts
 pub mod Cuts
 pub mod Steps
 pub mod Faults
+pub mod Longest

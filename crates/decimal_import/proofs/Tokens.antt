@@ -47,7 +47,7 @@ point_text : (ds : List ℕ) → 0 < length ds → fraction_text ds ≡ 46 ∷ d
 point_text [] some = absurd (omega arith)
 point_text (d ∷ ds) some = refl
 
-fraction_is : (bs : List ℕ) → bs ≡ fraction_text (fraction_in_front bs).0 ++ (fraction_in_front bs).1
+pub fraction_is : (bs : List ℕ) → bs ≡ fraction_text (fraction_in_front bs).0 ++ (fraction_in_front bs).1
 fraction_is [] = refl
 fraction_is (b ∷ bs) = cond_cases (λ (p : List ℕ × List ℕ). b ∷ bs ≡ fraction_text p.0 ++ p.1) ((b == 46) && nat_lt 0 (length (digits_in_front bs))) (run_in_front bs) ([], b ∷ bs)
     (λ both. let parts = and_parts (b == 46) (nat_lt 0 (length (digits_in_front bs))) both in
@@ -67,7 +67,7 @@ sign_sign : (bs : List ℕ) → is_sign (sign_in_front bs).0 ≡ true
 sign_sign [] = refl
 sign_sign (b ∷ bs) = cond_cases (λ (p : Option ℕ × List ℕ). is_sign p.0 ≡ true) ((b == 43) || (b == 45)) (Some b, bs) (None, b ∷ bs) (λ is. is) (λ _. refl)
 
-exponent_is : (bs : List ℕ) → bs ≡ exponent_text (exponent_in_front bs).0 ++ (exponent_in_front bs).1
+pub exponent_is : (bs : List ℕ) → bs ≡ exponent_text (exponent_in_front bs).0 ++ (exponent_in_front bs).1
 exponent_is [] = refl
 exponent_is (b ∷ bs) =
     let signed = sign_in_front bs in

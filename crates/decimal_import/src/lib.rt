@@ -5,6 +5,7 @@
 mod conversion;
 mod digits;
 mod fault;
+mod laws;
 mod literal;
 mod nesting;
 mod rounding;
@@ -12,6 +13,7 @@ mod token;
 
 pub use conversion::convert;
 pub use fault::ImportFault;
+pub use laws::tokens_are_the_longest;
 
 #[cfg(test)]
 mod tests;

@@ -1,0 +1,10 @@
+//! Laws of the conversion, each the contract of a function that does nothing.
+ghost use Rattle.std.specs.Prelude.{ℕ, List};
+ghost use Rattle.decimal_import.specs.Grammar.{IsCutInto};
+ghost use Rattle.decimal_import.specs.Token.{cut};
+
+/// A text is cut from the left into its longest tokens, up to the first byte where no token begins or
+/// the token isn't whole.
+pub fn tokens_are_the_longest()
+    ensures { (bytes : List ℕ) → IsCutInto bytes (cut bytes).0 (cut bytes).1 }
+{}
