@@ -11,3 +11,4 @@ pub mod Cuts
 pub mod Steps
 pub mod Faults
 pub mod Longest
+pub mod Conversions

@@ -67,7 +67,7 @@ whole_found (d ∷ ds) behind whole = elim (cases_Bool (d == 48)) [
         some = subst (λ (p : List ℕ × List ℕ). 0 < length p.0) (sym front) (omega arith);
         rest = inr (ap (λ (p : List ℕ × List ℕ). p.1) front);
       }
-  ]
+]
   where
     alone : (xs : List ℕ) → is_whole (48 ∷ xs) ≡ true → d ≡ 48 → LeavesWhole (d ∷ (xs ++ behind)) behind
     alone [] is same = rw same (record { some = omega arith; rest = inl refl })
@@ -155,9 +155,10 @@ tail_left [] (Some e) behind all is =
     let same = after_run-other e.letter (sign_text e.sign ++ (e.digits ++ behind)) (letter_digit e.letter letter) in
     let no_point = letter_point e.letter letter in
     let none : (fraction_in_front (e.letter ∷ (sign_text e.sign ++ (e.digits ++ behind)))).1 ≡ e.letter ∷ (sign_text e.sign ++ (e.digits ++ behind)) = rw no_point refl in
-    let left : length (tail (e.letter ∷ (sign_text e.sign ++ (e.digits ++ behind)))) ≤ length behind = subst (λ (xs : List ℕ). length (exponent_in_front xs).1 ≤ length behind) (sym none) (exponent_found e behind is) in
-    (subst (λ (xs : List ℕ). length (tail xs) ≤ length behind) (sym (spelled e behind)) left,
-     subst (λ (xs : List ℕ). length (tail (after_run xs)) ≤ length behind) (sym (spelled e behind)) (subst (λ (xs : List ℕ). length (tail xs) ≤ length behind) (sym same) left))
+    let left : length (tail (e.letter ∷ (sign_text e.sign ++ (e.digits ++ behind)))) ≤ length behind = subst (λ (xs : List ℕ). length (exponent_in_front xs).1 ≤ length behind) (sym none) (exponent_found e behind is) in (
+      subst (λ (xs : List ℕ). length (tail xs) ≤ length behind) (sym (spelled e behind)) left,
+      subst (λ (xs : List ℕ). length (tail (after_run xs)) ≤ length behind) (sym (spelled e behind)) (subst (λ (xs : List ℕ). length (tail xs) ≤ length behind) (sym same) left),
+    )
 tail_left (d ∷ ds) e behind all is =
     let run = run_in_front-append (d ∷ ds) (exponent_text e ++ behind) all in
     let some : nat_lt 0 (length (digits_in_front (d ∷ (ds ++ (exponent_text e ++ behind))))) ≡ true = subst (λ (p : List ℕ × List ℕ). nat_lt 0 (length p.0) ≡ true) (sym run) (lt-ltb 0 (length ((d ∷ ds) ++ digits_in_front (exponent_text e ++ behind))) (omega arith)) in
@@ -220,15 +221,15 @@ leaves bs behind t found = record { token = t; rest = behind; found = found; no_
 
 blank_found : (b : ℕ) (behind : List ℕ) → is_blank b ≡ true → Leaves (b ∷ behind) behind
 blank_found b behind blank = elim (or_cases (b == 32) ((b == 9) || ((b == 10) || (b == 13))) blank) [
-    inl is ↦ at_byte 32 (eqb-true b 32 is) (leaves (32 ∷ behind) behind (Blank 32) refl)
+  | inl is ↦ at_byte 32 (eqb-true b 32 is) (leaves (32 ∷ behind) behind (Blank 32) refl)
   | inr tab ↦ elim (or_cases (b == 9) ((b == 10) || (b == 13)) tab) [
-        inl is ↦ at_byte 9 (eqb-true b 9 is) (leaves (9 ∷ behind) behind (Blank 9) refl)
-      | inr end ↦ elim (or_cases (b == 10) (b == 13) end) [
-            inl is ↦ at_byte 10 (eqb-true b 10 is) (leaves (10 ∷ behind) behind (Blank 10) refl)
-          | inr is ↦ at_byte 13 (eqb-true b 13 is) (leaves (13 ∷ behind) behind (Blank 13) refl)
-          ]
-      ]
+    | inl is ↦ at_byte 9 (eqb-true b 9 is) (leaves (9 ∷ behind) behind (Blank 9) refl)
+    | inr end ↦ elim (or_cases (b == 10) (b == 13) end) [
+      | inl is ↦ at_byte 10 (eqb-true b 10 is) (leaves (10 ∷ behind) behind (Blank 10) refl)
+      | inr is ↦ at_byte 13 (eqb-true b 13 is) (leaves (13 ∷ behind) behind (Blank 13) refl)
+    ]
   ]
+]
   where
     at_byte : (n : ℕ) → b ≡ n → Leaves (n ∷ behind) behind → Leaves (b ∷ behind) behind
     at_byte n is there = subst (λ (q : ℕ). Leaves (q ∷ behind) behind) (sym is) there
@@ -244,7 +245,7 @@ closing_quote_found true n (b ∷ body) behind text =
     let place : n + 1 + length body ≡ n + suc (length body) = omega arith in
     closing_quote_found false (n + 1) body behind text ∙ ap Some place
 closing_quote_found false n (b ∷ body) behind text = elim (cases_Bool ((b == 34) || nat_lt b 32)) [
-    inl ends ↦ absurd (let none = rw ends at text in cc)
+  | inl ends ↦ absurd (let none = rw ends at text in cc)
   | inr goes_on ↦
       let none = or_false (b == 34) (nat_lt b 32) goes_on in
       let quote = none.0 in
@@ -252,7 +253,7 @@ closing_quote_found false n (b ∷ body) behind text = elim (cases_Bool ((b == 3
       let place : n + 1 + length body ≡ n + suc (length body) = omega arith in
       let step : closing_quote false n (b ∷ (body ++ 34 ∷ behind)) ≡ closing_quote (b == 92) (n + 1) (body ++ 34 ∷ behind) = rw (quote, low) refl in
       step ∙ (closing_quote_found (b == 92) (n + 1) body behind (rw goes_on at text) ∙ ap Some place)
-  ]
+]
 
 text_found : (body behind : List ℕ) → is_text false body ≡ true → Leaves (34 ∷ ((body ++ 34 ∷ []) ++ behind)) behind
 text_found body behind text =
@@ -320,14 +321,18 @@ token_found (Number l) behind is = number_found (literal_text l ++ behind) behin
 pub token_longest : (bs : List ℕ) (t : Token) (rest : List ℕ) → token_in_front bs ≡ Some (t, rest) → IsLongestInFront bs t rest
 token_longest bs t rest is =
     let stands = token_stands bs t rest is in
-    record { token = stands.token; in_front = stands.in_front; longest = λ other behind proper there.
-      let found = subst (λ (xs : List ℕ). Leaves xs behind) (sym there) (token_found other behind proper) in
-      let same : (found.token, found.rest) ≡ (t, rest) = let both : Some (found.token, found.rest) ≡ Some (t, rest) = sym found.found ∙ is in cc in
-      let same_rest = ap (λ (p : Token × List ℕ). p.1) same in
-      let ours : length bs ≡ length (token_text t) + length rest = ap length stands.in_front ∙ length-append (token_text t) rest in
-      let theirs : length bs ≡ length (token_text other) + length behind = ap length there ∙ length-append (token_text other) behind in
-      let less = found.no_more in
-      omega (arith, ap length same_rest) }
+    record {
+      token = stands.token;
+      in_front = stands.in_front;
+      longest = λ other behind proper there.
+          let found = subst (λ (xs : List ℕ). Leaves xs behind) (sym there) (token_found other behind proper) in
+          let same : (found.token, found.rest) ≡ (t, rest) = let both : Some (found.token, found.rest) ≡ Some (t, rest) = sym found.found ∙ is in cc in
+          let same_rest = ap (λ (p : Token × List ℕ). p.1) same in
+          let ours : length bs ≡ length (token_text t) + length rest = ap length stands.in_front ∙ length-append (token_text t) rest in
+          let theirs : length bs ≡ length (token_text other) + length behind = ap length there ∙ length-append (token_text other) behind in
+          let less = found.no_more in
+          omega (arith, ap length same_rest);
+    }
 
 pub no_token : (bs : List ℕ) → token_in_front bs ≡ None → NoTokenInFront bs
 no_token bs none other behind proper there =

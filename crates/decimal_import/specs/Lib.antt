@@ -1,4 +1,5 @@
 pub mod Conversion
+pub mod Converted
 pub mod Digits
 pub mod Grammar
 pub mod Literal

@@ -1,6 +1,7 @@
 //! The conversion of a text.
 ghost use Rattle.std.specs.Prelude.{true, ◌≡◌, ◌+◌, ◌-◌, ◌<◌, ◌≤◌, ◌^◌, ◌↔◌, ◌⊎◌, [], ◌++◌, Ok, Err, Some, None, IfOk, IfErr, IsErrOf, OnOk, OnErr, ℕ, length};
 ghost use Rattle.decimal_import.specs.Conversion.{conversion_of, converted_from, converted_token, digits_of, Refuses, and_then};
+ghost use Rattle.decimal_import.specs.Converted.{IsConverted};
 ghost use Rattle.decimal_import.specs.Grammar.{is_token};
 ghost use Rattle.decimal_import.specs.Progress.{outcome};
 ghost use Rattle.decimal_import.specs.Token.{token_text};
@@ -37,6 +38,12 @@ pub fn convert(
 ) -> Result<Vec<u8>, ImportFault>
     ensures ok { IfOk result (λ text. conversion_of bytes.now time_digits energy_digits ≡ Ok text.items) }
     ensures fault { IfErr result (λ fault. Refuses fault (conversion_of bytes.now time_digits energy_digits)) }
+
+    // The bytes are the longest tokens from the left; each number under a key with a unit becomes the least whole
+    // number, and every other token stays.
+    ensures converted { IfOk result (λ text. IsConverted time_digits energy_digits bytes.now text.items) }
+
+    // Neither of these yields to want of memory.
     ensures too_long { (len : ℕ) → IsErrOf result (ImportFault.TooLong len) ↔ ((len ≡ length bytes.now) × (2 ^ 26 < len)) }
     ensures digits { IsErrOf result ImportFault.Digits ↔ ((length bytes.now ≤ 2 ^ 26) × ((9 < time_digits) ⊎ (9 < energy_digits))) }
 {
