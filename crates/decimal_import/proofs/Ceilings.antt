@@ -1,5 +1,5 @@
 -- The least whole number that isn't below a quotient.
-use Rattle.std.proofs.Common.{◌≡◌, ℕ, suc, ◌+◌, ◌-◌, ◌*◌, ◌/◌, ◌^◌, ◌<◌, ◌≤◌, List, [], ◌++◌, length, take, drop, arith, refl, sym, ap, ◌∙◌, subst, inl, inr, Bool, true, false, nat_lt, if◌then◌else◌}
+use Rattle.std.proofs.Common.{◌≡◌, ℕ, ◌+◌, ◌-◌, ◌*◌, ◌/◌, ◌^◌, ◌<◌, ◌≤◌, List, [], length, take, drop, arith, sym, ap, ◌∙◌, subst, inl, inr, Bool, true, nat_lt, if◌then◌else◌}
 use Rattle.std.proofs.Math.Nat.{div-lt_iff_lt-mul, lt-div-mul-add, mul-le-mul_right, le_of_mul-le-mul_right, one-le-pow, pow-le-pow_right}
 use Rattle.std.proofs.Math.ListN.{drop_of_length-le}
 use Rattle.std.proofs.lemmas.Nat.{pow-add}
@@ -8,7 +8,7 @@ use Rattle.std.proofs.lemmas.List.Folds.{list_all-append}
 use Rattle.std.proofs.lemmas.Bool.{cases_lt, and_parts}
 use Rattle.std.proofs.lemmas.Bool.Decides.{nat_tests}
 use Rattle.std.specs.List.{list_all}
-use Rattle.decimal_import.specs.Digits.{number_of, number_after, is_digit}
+use Rattle.decimal_import.specs.Digits.{number_of, is_digit}
 use Rattle.decimal_import.specs.Rounding.{IsCeiling, ceiling, rounded_at}
 use Rattle.decimal_import.proofs.Numbers.{number_after-sum, number_after-append, number_of-lt}
 

@@ -1,13 +1,13 @@
 -- What the definition of the converted text says in the words of the subject.
-use Rattle.std.proofs.Common.{◌≡◌, ℕ, ◌+◌, ◌*◌, ◌^◌, ◌<◌, ◌≤◌, ◌==◌, List, [], ◌∷◌, ◌++◌, length, arith, refl, sym, ap, ◌∙◌, subst, Option, Some, None, Result, Ok, Err, Bool, true, false, cond, nat_lt, inl, inr, ◌⊎◌}
+use Rattle.std.proofs.Common.{◌≡◌, ℕ, ◌+◌, ◌*◌, ◌^◌, ◌≤◌, ◌==◌, List, [], ◌∷◌, ◌++◌, length, arith, refl, sym, ap, subst, Option, Some, None, Result, Ok, Err, nat_lt, inl, inr}
 use Rattle.std.specs.Prelude.{decimal}
 use Rattle.std.proofs.lemmas.Bool.{eqb-true, ltb-false}
 use Rattle.decimal_import.specs.Literal.{Literal, literal_text}
-use Rattle.decimal_import.specs.Rounding.{coefficient, over, under, tens_over, tens_under, ceiling, IsCeiling, least_whole, whole_number}
+use Rattle.decimal_import.specs.Rounding.{coefficient, over, under, tens_over, tens_under, IsCeiling, least_whole, whole_number}
 use Rattle.decimal_import.specs.Token.{Token, Opening, Closing, Comma, Colon, Blank, Named, Text, Number, token_text, cut}
 use Rattle.decimal_import.specs.Grammar.{IsCutInto}
 use Rattle.decimal_import.specs.Nesting.{unit_here}
-use Rattle.decimal_import.specs.Conversion.{and_then, ok_or, nested, number_text, converted_token, converted_tokens, converted_from, finished, digits_of, conversion_of}
+use Rattle.decimal_import.specs.Conversion.{and_then, ok_or, nested, number_text, converted_token, converted_tokens, converted_from, finished, digits_of}
 use Rattle.decimal_import.specs.Converted.{IsLeastWhole, NumberBecomes, TokenBecomes, Becomes, IsConverted}
 use Rattle.decimal_import.specs.declared.fault.ImportFault.{ImportFault}
 use Rattle.decimal_import.specs.declared.fault.ImportFault.TheVariants as faults

@@ -1,15 +1,15 @@
 -- Cutting a text into tokens.
-use Rattle.std.proofs.Common.{◌≡◌, ℕ, zero, suc, ◌+◌, ◌<◌, ◌≤◌, ◌==◌, nat_lt, nat_eq, List, [], ◌∷◌, ◌++◌, length, take, drop, ◌||◌, arith, refl, sym, ap, ◌∙◌, cond, Bool, true, false, Option, Some, None, length-append, inl, inr}
+use Rattle.std.proofs.Common.{◌≡◌, ℕ, zero, suc, ◌+◌, ◌<◌, ◌≤◌, ◌==◌, nat_eq, List, [], ◌∷◌, length, take, drop, ◌||◌, arith, refl, sym, ap, ◌∙◌, Bool, true, false, Option, Some, None, length-append, inl, inr}
 use Rattle.std.proofs.lemmas.Bool.{eqb-true, or_cases}
 use Rattle.std.specs.List.{starts_with}
 use Rattle.std.specs.Option.{option_map, option_map_or}
 use Rattle.decimal_import.specs.Literal.{Literal, literal_in_front}
-use Rattle.decimal_import.specs.Token.{Token, Opening, Closing, Comma, Colon, Blank, Named, Text, Number, token_text, word_text, is_blank, closing_quote, text_in_front, word_in_front, number_in_front, token_in_front, is_colon_next_in, cut_within, cut}
+use Rattle.decimal_import.specs.Token.{Token, Named, Text, Number, token_text, word_text, is_blank, closing_quote, text_in_front, word_in_front, number_in_front, token_in_front, is_colon_next_in, cut_within, cut}
 use Rattle.decimal_import.specs.Conversion.{is_colon_next}
 use Rattle.decimal_import.specs.declared.token.Word.{Word}
 use Rattle.decimal_import.specs.declared.token.Word.TheVariants.{True, False, Null}
 use Rattle.decimal_import.proofs.Tokens.{cond_cases}
-use Rattle.decimal_import.proofs.Fronts.{Stands, token_stands}
+use Rattle.decimal_import.proofs.Fronts.{token_stands}
 
 -- What follows a token is shorter.
 pub token_in_front-shorter : (bs : List ℕ) (t : Token) (rest : List ℕ) → token_in_front bs ≡ Some (t, rest) → length (token_text t) + length rest ≡ length bs

@@ -1,7 +1,7 @@
 -- A conversion's faults are those of bytes.
-use Rattle.std.proofs.Common.{◌≡◌, ℕ, ◌+◌, ◌^◌, ◌<◌, ◌==◌, List, [], ◌∷◌, ◌++◌, length, refl, subst, Option, Some, None, Result, Ok, Err, Bool, true, false, cond, nat_lt}
+use Rattle.std.proofs.Common.{ℕ, ◌+◌, ◌^◌, ◌==◌, List, [], ◌∷◌, length, subst, Option, Some, None, Result, Ok, Err, nat_lt}
 use Rattle.std.specs.Prelude.{IfErr, IsErrOf, decimal}
-use Rattle.decimal_import.specs.Literal.{Literal, literal_text}
+use Rattle.decimal_import.specs.Literal.{Literal}
 use Rattle.decimal_import.specs.Rounding.{whole_number, coefficient, least_whole}
 use Rattle.decimal_import.specs.Token.{Token, Opening, Closing, Comma, Colon, Blank, Named, Text, Number, token_text, cut}
 use Rattle.decimal_import.specs.Nesting.{unit_here}

@@ -1,13 +1,13 @@
 -- The token in front of a text is a token of the grammar, and the text is its spelling and what follows it.
-use Rattle.std.proofs.Common.{◌≡◌, ℕ, zero, suc, ◌+◌, ◌-◌, ◌<◌, ◌≤◌, ◌==◌, ◌||◌, nat_lt, nat_eq, List, [], ◌∷◌, ◌++◌, length, take, drop, arith, refl, sym, ap, ◌∙◌, add-one, subst, cond, append_assoc, Bool, true, false, Option, Some, None, length-append}
+use Rattle.std.proofs.Common.{◌≡◌, ℕ, suc, ◌+◌, ◌<◌, ◌==◌, nat_lt, nat_eq, List, [], ◌∷◌, ◌++◌, length, take, drop, arith, refl, sym, ap, ◌∙◌, add-one, subst, cond, append_assoc, Bool, true, false, Option, Some, None}
 use Rattle.std.proofs.lemmas.List.{take-append-drop}
 use Rattle.std.proofs.lemmas.Bool.{eqb-true}
-use Rattle.std.specs.Cmp.Lexicographic.{pointwise, same_text}
+use Rattle.std.specs.Cmp.Lexicographic.{same_text}
 use Rattle.std.specs.List.{starts_with}
 use Rattle.std.specs.Option.{option_map}
-use Rattle.decimal_import.specs.Literal.{Literal, literal_text, literal_in_front}
+use Rattle.decimal_import.specs.Literal.{Literal, literal_in_front}
 use Rattle.decimal_import.specs.Token.{Token, Opening, Closing, Comma, Colon, Blank, Named, Text, Number, token_text, word_text, is_blank, closing_quote, text_in_front, word_in_front, number_in_front, token_in_front}
-use Rattle.decimal_import.specs.Grammar.{is_text, is_literal, is_token}
+use Rattle.decimal_import.specs.Grammar.{is_text, is_token}
 use Rattle.decimal_import.specs.declared.token.Bracket.TheVariants.{Brace, Square}
 use Rattle.decimal_import.specs.declared.token.Word.{Word}
 use Rattle.decimal_import.specs.declared.token.Word.TheVariants.{True, False, Null}

@@ -1,13 +1,13 @@
 -- Where a token of the grammar stands in front of a text, one at least as long is found there.
-use Rattle.std.proofs.Common.{◌≡◌, ℕ, zero, suc, ◌+◌, ◌-◌, ◌<◌, ◌≤◌, ◌==◌, ◌||◌, ◌&&◌, nat_lt, nat_eq, List, [], ◌∷◌, ◌++◌, length, take, drop, arith, refl, sym, ap, ◌∙◌, subst, cond, Bool, true, false, Option, Some, None, append_assoc, length-append, inl, inr, ◌⊎◌}
-use Rattle.std.proofs.lemmas.List.{length-drop, append-nil}
+use Rattle.std.proofs.Common.{◌≡◌, ℕ, zero, suc, ◌+◌, ◌<◌, ◌≤◌, ◌==◌, ◌||◌, ◌&&◌, nat_lt, List, [], ◌∷◌, ◌++◌, length, take, drop, arith, refl, sym, ap, ◌∙◌, subst, Bool, true, false, Option, Some, None, append_assoc, length-append, inl, inr, ◌⊎◌}
+use Rattle.std.proofs.lemmas.List.{length-drop}
 use Rattle.std.proofs.Math.Seq.{drop-append-add}
-use Rattle.std.proofs.lemmas.Bool.{and_parts, and_from, or_cases, eqb-true, ltb-true, lt-ltb, both_ways, cases_Bool}
+use Rattle.std.proofs.lemmas.Bool.{and_parts, and_from, or_cases, eqb-true, lt-ltb, both_ways, cases_Bool}
 use Rattle.std.specs.List.{list_all}
 use Rattle.std.specs.Option.{option_map}
 use Rattle.decimal_import.specs.Digits.{is_digit, digits_in_front}
 use Rattle.decimal_import.specs.Literal.{Literal, Exponent, minus_text, fraction_text, sign_text, exponent_text, literal_text, run_in_front, minus_in_front, whole_in_front, fraction_in_front, sign_in_front, exponent_in_front, literal_in_front}
-use Rattle.decimal_import.specs.Token.{Token, Opening, Closing, Comma, Colon, Blank, Named, Text, Number, token_text, word_text, is_blank, closing_quote, text_in_front, number_in_front, token_in_front, cut}
+use Rattle.decimal_import.specs.Token.{Token, Opening, Closing, Comma, Colon, Blank, Named, Text, Number, token_text, word_text, is_blank, closing_quote, number_in_front, token_in_front, cut}
 use Rattle.decimal_import.specs.Grammar.{are_digits, is_whole, is_sign, is_exponent, is_literal, is_text, is_token, IsLongestInFront, NoTokenInFront, IsCutInto}
 use Rattle.decimal_import.specs.declared.token.Bracket.TheVariants.{Brace, Square}
 use Rattle.decimal_import.specs.declared.token.Word.TheVariants.{True, False, Null}
@@ -337,7 +337,7 @@ token_longest bs t rest is =
 pub no_token : (bs : List ℕ) → token_in_front bs ≡ None → NoTokenInFront bs
 no_token bs none other behind proper there =
     let found = subst (λ (xs : List ℕ). Leaves xs behind) (sym there) (token_found other behind proper) in
-    let both : Some (found.token, found.rest) ≡ None = sym found.found ∙ none in absurd (cc)
+    absurd (cc (found.found, none))
 
 -- A text is cut into its longest tokens.
 

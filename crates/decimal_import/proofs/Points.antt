@@ -1,5 +1,5 @@
 -- Where the point of a literal stands, with its exponent cut to a size.
-use Rattle.std.proofs.Common.{◌≡◌, ℕ, ◌+◌, ◌-◌, ◌*◌, ◌^◌, ◌<◌, ◌≤◌, ◌⊎◌, min, List, [], ◌++◌, length, take, drop, arith, refl, sym, ap, ◌∙◌, inl, inr, length-append, true, false, if◌then◌else◌, Option, Some, None}
+use Rattle.std.proofs.Common.{◌≡◌, ℕ, ◌+◌, ◌-◌, ◌*◌, ◌^◌, ◌<◌, ◌≤◌, ◌⊎◌, List, ◌++◌, length, take, arith, refl, sym, ap, ◌∙◌, inl, inr, length-append, true, false, if◌then◌else◌, Option, Some, None}
 use Rattle.std.proofs.Math.Nat.{mul-le-mul, pow-le-pow_right}
 use Rattle.std.proofs.lemmas.List.{take_all}
 use Rattle.std.proofs.lemmas.List.Folds.{list_all-append}
@@ -7,7 +7,7 @@ use Rattle.std.proofs.lemmas.Bool.{cases_lt, and_from}
 use Rattle.std.specs.List.{list_all}
 use Rattle.decimal_import.specs.Digits.{number_of, is_digit}
 use Rattle.decimal_import.specs.Literal.{Literal, Exponent}
-use Rattle.decimal_import.specs.Rounding.{coefficient, is_minus, positive_exponent, negative_exponent, tens_over, tens_under, over, under, least_whole, ceiling, rounded_at, capped_point, IsCeiling}
+use Rattle.decimal_import.specs.Rounding.{coefficient, is_minus, positive_exponent, negative_exponent, tens_over, tens_under, over, under, least_whole, rounded_at, capped_point}
 use Rattle.decimal_import.proofs.Ceilings.{IsCeiling-unique, IsCeiling-ceiling, rounded_at-IsCeiling, pow_pos}
 
 -- an exponent has one sign

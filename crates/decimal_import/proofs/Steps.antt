@@ -1,9 +1,9 @@
 -- A conversion, a token at a time.
-use Rattle.std.proofs.Common.{◌≡◌, ℕ, ◌+◌, ◌-◌, ◌<◌, ◌≤◌, List, [], ◌∷◌, ◌++◌, length, take, drop, arith, refl, sym, ap, ◌∙◌, Option, Some, None, Result, Ok, Err, append_assoc, length-append}
+use Rattle.std.proofs.Common.{◌≡◌, ℕ, ◌+◌, ◌-◌, ◌<◌, List, [], ◌∷◌, ◌++◌, length, take, arith, refl, sym, ap, Some, None, Result, Ok, Err, append_assoc, length-append}
 use Rattle.std.proofs.lemmas.List.{append-nil}
 use Rattle.decimal_import.specs.Token.{Token, token_text, token_in_front, cut_within, cut}
 use Rattle.decimal_import.specs.Nesting.{unit_here}
-use Rattle.decimal_import.specs.Conversion.{and_then, ok_or, nested, converted_token, converted_tokens, converted_from, finished, Refuses}
+use Rattle.decimal_import.specs.Conversion.{and_then, ok_or, nested, converted_token, converted_from, finished, Refuses}
 use Rattle.decimal_import.specs.declared.fault.ImportFault.{ImportFault}
 use Rattle.decimal_import.specs.declared.fault.ImportFault.TheVariants as faults
 use Rattle.decimal_import.specs.declared.nesting.Open.{Open}

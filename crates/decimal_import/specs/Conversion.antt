@@ -1,7 +1,7 @@
 -- A text with each number that has a unit written as a whole number.
 use Rattle.std.specs.Prelude.{◌≡◌, ℕ, ◌+◌, ◌||◌, ◌^◌, nat_lt, Bool, true, false, List, [], ◌∷◌, ◌++◌, length, Option, Some, None, Result, Ok, Err, if◌then◌else◌, decimal}
 use Rattle.decimal_import.specs.Literal.{Literal, literal_text}
-use Rattle.decimal_import.specs.Token.{Token, Opening, Closing, Comma, Colon, Blank, Named, Text, Number, token_text, cut}
+use Rattle.decimal_import.specs.Token.{Token, Opening, Closing, Colon, Blank, Text, Number, token_text, cut}
 use Rattle.decimal_import.specs.Nesting.{unit_here, opened, closed, under_key}
 use Rattle.decimal_import.specs.Rounding.{whole_number}
 use Rattle.decimal_import.specs.declared.fault.ImportFault.{ImportFault}

@@ -1,7 +1,7 @@
 -- A text and what it becomes, in the words of the subject: tokens, keys and least whole numbers.
 use Rattle.std.specs.Prelude.{◌≡◌, ℕ, ◌^◌, ◌≤◌, ◌⊎◌, false, List, [], ◌∷◌, ◌++◌, Option, Some, None, decimal}
 use Rattle.decimal_import.specs.Literal.{Literal, literal_text}
-use Rattle.decimal_import.specs.Token.{Token, Opening, Closing, Comma, Colon, Blank, Named, Text, Number, token_text}
+use Rattle.decimal_import.specs.Token.{Token, Number, token_text}
 use Rattle.decimal_import.specs.Grammar.{IsCutInto}
 use Rattle.decimal_import.specs.Rounding.{coefficient, over, under, IsCeiling}
 use Rattle.decimal_import.specs.Nesting.{unit_here}

@@ -3,7 +3,7 @@ use Rattle.std.specs.Prelude.{◌≡◌, ℕ, ◌≤◌, ◌==◌, ◌||◌, ◌
 use Rattle.std.specs.List.{list_all}
 use Rattle.decimal_import.specs.Digits.{is_digit}
 use Rattle.decimal_import.specs.Literal.{Literal, Exponent}
-use Rattle.decimal_import.specs.Token.{Token, Opening, Closing, Comma, Colon, Blank, Named, Text, Number, token_text, is_blank}
+use Rattle.decimal_import.specs.Token.{Token, Blank, Text, Number, token_text, is_blank}
 
 -- digits, of which there is one at least
 abbrev pub are_digits : List ℕ → Bool

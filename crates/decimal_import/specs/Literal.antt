@@ -1,6 +1,6 @@
 -- Number literals of JSON (RFC 8259, section 6).
-use Rattle.std.specs.Prelude.{true, false, ℕ, ◌+◌, ◌-◌, ◌*◌, ◌/◌, ◌^◌, ◌≤◌, ◌==◌, ◌||◌, ◌&&◌, nat_lt, Bool, List, [], ◌∷◌, ◌++◌, length, drop, Option, Some, None, if◌then◌else◌}
-use Rattle.decimal_import.specs.Digits.{digits_in_front, number_of}
+use Rattle.std.specs.Prelude.{true, false, ℕ, ◌==◌, ◌||◌, ◌&&◌, nat_lt, Bool, List, [], ◌∷◌, ◌++◌, length, drop, Option, Some, None, if◌then◌else◌}
+use Rattle.decimal_import.specs.Digits.{digits_in_front}
 
 -- its letter (`e` or `E`), its sign where it has one (`+` or `-`), and its digits
 pub record Exponent : Type 0 where

@@ -1,5 +1,5 @@
 -- Literals as whole numbers of a unit, rounded up.
-use Rattle.std.specs.Prelude.{ℕ, ◌+◌, ◌-◌, ◌*◌, ◌/◌, ◌^◌, ◌<◌, ◌≤◌, ◌==◌, nat_lt, min, Bool, true, false, List, ◌++◌, length, take, drop, Option, Some, None, Result, Ok, Err, if◌then◌else◌}
+use Rattle.std.specs.Prelude.{ℕ, ◌+◌, ◌-◌, ◌*◌, ◌/◌, ◌^◌, ◌≤◌, ◌==◌, nat_lt, min, Bool, false, List, ◌++◌, length, take, drop, Option, Some, None, Result, Ok, Err, if◌then◌else◌}
 use Rattle.decimal_import.specs.Digits.{number_of}
 use Rattle.decimal_import.specs.Literal.{Literal, Exponent}
 use Rattle.decimal_import.specs.declared.fault.ImportFault.{ImportFault}

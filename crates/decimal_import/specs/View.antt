@@ -1,5 +1,5 @@
 -- What the program's values mean, wherever their bytes lie.
-use Rattle.std.specs.Prelude.{ℕ, List, Option, Some, None}
+use Rattle.std.specs.Prelude.{Option, Some, None}
 use Rattle.decimal_import.specs.Literal.{Literal, Exponent}
 use Rattle.decimal_import.specs.Token.{Token, Opening, Closing, Comma, Colon, Blank, Named, Text, Number}
 use Rattle.decimal_import.specs.declared.token.Token.{Token as TokenParts}

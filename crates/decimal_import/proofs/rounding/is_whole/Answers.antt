@@ -1,4 +1,3 @@
-use Rattle.std.proofs.Common.{◌≡◌}
 use Rattle.decimal_import.proofs.Places.{behind_point-zero}
 use Rattle.decimal_import.proofs.rounding.is_whole.Goals as goal
 

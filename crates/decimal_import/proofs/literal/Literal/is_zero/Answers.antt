@@ -1,4 +1,3 @@
-use Rattle.std.proofs.Common.{◌≡◌}
 use Rattle.decimal_import.proofs.Places.{number_of-append_zero}
 use Rattle.decimal_import.proofs.literal.Literal.is_zero.Goals as goal
 
