@@ -9,7 +9,7 @@ ghost use Rattle.decimal_import.specs.View.{token_of};
 
 use crate::fault::ImportFault;
 use crate::nesting::{Nesting, Unit};
-use crate::token::{Token, is_colon_next, split_token};
+use crate::token::{Token, split_token};
 use itoa::Buffer;
 use std::alloc::Global;
 
