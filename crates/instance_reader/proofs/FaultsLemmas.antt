@@ -93,7 +93,7 @@ all_curves : (c : Contents) (curves : List CutCurve) → AreGood c curves → Al
 all_curves c curves h =
     let full = all_full c curves h in
     let each : All (λ x. IsCurve c.capacity x.points) curves =
-        (λ k e within. subst (λ n. IsCurve n (get_or curves k e).points) (full k e within) (h.accepted k e within).curve) in
+    (λ k e within. subst (λ n. IsCurve n (get_or curves k e).points) (full k e within) (h.accepted k e within).curve) in
     subst (All (IsCurve c.capacity)) (cut_points c curves h) (All-map (IsCurve c.capacity) (λ k. k.points) curves each)
 
 -- the denominator that the curves' crate tells
@@ -114,10 +114,10 @@ pub denominator_fault : (c : Contents) (curves : List CutCurve) → AreGood c cu
     ((full d : ℕ) → All (λ k. k.full ≡ full) curves → IsDenominator full (points_of curves) d → 10 ^ 9 < d) → IsFirstFaultIn c fault.Denominator
 denominator_fault c curves h past =
     λ d is.
-      let of_curves : IsDenominator c.capacity (points_of curves) d = rw (cut_points c curves h) (is (all_curves c curves h)) in
-      let large = past c.capacity d (all_full c curves h) of_curves in
-      let test : nat_lt (10 ^ 9) d ≡ true = grind (arith, nat_tests, large) in
-      rw (h.sizes, h.stations, h.good, test) refl
+    let of_curves : IsDenominator c.capacity (points_of curves) d = rw (cut_points c curves h) (is (all_curves c curves h)) in
+    let large = past c.capacity d (all_full c curves h) of_curves in
+    let test : nat_lt (10 ^ 9) d ≡ true = grind (arith, nat_tests, large) in
+    rw (h.sizes, h.stations, h.good, test) refl
 
 -- there is one denominator
 same_denominator : (full : ℕ) (curves : List (List (ℕ × ℕ))) (d e : ℕ) → IsDenominator full curves d → IsDenominator full curves e → d ≡ e
@@ -147,7 +147,7 @@ parts_of c curves scaled numbers d limit h same tells by_node is small within =
       by_node = by_node;
       denominator = is;
       small_denominator = small;
-      small_limit = within
+      small_limit = within;
     }
 
 pub meant_by : (c : Contents) (curves : List CutCurve) (d limit : ℕ) (g : Network) → AreGood c curves →

@@ -18,7 +18,8 @@ network_inside a = record {
   process_times = a.process_times.items;
   curves = map (points_at a.curves.items) a.curve_numbers.items;
   denominator = a.denominator;
-  limit = a.limit }
+  limit = a.limit;
+}
 
 -- the numbers of the customers, by node
 pub record AreCustomerNumbers (g : Network) (numbers : List (Option ℕ)) : Type 0 where

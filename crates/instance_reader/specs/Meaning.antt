@@ -38,7 +38,8 @@ network_of denominator c = record {
   process_times = c.process_times ++ replicate (nodes_of c - length c.process_times) 0;
   curves = map (curve_at_node c) (range_with_len 0 (nodes_of c));
   denominator = denominator;
-  limit = limit_of denominator c }
+  limit = limit_of denominator c;
+}
 
 -- the number of the curve at a node
 abbrev pub IsCurveNumber : Contents → ℕ → Option ℕ → Type 0

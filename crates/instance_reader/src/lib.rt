@@ -22,3 +22,6 @@ pub use faults::{LimitFault, ReadFault};
 pub use instance::Instance;
 pub use places::{Key, Part, Place};
 pub use read::read_instance;
+
+#[cfg(test)]
+mod tests;
