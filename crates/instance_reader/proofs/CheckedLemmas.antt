@@ -1,5 +1,5 @@
 -- What it means that the rules on sizes and on shapes find nothing.
-use Rattle.std.proofs.Common.{◌≡◌, ℕ, ◌+◌, ◌<◌, ◌≤◌, ◌^◌, ◌||◌, List, [], ◌∷◌, Option, None, Some, Bool, true, false, All, length, zip, nat_lt, nat_eq, not, refl, arith}
+use Rattle.std.proofs.Common.{◌≡◌, ℕ, ◌+◌, ◌≤◌, ◌^◌, ◌||◌, List, [], ◌∷◌, Option, None, Some, Bool, true, false, All, length, zip, nat_lt, nat_eq, not, refl, arith}
 use Rattle.std.proofs.lemmas.Bool.{or_parts}
 use Rattle.std.proofs.lemmas.Bool.Decides.{nat_tests}
 use Rattle.std.proofs.lemmas.List.Elements.{All-cons, All-head, All-nil, All-tail}

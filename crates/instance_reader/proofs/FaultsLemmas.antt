@@ -1,12 +1,12 @@
 -- The rules in their order, and what each step of the reading knows of the contents.
-use Rattle.std.proofs.Common.{◌≡◌, ◌≢◌, ◌∙◌, ℕ, ◌*◌, ◌/◌, ◌<◌, ◌≤◌, ◌^◌, List, [], ◌∷◌, Option, None, Some, Result, Ok, Err, IfErr, Bool, true, false, All, length, map, get_or, nat_lt, option_map, unwrap_or, refl, sym, ap, subst, arith}
+use Rattle.std.proofs.Common.{◌≡◌, ◌∙◌, ℕ, ◌*◌, ◌/◌, ◌<◌, ◌≤◌, ◌^◌, List, Option, None, Some, Result, Ok, Err, IfErr, Bool, true, false, All, length, map, get_or, nat_lt, option_map, unwrap_or, refl, ap, subst, arith}
 use Rattle.std.proofs.lemmas.Bool.Decides.{nat_tests}
 use Rattle.std.proofs.lemmas.List.Elements.{All-map}
 use Rattle.std.proofs.lemmas.Nat.Gcd.{dvd_antisymm}
 use Rattle.std.proofs.lemmas.Simd.{map-map}
 use Rattle.std.specs.Bool.{then_some}
 use Rattle.std.specs.Option.{option_or}
-use Rattle.charge_curve.specs.CutCurve.{CutCurve, IsAccepted, points_of}
+use Rattle.charge_curve.specs.CutCurve.{CutCurve, points_of}
 use Rattle.ev_model.specs.Curve.{IsCurve, IsDenominator, IsMultipleOfSlopes}
 use Rattle.ev_model.specs.Network.{Network}
 use Rattle.serde_json.specs.Data.{Data}
@@ -14,12 +14,12 @@ use Rattle.instance_reader.proofs.CheckedLemmas.{neither, shaped_contents, small
 use Rattle.instance_reader.proofs.PartsLemmas.{All-unmap}
 use Rattle.instance_reader.specs.Checked.{HasShape, HasSmallNumbers}
 use Rattle.instance_reader.specs.Contents.{Contents, contents_of}
-use Rattle.instance_reader.specs.Curves.{all_points, bad_curve_in, cut_curve}
-use Rattle.instance_reader.specs.Faults.{AreGood, IsFirstFault, IsFirstFaultIn, IsFirstFaultOf, IsMeantBy, first_fault_in, longest, size_fault, station_fault}
+use Rattle.instance_reader.specs.Curves.{all_points, cut_curve}
+use Rattle.instance_reader.specs.Faults.{AreGood, IsFirstFault, IsFirstFaultIn, IsFirstFaultOf, IsMeantBy, first_fault_in, longest, size_fault}
 use Rattle.instance_reader.specs.Instance.{TellsChargeTime}
 use Rattle.instance_reader.specs.Kinds.{first_wrong_kind}
 use Rattle.instance_reader.specs.Limits.{IsDenominatorOf, past_horizon}
-use Rattle.instance_reader.specs.Meaning.{AreCurveNumbers, given_limit, limit_of, network_of}
+use Rattle.instance_reader.specs.Meaning.{AreCurveNumbers, given_limit, network_of}
 use Rattle.instance_reader.specs.Parts.{AreParts}
 use Rattle.instance_reader.specs.RequiredKeys.{first_missing}
 use Rattle.instance_reader.specs.Shapes.{first_wrong_shape}

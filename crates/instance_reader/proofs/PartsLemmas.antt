@@ -1,5 +1,5 @@
 -- An instance that is put together from its parts.
-use Rattle.std.proofs.Common.{◌≡◌, ◌∙◌, ℕ, ◌+◌, ◌-◌, ◌*◌, ◌<◌, ◌≤◌, ◌^◌, ◌&&◌, ◌++◌, ◌⊎◌, List, [], ◌∷◌, Vec, Global, Option, None, Some, Bool, true, false, cond, All, IfSome, length, map, filter, get_or, slice_get, is_none, is_some, not, nat_eq, option_map, replicate, refl, sym, ap, subst, inl, inr, arith, length-append}
+use Rattle.std.proofs.Common.{◌≡◌, ◌∙◌, ℕ, ◌-◌, ◌<◌, ◌≤◌, ◌^◌, ◌&&◌, ◌++◌, List, [], ◌∷◌, Option, None, Some, Bool, true, false, All, IfSome, length, map, filter, get_or, slice_get, is_none, is_some, not, nat_eq, option_map, replicate, refl, sym, ap, subst, inl, inr, arith, length-append}
 use Rattle.std.proofs.lemmas.Bool.{cases_lt}
 use Rattle.std.proofs.lemmas.List.{get_or-map, get_or_past, length-map, length-replicate, same_lists}
 use Rattle.std.proofs.lemmas.List.Elements.{All-append, All-from_get_or, All-get_or, All-map, All-replicate}
@@ -8,15 +8,15 @@ use Rattle.std.proofs.lemmas.Option.{slice_get-map}
 use Rattle.std.proofs.lemmas.Simd.{map-map}
 use Rattle.std.proofs.Math.ListN.{get_or-map as get_or-map_anywhere}
 use Rattle.std.specs.List.{range_with_len}
-use Rattle.ev_model.specs.Curve.{IsCurve, IsDenominator, IsMultipleOfSlopes}
+use Rattle.ev_model.specs.Curve.{IsCurve, IsMultipleOfSlopes}
 use Rattle.ev_model.specs.Network.{HasFittingCurve, IsNetwork, is_customer, node_count}
 use Rattle.instance_reader.proofs.ListLemmas.{All-slice_get, slice_get-within}
 use Rattle.instance_reader.specs.Contents.{Contents, nodes_of, points_of}
 use Rattle.instance_reader.specs.Curves.{all_points, cut_curve}
 use Rattle.instance_reader.specs.Customers.{AreCustomers, IsIndexOf, has_customer}
-use Rattle.instance_reader.specs.Inside.{AreCustomerNumbers, IsInstance, network_inside, points_at}
-use Rattle.instance_reader.specs.Instance.{IsCustomerNumber, TellsChargeTime, customer_nodes}
-use Rattle.instance_reader.specs.Meaning.{AreCurveNumbers, IsCurveNumber, curve_at_node, network_of}
+use Rattle.instance_reader.specs.Inside.{IsInstance, network_inside, points_at}
+use Rattle.instance_reader.specs.Instance.{IsCustomerNumber, customer_nodes}
+use Rattle.instance_reader.specs.Meaning.{IsCurveNumber, curve_at_node, network_of}
 use Rattle.instance_reader.specs.Parts.{AreParts}
 use Rattle.instance_reader.specs.declared.curves.StationCurve.{StationCurve}
 use Rattle.instance_reader.specs.declared.instance.Instance.TheInside.{Inside}

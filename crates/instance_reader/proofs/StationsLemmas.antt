@@ -1,12 +1,11 @@
 -- The numbers of the curves by node.
-use Rattle.std.proofs.Common.{◌≡◌, ◌∙◌, ℕ, ◌+◌, ◌<◌, List, [], ◌∷◌, Option, None, Some, Bool, true, false, All, IfSome, length, map, get_or, slice_get, slice_index, is_some, not, option_map, refl, sym, ap, arith}
+use Rattle.std.proofs.Common.{◌≡◌, ◌∙◌, ℕ, ◌<◌, List, Option, None, Some, Bool, true, false, All, length, map, get_or, slice_get, slice_index, is_some, not, option_map, refl, ap}
 use Rattle.std.proofs.lemmas.List.{get_or-map, length-map}
 use Rattle.std.proofs.lemmas.Option.{get_or_from_slice_get, slice_get-map}
-use Rattle.std.specs.List.{position_or_len}
 use Rattle.instance_reader.proofs.CheckedLemmas.{nothing_along, unbroken}
 use Rattle.instance_reader.proofs.ListLemmas.{All-slice_get, find-position, position-within, slice_get-within}
-use Rattle.instance_reader.specs.Contents.{Contents, CurveOfType, Station, nodes_of, points_of}
-use Rattle.instance_reader.specs.Meaning.{AreCurveNumbers, IsCurveNumber, curve_at_node, curve_of_type}
+use Rattle.instance_reader.specs.Contents.{Contents, CurveOfType, Station, nodes_of}
+use Rattle.instance_reader.specs.Meaning.{AreCurveNumbers, IsCurveNumber, curve_of_type}
 use Rattle.instance_reader.specs.Nodes.{AreStationNumbers, IsStationNumber, station_at}
 use Rattle.instance_reader.specs.Search.{first_along}
 use Rattle.instance_reader.specs.Types.{is_among, names_of, type_number, type_place, unlisted}

@@ -1,6 +1,6 @@
 -- The network that the contents of an instance file mean.
 use Rattle.std.specs.Prelude.{◌≡◌, ℕ, ◌<◌, ◌-◌, ◌/◌, ◌^◌, ◌++◌, List, Option, None, Some, find, length, map, min, option_and_then, option_map, replicate, slice_get, slice_index_or, unwrap_or}
-use Rattle.std.specs.List.{position_or_len, range_with_len}
+use Rattle.std.specs.List.{range_with_len}
 use Rattle.ev_model.specs.Network.{Network}
 use Rattle.instance_reader.specs.Contents.{Contents, CurveOfType, nodes_of, points_of}
 use Rattle.instance_reader.specs.Nodes.{station_at}

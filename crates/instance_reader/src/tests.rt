@@ -274,6 +274,10 @@ fn a_bad_file_is_refused_by_its_first_broken_rule(rt: HostRuntime) -> Result<(),
             "BadCurve { index: 0, fault: Short { last: 9 } }",
         ),
         (
+            r#"{"max_q":10,"css":[],"breakpoints_by_type":[{"type":"a","time":[0,1,2,3,4,5,6,7,8,9,10,11,12,13,14,15,16,17,18,19,20,21,22,23,24,25,26,27,28,29,30,31,32],"charge":[0,1,2,3,4,5,6,7,8,9,10,11,12,13,14,15,16,17,18,19,20,21,22,23,24,25,26,27,28,29,30,31,32]}],"process_times":[0],"energy_matrix":[[0]],"time_matrix":[[0]]}"#,
+            "BadCurve { index: 0, fault: TooMany }",
+        ),
+        (
             r#"{"max_q":999999999,"css":[],"breakpoints_by_type":[{"type":"a","time":[0,1],"charge":[0,1000000000]},{"type":"b","time":[0,1],"charge":[0,999999999]}],"process_times":[0],"energy_matrix":[[0]],"time_matrix":[[0]],"t_max":2000000000000000000}"#,
             "Denominator",
         ),

@@ -1,5 +1,3 @@
-use Rattle.std.proofs.Common.{rules}
-use Rattle.std.proofs.lemmas.Grind.{common_steps}
 use Rattle.charge_curve.specs.CutCurve.{IsSmall}
 use Rattle.instance_reader.proofs.CurvesLemmas.{All-map-at}
 use Rattle.instance_reader.specs.Contents.{points_of}

@@ -1,4 +1,4 @@
-use Rattle.std.proofs.Common.{◌≡◌, ◌++◌, All, map, drop}
+use Rattle.std.proofs.Common.{◌≡◌, All, map}
 use Rattle.instance_reader.specs.Instance.{TellsChargeTime}
 use Rattle.instance_reader.proofs.curves.scaled.Given as goal
 

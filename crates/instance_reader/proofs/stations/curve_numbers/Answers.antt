@@ -1,4 +1,4 @@
-use Rattle.std.proofs.Common.{◌≡◌, [], None, length, map, option_map, slice_index, rules}
+use Rattle.std.proofs.Common.{◌≡◌, [], None, map, option_map, slice_index, rules}
 use Rattle.std.proofs.lemmas.List.{length-map}
 use Rattle.instance_reader.proofs.CheckedLemmas.{neither}
 use Rattle.instance_reader.proofs.StationsLemmas.{AreCurveNumbers-by_node}

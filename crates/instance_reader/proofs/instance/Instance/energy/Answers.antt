@@ -1,4 +1,4 @@
-use Rattle.std.proofs.Common.{◌≡◌, ◌<◌, length, arith}
+use Rattle.std.proofs.Common.{◌<◌, length}
 use Rattle.std.proofs.lemmas.List.{length-map}
 use Rattle.ev_model.specs.Network.{node_count}
 use Rattle.instance_reader.proofs.InstanceLemmas.{small_at}
