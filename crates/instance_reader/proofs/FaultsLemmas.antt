@@ -1,12 +1,12 @@
 -- The rules in their order, and what each step of the reading knows of the contents.
-use Rattle.std.proofs.Common.{◌≡◌, ◌≢◌, ◌∙◌, ℕ, ◌*◌, ◌/◌, ◌<◌, ◌≤◌, ◌^◌, List, [], ◌∷◌, Option, None, Some, Result, Ok, Err, IfErr, Bool, true, false, All, length, map, get_or, nat_lt, option_map, unwrap_or, refl, sym, ap, subst, arith}
+use Rattle.std.proofs.Common.{◌≡◌, ◌∙◌, ℕ, ◌*◌, ◌/◌, ◌<◌, ◌≤◌, ◌^◌, List, Option, None, Some, Result, Ok, Err, IfErr, Bool, true, false, All, length, map, get_or, nat_lt, option_map, unwrap_or, refl, ap, subst, arith}
 use Rattle.std.proofs.lemmas.Bool.Decides.{nat_tests}
 use Rattle.std.proofs.lemmas.List.Elements.{All-map}
 use Rattle.std.proofs.lemmas.Nat.Gcd.{dvd_antisymm}
 use Rattle.std.proofs.lemmas.Simd.{map-map}
 use Rattle.std.specs.Bool.{then_some}
 use Rattle.std.specs.Option.{option_or}
-use Rattle.charge_curve.specs.CutCurve.{CutCurve, IsAccepted, points_of}
+use Rattle.charge_curve.specs.CutCurve.{CutCurve, points_of}
 use Rattle.ev_model.specs.Curve.{IsCurve, IsDenominator, IsMultipleOfSlopes}
 use Rattle.ev_model.specs.Network.{Network}
 use Rattle.serde_json.specs.Data.{Data}
@@ -14,12 +14,12 @@ use Rattle.instance_reader.proofs.CheckedLemmas.{neither, shaped_contents, small
 use Rattle.instance_reader.proofs.PartsLemmas.{All-unmap}
 use Rattle.instance_reader.specs.Checked.{HasShape, HasSmallNumbers}
 use Rattle.instance_reader.specs.Contents.{Contents, contents_of}
-use Rattle.instance_reader.specs.Curves.{all_points, bad_curve_in, cut_curve}
-use Rattle.instance_reader.specs.Faults.{AreGood, IsFirstFault, IsFirstFaultIn, IsFirstFaultOf, IsMeantBy, first_fault_in, longest, size_fault, station_fault}
+use Rattle.instance_reader.specs.Curves.{all_points, cut_curve}
+use Rattle.instance_reader.specs.Faults.{AreGood, IsFirstFault, IsFirstFaultIn, IsFirstFaultOf, IsMeantBy, first_fault_in, longest, size_fault}
 use Rattle.instance_reader.specs.Instance.{TellsChargeTime}
 use Rattle.instance_reader.specs.Kinds.{first_wrong_kind}
 use Rattle.instance_reader.specs.Limits.{IsDenominatorOf, past_horizon}
-use Rattle.instance_reader.specs.Meaning.{AreCurveNumbers, given_limit, limit_of, network_of}
+use Rattle.instance_reader.specs.Meaning.{AreCurveNumbers, given_limit, network_of}
 use Rattle.instance_reader.specs.Parts.{AreParts}
 use Rattle.instance_reader.specs.RequiredKeys.{first_missing}
 use Rattle.instance_reader.specs.Shapes.{first_wrong_shape}
@@ -93,7 +93,7 @@ all_curves : (c : Contents) (curves : List CutCurve) → AreGood c curves → Al
 all_curves c curves h =
     let full = all_full c curves h in
     let each : All (λ x. IsCurve c.capacity x.points) curves =
-        (λ k e within. subst (λ n. IsCurve n (get_or curves k e).points) (full k e within) (h.accepted k e within).curve) in
+    (λ k e within. subst (λ n. IsCurve n (get_or curves k e).points) (full k e within) (h.accepted k e within).curve) in
     subst (All (IsCurve c.capacity)) (cut_points c curves h) (All-map (IsCurve c.capacity) (λ k. k.points) curves each)
 
 -- the denominator that the curves' crate tells
@@ -114,10 +114,10 @@ pub denominator_fault : (c : Contents) (curves : List CutCurve) → AreGood c cu
     ((full d : ℕ) → All (λ k. k.full ≡ full) curves → IsDenominator full (points_of curves) d → 10 ^ 9 < d) → IsFirstFaultIn c fault.Denominator
 denominator_fault c curves h past =
     λ d is.
-      let of_curves : IsDenominator c.capacity (points_of curves) d = rw (cut_points c curves h) (is (all_curves c curves h)) in
-      let large = past c.capacity d (all_full c curves h) of_curves in
-      let test : nat_lt (10 ^ 9) d ≡ true = grind (arith, nat_tests, large) in
-      rw (h.sizes, h.stations, h.good, test) refl
+    let of_curves : IsDenominator c.capacity (points_of curves) d = rw (cut_points c curves h) (is (all_curves c curves h)) in
+    let large = past c.capacity d (all_full c curves h) of_curves in
+    let test : nat_lt (10 ^ 9) d ≡ true = grind (arith, nat_tests, large) in
+    rw (h.sizes, h.stations, h.good, test) refl
 
 -- there is one denominator
 same_denominator : (full : ℕ) (curves : List (List (ℕ × ℕ))) (d e : ℕ) → IsDenominator full curves d → IsDenominator full curves e → d ≡ e
@@ -147,7 +147,7 @@ parts_of c curves scaled numbers d limit h same tells by_node is small within =
       by_node = by_node;
       denominator = is;
       small_denominator = small;
-      small_limit = within
+      small_limit = within;
     }
 
 pub meant_by : (c : Contents) (curves : List CutCurve) (d limit : ℕ) (g : Network) → AreGood c curves →

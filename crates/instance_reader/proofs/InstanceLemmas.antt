@@ -21,10 +21,10 @@ pub small_at : (rows : List (Vec ℕ Global)) (n i j : ℕ) (row : Vec ℕ Globa
 small_at rows n i j row x lengths small hi hj is_row is_x =
     let within : i < length (map (λ row. row.items) rows) = rw length-map hi in
     let same : get_or (map (λ row. row.items) rows) i row.items ≡ row.items =
-        get_or-map (λ row. row.items) rows i row row.items hi ∙ ap (λ row. row.items) (sym is_row) in
+    get_or-map (λ row. row.items) rows i row row.items hi ∙ ap (λ row. row.items) (sym is_row) in
     let long : length row.items ≡ n = rw (← same) (All-get_or (λ row. length row ≡ n) (map (λ row. row.items) rows) i row.items within lengths) in
     let all : All (λ number. number ≤ 10 ^ 9) row.items =
-        rw (← same) (All-get_or (All (λ number. number ≤ 10 ^ 9)) (map (λ row. row.items) rows) i row.items within small) in
+    rw (← same) (All-get_or (All (λ number. number ≤ 10 ^ 9)) (map (λ row. row.items) rows) i row.items within small) in
     let inside : j < length row.items = omega arith in
     rw is_x (All-get_or (λ number. number ≤ 10 ^ 9) row.items j x inside all)
 
@@ -34,17 +34,17 @@ pub curve_at_number : (a : Inside) (node number : ℕ) (o : Option ℕ) (c : Sta
     IsCurveAt (network_inside a) node c.scaled
 curve_at_number a node number o c is h is_o some is_c =
     let count : length a.curve_numbers.items ≡ node_count (network_inside a) =
-        sym (length-map a.curve_numbers.items (points_at a.curves.items)) ∙ is.network.curve_count in
+    sym (length-map a.curve_numbers.items (points_at a.curves.items)) ∙ is.network.curve_count in
     let within : node < length a.curve_numbers.items = omega arith in
     let known : IfSome (get_or a.curve_numbers.items node o) (λ n. n < length a.curves.items) =
-        All-get_or (λ o. IfSome o (λ n. n < length a.curves.items)) a.curve_numbers.items node o within is.known in
+    All-get_or (λ o. IfSome o (λ n. n < length a.curves.items)) a.curve_numbers.items node o within is.known in
     let inside : number < length a.curves.items = rw (← is_o, some) at known in
     let found : slice_get a.curves.items number ≡ Some c = slice_get_read a.curves.items (length a.curves.items) number c refl inside is_c in
     let points : curve_at (network_inside a) node ≡ Some c.curve.points =
-        get_or-map (points_at a.curves.items) a.curve_numbers.items node o None within
-        ∙ ap (points_at a.curves.items) (sym is_o ∙ some) ∙ ap (option_map (λ c. c.curve.points)) found in
+    get_or-map (points_at a.curves.items) a.curve_numbers.items node o None within
+    ∙ ap (points_at a.curves.items) (sym is_o ∙ some) ∙ ap (option_map (λ c. c.curve.points)) found in
     let tells : TellsChargeTime a.max_q a.denominator c.curve.points c.scaled =
-        rw is_c (All-get_or (λ c. TellsChargeTime a.max_q a.denominator c.curve.points c.scaled) a.curves.items number c inside is.scaled) in
+    rw is_c (All-get_or (λ c. TellsChargeTime a.max_q a.denominator c.curve.points c.scaled) a.curves.items number c inside is.scaled) in
     (c.curve.points, points, tells)
 
 -- a scaled time
@@ -65,18 +65,18 @@ All-filter-true p (x ∷ xs) = passed p x xs (p x) refl (All-filter-true p xs)
 pub customers_known : (g : Network) → All (λ node. node < node_count g) (customer_nodes g)
 customers_known g =
     All-filter (is_customer g) (λ node. node < node_count g) (range_with_len 0 (node_count g))
-        (All-from_get_or (λ node. node < node_count g) (range_with_len 0 (node_count g)) 0
-            (λ i within.
-              let inside : i < node_count g = rw length-range_with_len at within in
-              rw (get_or-range_with_len 0 (node_count g) i 0 inside) (omega arith)))
+    (All-from_get_or (λ node. node < node_count g) (range_with_len 0 (node_count g)) 0
+    (λ i within.
+    let inside : i < node_count g = rw length-range_with_len at within in
+    rw (get_or-range_with_len 0 (node_count g) i 0 inside) (omega arith)))
 
 pub customers_rise : (g : Network) → IsStrictlyIncreasing (customer_nodes g)
 customers_rise g =
     IsStrictlyIncreasing-filter (is_customer g) (range_with_len 0 (node_count g))
-        (λ k within.
-          let inside : k + 1 < node_count g = rw length-range_with_len at within in
-          let before : k < node_count g = omega arith in
-          rw (get_or-range_with_len 0 (node_count g) k 0 before, get_or-range_with_len 0 (node_count g) (k + 1) 0 inside) (omega arith))
+    (λ k within.
+    let inside : k + 1 < node_count g = rw length-range_with_len at within in
+    let before : k < node_count g = omega arith in
+    rw (get_or-range_with_len 0 (node_count g) k 0 before, get_or-range_with_len 0 (node_count g) (k + 1) 0 inside) (omega arith))
 
 pub customer_within : (g : Network) (node : ℕ) (o : Option ℕ) → IsCustomerNumber g node o → IfSome o (λ number. number < length (customer_nodes g))
 customer_within g node None h = tt

@@ -1,5 +1,5 @@
 -- An instance that is put together from its parts.
-use Rattle.std.proofs.Common.{◌≡◌, ◌∙◌, ℕ, ◌+◌, ◌-◌, ◌*◌, ◌<◌, ◌≤◌, ◌^◌, ◌&&◌, ◌++◌, ◌⊎◌, List, [], ◌∷◌, Vec, Global, Option, None, Some, Bool, true, false, cond, All, IfSome, length, map, filter, get_or, slice_get, is_none, is_some, not, nat_eq, option_map, replicate, refl, sym, ap, subst, inl, inr, arith, length-append}
+use Rattle.std.proofs.Common.{◌≡◌, ◌∙◌, ℕ, ◌-◌, ◌<◌, ◌≤◌, ◌^◌, ◌&&◌, ◌++◌, List, [], ◌∷◌, Option, None, Some, Bool, true, false, All, IfSome, length, map, filter, get_or, slice_get, is_none, is_some, not, nat_eq, option_map, replicate, refl, sym, ap, subst, inl, inr, arith, length-append}
 use Rattle.std.proofs.lemmas.Bool.{cases_lt}
 use Rattle.std.proofs.lemmas.List.{get_or-map, get_or_past, length-map, length-replicate, same_lists}
 use Rattle.std.proofs.lemmas.List.Elements.{All-append, All-from_get_or, All-get_or, All-map, All-replicate}
@@ -8,15 +8,15 @@ use Rattle.std.proofs.lemmas.Option.{slice_get-map}
 use Rattle.std.proofs.lemmas.Simd.{map-map}
 use Rattle.std.proofs.Math.ListN.{get_or-map as get_or-map_anywhere}
 use Rattle.std.specs.List.{range_with_len}
-use Rattle.ev_model.specs.Curve.{IsCurve, IsDenominator, IsMultipleOfSlopes}
+use Rattle.ev_model.specs.Curve.{IsCurve, IsMultipleOfSlopes}
 use Rattle.ev_model.specs.Network.{HasFittingCurve, IsNetwork, is_customer, node_count}
 use Rattle.instance_reader.proofs.ListLemmas.{All-slice_get, slice_get-within}
 use Rattle.instance_reader.specs.Contents.{Contents, nodes_of, points_of}
 use Rattle.instance_reader.specs.Curves.{all_points, cut_curve}
 use Rattle.instance_reader.specs.Customers.{AreCustomers, IsIndexOf, has_customer}
-use Rattle.instance_reader.specs.Inside.{AreCustomerNumbers, IsInstance, network_inside, points_at}
-use Rattle.instance_reader.specs.Instance.{IsCustomerNumber, TellsChargeTime, customer_nodes}
-use Rattle.instance_reader.specs.Meaning.{AreCurveNumbers, IsCurveNumber, curve_at_node, network_of}
+use Rattle.instance_reader.specs.Inside.{IsInstance, network_inside, points_at}
+use Rattle.instance_reader.specs.Instance.{IsCustomerNumber, customer_nodes}
+use Rattle.instance_reader.specs.Meaning.{IsCurveNumber, curve_at_node, network_of}
 use Rattle.instance_reader.specs.Parts.{AreParts}
 use Rattle.instance_reader.specs.declared.curves.StationCurve.{StationCurve}
 use Rattle.instance_reader.specs.declared.instance.Instance.TheInside.{Inside}
@@ -57,14 +57,14 @@ curves_by_node : (c : Contents) (curves : List StationCurve) (numbers : List (Op
     map (points_at curves) numbers ≡ map (curve_at_node c) (range_with_len 0 (nodes_of c))
 curves_by_node c curves numbers d limit h =
     same_lists (map (points_at curves) numbers) (map (curve_at_node c) (range_with_len 0 (nodes_of c)))
-        (length-map numbers (points_at curves) ∙ h.by_node.all ∙ sym (length-map-range_with_len (curve_at_node c) 0 (nodes_of c)))
-        (λ node e within.
-          let count : length (map (points_at curves) numbers) ≡ length numbers = length-map numbers (points_at curves) in
-          let inside : node < length numbers = omega arith in
-          let known : node < nodes_of c = omega (arith, h.by_node.all) in
-          get_or-map (points_at curves) numbers node None e inside
-          ∙ points_of_number c curves numbers d limit h node (get_or numbers node None) (h.by_node.each node known)
-          ∙ sym (get_or-map-range_with_len (curve_at_node c) 0 (nodes_of c) node node e known (omega arith)))
+    (length-map numbers (points_at curves) ∙ h.by_node.all ∙ sym (length-map-range_with_len (curve_at_node c) 0 (nodes_of c)))
+    (λ node e within.
+    let count : length (map (points_at curves) numbers) ≡ length numbers = length-map numbers (points_at curves) in
+    let inside : node < length numbers = omega arith in
+    let known : node < nodes_of c = omega (arith, h.by_node.all) in
+    get_or-map (points_at curves) numbers node None e inside
+    ∙ points_of_number c curves numbers d limit h node (get_or numbers node None) (h.by_node.each node known)
+    ∙ sym (get_or-map-range_with_len (curve_at_node c) 0 (nodes_of c) node node e known (omega arith)))
 
 -- a curve that a number leads to fits
 fitting : (c : Contents) (curves : List StationCurve) (d : ℕ) (o : Option StationCurve) →
@@ -88,10 +88,10 @@ fitting_number c curves numbers d limit h (Some number) =
     let good : All (IsCurve c.capacity) (map (λ s. s.curve.points) curves) = rw points h.good in
     let multiple : All (λ p. IsMultipleOfSlopes c.capacity p d) (map (λ s. s.curve.points) curves) = rw points h.denominator.multiple in
     let all = both (λ s. IsCurve c.capacity s.curve.points) (λ s. IsMultipleOfSlopes c.capacity s.curve.points d) curves
-        (All-unmap (IsCurve c.capacity) (λ s. s.curve.points) curves good)
-        (All-unmap (λ p. IsMultipleOfSlopes c.capacity p d) (λ s. s.curve.points) curves multiple) in
+    (All-unmap (IsCurve c.capacity) (λ s. s.curve.points) curves good)
+    (All-unmap (λ p. IsMultipleOfSlopes c.capacity p d) (λ s. s.curve.points) curves multiple) in
     fitting c curves d (slice_get curves number)
-        (IfSome-slice_get (λ s. IsCurve c.capacity s.curve.points × IsMultipleOfSlopes c.capacity s.curve.points d) curves number (slice_get curves number) all refl)
+    (IfSome-slice_get (λ s. IsCurve c.capacity s.curve.points × IsMultipleOfSlopes c.capacity s.curve.points d) curves number (slice_get curves number) all refl)
 
 fitting_curves : (c : Contents) (curves : List StationCurve) (numbers : List (Option ℕ)) (d limit : ℕ) → AreParts c curves numbers d limit →
     All (HasFittingCurve c.capacity d) (map (points_at curves) numbers)
@@ -107,8 +107,8 @@ known_numbers : (c : Contents) (curves : List StationCurve) (numbers : List (Opt
     All (λ o. IfSome o (λ number. number < length curves)) numbers
 known_numbers c curves numbers d limit h =
     All-from_get_or (λ o. IfSome o (λ number. number < length curves)) numbers None
-        (λ node within. known_number c curves node (get_or numbers node None) (curve_count c curves numbers d limit h)
-            (h.by_node.each node (rw (sym h.by_node.all) within)))
+    (λ node within. known_number c curves node (get_or numbers node None) (curve_count c curves numbers d limit h)
+    (h.by_node.each node (rw (sym h.by_node.all) within)))
 
 -- ---- the customers
 
@@ -124,17 +124,17 @@ none_same curves (Some number) h = some_stays (λ s. s.curve.points) (slice_get 
 known_anywhere : (curves : List StationCurve) (numbers : List (Option ℕ)) → All (λ o. IfSome o (λ number. number < length curves)) numbers →
     (node : ℕ) → IfSome (get_or numbers node None) (λ number. number < length curves)
 known_anywhere curves numbers all node = elim (cases_lt node (length numbers)) [
-    | inl lt ↦ all node None lt
-    | inr ge ↦ rw (get_or_past numbers node None ge) tt
-  ]
+  | inl lt ↦ all node None lt
+  | inr ge ↦ rw (get_or_past numbers node None ge) tt
+]
 
 -- a node has a customer by the network exactly where it has one by the numbers of the curves
 same_customer : (a : Inside) → All (λ o. IfSome o (λ number. number < length a.curves.items)) a.curve_numbers.items →
     (node : ℕ) → is_customer (network_inside a) node ≡ has_customer a.curve_numbers.items node
 same_customer a known node =
     ap (λ b. not (nat_eq node 0) && b)
-        (ap is_none (get_or-map_anywhere (points_at a.curves.items) a.curve_numbers.items node None)
-        ∙ none_same a.curves.items (get_or a.curve_numbers.items node None) (known_anywhere a.curves.items a.curve_numbers.items known node))
+    (ap is_none (get_or-map_anywhere (points_at a.curves.items) a.curve_numbers.items node None)
+    ∙ none_same a.curves.items (get_or a.curve_numbers.items node None) (known_anywhere a.curves.items a.curve_numbers.items known node))
 
 customer_number : (a : Inside) (customers : List ℕ) (node : ℕ) (o : Option ℕ) →
     ((node : ℕ) → is_customer (network_inside a) node ≡ has_customer a.curve_numbers.items node) → customers ≡ customer_nodes (network_inside a) →
@@ -160,7 +160,7 @@ network_of_parts a c capacity energies times process_times h =
       time_rows = rw (times, energies) h.shape.time_rows;
       process_count =
           let sum : length (c.process_times ++ replicate (nodes_of c - length c.process_times) 0) ≡ nodes_of c =
-              rw (length-append, length-replicate) (omega (arith, h.shape.process_times)) in
+          rw (length-append, length-replicate) (omega (arith, h.shape.process_times)) in
           ap length process_times ∙ sum ∙ sym total;
       curve_count = length-map a.curve_numbers.items (points_at a.curves.items) ∙ h.by_node.all ∙ sym total;
       curves = rw capacity (fitting_curves c a.curves.items a.curve_numbers.items a.denominator a.limit h);
@@ -171,7 +171,7 @@ network_of_parts a c capacity energies times process_times h =
           h.small.process_times (All-replicate (λ time. time ≤ 10 ^ 9) (nodes_of c - length c.process_times) 0 (omega arith)));
       some_denominator = h.denominator.some;
       small_denominator = h.small_denominator;
-      small_limit = h.small_limit
+      small_limit = h.small_limit;
     }
 
 pub parts_make_an_instance : (a : Inside) (c : Contents) → a.max_q ≡ c.capacity →
@@ -186,7 +186,7 @@ parts_make_an_instance a c capacity energies times process_times h customers =
     let known = known_numbers c a.curves.items a.curve_numbers.items a.denominator a.limit h in
     let same = same_customer a known in
     let list : a.customers.items ≡ customer_nodes (network_inside a) =
-        customers.list ∙ rw total (sym (filter-same (is_customer (network_inside a)) (has_customer a.curve_numbers.items) (range_with_len 0 (nodes_of c)) same)) in
+    customers.list ∙ rw total (sym (filter-same (is_customer (network_inside a)) (has_customer a.curve_numbers.items) (range_with_len 0 (nodes_of c)) same)) in
     record {
       network = network;
       energy_rows = All-unmap (λ row. length row ≡ length a.energies.items) (λ row. row.items) a.energies.items (rw (← rows) network.energy_rows);
@@ -197,8 +197,8 @@ parts_make_an_instance a c capacity energies times process_times h customers =
       numbers = record {
         all = customers.all ∙ sym total;
         each = λ node within.
-            customer_number a a.customers.items node (get_or a.customer_numbers.items node None) same list (customers.each node (rw (← total) within))
-      }
+            customer_number a a.customers.items node (get_or a.customer_numbers.items node None) same list (customers.each node (rw (← total) within));
+      };
     }
 
 pub parts_make_the_network : (a : Inside) (c : Contents) → a.max_q ≡ c.capacity →

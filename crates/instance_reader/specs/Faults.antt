@@ -22,28 +22,28 @@ use Rattle.instance_reader.specs.declared.faults.ReadFault.TheVariants as fault
 -- the first broken rule of those on sizes and shapes
 abbrev pub size_fault : Contents → Option ReadFault
 size_fault c = first
-    ( option_map fault.TooLarge (first_large c)
+    (option_map fault.TooLarge (first_large c)
     ∷ option_map fault.Shape (first_wrong_shape c)
     ∷ [])
 
 -- the first broken rule of those on stations
 abbrev pub station_fault : Contents → Option ReadFault
 station_fault c = first
-    ( option_map fault.Node (first_wrong_node c)
+    (option_map fault.Node (first_wrong_node c)
     ∷ option_map fault.TypeName (first_wrong_type c)
     ∷ [])
 
 -- the first broken rule of those on limits, where d is the denominator of the curves
 abbrev pub limit_fault : ℕ → Contents → Option ReadFault
 limit_fault d c = first
-    ( large_denominator d
+    (large_denominator d
     ∷ past_horizon d (given_limit c)
     ∷ [])
 
 -- the first broken rule of those on the contents of a file
 abbrev pub first_fault_in : ℕ → Contents → Option ReadFault
 first_fault_in d c = first
-    ( size_fault c
+    (size_fault c
     ∷ station_fault c
     ∷ bad_curve_in c.capacity c.curves
     ∷ limit_fault d c
@@ -52,7 +52,7 @@ first_fault_in d c = first
 -- the first broken rule of a value, where d is the denominator of its curves
 abbrev pub first_fault : ℕ → Data → Option ReadFault
 first_fault d top = first
-    ( option_map fault.Missing (first_missing top)
+    (option_map fault.Missing (first_missing top)
     ∷ option_map fault.Kind (first_wrong_kind top)
     ∷ first_fault_in d (contents_of top)
     ∷ [])

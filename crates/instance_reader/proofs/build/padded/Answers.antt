@@ -1,4 +1,4 @@
-use Rattle.std.proofs.Common.{◌≡◌, ◌∙◌, ◌+◌, ◌-◌, ◌≤◌, ◌∷◌, ◌++◌, [], length, replicate, refl, arith, ap, append_assoc, rules}
+use Rattle.std.proofs.Common.{◌≡◌, ◌+◌, ◌-◌, ◌≤◌, length, refl, arith, append_assoc, rules}
 use Rattle.std.proofs.lemmas.Grind.{replicate_next}
 use Rattle.instance_reader.proofs.build.padded.Goals as goal
 

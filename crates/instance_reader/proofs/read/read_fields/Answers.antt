@@ -45,7 +45,7 @@ build-requires c =
     let told = rw c.as_slice.ensures.value at c.in-Some.ensures.some in
     let is = denominator_is contents c.in_ok-curves.field-0.curves.items c.in-Some.denominator c.in_ok-curves.ensures.good told in
     parts_of contents c.in_ok-curves.field-0.curves.items c.in-Ok.curves.items c.in_ok-curves.field-0.curve_numbers.items c.in-Some.denominator c.in_ok-limit.limit
-        c.in_ok-curves.ensures.good c.in-Ok.ensures.same c.in-Ok.ensures.scaled c.in_ok-curves.ensures.by_node is c.in-Some.ensures.within c.in_ok-limit.ensures.within
+    c.in_ok-curves.ensures.good c.in-Ok.ensures.same c.in-Ok.ensures.scaled c.in_ok-curves.ensures.by_node is c.in-Some.ensures.within c.in_ok-limit.ensures.within
 
 pub returns-in-Ok-build-clause-instance : goal.returns-in-Ok-build-clause-instance
 returns-in-Ok-build-clause-instance c =
@@ -56,4 +56,4 @@ returns-in-Ok-build-clause-instance c =
     let within = rw given at c.in_ok-limit.ensures.ok in
     let limit = rw given at c.in_ok-limit.ensures.value in
     meant_by contents c.in_ok-curves.field-0.curves.items c.in-Some.denominator c.in_ok-limit.limit c.in-Ok-build.instance c.in_ok-curves.ensures.good
-        is c.in-Some.ensures.within within limit c.in-Ok-build.ensures
+    is c.in-Some.ensures.within within limit c.in-Ok-build.ensures

@@ -18,4 +18,4 @@ returns-clause-known c = subst (All (λ node. node < node_count c.args.self.now)
 pub returns-clause-customers : goal.returns-clause-customers
 returns-clause-customers c =
     subst (All (λ node. is_customer c.args.self.now node ≡ true)) (sym (is c))
-        (All-filter-true (is_customer c.args.self.now) (range_with_len 0 (node_count c.args.self.now)))
+    (All-filter-true (is_customer c.args.self.now) (range_with_len 0 (node_count c.args.self.now)))

@@ -11,10 +11,10 @@ returns-clause-small c =
     let left : c.args.i < node_count (network_inside c.self.inside) = rw (← c.self.view_is) at c.requires.left in
     let reached : c.args.j < node_count (network_inside c.self.inside) = rw (← c.self.view_is) at c.requires.reached in
     let count : length c.self.inside.times.items ≡ node_count (network_inside c.self.inside) =
-        sym (length-map c.self.inside.times.items (λ row. row.items)) ∙ network.time_count in
+    sym (length-map c.self.inside.times.items (λ row. row.items)) ∙ network.time_count in
     let rows : c.args.i < length c.self.inside.times.items = omega arith in
     small_at c.self.inside.times.items (node_count (network_inside c.self.inside)) c.args.i c.args.j c.index.result.now c.index-2.result.now
-        network.time_rows network.small_times rows reached c.index.ensures c.index-2.ensures
+    network.time_rows network.small_times rows reached c.index.ensures c.index-2.ensures
 
 pub returns-clause-scaled : goal.returns-clause-scaled
 returns-clause-scaled c =
