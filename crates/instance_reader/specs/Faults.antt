@@ -1,0 +1,64 @@
+-- The first broken rule of an instance file, and the instance of a file that breaks none.
+use Rattle.std.specs.Prelude.{◌≡◌, ℕ, ◌<◌, ◌≤◌, ◌^◌, List, [], ◌∷◌, Option, None, Some, length, option_map}
+use Rattle.ev_model.specs.Curve.{IsDenominator}
+use Rattle.ev_model.specs.Network.{Network}
+use Rattle.serde_json.specs.Data.{Data}
+use Rattle.instance_reader.specs.Contents.{Contents, contents_of}
+use Rattle.instance_reader.specs.Curves.{all_points, bad_curve_in}
+use Rattle.instance_reader.specs.Kinds.{first_wrong_kind}
+use Rattle.instance_reader.specs.Limits.{IsDenominatorOf, large_denominator, past_horizon}
+use Rattle.instance_reader.specs.Meaning.{given_limit, network_of}
+use Rattle.instance_reader.specs.Nodes.{first_wrong_node}
+use Rattle.instance_reader.specs.RequiredKeys.{first_missing}
+use Rattle.instance_reader.specs.Search.{first}
+use Rattle.instance_reader.specs.Shapes.{first_wrong_shape}
+use Rattle.instance_reader.specs.Sizes.{first_large}
+use Rattle.instance_reader.specs.Types.{first_wrong_type}
+use Rattle.instance_reader.specs.Values.{HasNoValue, IsValueOf}
+use Rattle.instance_reader.specs.declared.faults.ReadFault.{ReadFault}
+use Rattle.instance_reader.specs.declared.faults.ReadFault.TheVariants as fault
+
+-- the first broken rule of those on the contents alone, in their order
+abbrev pub first_fault_in : Contents → Option ReadFault
+first_fault_in c = first
+    ( option_map fault.TooLarge (first_large c)
+    ∷ option_map fault.Shape (first_wrong_shape c)
+    ∷ option_map fault.Node (first_wrong_node c)
+    ∷ option_map fault.TypeName (first_wrong_type c)
+    ∷ bad_curve_in c.capacity c.curves
+    ∷ [])
+
+-- the first broken rule of a value, where d is the denominator of its curves
+abbrev pub first_fault : ℕ → Data → Option ReadFault
+first_fault d top = first
+    ( option_map fault.Missing (first_missing top)
+    ∷ option_map fault.Kind (first_wrong_kind top)
+    ∷ first_fault_in (contents_of top)
+    ∷ large_denominator d
+    ∷ past_horizon d (given_limit (contents_of top))
+    ∷ [])
+
+-- the longest file that is read
+abbrev pub longest : ℕ
+longest = 2 ^ 26
+
+-- the bytes are not too long, and P holds of the value that they are
+abbrev pub IsRead : List ℕ → (Data → Type 0) → Type 0
+IsRead bytes P = (length bytes ≤ longest) × ((top : Data) × IsValueOf bytes top × P top)
+
+-- the fault is the first broken rule of these bytes. Want of memory is no rule
+abbrev pub IsFirstFault : List ℕ → ReadFault → Type 0
+IsFirstFault bytes (fault.TooLong len) = (len ≡ length bytes) × (longest < length bytes)
+IsFirstFault bytes fault.NotJson = (length bytes ≤ longest) × HasNoValue bytes
+IsFirstFault bytes fault.Memory = Unit {0}
+IsFirstFault bytes other = IsRead bytes (λ top. (d : ℕ) → IsDenominatorOf (contents_of top) d → first_fault d top ≡ Some other)
+
+-- the value breaks no rule, and the network is what it means
+pub record Means (top : Data) (g : Network) : Type 0 where
+  pub denominator : IsDenominator (contents_of top).capacity (all_points (contents_of top).curves) g.denominator
+  pub accepted : first_fault g.denominator top ≡ None
+  pub network : g ≡ network_of g.denominator (contents_of top)
+
+-- the bytes break no rule, and the network is what they mean
+abbrev pub IsInstanceOf : List ℕ → Network → Type 0
+IsInstanceOf bytes g = IsRead bytes (λ top. Means top g)

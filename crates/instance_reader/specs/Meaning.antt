@@ -1,0 +1,41 @@
+-- The network that the contents of an instance file mean.
+use Rattle.std.specs.Prelude.{ℕ, ◌-◌, ◌/◌, ◌^◌, ◌++◌, List, Option, None, Some, find, length, map, min, option_and_then, option_map, replicate, unwrap_or}
+use Rattle.std.specs.List.{position_or_len, range_with_len}
+use Rattle.ev_model.specs.Network.{Network}
+use Rattle.instance_reader.specs.Contents.{Contents, CurveOfType, nodes_of, points_of}
+use Rattle.instance_reader.specs.Nodes.{station_at}
+use Rattle.instance_reader.specs.Values.{Name, same_name}
+
+-- the curve of a type of stations
+abbrev pub curve_of_type : List CurveOfType → Name → Option CurveOfType
+curve_of_type curves name = find (λ curve. same_name name curve.type_name) curves
+
+-- the breakpoints of the curve of the station at a node
+abbrev pub curve_at_node : Contents → ℕ → Option (List (ℕ × ℕ))
+curve_at_node c node =
+    option_map points_of (option_and_then (λ s. curve_of_type c.curves s.type_name) (station_at c.stations node))
+
+-- of two limits that may be absent, the smaller that stands
+abbrev pub smaller : Option ℕ → Option ℕ → Option ℕ
+smaller None other = other
+smaller (Some a) None = Some a
+smaller (Some a) (Some b) = Some (min a b)
+
+-- the limit that the file gives
+abbrev pub given_limit : Contents → Option ℕ
+given_limit c = smaller c.t_max c.max_t
+
+-- where no limit is given it is the greatest whose scaled time is at most 10^18
+abbrev pub limit_of : ℕ → Contents → ℕ
+limit_of denominator c = unwrap_or (given_limit c) (10 ^ 18 / denominator)
+
+-- the network, where the denominator of the curves is known; process times that are missing are 0
+unfoldable pub network_of : ℕ → Contents → Network
+network_of denominator c = record {
+  capacity = c.capacity;
+  energies = c.energies;
+  times = c.times;
+  process_times = c.process_times ++ replicate (nodes_of c - length c.process_times) 0;
+  curves = map (curve_at_node c) (range_with_len 0 (nodes_of c));
+  denominator = denominator;
+  limit = limit_of denominator c }

@@ -1,0 +1,17 @@
+-- How a rule is refused.
+use Rattle.std.specs.Prelude.{◌≡◌, Option, Some}
+use Rattle.instance_reader.specs.declared.faults.PlaceFault.{PlaceFault}
+use Rattle.instance_reader.specs.declared.faults.PlaceFault.TheVariants.{At, Memory}
+use Rattle.instance_reader.specs.declared.faults.ReadFault.{ReadFault}
+use Rattle.instance_reader.specs.declared.faults.ReadFault.TheVariants as fault
+use Rattle.instance_reader.specs.declared.places.Place.{Place}
+
+-- a refusal other than want of memory names the first broken place
+abbrev pub RefusesAt : Option Place → PlaceFault → Type 0
+RefusesAt broken (At place) = broken ≡ Some place
+RefusesAt broken Memory = Unit {0}
+
+-- a refusal other than want of memory is the first fault that was found
+abbrev pub Refuses : Option ReadFault → ReadFault → Type 0
+Refuses found fault.Memory = Unit {0}
+Refuses found other = found ≡ Some other

@@ -1,0 +1,151 @@
+//! An instance of the problem.
+
+ghost use Rattle.std.specs.Prelude.{◌≡◌, ◌*◌, ◌^◌, ◌<◌, ◌≤◌, None, IfOk, IfErr, MatchOption};
+ghost use Rattle.ev_model.specs.Network.{IsNetwork, curve_at, energy, node_count, process_time, scaled_limit, travel_time};
+ghost use Rattle.instance_reader.specs.Instance.{IsCurveAt, IsCustomerNumber, customer_nodes};
+
+use crate::curves::StationCurve;
+use crate::faults::LimitFault;
+use crate::limits::is_past_horizon;
+use charge_curve::Scaled;
+use std::marker::Model;
+
+/// An instance: a network of nodes, the vehicle's battery and the limit on a route.
+///
+/// Nodes are numbered from 0, which is the depot. Levels and energies are in units of charge. Times are in
+/// units of time; a scaled time is a time multiplied by [`Instance::denominator`]. Contracts see the
+/// network. No call here takes memory.
+#[derive(Drop)]
+pub struct Instance {
+    pub(crate) max_q: u64,
+    pub(crate) energies: Vec<Vec<u64>>,
+    pub(crate) times: Vec<Vec<u64>>,
+    pub(crate) process_times: Vec<u64>,
+    pub(crate) curves: Vec<StationCurve>,
+    pub(crate) curve_numbers: Vec<Option<usize>>,
+    pub(crate) customers: Vec<usize>,
+    pub(crate) customer_numbers: Vec<Option<usize>>,
+    pub(crate) denominator: u64,
+    pub(crate) limit: u64,
+}
+
+impl Model for Instance {
+    ghost use Rattle.ev_model.specs.Network.{Network};
+
+    ghost Value = { Network };
+
+    ghost use Rattle.instance_reader.specs.Inside.{IsInstance, network_inside};
+
+    ghost view = { network_inside };
+
+    ghost invariant = { IsInstance };
+}
+
+impl Instance {
+    /// The number of nodes: from 1 to 400.
+    pub fn nodes(&self) -> usize
+        ensures value { result ≡ node_count self.now }
+        ensures some { 1 ≤ result }
+        ensures network { IsNetwork self.now }
+    {
+        self.energies.len()
+    }
+
+    /// The charge of a full battery.
+    pub fn max_q(&self) -> u64
+        ensures value { result ≡ self.now.capacity }
+        ensures small { result ≤ 10 ^ 9 }
+    {
+        self.max_q
+    }
+
+    /// The time of the arc from node `i` to node `j`.
+    pub fn time(&self, i: usize, j: usize) -> u64
+        requires left { i < node_count self.now }
+        requires reached { j < node_count self.now }
+        ensures value { result ≡ travel_time self.now i j }
+        ensures small { result ≤ 10 ^ 9 }
+    {
+        self.times[i][j]
+    }
+
+    /// The process time of node `i`: the time that a visit takes beside charging.
+    pub fn service(&self, i: usize) -> u64
+        requires { i < node_count self.now }
+        ensures value { result ≡ process_time self.now i }
+        ensures small { result ≤ 10 ^ 9 }
+    {
+        self.process_times[i]
+    }
+
+    /// The energy that the arc from node `i` to node `j` takes.
+    pub fn energy(&self, i: usize, j: usize) -> u64
+        requires left { i < node_count self.now }
+        requires reached { j < node_count self.now }
+        ensures value { result ≡ energy self.now i j }
+        ensures small { result ≤ 10 ^ 9 }
+    {
+        self.energies[i][j]
+    }
+
+    /// The scaled curve of the station at a node, `None` exactly where the node has no station.
+    pub fn curve_at(&self, node: usize) -> Option<&Scaled>
+        requires { node < node_count self.now }
+        ensures { MatchOption result (curve_at self.now node ≡ None) (λ s. IsCurveAt self.now node s.now) }
+    {
+        match self.curve_numbers[node] {
+            Some(number) => Some(&self.curves[number].scaled),
+            None => None,
+        }
+    }
+
+    /// The number by which a time is multiplied to be a scaled time: the least common multiple of the
+    /// reduced denominators of all slopes (time over charge) of the curves below a full battery.
+    pub fn denominator(&self) -> u64
+        ensures value { result ≡ self.now.denominator }
+        ensures some { 1 ≤ result }
+        ensures small { result ≤ 10 ^ 9 }
+    {
+        self.denominator
+    }
+
+    /// How long a route may last, in units of time. Scaled it is at most 10^18.
+    pub fn limit(&self) -> u64
+        ensures value { result ≡ self.now.limit }
+        ensures small { scaled_limit self.now ≤ 10 ^ 18 }
+    {
+        self.limit
+    }
+
+    /// The customers' nodes in rising order.
+    pub fn customers(&self) -> &[usize]
+        ensures { result.now ≡ customer_nodes self.now }
+    {
+        self.customers.as_slice()
+    }
+
+    /// The number of the customer at a node, which is its index in [`Instance::customers`]; `None` exactly
+    /// where the node is no customer.
+    pub fn customer_number(&self, node: usize) -> Option<usize>
+        requires { node < node_count self.now }
+        ensures { IsCustomerNumber self.now node result }
+    {
+        self.customer_numbers[node]
+    }
+
+    /// The instance with another limit, whether smaller or larger. It is refused exactly where the
+    /// denominator times the limit is past 10^18.
+    pub fn with_limit(mut self, l: u64) -> Result<Instance, LimitFault>
+        ensures ok { IfOk result (λ inst. (inst ≡ record self { limit = l }) × (l * self.denominator ≤ 10 ^ 18)) }
+        ensures err { IfErr result (λ e. (e.inst ≡ self) × (e.limit ≡ l) × (10 ^ 18 < l * self.denominator)) }
+    {
+        if is_past_horizon(self.denominator, l) {
+            return Err(LimitFault {
+                inst: self,
+                limit: l,
+            });
+        }
+        self.limit = l;
+        Ok(self)
+    }
+}
