@@ -1,0 +1,5 @@
+pub mod StationList
+pub mod Charging
+pub mod Grid
+pub mod Filling
+pub mod WayHome

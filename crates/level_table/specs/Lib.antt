@@ -1,0 +1,5 @@
+pub mod Reach
+pub mod Answer
+pub mod Places
+pub mod Moves
+pub mod Cells
