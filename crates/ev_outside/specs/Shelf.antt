@@ -2,7 +2,7 @@
 use Rattle.std.specs.Prelude.{◌≡◌, ◌≢◌, ℕ, ◌+◌, ◌≤◌, List, [], ◌++◌, length, take, Option, Some, None, unwrap_or}
 use Rattle.ev_outside.specs.Counts.{IsPrefixOf}
 
--- which names hold which bytes: no bytes at all where a name isn't there
+-- which names hold which bytes: `None` where a name isn't there
 abbrev pub Files : Type 0
 Files = List ℕ → Option (List ℕ)
 

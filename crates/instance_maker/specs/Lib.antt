@@ -1,4 +1,4 @@
 pub mod Generator
 pub mod Lists
-pub mod Places
+pub mod Locations
 pub mod MadeInstance

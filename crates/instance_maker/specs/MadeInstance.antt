@@ -3,9 +3,9 @@ use Rattle.std.specs.Prelude.{◌≡◌, ℕ, ◌+◌, ◌%◌, ◌<◌, ◌⊎�
 use Rattle.serde_json.specs.Data.{Data, number, unsigned, string, array, object, no_members, member}
 use Rattle.serde_json.specs.View.{items_of}
 use Rattle.serde_json.specs.Written.{compact_text}
-use Rattle.instance_maker.specs.declared.plane.Place.{Place}
+use Rattle.instance_maker.specs.declared.plane.Location.{Location}
 use Rattle.instance_maker.specs.Lists.{tabulate}
-use Rattle.instance_maker.specs.Places.{places_of, distance_between}
+use Rattle.instance_maker.specs.Locations.{locations_of, distance_between}
 
 abbrev pub whole : ℕ → Data
 whole n = number (unsigned n)
@@ -16,7 +16,7 @@ array_of values = array (items_of values)
 -- The charging curve of a type: a full battery holds 1600, and the curve bends at 1360 and at 1520.
 abbrev pub curve_value : List ℕ → List ℕ → Data
 curve_value kind times =
-  object
+    object
     (member (codes "charge") (array_of (map whole (0 ∷ 1360 ∷ 1520 ∷ 1600 ∷ [])))
     (member (codes "cs_type") (string kind)
     (member (codes "time") (array_of (map whole times))
@@ -24,7 +24,7 @@ curve_value kind times =
 
 abbrev pub curves_value : Data
 curves_value =
-  array_of
+    array_of
     (curve_value (codes "fast") (0 ∷ 310 ∷ 390 ∷ 510 ∷ [])
     ∷ curve_value (codes "slow") (0 ∷ 1260 ∷ 1540 ∷ 2040 ∷ [])
     ∷ [])
@@ -41,25 +41,25 @@ station_value station node = object (member (codes "cs_type") (string (type_of s
 abbrev pub stations_value : ℕ → ℕ → Data
 stations_value customers stations = array_of (tabulate (λ station. station_value station (1 + customers + station)) stations)
 
--- the matrix of distances: one row for each place
-abbrev pub distances_value : List Place → Data
-distances_value places = array_of (map (λ from. array_of (map (λ to. whole (distance_between from to)) places)) places)
+-- the matrix of distances: one row for each location
+abbrev pub distances_value : List Location → Data
+distances_value locations = array_of (map (λ from. array_of (map (λ to. whole (distance_between from to)) locations)) locations)
 
 -- Serving a customer takes 5, and nothing is done at the depot and at stations.
 abbrev pub process_times_value : ℕ → ℕ → Data
 process_times_value customers stations = array_of (whole 0 ∷ replicate customers (whole 5) ++ replicate stations (whole 0))
 
--- Driving takes as much time and energy as the distance.
-abbrev pub made_value : ℕ → ℕ → ℕ → Data
+-- The value of a made instance. Driving takes as much time and energy as the distance.
+unfoldable pub made_value : ℕ → ℕ → ℕ → Data
 made_value seed customers stations =
-  let places = places_of seed (1 + customers + stations) in
-  object
+    let locations = locations_of seed (1 + customers + stations) in
+    object
     (member (codes "breakpoints_by_type") curves_value
     (member (codes "css") (stations_value customers stations)
-    (member (codes "energy_matrix") (distances_value places)
+    (member (codes "energy_matrix") (distances_value locations)
     (member (codes "max_q") (whole 1600)
     (member (codes "process_times") (process_times_value customers stations)
-    (member (codes "time_matrix") (distances_value places)
+    (member (codes "time_matrix") (distances_value locations)
     no_members))))))
 
 -- the text of a made instance: JSON with no space, and the keys of each object in rising order

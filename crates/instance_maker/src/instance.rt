@@ -1,11 +1,11 @@
 //! The JSON value of a made instance.
 ghost use Rattle.std.specs.Prelude.{◌≡◌, ◌+◌, ◌++◌, ◌<◌, map, replicate, IfOk, OnOk};
 ghost use Rattle.serde_json.specs.View.{view};
-ghost use Rattle.instance_maker.specs.Places.{distance_between, places_of};
+ghost use Rattle.instance_maker.specs.Locations.{distance_between, locations_of};
 ghost use Rattle.instance_maker.specs.MadeInstance.{array_of, whole, curve_value, curves_value, station_value, stations_value, distances_value, process_times_value, made_value};
 
 use super::generator::MODULUS;
-use super::plane::{Place, draw_places};
+use super::plane::{Location, draw_locations};
 use serde_json::{Map, Value, put};
 use std::alloc::{AllocError, Global};
 
@@ -25,7 +25,7 @@ const FAST_TIMES: [u64; 4] = [0, 310, 390, 510];
 const SLOW_TIMES: [u64; 4] = [0, 1260, 1540, 2040];
 
 /// An array of whole numbers.
-fn numbers(alloc: Global, numbers: &[u64]) -> Result<Value, AllocError>
+fn whole_numbers(alloc: Global, numbers: &[u64]) -> Result<Value, AllocError>
     ensures { IfOk result (λ value. view value ≡ array_of (map whole numbers.now)) }
 {
     let mut items = Vec::new(alloc);
@@ -40,9 +40,19 @@ fn curve(alloc: Global, kind: &str, times: &[u64]) -> Result<Value, AllocError>
     ensures { IfOk result (λ value. view value ≡ curve_value kind.now times.now) }
 {
     let mut members = Map::new(alloc);
-    put(&mut members, alloc, "charge", numbers(alloc, &CHARGES)?)?;
-    put(&mut members, alloc, "cs_type", Value::try_from_str(alloc, kind)?)?;
-    put(&mut members, alloc, "time", numbers(alloc, times)?)?;
+    put(
+        &mut members,
+        alloc,
+        "charge",
+        whole_numbers(alloc, &CHARGES)?,
+    )?;
+    put(
+        &mut members,
+        alloc,
+        "cs_type",
+        Value::try_from_str(alloc, kind)?,
+    )?;
+    put(&mut members, alloc, "time", whole_numbers(alloc, times)?)?;
     Ok(Value::from(members))
 }
 
@@ -62,7 +72,12 @@ fn station(alloc: Global, number: u64, node: u64) -> Result<Value, AllocError>
 {
     let kind = if number % 2 == 0 { "fast" } else { "slow" };
     let mut members = Map::new(alloc);
-    put(&mut members, alloc, "cs_type", Value::try_from_str(alloc, kind)?)?;
+    put(
+        &mut members,
+        alloc,
+        "cs_type",
+        Value::try_from_str(alloc, kind)?,
+    )?;
     put(&mut members, alloc, "node_id", Value::from(node))?;
     Ok(Value::from(members))
 }
@@ -79,24 +94,28 @@ fn station_entries(alloc: Global, customers: u32, stations: u32) -> Result<Value
     Ok(Value::from(items))
 }
 
-/// The distances from a place to each place.
-fn distances_from(alloc: Global, from: &Place, places: &[Place]) -> Result<Value, AllocError>
-    ensures { IfOk result (λ value. view value ≡ array_of (map (λ to. whole (distance_between from.now to)) places.now)) }
+/// The distances from a location to each location.
+fn distances_from(
+    alloc: Global,
+    from: &Location,
+    locations: &[Location],
+) -> Result<Value, AllocError>
+    ensures { IfOk result (λ value. view value ≡ array_of (map (λ to. whole (distance_between from.now to)) locations.now)) }
 {
     let mut items = Vec::new(alloc);
-    for to in places {
+    for to in locations {
         items.push(Value::from(from.distance_to(to)))?;
     }
     Ok(Value::from(items))
 }
 
-/// The matrix of the distances from each place to each place.
-fn distances(alloc: Global, places: &[Place]) -> Result<Value, AllocError>
-    ensures { IfOk result (λ value. view value ≡ distances_value places.now) }
+/// The matrix of the distances from each location to each location.
+fn distances(alloc: Global, locations: &[Location]) -> Result<Value, AllocError>
+    ensures { IfOk result (λ value. view value ≡ distances_value locations.now) }
 {
     let mut rows = Vec::new(alloc);
-    for from in places {
-        rows.push(distances_from(alloc, from, places)?)?;
+    for from in locations {
+        rows.push(distances_from(alloc, from, locations)?)?;
     }
     Ok(Value::from(rows))
 }
@@ -123,18 +142,44 @@ fn process_times(alloc: Global, customers: u32, stations: u32) -> Result<Value, 
 }
 
 /// The value of the made instance.
-pub(crate) fn instance_value(alloc: Global, seed: u64, customers: u32, stations: u32) -> Result<Value, AllocError>
+#[tactic(auto, unfolding(crate::specs::MadeInstance::made_value))]
+pub(crate) fn instance_value(
+    alloc: Global,
+    seed: u64,
+    customers: u32,
+    stations: u32,
+) -> Result<Value, AllocError>
     requires { seed < MODULUS }
     ensures { IfOk result (λ value. view value ≡ made_value seed customers stations) }
 {
     let nodes = 1 + u64::from(customers) + u64::from(stations);
-    let places = draw_places(alloc, seed, nodes)?;
+    let locations = draw_locations(alloc, seed, nodes)?;
     let mut members = Map::new(alloc);
     put(&mut members, alloc, "breakpoints_by_type", curves(alloc)?)?;
-    put(&mut members, alloc, "css", station_entries(alloc, customers, stations)?)?;
-    put(&mut members, alloc, "energy_matrix", distances(alloc, places.as_slice())?)?;
+    put(
+        &mut members,
+        alloc,
+        "css",
+        station_entries(alloc, customers, stations)?,
+    )?;
+    put(
+        &mut members,
+        alloc,
+        "energy_matrix",
+        distances(alloc, locations.as_slice())?,
+    )?;
     put(&mut members, alloc, "max_q", Value::from(BATTERY))?;
-    put(&mut members, alloc, "process_times", process_times(alloc, customers, stations)?)?;
-    put(&mut members, alloc, "time_matrix", distances(alloc, places.as_slice())?)?;
+    put(
+        &mut members,
+        alloc,
+        "process_times",
+        process_times(alloc, customers, stations)?,
+    )?;
+    put(
+        &mut members,
+        alloc,
+        "time_matrix",
+        distances(alloc, locations.as_slice())?,
+    )?;
     Ok(Value::from(members))
 }

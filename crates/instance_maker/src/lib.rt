@@ -1,7 +1,7 @@
 //! Makes a large valid instance from a number.
 //!
-//! A made instance is a square of 1000 by 1000 units with the depot, customers and stations at
-//! drawn places, where driving takes as much time and energy as the Manhattan distance.
+//! Its depot, customers and stations stand at drawn locations in a square of 1000 by 1000 units, and
+//! driving takes as much time and energy as the Manhattan distance.
 #![tactic(auto)]
 
 ghost use Rattle.std.specs.Prelude.{◌≡◌, ◌↔◌, ◌<◌, ◌≤◌, ◌+◌, ◌^◌, Some, IfOk, IsErrOf, IsUtf8, vec_len};
@@ -16,8 +16,8 @@ use generator::MODULUS;
 use instance::instance_value;
 use std::alloc::{AllocError, Global};
 
-/// The most customers and stations of a made instance together: with the depot, 400 nodes.
-const MOST_PLACES: u64 = 399;
+/// The most nodes of an instance.
+const MOST_NODES: u64 = 400;
 
 /// Why no instance was made.
 #[derive(Clone, Copy, Debug, Drop, PartialEq, Eq)]
@@ -31,26 +31,36 @@ pub enum MakerFault {
 
 /// The text of a made instance: compact JSON, with no line feed at its end.
 ///
-/// Its nodes are the depot, so many customers, and so many stations, in this order. Their places
-/// are drawn by the minimal standard generator of Park and Miller from the seed on.
-pub fn make_instance(alloc: Global, seed: u64, customers: u32, stations: u32) -> Result<Vec<u8>, MakerFault>
+/// Its nodes are the depot, so many customers, and so many stations, in this order. Their
+/// locations are drawn by the minimal standard generator of Park and Miller from the seed on.
+pub fn make_instance(
+    alloc: Global,
+    seed: u64,
+    customers: u32,
+    stations: u32,
+) -> Result<Vec<u8>, MakerFault>
     ensures range { IsErrOf result MakerFault.Range ↔ IsOutOfRange seed customers stations }
     ensures text { IfOk result (λ text. text.items ≡ made_text seed customers stations) }
     ensures reads_back { IfOk result (λ text. read text.items ≡ Some (made_value seed customers stations)) }
     ensures utf8 { IfOk result (λ text. IsUtf8 text.items) }
     ensures short { IfOk result (λ text. vec_len text < 2 ^ 22) }
 {
-    let places = u64::from(customers) + u64::from(stations);
-    if seed == 0 || seed >= MODULUS || customers == 0 || places > MOST_PLACES {
+    let nodes = 1 + u64::from(customers) + u64::from(stations);
+    if seed == 0 || seed >= MODULUS || customers == 0 || nodes > MOST_NODES {
         return Err(MakerFault::Range);
     }
     instance_text(alloc, seed, customers, stations).map_err(|_| MakerFault::Memory)
 }
 
 /// The text of the made instance.
-fn instance_text(alloc: Global, seed: u64, customers: u32, stations: u32) -> Result<Vec<u8>, AllocError>
+fn instance_text(
+    alloc: Global,
+    seed: u64,
+    customers: u32,
+    stations: u32,
+) -> Result<Vec<u8>, AllocError>
     requires seed { seed < MODULUS }
-    requires places { customers + stations ≤ MOST_PLACES }
+    requires nodes { 1 + customers + stations ≤ MOST_NODES }
     ensures text { IfOk result (λ text. text.items ≡ made_text seed customers stations) }
     ensures reads_back { IfOk result (λ text. read text.items ≡ Some (made_value seed customers stations)) }
     ensures utf8 { IfOk result (λ text. IsUtf8 text.items) }
@@ -58,3 +68,6 @@ fn instance_text(alloc: Global, seed: u64, customers: u32, stations: u32) -> Res
 {
     instance_value(alloc, seed, customers, stations)?.to_vec(alloc)
 }
+
+#[cfg(test)]
+mod tests;

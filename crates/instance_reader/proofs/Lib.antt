@@ -6,3 +6,5 @@ pub mod TypesLemmas
 pub mod InstanceLemmas
 pub mod CustomersLemmas
 pub mod CurvesLemmas
+pub mod CheckedLemmas
+pub mod StationsLemmas

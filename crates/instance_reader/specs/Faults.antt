@@ -18,14 +18,34 @@ use Rattle.instance_reader.specs.Values.{HasNoValue, IsValueOf}
 use Rattle.instance_reader.specs.declared.faults.ReadFault.{ReadFault}
 use Rattle.instance_reader.specs.declared.faults.ReadFault.TheVariants as fault
 
--- the first broken rule of those on the contents alone, in their order
-abbrev pub first_fault_in : Contents → Option ReadFault
-first_fault_in c = first
+-- the first broken rule of those on sizes and shapes
+abbrev pub size_fault : Contents → Option ReadFault
+size_fault c = first
     ( option_map fault.TooLarge (first_large c)
     ∷ option_map fault.Shape (first_wrong_shape c)
-    ∷ option_map fault.Node (first_wrong_node c)
+    ∷ [])
+
+-- the first broken rule of those on stations
+abbrev pub station_fault : Contents → Option ReadFault
+station_fault c = first
+    ( option_map fault.Node (first_wrong_node c)
     ∷ option_map fault.TypeName (first_wrong_type c)
+    ∷ [])
+
+-- the first broken rule of those on limits, where d is the denominator of the curves
+abbrev pub limit_fault : ℕ → Contents → Option ReadFault
+limit_fault d c = first
+    ( large_denominator d
+    ∷ past_horizon d (given_limit c)
+    ∷ [])
+
+-- the first broken rule of those on the contents of a file
+abbrev pub first_fault_in : ℕ → Contents → Option ReadFault
+first_fault_in d c = first
+    ( size_fault c
+    ∷ station_fault c
     ∷ bad_curve_in c.capacity c.curves
+    ∷ limit_fault d c
     ∷ [])
 
 -- the first broken rule of a value, where d is the denominator of its curves
@@ -33,9 +53,7 @@ abbrev pub first_fault : ℕ → Data → Option ReadFault
 first_fault d top = first
     ( option_map fault.Missing (first_missing top)
     ∷ option_map fault.Kind (first_wrong_kind top)
-    ∷ first_fault_in (contents_of top)
-    ∷ large_denominator d
-    ∷ past_horizon d (given_limit (contents_of top))
+    ∷ first_fault_in d (contents_of top)
     ∷ [])
 
 -- the longest file that is read
@@ -46,12 +64,28 @@ longest = 2 ^ 26
 abbrev pub IsRead : List ℕ → (Data → Type 0) → Type 0
 IsRead bytes P = (length bytes ≤ longest) × ((top : Data) × IsValueOf bytes top × P top)
 
+-- the fault is the first broken rule of the contents. Want of memory is no rule
+abbrev pub IsFirstFaultIn : Contents → ReadFault → Type 0
+IsFirstFaultIn c fault.Memory = Unit {0}
+IsFirstFaultIn c other = (d : ℕ) → IsDenominatorOf c d → first_fault_in d c ≡ Some other
+
+-- the fault is the first broken rule of the value
+abbrev pub IsFirstFaultOf : Data → ReadFault → Type 0
+IsFirstFaultOf top fault.Memory = Unit {0}
+IsFirstFaultOf top other = (d : ℕ) → IsDenominatorOf (contents_of top) d → first_fault d top ≡ Some other
+
 -- the fault is the first broken rule of these bytes. Want of memory is no rule
 abbrev pub IsFirstFault : List ℕ → ReadFault → Type 0
 IsFirstFault bytes (fault.TooLong len) = (len ≡ length bytes) × (longest < length bytes)
 IsFirstFault bytes fault.NotJson = (length bytes ≤ longest) × HasNoValue bytes
 IsFirstFault bytes fault.Memory = Unit {0}
-IsFirstFault bytes other = IsRead bytes (λ top. (d : ℕ) → IsDenominatorOf (contents_of top) d → first_fault d top ≡ Some other)
+IsFirstFault bytes other = IsRead bytes (λ top. IsFirstFaultOf top other)
+
+-- the contents break no rule, and the network is what they mean
+pub record IsMeantBy (c : Contents) (g : Network) : Type 0 where
+  pub denominator : IsDenominator c.capacity (all_points c.curves) g.denominator
+  pub accepted : first_fault_in g.denominator c ≡ None
+  pub network : g ≡ network_of g.denominator c
 
 -- the value breaks no rule, and the network is what it means
 pub record Means (top : Data) (g : Network) : Type 0 where

@@ -15,5 +15,7 @@ pub mod Customers
 pub mod Curves
 pub mod Limits
 pub mod Faults
+pub mod Checked
+pub mod Parts
 pub mod Views
 pub mod Refusal

@@ -1,5 +1,5 @@
 -- The network that the contents of an instance file mean.
-use Rattle.std.specs.Prelude.{ℕ, ◌-◌, ◌/◌, ◌^◌, ◌++◌, List, Option, None, Some, find, length, map, min, option_and_then, option_map, replicate, unwrap_or}
+use Rattle.std.specs.Prelude.{◌≡◌, ℕ, ◌<◌, ◌-◌, ◌/◌, ◌^◌, ◌++◌, List, Option, None, Some, find, length, map, min, option_and_then, option_map, replicate, slice_get, slice_index_or, unwrap_or}
 use Rattle.std.specs.List.{position_or_len, range_with_len}
 use Rattle.ev_model.specs.Network.{Network}
 use Rattle.instance_reader.specs.Contents.{Contents, CurveOfType, nodes_of, points_of}
@@ -39,3 +39,14 @@ network_of denominator c = record {
   curves = map (curve_at_node c) (range_with_len 0 (nodes_of c));
   denominator = denominator;
   limit = limit_of denominator c }
+
+-- the number of the curve at a node
+abbrev pub IsCurveNumber : Contents → ℕ → Option ℕ → Type 0
+IsCurveNumber c node None = curve_at_node c node ≡ None
+IsCurveNumber c node (Some number) =
+    (number < length c.curves) × (curve_at_node c node ≡ option_map points_of (slice_get c.curves number))
+
+-- the numbers of the curves, by node
+pub record AreCurveNumbers (c : Contents) (numbers : List (Option ℕ)) : Type 0 where
+  pub all : length numbers ≡ nodes_of c
+  pub each : (node : ℕ) → node < nodes_of c → IsCurveNumber c node (slice_index_or numbers node None)

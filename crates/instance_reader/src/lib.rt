@@ -1,6 +1,7 @@
 //! Reads an instance of the problem from the bytes of a JSON file.
 #![tactic(auto)]
 
+mod build;
 mod curves;
 mod customers;
 mod faults;
@@ -13,6 +14,7 @@ mod places;
 mod required_keys;
 mod shapes;
 mod sizes;
+mod stations;
 mod types;
 
 pub use faults::{LimitFault, ReadFault};

@@ -1,0 +1,23 @@
+use Rattle.std.proofs.Common.{◌≡◌, [], None, length, map, option_map, slice_index, rules}
+use Rattle.std.proofs.lemmas.List.{length-map}
+use Rattle.instance_reader.proofs.CheckedLemmas.{neither}
+use Rattle.instance_reader.proofs.StationsLemmas.{AreCurveNumbers-by_node}
+use Rattle.instance_reader.specs.Contents.{nodes_of}
+use Rattle.instance_reader.specs.Nodes.{AreStationNumbers}
+use Rattle.instance_reader.specs.Search.{first_along}
+use Rattle.instance_reader.specs.Types.{names_of, repeated_in, type_number, unlisted, wrong_type_in}
+use Rattle.instance_reader.specs.Views.{contents_view, station_view}
+use Rattle.instance_reader.proofs.stations.curve_numbers.Goals as goal
+
+pub returns-in-Ok-by_node-clause-value : goal.returns-in-Ok-by_node-clause-value
+returns-in-Ok-by_node-clause-value c =
+    let contents = contents_view c.args.fields.now in
+    let count : c.len.result ≡ nodes_of contents = rw length-map (search rules) in
+    let are : AreStationNumbers (map station_view c.args.fields.now.stations.items) c.len.result c.in-Ok.stations.items = search rules in
+    let types : c.in-Ok-station_types.types.items ≡ map (type_number contents.curves) contents.stations = search rules in
+    let right : wrong_type_in contents.curves contents.stations ≡ None = search rules in
+    let second = neither (repeated_in 0 [] (names_of contents.curves)) _ right in
+    let listed = neither (first_along (unlisted (names_of contents.curves)) 0 contents.stations) None second.1 in
+    let numbers : c.in-Ok-by_node.numbers.items ≡ map (option_map (slice_index c.in-Ok-station_types.types.items)) c.in-Ok.stations.items = search rules in
+    AreCurveNumbers-by_node contents c.in-Ok.stations.items c.in-Ok-by_node.numbers.items c.in-Ok-station_types.types.items
+        (rw count at are) types listed.0 numbers

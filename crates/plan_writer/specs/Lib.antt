@@ -1,0 +1,2 @@
+pub mod FixedText
+pub mod RefusalText

@@ -1,0 +1,74 @@
+-- The line of a refusal: its kind, the number of the broken rule, and the place or the number that breaks it.
+use Rattle.std.specs.Prelude.{ℕ, ◌++◌, ◌∷◌, [], List, Option, None, Some, decimal, codes}
+use Rattle.charge_curve.specs.declared.fault.CurveFault.{CurveFault}
+use Rattle.charge_curve.specs.declared.fault.CurveFault.TheVariants as curve
+use Rattle.instance_reader.specs.Places.{key_text, part_text}
+use Rattle.instance_reader.specs.declared.faults.ReadFault.{ReadFault}
+use Rattle.instance_reader.specs.declared.faults.ReadFault.TheVariants as instance
+use Rattle.instance_reader.specs.declared.places.Part.{Part}
+use Rattle.instance_reader.specs.declared.places.Place.{Place}
+use Rattle.route_plan.specs.declared.route.RouteFault.{RouteFault}
+use Rattle.route_plan.specs.declared.route.RouteFault.TheVariants as route
+use Rattle.plan_writer.specs.declared.refusal.Refusal.{Refusal}
+use Rattle.plan_writer.specs.declared.refusal.Refusal.TheVariants.{Instance, Limit, Charge, Route, Levels}
+
+-- an index behind a slash, where there is one
+abbrev pub slash_index : Option ℕ → List ℕ
+slash_index None = []
+slash_index (Some index) = codes "/" ++ decimal index
+
+abbrev pub slash_part : Option Part → List ℕ
+slash_part None = []
+slash_part (Some part) = codes "/" ++ part_text part
+
+-- keys and indices joined by slashes
+abbrev pub place_text : Place → List ℕ
+place_text place = key_text place.key ++ slash_index place.i ++ slash_part place.part ++ slash_index place.j
+
+abbrev pub curve_text : CurveFault → List ℕ
+curve_text curve.Start = codes "start"
+curve_text (curve.Rise index) = codes "rise " ++ decimal index
+curve_text (curve.Concave index) = codes "concave " ++ decimal index
+curve_text (curve.Short last) = codes "short " ++ decimal last
+curve_text curve.TooMany = codes "toomany"
+curve_text curve.Memory = []
+
+abbrev pub instance_text : ReadFault → List ℕ
+instance_text (instance.TooLong len) = codes "1 " ++ decimal len
+instance_text instance.NotJson = codes "2"
+instance_text (instance.Missing key) = codes "3 " ++ key_text key
+instance_text (instance.Kind place) = codes "4 " ++ place_text place
+instance_text (instance.TooLarge place) = codes "5 " ++ place_text place
+instance_text (instance.Shape place) = codes "6 " ++ place_text place
+instance_text (instance.Node place) = codes "7 " ++ place_text place
+instance_text (instance.TypeName place) = codes "8 " ++ place_text place
+instance_text (instance.BadCurve index fault) = codes "9 breakpoints_by_type/" ++ decimal index ++ codes " " ++ curve_text fault
+instance_text instance.Denominator = codes "10"
+instance_text (instance.Horizon limit) = codes "11 " ++ decimal limit
+instance_text instance.Memory = []
+
+abbrev pub route_text : RouteFault → List ℕ
+route_text (route.Text at) = codes "1 at " ++ decimal at
+route_text route.TooLong = codes "2"
+route_text (route.Unknown at) = codes "3 at " ++ decimal at
+route_text route.Ends = codes "4"
+route_text (route.InnerDepot at) = codes "5 at " ++ decimal at
+route_text (route.Again at) = codes "6 at " ++ decimal at
+route_text route.Memory = []
+
+abbrev pub cause_text : Refusal → List ℕ
+cause_text (Instance fault) = codes "instance " ++ instance_text fault
+cause_text (Limit limit) = codes "limit " ++ decimal limit
+cause_text (Charge level) = codes "charge " ++ decimal level
+cause_text (Route fault) = codes "route " ++ route_text fault
+cause_text (Levels cells) = codes "levels " ++ decimal cells
+
+abbrev pub refusal_text : Refusal → List ℕ
+refusal_text refusal = codes "refused " ++ cause_text refusal ++ 10 ∷ []
+
+-- want of memory has no line
+abbrev pub HasLine : Refusal → Type 0
+HasLine (Instance instance.Memory) = ⊥
+HasLine (Instance (instance.BadCurve index curve.Memory)) = ⊥
+HasLine (Route route.Memory) = ⊥
+HasLine other = Unit {0}

@@ -1,0 +1,61 @@
+//! The text of `fixed`.
+
+ghost use Rattle.std.specs.Prelude.{◌≡◌, ◌++◌, ◌∷◌, [], Some, None, OnOk, OnErr, codes, decimal};
+
+ghost use Rattle.ev_outside.specs.Counts.{IsPrefixOf};
+ghost use Rattle.plan_writer.specs.FixedText.{amount_text, fixed_text, over, stop_line, stop_lines};
+
+use ev_model::Stop;
+use std::alloc::{AllocError, Global};
+
+/// Appends `infeasible`.
+pub fn push_infeasible(out: &mut Vec<u8>) -> Result<(), AllocError>
+    ensures ok { OnOk result (out.new.items ≡ out.old.items ++ (codes "infeasible" ++ 10 ∷ [])) }
+    ensures err { OnErr result (IsPrefixOf out.old.items out.new.items) }
+{
+    out.extend_from_slice(b"infeasible\n")
+}
+
+/// Appends a charged route and its scaled time.
+pub fn push_fixed_over(alloc: Global, out: &mut Vec<u8>, stops: &[Stop], time: u64, denominator: u64) -> Result<(), AllocError>
+    ensures ok { OnOk result (out.new.items ≡ out.old.items ++ fixed_text denominator (Some (stops.now, time))) }
+    ensures err { OnErr result (IsPrefixOf out.old.items out.new.items) }
+{
+    push_time(alloc, out, time, denominator)?;
+    push_stops(alloc, out, stops)
+}
+
+/// Appends the line of a scaled time.
+fn push_time(alloc: Global, out: &mut Vec<u8>, time: u64, denominator: u64) -> Result<(), AllocError>
+    ensures ok { OnOk result (out.new.items ≡ out.old.items ++ (codes "time " ++ over denominator time ++ 10 ∷ [])) }
+    ensures err { OnErr result (out.new.items ≡ out.old.items) }
+{
+    let line = format!(in alloc; "time {time}/{denominator}\n")?;
+    out.extend_from_slice(line.as_bytes())
+}
+
+/// Appends a line for each stop.
+fn push_stops(alloc: Global, out: &mut Vec<u8>, stops: &[Stop]) -> Result<(), AllocError>
+    ensures ok { OnOk result (out.new.items ≡ out.old.items ++ stop_lines stops.now) }
+    ensures err { OnErr result (IsPrefixOf out.old.items out.new.items) }
+{
+    for stop in stops {
+        push_stop(alloc, out, stop)?;
+    }
+    Ok(())
+}
+
+/// Appends the line of a stop.
+fn push_stop(alloc: Global, out: &mut Vec<u8>, stop: &Stop) -> Result<(), AllocError>
+    ensures ok { OnOk result (out.new.items ≡ out.old.items ++ stop_line stop.now) }
+    ensures err { OnErr result (out.new.items ≡ out.old.items) }
+{
+    let word = if stop.via { "via" } else { "at" };
+    let (node, added) = (stop.node, stop.added);
+    let line = if added > 0 {
+        format!(in alloc; "{word} {node} charge {added}\n")?
+    } else {
+        format!(in alloc; "{word} {node}\n")?
+    };
+    out.extend_from_slice(line.as_bytes())
+}

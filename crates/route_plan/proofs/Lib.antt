@@ -1,0 +1,4 @@
+pub mod Reading
+pub mod Rules
+pub mod Routes
+pub mod Spelled

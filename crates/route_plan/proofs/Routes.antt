@@ -1,0 +1,88 @@
+-- Nodes of which no rule is broken are a route.
+use Rattle.std.proofs.Common.{◌≡◌, ◌≢◌, ◌∙◌, ℕ, zero, suc, ◌+◌, ◌<◌, ◌≤◌, List, [], ◌∷◌, ◌++◌, length, Option, None, Some, Bool, true, false, nat_eq, nat_le, nat_lt, ◌&&◌, if◌then◌else◌, refl, sym, ap, subst, arith}
+use Rattle.std.specs.List.{All}
+use Rattle.std.proofs.lemmas.Bool.{and_parts, eq-eqb, eqb-true, ltb-true, false≢true}
+use Rattle.std.proofs.lemmas.Option.{none-some}
+use Rattle.std.proofs.lemmas.List.Elements.{All-cons, All-nil}
+use Rattle.ev_model.specs.Network.{Network, node_count}
+use Rattle.ev_model.specs.Route.{IsRoute, IsRouteOver, Moves}
+use Rattle.route_plan.specs.RouteRules.{after_first, ends_at_depot, first_again, first_inner_depot, first_unknown, has_ends, or_again, or_ends, or_inner_depot, or_later, route_fault}
+use Rattle.route_plan.specs.declared.route.RouteFault.{RouteFault}
+use Rattle.route_plan.specs.declared.route.RouteFault.TheVariants.{Again, Ends, InnerDepot, TooLong, Unknown}
+
+-- a choice by a test that gives nothing at false
+chosen : {X : Type 0} (test : Bool) (found : Option X) (x : X) → (if test then found else Some x) ≡ None → (test ≡ true) × (found ≡ None)
+chosen true found x none = (refl, none)
+chosen false found x none = absurd (none-some x (sym none))
+
+-- a choice by a test that gives nothing at true
+passed : {X : Type 0} (test : Bool) (found : Option X) (x : X) → (if test then Some x else found) ≡ None → (test ≡ false) × (found ≡ None)
+passed true found x none = absurd (none-some x (sym none))
+passed false found x none = (refl, none)
+
+no_fault : (found : Option ℕ) (fault : ℕ → RouteFault) (later : Option RouteFault) → or_later found fault later ≡ None → (found ≡ None) × (later ≡ None)
+no_fault None fault later none = (refl, none)
+no_fault (Some at) fault later none = absurd (none-some (fault at) (sym none))
+
+-- every node is in the network
+all_known : (count at : ℕ) (nodes : List ℕ) → first_unknown count at nodes ≡ None → All (λ node. node < count) nodes
+all_known count at [] none = All-nil (λ node. node < count)
+all_known count at (n ∷ ns) none =
+    let here = chosen (nat_lt n count) (first_unknown count (at + 1) ns) at none in
+    All-cons (λ node. node < count) n ns (ltb-true n count here.0) (all_known count (at + 1) ns here.1)
+
+differs : (m n : ℕ) → nat_eq m n ≡ false → m ≢ n
+differs m n test same = false≢true (sym test ∙ eq-eqb m n same)
+
+all_move : (at : ℕ) (nodes : List ℕ) → first_again at nodes ≡ None → Moves nodes
+all_move at [] none = tt
+all_move at (n ∷ []) none = tt
+all_move at (n ∷ m ∷ ns) none =
+    let here = passed (nat_eq m n) (first_again (at + 1) (m ∷ ns)) at none in
+    (differs m n here.0, all_move (at + 1) (m ∷ ns) here.1)
+
+-- nodes that end at the depot, without it
+without_end : (nodes : List ℕ) → ends_at_depot nodes ≡ true → (inner : List ℕ) × (nodes ≡ inner ++ 0 ∷ [])
+without_end [] ends = absurd (false≢true ends)
+without_end (n ∷ []) ends = ([], ap (λ x. x ∷ []) (eqb-true n 0 ends))
+without_end (n ∷ m ∷ ns) ends =
+    let rest = without_end (m ∷ ns) ends in
+    (n ∷ rest.0, ap (λ xs. n ∷ xs) rest.1)
+
+no_depot_inside : (at : ℕ) (inner : List ℕ) → first_inner_depot at (inner ++ 0 ∷ []) ≡ None → All (λ node. node ≢ 0) inner
+no_depot_inside at [] none = All-nil (λ node. node ≢ 0)
+no_depot_inside at (n ∷ []) none =
+    let here = passed (nat_eq n 0) (first_inner_depot (at + 1) (0 ∷ [])) at none in
+    All-cons (λ node. node ≢ 0) n [] (differs n 0 here.0) (All-nil (λ node. node ≢ 0))
+no_depot_inside at (n ∷ m ∷ ns) none =
+    let here = passed (nat_eq n 0) (first_inner_depot (at + 1) (m ∷ ns ++ 0 ∷ [])) at none in
+    All-cons (λ node. node ≢ 0) n (m ∷ ns) (differs n 0 here.0) (no_depot_inside (at + 1) (m ∷ ns) here.1)
+
+-- from the depot on
+route_from : (g : Network) (ns : List ℕ) → ends_at_depot ns ≡ true → All (λ node. node < node_count g) (0 ∷ ns) → first_inner_depot 1 ns ≡ None → Moves (0 ∷ ns) → IsRoute g (0 ∷ ns)
+route_from g ns ends known none moves =
+    let cut = without_end ns ends in
+    (cut.0, record {
+      ends = ap (λ xs. 0 ∷ xs) cut.1;
+      known = known;
+      no_depot = no_depot_inside 1 cut.0 (subst (λ (xs : List ℕ). first_inner_depot 1 xs ≡ None) cut.1 none);
+      moves = moves;
+    })
+
+route_of_ends : (g : Network) (nodes : List ℕ) → has_ends nodes ≡ true → All (λ node. node < node_count g) nodes → first_inner_depot 1 (after_first nodes) ≡ None → Moves nodes → IsRoute g nodes
+route_of_ends g [] ends known none moves = absurd (false≢true ends)
+route_of_ends g (n ∷ ns) ends known none moves =
+    let parts = and_parts (nat_eq n 0) (ends_at_depot ns) ends in
+    let depot : n ≡ 0 = eqb-true n 0 parts.0 in
+    subst (λ x. IsRoute g (x ∷ ns)) (sym depot)
+        (route_from g ns parts.1 (subst (λ x. All (λ node. node < node_count g) (x ∷ ns)) depot known) none (subst (λ x. Moves (x ∷ ns)) depot moves))
+
+pub is_route : (g : Network) (nodes : List ℕ) → route_fault (node_count g) nodes ≡ None → IsRoute g nodes
+is_route g nodes none =
+    let count = node_count g in
+    let few = chosen (nat_le (length nodes) 400) (or_later (first_unknown count 0 nodes) (λ at. Unknown at) (or_ends nodes)) TooLong none in
+    let known = no_fault (first_unknown count 0 nodes) (λ at. Unknown at) (or_ends nodes) few.1 in
+    let ends = chosen (has_ends nodes) (or_inner_depot nodes) Ends known.1 in
+    let inner = no_fault (first_inner_depot 1 (after_first nodes)) (λ at. InnerDepot at) (or_again nodes) ends.1 in
+    let again = no_fault (first_again 1 nodes) (λ at. Again at) None inner.1 in
+    route_of_ends g nodes ends.0 (all_known count 0 nodes known.0) inner.0 (all_move 1 nodes again.0)

@@ -1,0 +1,2 @@
+pub mod RouteWords
+pub mod RouteRules

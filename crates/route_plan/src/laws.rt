@@ -1,0 +1,18 @@
+//! Laws of the word of a route. Each is the contract of an empty function.
+
+ghost use Rattle.std.specs.Prelude.{◌≡◌, ◌↔◌, List, ℕ, None, Ok};
+
+ghost use Rattle.ev_model.specs.Network.{Network, node_count};
+ghost use Rattle.ev_model.specs.Route.{IsRoute};
+ghost use Rattle.route_plan.specs.RouteRules.{route_fault};
+ghost use Rattle.route_plan.specs.RouteWords.{nodes_in, SpellsRoute};
+
+/// A word is read as nodes exactly where it spells them: decimal numbers joined by single commas.
+pub fn words_spell_routes()
+    ensures { (word nodes : List ℕ) → (nodes_in word ≡ Ok nodes) ↔ SpellsRoute word nodes }
+{}
+
+/// Nodes of which no rule is broken are a route of the network.
+pub fn unbroken_nodes_are_routes()
+    ensures { (g : Network) (nodes : List ℕ) → route_fault (node_count g) nodes ≡ None → IsRoute g nodes }
+{}

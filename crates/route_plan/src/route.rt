@@ -1,0 +1,179 @@
+//! The word of a route.
+
+ghost use Rattle.std.specs.Prelude.{◌≡◌, ◌≢◌, ◌<◌, ◌≤◌, [], ◌∷◌, ◌++◌, Ok, Err, IfErr, IfOk, OnErr, OnOk, length};
+
+ghost use Rattle.ev_text.specs.Scans.{rest_of};
+ghost use Rattle.route_plan.specs.RouteRules.{after_first, first_again, first_inner_depot, first_unknown, has_ends, route_fault, route_in};
+ghost use Rattle.route_plan.specs.RouteWords.{comma_at, next_at, node_at, nodes_in};
+
+use ev_text::Scan;
+use std::alloc::Global;
+
+/// The first broken rule of the word of a route. `at` of `Text` is a byte of the word, elsewhere it is
+/// a position in the route; both are counted from 0.
+#[derive(Clone, Copy, Debug, Drop, PartialEq, Eq)]
+pub enum RouteFault {
+    /// A number or a comma was expected at this byte. A number past 10^9 or with a leading zero is none.
+    Text { at: usize },
+    /// There are more than 400 nodes.
+    TooLong,
+    /// The node isn't in the instance.
+    Unknown { at: usize },
+    /// There are fewer than two nodes, or the first or the last isn't the depot.
+    Ends,
+    /// The depot stands between the ends.
+    InnerDepot { at: usize },
+    /// The node equals the one before it.
+    Again { at: usize },
+    /// Memory was refused.
+    Memory,
+}
+
+/// The greatest number of a node.
+const GREATEST_NODE: u128 = 1_000_000_000;
+
+/// The most nodes of a route.
+const MOST_NODES: usize = 400;
+
+/// The route of a word in a network of `count` nodes.
+pub fn read_route_in(alloc: Global, word: &[u8], count: usize) -> Result<Vec<usize>, RouteFault>
+    ensures ok { IfOk result (λ nodes. route_in count word.now ≡ Ok nodes.items) }
+    ensures fault { IfErr result (λ fault. fault ≢ RouteFault.Memory → route_in count word.now ≡ Err fault) }
+{
+    let nodes = read_nodes(alloc, word)?;
+    match first_fault(nodes.as_slice(), count) {
+        Some(fault) => Err(fault),
+        None => Ok(nodes),
+    }
+}
+
+/// The nodes of a word.
+fn read_nodes(alloc: Global, word: &[u8]) -> Result<Vec<usize>, RouteFault>
+    ensures ok { IfOk result (λ nodes. nodes_in word.now ≡ Ok nodes.items) }
+    ensures fault { IfErr result (λ fault. fault ≢ RouteFault.Memory → nodes_in word.now ≡ Err fault) }
+{
+    let mut scan = Scan::new(word);
+    let mut nodes = Vec::new(alloc);
+    let first = take_node(&mut scan)?;
+    push_node(&mut nodes, first)?;
+    while !scan.is_end() {
+        let next = take_next(&mut scan)?;
+        push_node(&mut nodes, next)?;
+    }
+    Ok(nodes)
+}
+
+/// Takes the number of a node.
+fn take_node(scan: &mut Scan<'_>) -> Result<usize, RouteFault>
+    ensures ok { IfOk result (λ node. node_at scan.old ≡ Ok (node, scan.new)) }
+    ensures fault { IfErr result (λ fault. node_at scan.old ≡ Err fault) }
+    ensures no_longer { OnOk result (length (rest_of scan.new) ≤ length (rest_of scan.old)) }
+{
+    let at = scan.place();
+    match scan.whole(GREATEST_NODE) {
+        Ok(node) => Ok(node as usize),
+        Err(_) => Err(RouteFault::Text { at }),
+    }
+}
+
+/// Takes a comma.
+fn take_comma(scan: &mut Scan<'_>) -> Result<(), RouteFault>
+    ensures ok { OnOk result (comma_at scan.old ≡ Ok scan.new) }
+    ensures fault { IfErr result (λ fault. comma_at scan.old ≡ Err fault) }
+    ensures shorter { OnOk result (length (rest_of scan.new) < length (rest_of scan.old)) }
+{
+    let at = scan.place();
+    match scan.word(b",") {
+        Ok(()) => Ok(()),
+        Err(_) => Err(RouteFault::Text { at }),
+    }
+}
+
+/// Takes a comma and the number of the next node.
+fn take_next(scan: &mut Scan<'_>) -> Result<usize, RouteFault>
+    ensures ok { IfOk result (λ node. next_at scan.old ≡ Ok (node, scan.new)) }
+    ensures fault { IfErr result (λ fault. next_at scan.old ≡ Err fault) }
+    ensures shorter { OnOk result (length (rest_of scan.new) < length (rest_of scan.old)) }
+{
+    take_comma(scan)?;
+    take_node(scan)
+}
+
+/// Appends a node.
+fn push_node(nodes: &mut Vec<usize>, node: usize) -> Result<(), RouteFault>
+    ensures ok { OnOk result (nodes.new.items ≡ nodes.old.items ++ node ∷ []) }
+    ensures memory { IfErr result (λ fault. fault ≡ RouteFault.Memory) }
+{
+    match nodes.push(node) {
+        Ok(()) => Ok(()),
+        Err(_) => Err(RouteFault::Memory),
+    }
+}
+
+/// The first broken rule of the nodes of a route, in a network of `count` nodes.
+fn first_fault(nodes: &[usize], count: usize) -> Option<RouteFault>
+    ensures { result ≡ route_fault count nodes.now }
+{
+    if nodes.len() > MOST_NODES {
+        return Some(RouteFault::TooLong);
+    }
+    if let Some(at) = unknown(nodes, count) {
+        return Some(RouteFault::Unknown { at });
+    }
+    if !ends(nodes) {
+        return Some(RouteFault::Ends);
+    }
+    if let Some(at) = inner_depot(nodes) {
+        return Some(RouteFault::InnerDepot { at });
+    }
+    match again(nodes) {
+        Some(at) => Some(RouteFault::Again { at }),
+        None => None,
+    }
+}
+
+/// The first position whose node isn't below `count`.
+fn unknown(nodes: &[usize], count: usize) -> Option<usize>
+    ensures { result ≡ first_unknown count 0 nodes.now }
+{
+    for (at, node) in nodes.iter().enumerate() {
+        if *node >= count {
+            return Some(at);
+        }
+    }
+    None
+}
+
+/// Whether there are at least two nodes and the first and the last are the depot.
+fn ends(nodes: &[usize]) -> bool
+    ensures { result ≡ has_ends nodes.now }
+{
+    match nodes {
+        [] | [_] => false,
+        [first, ..] => *first == 0 && nodes[nodes.len() - 1] == 0,
+    }
+}
+
+/// The first position of the depot between the ends.
+fn inner_depot(nodes: &[usize]) -> Option<usize>
+    ensures { result ≡ first_inner_depot 1 (after_first nodes.now) }
+{
+    for at in 1..nodes.len().saturating_sub(1) {
+        if nodes[at] == 0 {
+            return Some(at);
+        }
+    }
+    None
+}
+
+/// The first position whose node equals the one before.
+fn again(nodes: &[usize]) -> Option<usize>
+    ensures { result ≡ first_again 1 nodes.now }
+{
+    for at in 0..nodes.len().saturating_sub(1) {
+        if nodes[at + 1] == nodes[at] {
+            return Some(at + 1);
+        }
+    }
+    None
+}
