@@ -3,3 +3,4 @@ pub mod Charging
 pub mod Grid
 pub mod Filling
 pub mod WayHome
+pub mod Walked

@@ -1,9 +1,9 @@
 -- The cells of a table of reaches: for each place how far it is home, as far as is known.
-use Rattle.std.specs.Prelude.{◌≡◌, ℕ, ◌+◌, ◌*◌, ◌^◌, ◌<◌, ◌≤◌, List, Option, None, Some, length, nat_lt, count_by, sum_by, slice_index_or}
+use Rattle.std.specs.Prelude.{◌≡◌, ℕ, ◌+◌, ◌*◌, ◌^◌, ◌<◌, ◌≤◌, ◌⊎◌, List, Option, None, Some, length, nat_lt, count_by, sum_by, slice_index_or}
 use Rattle.ev_model.specs.Network.{Network, scaled_limit}
 use Rattle.level_table.specs.Answer.{cell_count}
 use Rattle.level_table.specs.Moves.{CanMove, move_time, place_after}
-use Rattle.level_table.specs.Places.{index_of, place_of}
+use Rattle.level_table.specs.Places.{IsHome, IsPlace, index_of, place_of}
 use Rattle.level_table.specs.Reach.{rank, rank_of}
 use Rattle.level_table.specs.declared.moves.Move.{Move}
 use Rattle.level_table.specs.declared.offers.Offer.{Offer}
@@ -31,6 +31,7 @@ pub record IsOffer (g : Network) (route : List ℕ) (cells : List (Option Reach)
   pub rest : (r : Reach) × (cell_at cells (index_of g offer.to) ≡ Some r)
       × (offer.reach.time ≡ move_time g route offer.step from + r.time) × (offer.reach.steps ≡ r.steps + 1)
   pub in_time : offer.reach.time ≤ scaled_limit g
+  pub on_route : IsPlace g route offer.to ⊎ IsHome g route offer.to
 
 abbrev pub offer_rank : ℕ → Option Offer → ℕ
 offer_rank limit None = (limit + 1) * 2 ^ 32

@@ -3,3 +3,4 @@ pub mod Answer
 pub mod Places
 pub mod Moves
 pub mod Cells
+pub mod Walk

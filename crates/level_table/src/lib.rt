@@ -8,3 +8,4 @@ mod place;
 mod reach;
 mod table;
 mod trip;
+mod walk;
