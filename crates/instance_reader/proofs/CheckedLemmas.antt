@@ -1,5 +1,5 @@
 -- What it means that the rules on sizes and on shapes find nothing.
-use Rattle.std.proofs.Common.{◌≡◌, ℕ, ◌+◌, ◌<◌, ◌≤◌, ◌^◌, ◌||◌, List, [], ◌∷◌, Option, None, Some, Bool, true, false, All, length, zip, nat_lt, nat_eq, not, refl, arith}
+use Rattle.std.proofs.Common.{◌≡◌, ℕ, ◌+◌, ◌≤◌, ◌^◌, ◌||◌, List, [], ◌∷◌, Option, None, Some, Bool, true, false, All, length, zip, nat_lt, nat_eq, not, refl, arith}
 use Rattle.std.proofs.lemmas.Bool.{or_parts}
 use Rattle.std.proofs.lemmas.Bool.Decides.{nat_tests}
 use Rattle.std.proofs.lemmas.List.Elements.{All-cons, All-head, All-nil, All-tail}
@@ -64,7 +64,7 @@ small_curve capacity small place curve h =
     record {
       times = All-zip-first (λ number. number ≤ 10 ^ 9) curve.times curve.charges (small_numbers (part_of place part.Time) curve.times first_two.0);
       charges = All-zip-second (λ number. number ≤ 10 ^ 9) curve.times curve.charges (small_numbers (part_of place part.Charge) curve.charges second.0);
-      full = small
+      full = small;
     }
 
 pub small_contents : (c : Contents) → first_large c ≡ None → HasSmallNumbers c
@@ -82,7 +82,7 @@ small_contents c h =
           (λ number curve none. small_curve c.capacity capacity (item_of (at_key Breaks) number) curve none) 0 c.curves b.0;
       process_times = small_numbers (at_key Service) c.process_times d.0;
       energies = small_rows (at_key Energy) c.energies e.0;
-      times = small_rows (at_key Time) c.times f.0
+      times = small_rows (at_key Time) c.times f.0;
     }
 
 right_row : (nodes : ℕ) (place : Place) (row : List ℕ) → odd_row nodes place row ≡ None → length row ≡ nodes
@@ -113,5 +113,5 @@ shaped_contents c h =
       process_times = grind (arith, nat_tests, few_times);
       energy_rows = right_rows (nodes_of c) (at_key Energy) c.energies f.0;
       time_count = grind (arith, nat_tests, count);
-      time_rows = right_rows (nodes_of c) (at_key Time) c.times i.0
+      time_rows = right_rows (nodes_of c) (at_key Time) c.times i.0;
     }

@@ -1,8 +1,8 @@
 -- The customers among the first nodes, one node after another.
-use Rattle.std.proofs.Common.{◌≡◌, ◌≢◌, ◌∙◌, ℕ, ◌+◌, ◌<◌, ◌≤◌, ◌&&◌, ◌⊎◌, List, [], ◌∷◌, ◌++◌, Option, None, Some, Bool, true, false, cond, length, map, filter, get_or, slice_get, is_none, not, nat_eq, refl, sym, ap, inl, inr, arith, length-append}
+use Rattle.std.proofs.Common.{◌≡◌, ◌∙◌, ℕ, ◌+◌, List, [], ◌∷◌, ◌++◌, Option, None, Some, true, false, length, filter, get_or, refl, inl, inr, arith, length-append}
 use Rattle.std.proofs.lemmas.Bool.{cases_lt}
 use Rattle.std.proofs.lemmas.Grind.{common_steps}
-use Rattle.std.proofs.lemmas.List.{append-nil, get_or_append_left, get_or_push, map-id}
+use Rattle.std.proofs.lemmas.List.{append-nil, get_or_push, map-id}
 use Rattle.std.proofs.lemmas.List.Elements.{filter-append}
 use Rattle.std.proofs.lemmas.List.FromFn.{map-range_with_len_more}
 use Rattle.std.proofs.lemmas.Option.{slice_get_within}
@@ -28,18 +28,18 @@ one_more : (curves : List (Option ℕ)) (nodes : ℕ) (customers more : List ℕ
     AreCustomers curves nodes customers numbers → filter (has_customer curves) (nodes ∷ []) ≡ more → IsIndexOf curves (customers ++ more) nodes o →
     AreCustomers curves (nodes + 1) (customers ++ more) (numbers ++ o ∷ [])
 one_more curves nodes customers more numbers o h is index = record {
-    list = rw (range_with_len-more nodes, filter-append (has_customer curves) (range_with_len 0 nodes) (nodes ∷ []), ← h.list, is) refl;
-    all = omega (arith, length-append numbers (o ∷ []), h.all);
-    each = λ node within. elim (cases_lt node nodes) [
-      | inl lt ↦
-          let before : get_or (numbers ++ o ∷ []) node None ≡ get_or numbers node None = grind (arith, common_steps, h.all) in
-          rw before (kept curves customers more node (get_or numbers node None) (h.each node lt))
-      | inr ge ↦
-          let here : get_or (numbers ++ o ∷ []) node None ≡ o = get_or_push numbers o None node (omega (arith, h.all)) in
-          let same : node ≡ nodes = omega arith in
-          rw (here, same) index
-    ]
-  }
+  list = rw (range_with_len-more nodes, filter-append (has_customer curves) (range_with_len 0 nodes) (nodes ∷ []), ← h.list, is) refl;
+  all = omega (arith, length-append numbers (o ∷ []), h.all);
+  each = λ node within. elim (cases_lt node nodes) [
+    | inl lt ↦
+        let before : get_or (numbers ++ o ∷ []) node None ≡ get_or numbers node None = grind (arith, common_steps, h.all) in
+        rw before (kept curves customers more node (get_or numbers node None) (h.each node lt))
+    | inr ge ↦
+        let here : get_or (numbers ++ o ∷ []) node None ≡ o = get_or_push numbers o None node (omega (arith, h.all)) in
+        let same : node ≡ nodes = omega arith in
+        rw (here, same) index
+  ];
+}
 
 -- a customer is added to both lists
 pub AreCustomers-customer : (curves : List (Option ℕ)) (nodes : ℕ) (customers longer : List ℕ) (numbers all : List (Option ℕ)) →
@@ -47,7 +47,7 @@ pub AreCustomers-customer : (curves : List (Option ℕ)) (nodes : ℕ) (customer
     longer ≡ customers ++ nodes ∷ [] → all ≡ numbers ++ Some (length customers) ∷ [] → AreCustomers curves (nodes + 1) longer all
 AreCustomers-customer curves nodes customers longer numbers all h yes_customer is_longer is_all =
     rw (is_longer, is_all) (one_more curves nodes customers (nodes ∷ []) numbers (Some (length customers)) h (rw yes_customer refl)
-        (yes_customer, slice_get-seam customers nodes))
+    (yes_customer, slice_get-seam customers nodes))
 
 -- any other node leaves the customers as they are
 pub AreCustomers-other : (curves : List (Option ℕ)) (nodes : ℕ) (customers same : List ℕ) (numbers all : List (Option ℕ)) →

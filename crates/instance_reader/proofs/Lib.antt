@@ -8,3 +8,5 @@ pub mod CustomersLemmas
 pub mod CurvesLemmas
 pub mod CheckedLemmas
 pub mod StationsLemmas
+pub mod PartsLemmas
+pub mod FaultsLemmas

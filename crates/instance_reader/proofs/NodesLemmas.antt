@@ -1,9 +1,9 @@
 -- The numbers of stations by node, one station after another.
-use Rattle.std.proofs.Common.{◌≡◌, ◌≢◌, ℕ, ◌+◌, ◌<◌, ◌||◌, ◌⊎◌, Bool, true, false, List, [], ◌∷◌, ◌++◌, Option, None, Some, length, map, take, drop, get_or, set, slice_get, is_some, not, nat_eq, nat_lt, refl, sym, ap, inl, inr, arith, add-one, length-append, length-set, get_or-set_same, get_or-set_other}
+use Rattle.std.proofs.Common.{◌≡◌, ℕ, ◌+◌, ◌<◌, ◌||◌, true, false, List, [], ◌∷◌, ◌++◌, Option, None, Some, length, map, take, drop, get_or, set, is_some, not, nat_eq, nat_lt, refl, sym, ap, inl, inr, arith, add-one, length-append, length-set}
 use Rattle.std.proofs.lemmas.Bool.{cases_lt, or_parts}
 use Rattle.std.proofs.lemmas.Bool.Decides.{eqb_tells, nat_tests}
 use Rattle.std.proofs.lemmas.Grind.{common_steps}
-use Rattle.std.proofs.lemmas.List.{take_more, length-map, map-append}
+use Rattle.std.proofs.lemmas.List.{take_more, map-append}
 use Rattle.std.proofs.lemmas.List.Folds.{find-append}
 use Rattle.std.proofs.Math.Seq.{drop-cons}
 use Rattle.instance_reader.proofs.ListLemmas.{list_any-find, option_or-none_right, slice_get-append, slice_get-seam, slice_get-within}
@@ -26,33 +26,35 @@ is_station_among-numbers stations nodes numbers node a h =
 other_node : (stations : List Station) (s : Station) (node : ℕ) (o : Option ℕ) → nat_eq s.node node ≡ false →
     IsStationNumber stations node o → IsStationNumber (stations ++ s ∷ []) node o
 other_node stations s node None e h = rw (find-append (λ s. nat_eq s.node node) stations (s ∷ []), h, e) refl
-other_node stations s node (Some n) e h =
-    (omega (arith, length-append stations (s ∷ [])),
-    rw (find-append (λ s. nat_eq s.node node) stations (s ∷ []), e, option_or-none_right, h.1, slice_get-append stations (s ∷ []) n h.0) refl)
+other_node stations s node (Some n) e h = (
+  omega (arith, length-append stations (s ∷ [])),
+  rw (find-append (λ s. nat_eq s.node node) stations (s ∷ []), e, option_or-none_right, h.1, slice_get-append stations (s ∷ []) n h.0) refl,
+)
 
 -- the node of the new station gets its number
 same_node : (stations : List Station) (s : Station) (node : ℕ) → nat_eq s.node node ≡ true →
     IsStationNumber stations node None → IsStationNumber (stations ++ s ∷ []) node (Some (length stations))
-same_node stations s node e h =
-    (omega (arith, length-append stations (s ∷ [])),
-    rw (find-append (λ s. nat_eq s.node node) stations (s ∷ []), h, e, slice_get-seam stations s) refl)
+same_node stations s node e h = (
+  omega (arith, length-append stations (s ∷ [])),
+  rw (find-append (λ s. nat_eq s.node node) stations (s ∷ []), h, e, slice_get-seam stations s) refl,
+)
 
 pub AreStationNumbers-push : (stations : List Station) (nodes : ℕ) (numbers : List (Option ℕ)) (s : Station) →
     AreStationNumbers stations nodes numbers → s.node < nodes → get_or numbers s.node None ≡ None →
     AreStationNumbers (stations ++ s ∷ []) nodes (set numbers s.node (Some (length stations)))
 AreStationNumbers-push stations nodes numbers s a h n = record {
-    all = rw length-set a.all;
-    each = λ node within. elim (eqb_tells s.node node) [
-      | inl e ↦
-          let here : get_or (set numbers s.node (Some (length stations))) node None ≡ Some (length stations) = grind (arith, common_steps, a.all) in
-          let was = rw n at (a.each s.node h) in
-          let none : IsStationNumber stations node None = rw (← e.1) was in
-          rw here (same_node stations s node e.0 none)
-      | inr e ↦
-          let there : get_or (set numbers s.node (Some (length stations))) node None ≡ get_or numbers node None = grind (arith, common_steps) in
-          rw there (other_node stations s node (get_or numbers node None) e.0 (a.each node within))
-    ]
-  }
+  all = rw length-set a.all;
+  each = λ node within. elim (eqb_tells s.node node) [
+    | inl e ↦
+        let here : get_or (set numbers s.node (Some (length stations))) node None ≡ Some (length stations) = grind (arith, common_steps, a.all) in
+        let was = rw n at (a.each s.node h) in
+        let none : IsStationNumber stations node None = rw (← e.1) was in
+        rw here (same_node stations s node e.0 none)
+    | inr e ↦
+        let there : get_or (set numbers s.node (Some (length stations))) node None ≡ get_or numbers node None = grind (arith, common_steps) in
+        rw there (other_node stations s node (get_or numbers node None) e.0 (a.each node within))
+  ];
+}
 
 is_none_from : (o : Option ℕ) → is_some o ≡ false → o ≡ None
 is_none_from None h = refl
@@ -73,9 +75,9 @@ rest xs i x h is = rw (drop-cons xs i x h, ← is, add-one) refl
 same_test : (stations : List Station) (nodes : ℕ) (numbers : List (Option ℕ)) (node : ℕ) → AreStationNumbers stations nodes numbers →
     (not (nat_lt node nodes) || is_station_among node stations) ≡ (not (nat_lt node (length numbers)) || is_some (get_or numbers node None))
 same_test stations nodes numbers node a = rw a.all (elim (cases_lt node nodes) [
-    | inl lt ↦ ap (λ b. not (nat_lt node nodes) || b) (is_station_among-numbers stations nodes numbers node a lt)
-    | inr ge ↦ let past : nat_lt node nodes ≡ false = grind (arith, nat_tests) in rw past refl
-  ])
+  | inl lt ↦ ap (λ b. not (nat_lt node nodes) || b) (is_station_among-numbers stations nodes numbers node a lt)
+  | inr ge ↦ let past : nat_lt node nodes ≡ false = grind (arith, nat_tests) in rw past refl
+])
 
 -- a node that the instance doesn't have, or that has a station already, is the first such
 pub wrong_node_here : (xs : List StationEntry) (nodes : ℕ) (numbers : List (Option ℕ)) (i : ℕ) (x : StationEntry) → i < length xs → x ≡ get_or xs i x →

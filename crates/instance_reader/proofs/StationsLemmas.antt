@@ -1,12 +1,11 @@
 -- The numbers of the curves by node.
-use Rattle.std.proofs.Common.{◌≡◌, ◌∙◌, ℕ, ◌+◌, ◌<◌, List, [], ◌∷◌, Option, None, Some, Bool, true, false, All, IfSome, length, map, get_or, slice_get, slice_index, is_some, not, option_map, refl, sym, ap, arith}
+use Rattle.std.proofs.Common.{◌≡◌, ◌∙◌, ℕ, ◌<◌, List, Option, None, Some, Bool, true, false, All, length, map, get_or, slice_get, slice_index, is_some, not, option_map, refl, ap}
 use Rattle.std.proofs.lemmas.List.{get_or-map, length-map}
 use Rattle.std.proofs.lemmas.Option.{get_or_from_slice_get, slice_get-map}
-use Rattle.std.specs.List.{position_or_len}
 use Rattle.instance_reader.proofs.CheckedLemmas.{nothing_along, unbroken}
 use Rattle.instance_reader.proofs.ListLemmas.{All-slice_get, find-position, position-within, slice_get-within}
-use Rattle.instance_reader.specs.Contents.{Contents, CurveOfType, Station, nodes_of, points_of}
-use Rattle.instance_reader.specs.Meaning.{AreCurveNumbers, IsCurveNumber, curve_at_node, curve_of_type}
+use Rattle.instance_reader.specs.Contents.{Contents, CurveOfType, Station, nodes_of}
+use Rattle.instance_reader.specs.Meaning.{AreCurveNumbers, IsCurveNumber, curve_of_type}
 use Rattle.instance_reader.specs.Nodes.{AreStationNumbers, IsStationNumber, station_at}
 use Rattle.instance_reader.specs.Search.{first_along}
 use Rattle.instance_reader.specs.Types.{is_among, names_of, type_number, type_place, unlisted}
@@ -22,8 +21,8 @@ all_listed : (curves : List CurveOfType) (stations : List Station) → first_alo
     All (λ s. is_among s.type_name (names_of curves) ≡ true) stations
 all_listed curves stations h =
     nothing_along (unlisted (names_of curves)) (λ s. is_among s.type_name (names_of curves) ≡ true)
-        (λ number s none. not_false (is_among s.type_name (names_of curves)) (unbroken (not (is_among s.type_name (names_of curves))) (type_place Css number) none))
-        0 stations h
+    (λ number s none. not_false (is_among s.type_name (names_of curves)) (unbroken (not (is_among s.type_name (names_of curves))) (type_place Css number) none))
+    0 stations h
 
 -- the curve of a type that is listed
 listed_curve : (curves : List CurveOfType) (s : Station) → is_among s.type_name (names_of curves) ≡ true →
@@ -40,7 +39,7 @@ station_curve : (c : Contents) (types : List ℕ) (node number : ℕ) (o : Optio
 station_curve c types node number None at some is_at is_types all = cc
 station_curve c types node number (Some s) at some is_at is_types all =
     let there : slice_get types number ≡ Some (type_number c.curves s) =
-        rw is_types (slice_get-map (type_number c.curves) c.stations number ∙ ap (option_map (type_number c.curves)) at) in
+    rw is_types (slice_get-map (type_number c.curves) c.stations number ∙ ap (option_map (type_number c.curves)) at) in
     let same : slice_index types number ≡ type_number c.curves s = get_or_from_slice_get types number (type_number c.curves s) 0 there in
     let listed = All-slice_get (λ s. is_among s.type_name (names_of c.curves) ≡ true) c.stations number s all at in
     let found = listed_curve c.curves s listed in
@@ -59,10 +58,10 @@ pub AreCurveNumbers-by_node : (c : Contents) (stations numbers : List (Option �
     first_along (unlisted (names_of c.curves)) 0 c.stations ≡ None → numbers ≡ map (option_map (slice_index types)) stations →
     AreCurveNumbers c numbers
 AreCurveNumbers-by_node c stations numbers types are is_types none is_numbers = record {
-    all = rw (is_numbers, length-map) are.all;
-    each = λ node within.
-        let inside : node < length stations = rw are.all within in
-        let at : get_or numbers node None ≡ option_map (slice_index types) (get_or stations node None) =
-            rw is_numbers (get_or-map (option_map (slice_index types)) stations node None None inside) in
-        rw at (node_curve c types node (get_or stations node None) (are.each node within) is_types (all_listed c.curves c.stations none))
-  }
+  all = rw (is_numbers, length-map) are.all;
+  each = λ node within.
+      let inside : node < length stations = rw are.all within in
+      let at : get_or numbers node None ≡ option_map (slice_index types) (get_or stations node None) =
+      rw is_numbers (get_or-map (option_map (slice_index types)) stations node None None inside) in
+      rw at (node_curve c types node (get_or stations node None) (are.each node within) is_types (all_listed c.curves c.stations none));
+}

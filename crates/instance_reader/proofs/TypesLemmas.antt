@@ -1,5 +1,5 @@
 -- Types by name, as the code compares and numbers them.
-use Rattle.std.proofs.Common.{◌≡◌, ◌≢◌, ◌∙◌, ℕ, ◌+◌, ◌<◌, ◌||◌, Bool, true, false, List, [], ◌∷◌, ◌++◌, Option, None, Some, IfSome, cond, length, map, take, drop, get_or, not, refl, sym, ap, add-one}
+use Rattle.std.proofs.Common.{◌≡◌, ◌∙◌, ℕ, ◌+◌, ◌<◌, Bool, true, false, List, [], ◌∷◌, ◌++◌, Option, None, Some, IfSome, cond, length, map, take, drop, get_or, not, refl, sym, add-one}
 use Rattle.std.proofs.lemmas.List.{take_more, map-append}
 use Rattle.std.proofs.Math.Seq.{drop-cons}
 use Rattle.std.specs.Borrow.{Bor}
@@ -41,9 +41,10 @@ pub fresh_key : (keys new : List (Bor TypeName)) (key : Bor TypeName) (added : B
     new ≡ insert_key (λ a b. (derived.ghosts).eq a.now b.now) keys key →
     (is_among (name_view key.now) (names_in keys) ≡ false) × (names_in new ≡ names_in keys ++ name_view key.now ∷ [])
 fresh_key keys new key added was_added is grown =
-    let none : list_any (λ other. (derived.ghosts).eq key.now other.now) keys ≡ false = not_true _ (sym is ∙ was_added) in
-    (sym (list_any-keys key.now keys) ∙ none,
-    rw (grown, none, map-append (λ other. name_view other.now) keys (key ∷ [])) refl)
+    let none : list_any (λ other. (derived.ghosts).eq key.now other.now) keys ≡ false = not_true _ (sym is ∙ was_added) in (
+      sym (list_any-keys key.now keys) ∙ none,
+      rw (grown, none, map-append (λ other. name_view other.now) keys (key ∷ [])) refl,
+    )
 
 -- a key that is among them
 pub known_key : (keys : List (Bor TypeName)) (key : TypeName) (added : Bool) → added ≡ false →
@@ -55,8 +56,12 @@ known_key keys key added not_added is = sym (list_any-keys key keys) ∙ not_fal
 pub next_name : (xs : List CurveEntry) (i : ℕ) (x : CurveEntry) → i < length xs → x ≡ get_or xs i x →
     names_of (map curve_view (take (i + 1) xs)) ≡ names_of (map curve_view (take i xs)) ++ name_view x.type_name ∷ []
 next_name xs i x h is =
-    rw (take_more xs i x h, map-append curve_view (take i xs) (get_or xs i x ∷ []), ← is,
-        map-append (λ curve. curve.type_name) (map curve_view (take i xs)) (curve_view x ∷ [])) refl
+    rw (
+      take_more xs i x h,
+      map-append curve_view (take i xs) (get_or xs i x ∷ []),
+      ← is,
+      map-append (λ curve. curve.type_name) (map curve_view (take i xs)) (curve_view x ∷ []),
+    ) refl
 
 -- the names from here on
 names_from : (xs : List CurveEntry) (i : ℕ) (x : CurveEntry) → i < length xs → x ≡ get_or xs i x →

@@ -1,5 +1,5 @@
 -- What the rules on sizes and on shapes ensure of the contents of a file.
-use Rattle.std.specs.Prelude.{◌≡◌, ℕ, ◌≤◌, ◌^◌, List, All, length}
+use Rattle.std.specs.Prelude.{◌≡◌, ◌≤◌, ◌^◌, All, length}
 use Rattle.charge_curve.specs.CutCurve.{IsSmall}
 use Rattle.instance_reader.specs.Contents.{Contents, nodes_of, points_of}
 

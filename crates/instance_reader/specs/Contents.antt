@@ -59,13 +59,15 @@ name_in value = unwrap_or (option_and_then name_of value) (whole 0)
 abbrev pub station_in : Data → Station
 station_in entry = record {
   node = number_in (get (part_text part.NodeId) entry);
-  type_name = name_in (type_value entry) }
+  type_name = name_in (type_value entry);
+}
 
 abbrev pub curve_in : Data → CurveOfType
 curve_in entry = record {
   type_name = name_in (type_value entry);
   times = numbers_in (get (part_text part.Time) entry);
-  charges = numbers_in (get (part_text part.Charge) entry) }
+  charges = numbers_in (get (part_text part.Charge) entry);
+}
 
 unfoldable pub contents_of : Data → Contents
 contents_of top = record {
@@ -76,4 +78,5 @@ contents_of top = record {
   energies = rows_in (value_at Energy top);
   times = rows_in (value_at Time top);
   t_max = limit_in (value_at TMax top);
-  max_t = limit_in (value_at MaxT top) }
+  max_t = limit_in (value_at MaxT top);
+}

@@ -4,7 +4,7 @@ use Rattle.charge_curve.specs.CutCurve.{CutCurve}
 use Rattle.charge_curve.specs.Faults.{curve_fault}
 use Rattle.charge_curve.specs.declared.fault.CurveFault.{CurveFault}
 use Rattle.charge_curve.specs.declared.fault.CurveFault.TheVariants as curve
-use Rattle.instance_reader.specs.Contents.{Contents, CurveOfType, points_of}
+use Rattle.instance_reader.specs.Contents.{CurveOfType, points_of}
 use Rattle.instance_reader.specs.Search.{first_along}
 use Rattle.instance_reader.specs.declared.faults.ReadFault.{ReadFault}
 use Rattle.instance_reader.specs.declared.faults.ReadFault.TheVariants.{BadCurve, Memory}

@@ -1,5 +1,5 @@
 -- The network that an instance stands for, and what holds of its fields.
-use Rattle.std.specs.Prelude.{◌≡◌, ℕ, ◌<◌, List, Option, None, Some, All, IfSome, length, map, option_map, slice_get, slice_index_or, vec_len}
+use Rattle.std.specs.Prelude.{◌≡◌, ℕ, ◌<◌, List, Option, None, Some, All, IfSome, length, map, option_map, slice_get, slice_index_or}
 use Rattle.ev_model.specs.Network.{Network, IsNetwork, node_count}
 use Rattle.instance_reader.specs.Instance.{IsCustomerNumber, TellsChargeTime, customer_nodes}
 use Rattle.instance_reader.specs.declared.curves.StationCurve.{StationCurve}
@@ -18,7 +18,8 @@ network_inside a = record {
   process_times = a.process_times.items;
   curves = map (points_at a.curves.items) a.curve_numbers.items;
   denominator = a.denominator;
-  limit = a.limit }
+  limit = a.limit;
+}
 
 -- the numbers of the customers, by node
 pub record AreCustomerNumbers (g : Network) (numbers : List (Option ℕ)) : Type 0 where
@@ -27,8 +28,8 @@ pub record AreCustomerNumbers (g : Network) (numbers : List (Option ℕ)) : Type
 
 pub record IsInstance (a : Inside) : Type 0 where
   pub network : IsNetwork (network_inside a)
-  pub energy_rows : All (λ row. vec_len row ≡ vec_len a.energies) a.energies.items
-  pub time_rows : All (λ row. vec_len row ≡ vec_len a.energies) a.times.items
+  pub energy_rows : All (λ row. length row.items ≡ length a.energies.items) a.energies.items
+  pub time_rows : All (λ row. length row.items ≡ length a.energies.items) a.times.items
   pub known : All (λ o. IfSome o (λ number. number < length a.curves.items)) a.curve_numbers.items
   pub scaled : All (λ c. TellsChargeTime a.max_q a.denominator c.curve.points c.scaled) a.curves.items
   pub customers : a.customers.items ≡ customer_nodes (network_inside a)

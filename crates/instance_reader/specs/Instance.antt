@@ -1,5 +1,5 @@
 -- What callers see of an instance beside its network.
-use Rattle.std.specs.Prelude.{◌≡◌, ℕ, ◌<◌, ◌≤◌, List, Option, None, Some, false, true, filter, length, slice_get, slice_index_or}
+use Rattle.std.specs.Prelude.{◌≡◌, ℕ, ◌≤◌, List, Option, None, Some, false, true, filter, slice_get}
 use Rattle.std.specs.List.{range_with_len}
 use Rattle.ev_model.specs.Curve.{charge_time}
 use Rattle.ev_model.specs.Network.{Network, curve_at, is_customer, node_count}

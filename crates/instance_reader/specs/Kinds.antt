@@ -42,7 +42,7 @@ not_rows = in_array (λ place d. not_wholes place (Some d))
 -- an entry of css
 abbrev pub no_station : Place → Data → Option Place
 no_station place entry = first
-    ( then_some (is_none (as_object entry)) place
+    (then_some (is_none (as_object entry)) place
     ∷ not_whole (part_of place part.NodeId) (get (part_text part.NodeId) entry)
     ∷ no_type (part_of place part.TypeName) (type_value entry)
     ∷ [])
@@ -50,7 +50,7 @@ no_station place entry = first
 -- an entry of breakpoints_by_type
 abbrev pub no_curve : Place → Data → Option Place
 no_curve place entry = first
-    ( then_some (is_none (as_object entry)) place
+    (then_some (is_none (as_object entry)) place
     ∷ no_type (part_of place part.TypeName) (type_value entry)
     ∷ not_wholes (part_of place part.Time) (get (part_text part.Time) entry)
     ∷ not_wholes (part_of place part.Charge) (get (part_text part.Charge) entry)
@@ -59,7 +59,7 @@ no_curve place entry = first
 -- the first place where a value of another kind stands, or none where one must
 unfoldable pub first_wrong_kind : Data → Option Place
 first_wrong_kind top = first
-    ( not_whole (at_key MaxQ) (value_at MaxQ top)
+    (not_whole (at_key MaxQ) (value_at MaxQ top)
     ∷ in_array no_station (at_key Css) (value_at Css top)
     ∷ in_array no_curve (at_key Breaks) (value_at Breaks top)
     ∷ not_wholes (at_key Service) (value_at Service top)

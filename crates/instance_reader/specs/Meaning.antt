@@ -1,6 +1,6 @@
 -- The network that the contents of an instance file mean.
 use Rattle.std.specs.Prelude.{◌≡◌, ℕ, ◌<◌, ◌-◌, ◌/◌, ◌^◌, ◌++◌, List, Option, None, Some, find, length, map, min, option_and_then, option_map, replicate, slice_get, slice_index_or, unwrap_or}
-use Rattle.std.specs.List.{position_or_len, range_with_len}
+use Rattle.std.specs.List.{range_with_len}
 use Rattle.ev_model.specs.Network.{Network}
 use Rattle.instance_reader.specs.Contents.{Contents, CurveOfType, nodes_of, points_of}
 use Rattle.instance_reader.specs.Nodes.{station_at}
@@ -38,7 +38,8 @@ network_of denominator c = record {
   process_times = c.process_times ++ replicate (nodes_of c - length c.process_times) 0;
   curves = map (curve_at_node c) (range_with_len 0 (nodes_of c));
   denominator = denominator;
-  limit = limit_of denominator c }
+  limit = limit_of denominator c;
+}
 
 -- the number of the curve at a node
 abbrev pub IsCurveNumber : Contents → ℕ → Option ℕ → Type 0

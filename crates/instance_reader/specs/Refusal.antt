@@ -11,7 +11,9 @@ abbrev pub RefusesAt : Option Place → PlaceFault → Type 0
 RefusesAt broken (At place) = broken ≡ Some place
 RefusesAt broken Memory = Unit {0}
 
--- a refusal other than want of memory is the first fault that was found
+-- a refusal other than want of memory is the first fault that was found; it is none of the bytes as a whole
 abbrev pub Refuses : Option ReadFault → ReadFault → Type 0
 Refuses found fault.Memory = Unit {0}
+Refuses found (fault.TooLong len) = ⊥
+Refuses found fault.NotJson = ⊥
 Refuses found other = found ≡ Some other

@@ -22,7 +22,7 @@ uneven place curve = then_some (not (nat_eq (length curve.times) (length curve.c
 -- the first place of a list or a matrix that has a wrong length
 unfoldable pub first_wrong_shape : Contents → Option Place
 first_wrong_shape c = first
-    ( then_some (nat_lt 16 (length c.curves)) (at_key Breaks)
+    (then_some (nat_lt 16 (length c.curves)) (at_key Breaks)
     ∷ look_along uneven (at_key Breaks) c.curves
     ∷ then_some (nat_lt (nodes_of c) (length c.process_times)) (at_key Service)
     ∷ then_some (nat_eq (nodes_of c) 0 || nat_lt 400 (nodes_of c)) (at_key Energy)

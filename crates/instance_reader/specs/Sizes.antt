@@ -19,14 +19,14 @@ large_in_rows place rows = look_along large_in place rows
 
 abbrev pub large_in_curve : Place → CurveOfType → Option Place
 large_in_curve place curve = first
-    ( large_in (part_of place part.Time) curve.times
+    (large_in (part_of place part.Time) curve.times
     ∷ large_in (part_of place part.Charge) curve.charges
     ∷ [])
 
 -- the first place where a number is past 10^9
 unfoldable pub first_large : Contents → Option Place
 first_large c = first
-    ( large (at_key MaxQ) c.capacity
+    (large (at_key MaxQ) c.capacity
     ∷ look_along large_in_curve (at_key Breaks) c.curves
     ∷ large_in (at_key Service) c.process_times
     ∷ large_in_rows (at_key Energy) c.energies

@@ -37,7 +37,7 @@ unlisted names number s = then_some (not (is_among s.type_name names)) (type_pla
 -- the first type that is listed already, and then the first type of a station that isn't listed
 abbrev pub wrong_type_in : List CurveOfType → List Station → Option Place
 wrong_type_in curves stations = first
-    ( repeated_in 0 [] (names_of curves)
+    (repeated_in 0 [] (names_of curves)
     ∷ first_along (unlisted (names_of curves)) 0 stations
     ∷ [])
 

@@ -31,7 +31,8 @@ contents_view f = record {
   energies = map (λ row. row.items) f.energies.items;
   times = map (λ row. row.items) f.times.items;
   t_max = f.t_max;
-  max_t = f.max_t }
+  max_t = f.max_t;
+}
 
 -- the data of a value that may be absent
 abbrev pub data_of : Option (Bor Value) → Option Data

@@ -44,12 +44,7 @@ fn read_fault(index: usize, fault: CurveFault) -> ReadFault
 }
 
 /// The curve of the entry number `index`.
-fn curve(
-    alloc: Global,
-    entry: &CurveEntry,
-    index: usize,
-    max_q: u64,
-) -> Result<Curve, ReadFault>
+fn curve(alloc: Global, entry: &CurveEntry, index: usize, max_q: u64) -> Result<Curve, ReadFault>
     requires { IsSmall (points_of (curve_view entry.now)) max_q }
     ensures good { IfOk result (λ _. bad_curve max_q index (curve_view entry.now) ≡ None) }
     ensures value { IfOk result (λ c. c ≡ cut_curve max_q (curve_view entry.now)) }

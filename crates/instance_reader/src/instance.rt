@@ -1,7 +1,8 @@
 //! An instance of the problem.
 
-ghost use Rattle.std.specs.Prelude.{◌≡◌, ◌*◌, ◌^◌, ◌<◌, ◌≤◌, None, IfOk, IfErr, MatchOption};
-ghost use Rattle.ev_model.specs.Network.{IsNetwork, curve_at, energy, node_count, process_time, scaled_limit, travel_time};
+ghost use Rattle.std.specs.Prelude.{◌≡◌, ◌*◌, ◌^◌, ◌<◌, ◌≤◌, None, true, All, IfOk, IfErr, IfSome, MatchOption, length};
+ghost use Rattle.std.specs.List.Sorted.{IsStrictlyIncreasing};
+ghost use Rattle.ev_model.specs.Network.{IsNetwork, curve_at, energy, is_customer, node_count, process_time, scaled_limit, travel_time};
 ghost use Rattle.instance_reader.specs.Instance.{IsCurveAt, IsCustomerNumber, customer_nodes};
 
 use crate::curves::StationCurve;
@@ -65,6 +66,7 @@ impl Instance {
         requires reached { j < node_count self.now }
         ensures value { result ≡ travel_time self.now i j }
         ensures small { result ≤ 10 ^ 9 }
+        ensures scaled { self.now.denominator * result ≤ 10 ^ 18 }
     {
         self.times[i][j]
     }
@@ -74,6 +76,7 @@ impl Instance {
         requires { i < node_count self.now }
         ensures value { result ≡ process_time self.now i }
         ensures small { result ≤ 10 ^ 9 }
+        ensures scaled { self.now.denominator * result ≤ 10 ^ 18 }
     {
         self.process_times[i]
     }
@@ -119,7 +122,10 @@ impl Instance {
 
     /// The customers' nodes in rising order.
     pub fn customers(&self) -> &[usize]
-        ensures { result.now ≡ customer_nodes self.now }
+        ensures value { result.now ≡ customer_nodes self.now }
+        ensures rising { IsStrictlyIncreasing result.now }
+        ensures known { All (λ node. node < node_count self.now) result.now }
+        ensures customers { All (λ node. is_customer self.now node ≡ true) result.now }
     {
         self.customers.as_slice()
     }
@@ -128,7 +134,8 @@ impl Instance {
     /// where the node is no customer.
     pub fn customer_number(&self, node: usize) -> Option<usize>
         requires { node < node_count self.now }
-        ensures { IsCustomerNumber self.now node result }
+        ensures value { IsCustomerNumber self.now node result }
+        ensures within { IfSome result (λ number. number < length (customer_nodes self.now)) }
     {
         self.customer_numbers[node]
     }

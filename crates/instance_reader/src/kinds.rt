@@ -91,11 +91,7 @@ fn wholes(alloc: Global, value: Option<&Value>, place: Place) -> Result<Vec<u64>
 }
 
 /// The rows of a list.
-fn row_items(
-    alloc: Global,
-    items: &[Value],
-    place: Place,
-) -> Result<Vec<Vec<u64>>, PlaceFault>
+fn row_items(alloc: Global, items: &[Value], place: Place) -> Result<Vec<Vec<u64>>, PlaceFault>
     ensures kind { IfOk result (λ _. look_along (λ at d. not_wholes at (Some d)) place (map view items.now) ≡ None) }
     ensures value { IfOk result (λ v. map (λ row. row.items) v.items ≡ map (λ d. numbers_in (Some d)) (map view items.now)) }
     ensures err { IfErr result (RefusesAt (look_along (λ at d. not_wholes at (Some d)) place (map view items.now))) }
@@ -111,11 +107,7 @@ fn row_items(
 }
 
 /// An array of arrays of whole numbers.
-fn rows(
-    alloc: Global,
-    value: Option<&Value>,
-    place: Place,
-) -> Result<Vec<Vec<u64>>, PlaceFault>
+fn rows(alloc: Global, value: Option<&Value>, place: Place) -> Result<Vec<Vec<u64>>, PlaceFault>
     ensures kind { IfOk result (λ _. not_rows place (data_of value.entry) ≡ None) }
     ensures value { IfOk result (λ v. map (λ row. row.items) v.items ≡ rows_in (data_of value.entry)) }
     ensures err { IfErr result (RefusesAt (not_rows place (data_of value.entry))) }
@@ -215,11 +207,7 @@ fn station_items(
 }
 
 /// The curves of a list.
-fn curve_items(
-    alloc: Global,
-    items: &[Value],
-    place: Place,
-) -> Result<Vec<CurveEntry>, PlaceFault>
+fn curve_items(alloc: Global, items: &[Value], place: Place) -> Result<Vec<CurveEntry>, PlaceFault>
     ensures kind { IfOk result (λ _. look_along no_curve place (map view items.now) ≡ None) }
     ensures value { IfOk result (λ v. map curve_view v.items ≡ map curve_in (map view items.now)) }
     ensures err { IfErr result (RefusesAt (look_along no_curve place (map view items.now))) }
@@ -251,11 +239,7 @@ fn stations(
 }
 
 /// The curves of `breakpoints_by_type`.
-fn curves(
-    alloc: Global,
-    value: Option<&Value>,
-    place: Place,
-) -> Result<Vec<CurveEntry>, PlaceFault>
+fn curves(alloc: Global, value: Option<&Value>, place: Place) -> Result<Vec<CurveEntry>, PlaceFault>
     ensures kind { IfOk result (λ _. in_array no_curve place (data_of value.entry) ≡ None) }
     ensures value { IfOk result (λ v. map curve_view v.items ≡ map curve_in (items_in (data_of value.entry))) }
     ensures err { IfErr result (RefusesAt (in_array no_curve place (data_of value.entry))) }

@@ -1,7 +1,10 @@
 //! The limit on a route, and how far it may be scaled.
 
-ghost use Rattle.std.specs.Prelude.{◌≡◌, ◌*◌, ◌/◌, ◌^◌, ◌<◌, ◌≤◌, None, IfOk, IfErr, nat_lt, unwrap_or};
+ghost use Rattle.std.specs.Prelude.{◌≡◌, ◌*◌, ◌/◌, ◌^◌, ◌<◌, ◌≤◌, None, Some, IfOk, IfErr, nat_lt, unwrap_or};
+ghost use Rattle.instance_reader.specs.Limits.{past_horizon};
 ghost use Rattle.instance_reader.specs.Meaning.{smaller};
+
+use crate::faults::ReadFault;
 
 /// The greatest scaled limit.
 const HORIZON: u64 = 1_000_000_000_000_000_000;
@@ -31,4 +34,20 @@ pub(crate) fn greatest(denominator: u64) -> u64
     ensures within { denominator * result ≤ 10 ^ 18 }
 {
     HORIZON / denominator
+}
+
+/// The limit in force: the given one, or else the greatest. A given limit that is scaled past 10^18 is
+/// refused.
+pub(crate) fn checked_limit(denominator: u64, given: Option<u64>) -> Result<u64, ReadFault>
+    requires { 1 ≤ denominator }
+    ensures value { IfOk result (λ limit. limit ≡ unwrap_or given (10 ^ 18 / denominator)) }
+    ensures within { IfOk result (λ limit. denominator * limit ≤ 10 ^ 18) }
+    ensures ok { IfOk result (λ _. past_horizon denominator given ≡ None) }
+    ensures err { IfErr result (λ fault. past_horizon denominator given ≡ Some fault) }
+{
+    match given {
+        Some(limit) if is_past_horizon(denominator, limit) => Err(ReadFault::Horizon { limit }),
+        Some(limit) => Ok(limit),
+        None => Ok(greatest(denominator)),
+    }
 }

@@ -4,7 +4,7 @@ ghost use Rattle.std.specs.Prelude.{◌≡◌};
 ghost use Rattle.instance_reader.specs.Places.{at_key, item_of, key_text, part_of, part_text};
 
 /// A key of an instance's top object.
-#[derive(Clone, Copy, Debug, Drop, PartialEq, Eq)]
+#[derive(Clone, Copy, Debug, PartialEq, Eq)]
 pub enum Key {
     /// The charge of a full battery.
     MaxQ,
@@ -25,7 +25,7 @@ pub enum Key {
 }
 
 /// A part of an entry of `css` or of `breakpoints_by_type`.
-#[derive(Clone, Copy, Debug, Drop, PartialEq, Eq)]
+#[derive(Clone, Copy, Debug, PartialEq, Eq)]
 pub enum Part {
     /// The node of a station.
     NodeId,
@@ -40,7 +40,7 @@ pub enum Part {
 /// Where a value stands in an instance file: under `key`, there in the item number `i`, of that in the
 /// part `part`, and there in the item number `j`. Items are numbered from 0, and what isn't there is
 /// `None`: the entry of `energy_matrix` in row 2 and column 3 has `i` 2, no part, and `j` 3.
-#[derive(Clone, Copy, Debug, Drop, PartialEq, Eq)]
+#[derive(Clone, Copy, Debug, PartialEq, Eq)]
 pub struct Place {
     pub key: Key,
     pub i: Option<usize>,

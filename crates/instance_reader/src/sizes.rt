@@ -40,8 +40,10 @@ fn large_in_rows(rows: &[Vec<u64>], place: Place) -> Option<Place>
 fn large_in_curve(curve: &CurveEntry, place: Place) -> Option<Place>
     ensures { result ≡ large_in_curve place (curve_view curve.now) }
 {
-    large_in(curve.times.as_slice(), place.part(Part::Time))
-        .or(large_in(curve.charges.as_slice(), place.part(Part::Charge)))
+    large_in(curve.times.as_slice(), place.part(Part::Time)).or(large_in(
+        curve.charges.as_slice(),
+        place.part(Part::Charge),
+    ))
 }
 
 /// The same in curves.
@@ -66,16 +68,7 @@ pub(crate) fn first_large(fields: &Fields) -> Option<Place>
         return Some(Place::at_key(Key::MaxQ));
     }
     large_in_curves(fields.curves.as_slice(), Place::at_key(Key::Breaks))
-        .or(large_in(
-            fields.process_times.as_slice(),
-            Place::at_key(Key::Service),
-        ))
-        .or(large_in_rows(
-            fields.energies.as_slice(),
-            Place::at_key(Key::Energy),
-        ))
-        .or(large_in_rows(
-            fields.times.as_slice(),
-            Place::at_key(Key::Time),
-        ))
+        .or(large_in(fields.process_times.as_slice(), Place::at_key(Key::Service)))
+        .or(large_in_rows(fields.energies.as_slice(), Place::at_key(Key::Energy)))
+        .or(large_in_rows(fields.times.as_slice(), Place::at_key(Key::Time)))
 }

@@ -34,19 +34,12 @@ fn by_node(
 
 /// The number of the curve at each node, or the first broken rule on stations.
 #[tactic(auto, unfolding(crate::specs::Nodes::first_wrong_node, crate::specs::Types::first_wrong_type))]
-pub(crate) fn curve_numbers(
-    alloc: Global,
-    fields: &Fields,
-) -> Result<Vec<Option<usize>>, ReadFault>
+pub(crate) fn curve_numbers(alloc: Global, fields: &Fields) -> Result<Vec<Option<usize>>, ReadFault>
     ensures good { IfOk result (λ _. station_fault (contents_view fields.now) ≡ None) }
     ensures value { IfOk result (λ v. AreCurveNumbers (contents_view fields.now) v.items) }
     ensures err { IfErr result (Refuses (station_fault (contents_view fields.now))) }
 {
-    let stations = match station_numbers(
-        alloc,
-        fields.stations.as_slice(),
-        fields.energies.len(),
-    ) {
+    let stations = match station_numbers(alloc, fields.stations.as_slice(), fields.energies.len()) {
         Ok(stations) => stations,
         Err(PlaceFault::At { place }) => return Err(ReadFault::Node { place }),
         Err(PlaceFault::Memory) => return Err(ReadFault::Memory),

@@ -1,5 +1,3 @@
-use Rattle.std.proofs.Common.{rules}
-use Rattle.std.proofs.lemmas.Grind.{common_steps}
 use Rattle.charge_curve.specs.CutCurve.{IsSmall}
 use Rattle.instance_reader.proofs.CurvesLemmas.{All-map-at}
 use Rattle.instance_reader.specs.Contents.{points_of}
@@ -9,5 +7,4 @@ use Rattle.instance_reader.proofs.curves.curves.Goals as goal
 pub curve-requires : goal.curve-requires
 curve-requires c =
     All-map-at (λ entry. IsSmall (points_of entry) c.args.max_q) curve_view c.args.entries.now c.loop-index.index c.index-entries-index.result
-        c.requires c.loop-index-test.true c.index-entries-index.is
-
+    c.requires c.loop-index-test.true c.index-entries-index.is

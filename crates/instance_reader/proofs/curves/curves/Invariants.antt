@@ -10,4 +10,5 @@ invariant-loop-index l = record {
   good : first_along (bad_curve l.max_q) l.index (map curve_view (drop l.index l.entries)) ≡ bad_curve_in l.max_q (map curve_view l.entries);
   value : l.curves.items ++ map (cut_curve l.max_q) (map curve_view (drop l.index l.entries))
       ≡ map (cut_curve l.max_q) (map curve_view l.entries);
-  accepted : All IsAccepted l.curves.items }
+  accepted : All IsAccepted l.curves.items;
+}

@@ -11,4 +11,5 @@ abbrev pub invariant-loop-index : goal.invariant-loop-index
 invariant-loop-index l = record {
   kind : first_along (λ number. no_curve (item_of l.place number)) l.index (map view (drop l.index l.items))
       ≡ look_along no_curve l.place (map view l.items);
-  value : map curve_view l.curves.items ++ map curve_in (map view (drop l.index l.items)) ≡ map curve_in (map view l.items) }
+  value : map curve_view l.curves.items ++ map curve_in (map view (drop l.index l.items)) ≡ map curve_in (map view l.items);
+}

@@ -10,4 +10,5 @@ abbrev pub invariant-loop-index : goal.invariant-loop-index
 invariant-loop-index l = record {
   kind : first_along (λ number d. not_wholes (item_of l.place number) (Some d)) l.index (map view (drop l.index l.items))
       ≡ look_along (λ at d. not_wholes at (Some d)) l.place (map view l.items);
-  value : map (λ row. row.items) l.rows.items ++ map (λ d. numbers_in (Some d)) (map view (drop l.index l.items)) ≡ map (λ d. numbers_in (Some d)) (map view l.items) }
+  value : map (λ row. row.items) l.rows.items ++ map (λ d. numbers_in (Some d)) (map view (drop l.index l.items)) ≡ map (λ d. numbers_in (Some d)) (map view l.items);
+}

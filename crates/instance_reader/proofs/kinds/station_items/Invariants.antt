@@ -11,4 +11,5 @@ abbrev pub invariant-loop-index : goal.invariant-loop-index
 invariant-loop-index l = record {
   kind : first_along (λ number. no_station (item_of l.place number)) l.index (map view (drop l.index l.items))
       ≡ look_along no_station l.place (map view l.items);
-  value : map station_view l.stations.items ++ map station_in (map view (drop l.index l.items)) ≡ map station_in (map view l.items) }
+  value : map station_view l.stations.items ++ map station_in (map view (drop l.index l.items)) ≡ map station_in (map view l.items);
+}

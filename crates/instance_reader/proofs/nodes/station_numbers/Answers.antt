@@ -11,7 +11,7 @@ loop-index-preserved c =
       value = AreStationNumbers-next c.args.stations.now c.args.nodes numbers c.loop-index.index c.index-stations-index.result
           c.loop-index-test.true c.index-stations-index.is c.loop-index.invariant.value right;
       node = right_node_here c.args.stations.now c.args.nodes numbers c.loop-index.index c.index-stations-index.result
-          c.loop-index-test.true c.index-stations-index.is c.loop-index.invariant.value right ∙ c.loop-index.invariant.node
+          c.loop-index-test.true c.index-stations-index.is c.loop-index.invariant.value right ∙ c.loop-index.invariant.node;
     }
 
 pub returns-then-is_wrong-clause-err : goal.returns-then-is_wrong-clause-err
@@ -20,5 +20,5 @@ returns-then-is_wrong-clause-err c =
     let numbers = c.loop-index.numbers.items in
     let wrong : true ≡ (not (nat_lt node (length numbers)) || is_some (get_or numbers node None)) = cc in
     let here = wrong_node_here c.args.stations.now c.args.nodes numbers c.loop-index.index c.index-stations-index.result
-        c.loop-index-test.true c.index-stations-index.is c.loop-index.invariant.value wrong in
+    c.loop-index-test.true c.index-stations-index.is c.loop-index.invariant.value wrong in
     sym c.loop-index.invariant.node ∙ here ∙ ap Some (sym c.node_place.ensures)

@@ -7,4 +7,5 @@ abbrev pub invariant-loop-index : goal.invariant-loop-index
 invariant-loop-index l = record {
   value : AreStationNumbers (map station_view (take l.index l.stations)) l.nodes l.numbers.items;
   node : wrong_node_in l.nodes l.index (map station_view (take l.index l.stations)) (map station_view (drop l.index l.stations))
-      ≡ wrong_node_in l.nodes 0 [] (map station_view l.stations) }
+      ≡ wrong_node_in l.nodes 0 [] (map station_view l.stations);
+}

@@ -1,7 +1,7 @@
-use Rattle.std.proofs.Common.{◌≡◌, map, drop}
-use Rattle.instance_reader.specs.Places.{item_of, part_of}
-use Rattle.instance_reader.specs.Search.{first_along, look_along}
-use Rattle.instance_reader.specs.Sizes.{large, large_in, large_in_curve, large_in_rows}
+use Rattle.std.proofs.Common.{◌≡◌, drop}
+use Rattle.instance_reader.specs.Places.{item_of}
+use Rattle.instance_reader.specs.Search.{first_along}
+use Rattle.instance_reader.specs.Sizes.{large, large_in}
 use Rattle.instance_reader.proofs.sizes.large_in.Given as goal
 
 abbrev pub invariant-loop-index : goal.invariant-loop-index

@@ -1,4 +1,4 @@
-use Rattle.std.proofs.Common.{◌≡◌, [], None, length, map, option_map, slice_index, rules}
+use Rattle.std.proofs.Common.{◌≡◌, [], None, map, option_map, slice_index, rules}
 use Rattle.std.proofs.lemmas.List.{length-map}
 use Rattle.instance_reader.proofs.CheckedLemmas.{neither}
 use Rattle.instance_reader.proofs.StationsLemmas.{AreCurveNumbers-by_node}
@@ -20,4 +20,4 @@ returns-in-Ok-by_node-clause-value c =
     let listed = neither (first_along (unlisted (names_of contents.curves)) 0 contents.stations) None second.1 in
     let numbers : c.in-Ok-by_node.numbers.items ≡ map (option_map (slice_index c.in-Ok-station_types.types.items)) c.in-Ok.stations.items = search rules in
     AreCurveNumbers-by_node contents c.in-Ok.stations.items c.in-Ok-by_node.numbers.items c.in-Ok-station_types.types.items
-        (rw count at are) types listed.0 numbers
+    (rw count at are) types listed.0 numbers

@@ -1,5 +1,4 @@
-use Rattle.std.proofs.Common.{◌≡◌, ◌∙◌, ℕ, IfSome}
-use Rattle.std.specs.List.{position_or_len}
+use Rattle.std.proofs.Common.{◌∙◌}
 use Rattle.instance_reader.proofs.TypesLemmas.{found_is, list_any-keys, position_or_len-keys}
 use Rattle.instance_reader.proofs.types.number_of.Goals as goal
 

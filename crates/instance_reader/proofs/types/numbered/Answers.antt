@@ -10,11 +10,11 @@ loop-index-preserved c =
     let i = c.loop-index.index in
     let grown = fresh_key c.loop-index.names.keys _ _ _ c.in-Ok-true.field-0-test c.in-Ok-true.ensures.added c.in-Ok-true.ensures.keys in
     let fresh : is_among (name_view x.type_name) (names_of (map curve_view (take i c.args.curves.now))) ≡ false =
-        rw (← c.loop-index.invariant.names) grown.0 in
+    rw (← c.loop-index.invariant.names) grown.0 in
     record {
       names = grown.1 ∙ ap (λ names. names ++ name_view x.type_name ∷ []) c.loop-index.invariant.names
           ∙ sym (next_name c.args.curves.now i x c.loop-index-test.true c.index-curves-index.is);
-      once = fresh_here c.args.curves.now i x c.loop-index-test.true c.index-curves-index.is fresh ∙ c.loop-index.invariant.once
+      once = fresh_here c.args.curves.now i x c.loop-index-test.true c.index-curves-index.is fresh ∙ c.loop-index.invariant.once;
     }
 
 pub returns-in-Ok-false-clause-err : goal.returns-in-Ok-false-clause-err
@@ -22,6 +22,6 @@ returns-in-Ok-false-clause-err c =
     let x = c.index-curves-index.result in
     let i = c.loop-index.index in
     let known : is_among (name_view x.type_name) (names_of (map curve_view (take i c.args.curves.now))) ≡ true =
-        rw (← c.loop-index.invariant.names) (known_key c.loop-index.names.keys x.type_name _ c.in-Ok-false.field-0-test c.in-Ok-false.ensures.added) in
+    rw (← c.loop-index.invariant.names) (known_key c.loop-index.names.keys x.type_name _ c.in-Ok-false.field-0-test c.in-Ok-false.ensures.added) in
     sym c.loop-index.invariant.once ∙ repeated_here c.args.curves.now i x c.loop-index-test.true c.index-curves-index.is known
     ∙ ap Some (sym c.type_place.ensures)

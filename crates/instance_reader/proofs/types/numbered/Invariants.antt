@@ -7,4 +7,5 @@ abbrev pub invariant-loop-index : goal.invariant-loop-index
 invariant-loop-index l = record {
   names : map (λ name. name_view name.now) l.names.keys ≡ names_of (map curve_view (take l.index l.curves));
   once : repeated_in l.index (names_of (map curve_view (take l.index l.curves))) (names_of (map curve_view (drop l.index l.curves)))
-      ≡ repeated_in 0 [] (names_of (map curve_view l.curves)) }
+      ≡ repeated_in 0 [] (names_of (map curve_view l.curves));
+}

@@ -11,4 +11,5 @@ invariant-loop-index l = record {
   listed : first_along (unlisted (names_in l.names.keys)) l.index (map station_view (drop l.index l.stations))
       ≡ first_along (unlisted (names_in l.names.keys)) 0 (map station_view l.stations);
   value : l.numbers.items ++ map (λ s. position_or_len (same_name s.type_name) (names_in l.names.keys)) (map station_view (drop l.index l.stations))
-      ≡ map (λ s. position_or_len (same_name s.type_name) (names_in l.names.keys)) (map station_view l.stations) }
+      ≡ map (λ s. position_or_len (same_name s.type_name) (names_in l.names.keys)) (map station_view l.stations);
+}

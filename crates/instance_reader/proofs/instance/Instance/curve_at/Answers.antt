@@ -8,4 +8,4 @@ pub returns-in-Some : goal.returns-in-Some
 returns-in-Some c =
     let within : c.args.node < node_count (network_inside c.self.inside) = rw (← c.self.view_is) at c.requires in
     rw (← c.self.view_is) (curve_at_number c.self.inside c.args.node c.in-Some.number c.index.result.now c.index-in-Some.result.now
-        c.self.invariant within c.index.ensures c.in-Some.is c.index-in-Some.ensures)
+    c.self.invariant within c.index.ensures c.in-Some.is c.index-in-Some.ensures)

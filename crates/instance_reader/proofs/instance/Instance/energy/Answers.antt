@@ -1,4 +1,4 @@
-use Rattle.std.proofs.Common.{◌≡◌, ◌<◌, length, arith}
+use Rattle.std.proofs.Common.{◌<◌, length}
 use Rattle.std.proofs.lemmas.List.{length-map}
 use Rattle.ev_model.specs.Network.{node_count}
 use Rattle.instance_reader.proofs.InstanceLemmas.{small_at}
@@ -12,4 +12,4 @@ returns-clause-small c =
     let reached : c.args.j < node_count (network_inside c.self.inside) = rw (← c.self.view_is) at c.requires.reached in
     let rows : c.args.i < length c.self.inside.energies.items = rw length-map at left in
     small_at c.self.inside.energies.items (node_count (network_inside c.self.inside)) c.args.i c.args.j c.index.result.now c.index-2.result.now
-        network.energy_rows network.small_energies rows reached c.index.ensures c.index-2.ensures
+    network.energy_rows network.small_energies rows reached c.index.ensures c.index-2.ensures
