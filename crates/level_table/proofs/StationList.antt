@@ -1,11 +1,13 @@
 -- The nodes that have a curve.
-use Rattle.std.proofs.Common.{◌≡◌, ◌∙◌, ℕ, zero, suc, ◌+◌, ◌-◌, ◌<◌, ◌≤◌, List, [], ◌∷◌, Option, Some, None, Bool, true, false, cond, length, filter, get_or, is_some, refl, sym, ap, subst, inl, inr, arith}
+use Rattle.std.proofs.Common.{◌≡◌, ◌∙◌, ℕ, zero, suc, ◌+◌, ◌-◌, ◌<◌, ◌≤◌, List, [], ◌∷◌, ◌++◌, Option, Some, None, Bool, true, false, cond, length, filter, get_or, is_some, refl, sym, ap, subst, inl, inr, arith}
+use Rattle.std.specs.Prelude.{MatchOption}
+use Rattle.instance_reader.specs.Instance.{IsCurveAt}
 use Rattle.std.specs.Option.{IsSome}
 use Rattle.std.specs.List.{All, range_with_len}
 use Rattle.std.proofs.lemmas.Bool.{cases_Bool, cases_lt}
-use Rattle.std.proofs.lemmas.List.{get_or_past}
-use Rattle.std.proofs.lemmas.List.Elements.{All-filter, All-from_get_or, All-get_or}
-use Rattle.std.proofs.lemmas.List.FromFn.{get_or-range_with_len, length-range_with_len}
+use Rattle.std.proofs.lemmas.List.{append-nil, map-id}
+use Rattle.std.proofs.lemmas.List.Elements.{All-filter, All-from_get_or, All-get_or, filter-append}
+use Rattle.std.proofs.lemmas.List.FromFn.{get_or-range_with_len, length-range_with_len, map-range_with_len_more}
 use Rattle.ev_model.specs.Network.{IsNetwork, Network, curve_at, node_count}
 use Rattle.level_table.specs.Answer.{stations}
 
@@ -61,3 +63,30 @@ station-number g node known curve =
     let passed : is_some (curve_at g (get_or (range_with_len 0 (node_count g)) node 0)) ≡ true = rw is_node curve in
     let found = left (λ x. is_some (curve_at g x)) (range_with_len 0 (node_count g)) node within passed in
     (found.0, found.1, found.2 ∙ is_node)
+
+-- the nodes below a number that have a curve
+abbrev pub stations_below : Network → ℕ → List ℕ
+stations_below g n = filter (λ node. is_some (curve_at g node)) (range_with_len 0 n)
+
+pub stations_below-all : (g : Network) (n : ℕ) → n ≡ node_count g → stations_below g n ≡ stations g
+unfolding stations
+stations_below-all g n is = ap (stations_below g) is
+
+one_more : (g : Network) (n : ℕ) → stations_below g (n + 1) ≡ stations_below g n ++ filter (λ node. is_some (curve_at g node)) (n ∷ [])
+one_more g n =
+    let numbers : range_with_len 0 (n + 1) ≡ range_with_len 0 n ++ n ∷ [] = let more = map-range_with_len_more (λ x. x) 0 n n (omega arith) in simp map-id at more in
+    ap (λ xs. filter (λ node. is_some (curve_at g node)) xs) numbers ∙ filter-append (λ node. is_some (curve_at g node)) (range_with_len 0 n) (n ∷ [])
+
+-- the next node is a station
+pub stations_below-station : (g : Network) (n : ℕ) → is_some (curve_at g n) ≡ true → stations_below g (n + 1) ≡ stations_below g n ++ n ∷ []
+stations_below-station g n has = let more = one_more g n in rw has at more
+
+-- the next node is none
+pub stations_below-other : (g : Network) (n : ℕ) → is_some (curve_at g n) ≡ false → stations_below g (n + 1) ≡ stations_below g n
+stations_below-other g n none = let more = one_more g n in (rw none at more) ∙ append-nil (stations_below g n)
+
+-- what is told of a node's curve
+pub has_curve : {X : Type 0} (now : X → List (ℕ × ℕ)) (g : Network) (node : ℕ) (told : Option X) →
+    MatchOption told (curve_at g node ≡ None) (λ s. IsCurveAt g node (now s)) → is_some (curve_at g node) ≡ is_some told
+has_curve now g node None is = rw is refl
+has_curve now g node (Some s) is = rw is.1 refl

@@ -9,6 +9,7 @@ use crate::place::Place;
 use instance_reader::Instance;
 
 /// A route on an instance, with the nodes that have a curve.
+#[derive(Clone, Copy)]
 pub(crate) struct Trip<'a> {
     pub(crate) inst: &'a Instance,
     pub(crate) route: &'a [usize],
