@@ -1,0 +1,6 @@
+pub mod StationList
+pub mod Charging
+pub mod Grid
+pub mod Filling
+pub mod WayHome
+pub mod Walked

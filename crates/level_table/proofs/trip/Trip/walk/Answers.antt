@@ -1,0 +1,88 @@
+use Rattle.std.proofs.Common.{◌≡◌, ◌+◌, ◌≤◌, ◌<◌, ◌++◌, ◌∷◌, [], List, Option, Some, sym, subst, refl, ap, arith}
+use Rattle.std.specs.Option.{IsSome, IfSome}
+use Rattle.ev_model.specs.Feasible.{IsFeasible}
+use Rattle.ev_model.specs.Route.{FollowsRoute}
+use Rattle.ev_model.specs.Time.{time_of}
+use Rattle.ev_model.specs.declared.Stop.{Stop}
+use Rattle.level_table.specs.Cells.{cell_at}
+use Rattle.level_table.specs.Places.{index_of}
+use Rattle.level_table.specs.declared.offers.Offer.{Offer}
+use Rattle.level_table.proofs.Walked.{best-move, best-offer, feasible-plan, on-way, plan-time, rank-falls, walked-home, walked-on}
+use Rattle.level_table.proofs.trip.Trip.walk.Goals as goal
+
+pub unwrap-offer-requires : goal.unwrap-offer-requires
+unwrap-offer-requires c =
+    let g = c.args.self.now.inst.now in
+    let route = c.args.self.now.route.now in
+    let nodes = c.args.self.now.stations.now in
+    let place = c.loop-place.place in
+    let is = on-way g route nodes c.args.start.level c.args.cells.now c.requires.trip c.requires.table place (omega (arith, c.loop-place-test.true)) c.loop-place.invariant.on_route in
+    let found = best-move g route nodes c.args.cells.now place c.loop-place.invariant.held.0 c.best.result c.requires.trip c.requires.table is
+        c.loop-place.invariant.held.1 c.best.ensures.least in
+    subst (λ (o : Option Offer). IsSome o) (sym found.1) refl
+
+pub loop-place-smaller : goal.loop-place-smaller
+loop-place-smaller c =
+    let g = c.args.self.now.inst.now in
+    let route = c.args.self.now.route.now in
+    let nodes = c.args.self.now.stations.now in
+    let start = c.args.start.level in
+    let cells = c.args.cells.now in
+    let place = c.loop-place.place in
+    let held = c.loop-place.invariant.held in
+    let is = on-way g route nodes start cells c.requires.trip c.requires.table place (omega (arith, c.loop-place-test.true)) c.loop-place.invariant.on_route in
+    let best = best-offer g route nodes start cells c.requires.trip c.requires.table place held.0 c.best.result c.unwrap-offer.result is held.1
+        c.unwrap-offer.ensures c.best.ensures.some c.best.ensures.least in
+    rank-falls g route nodes start cells c.requires.trip c.requires.table place c.unwrap-offer.result held.0 best.0 held.1 best.1
+
+pub loop-place-preserved : goal.loop-place-preserved
+loop-place-preserved c =
+    let g = c.args.self.now.inst.now in
+    let route = c.args.self.now.route.now in
+    let nodes = c.args.self.now.stations.now in
+    let start = c.args.start.level in
+    let cells = c.args.cells.now in
+    let place = c.loop-place.place in
+    let held = c.loop-place.invariant.held in
+    let is = on-way g route nodes start cells c.requires.trip c.requires.table place (omega (arith, c.loop-place-test.true)) c.loop-place.invariant.on_route in
+    let best = best-offer g route nodes start cells c.requires.trip c.requires.table place held.0 c.best.result c.unwrap-offer.result is held.1
+        c.unwrap-offer.ensures c.best.ensures.some c.best.ensures.least in
+    walked-on g route nodes start cells c.requires.trip c.requires.table place c.loop-place.stop c.in_ok-stop.stop c.loop-place.stops.items c.go_on.new.stops.items
+    c.unwrap-offer.result held.0 is c.loop-place.invariant best.0 held.1 best.1 c.in_ok-stop.ensures.stop c.in_ok-stop.ensures.stops
+
+pub returns-clause-feasible : goal.returns-clause-feasible
+returns-clause-feasible c =
+    let g = c.args.self.now.inst.now in
+    let route = c.args.self.now.route.now in
+    let nodes = c.args.self.now.stations.now in
+    let start = c.args.start.level in
+    let cells = c.args.cells.now in
+    let done = walked-home g route nodes start cells c.requires.trip c.requires.table c.loop-place.place c.loop-place.stop c.loop-place.stops.items
+        (omega (arith, c.loop-place-test.false)) c.loop-place.invariant in
+    subst (λ (plan : List Stop). IsFeasible g 1 start plan) (sym c.in_ok-push.ensures.items)
+    (feasible-plan g route nodes start cells c.requires.trip c.requires.table c.args.start (cell_at cells (index_of g c.args.start))
+        (c.loop-place.stops.items ++ c.loop-place.stop ∷ []) c.requires.start refl c.requires.reached done.0 done.1)
+
+pub returns-clause-follows : goal.returns-clause-follows
+returns-clause-follows c =
+    let g = c.args.self.now.inst.now in
+    let route = c.args.self.now.route.now in
+    let nodes = c.args.self.now.stations.now in
+    let start = c.args.start.level in
+    let cells = c.args.cells.now in
+    let done = walked-home g route nodes start cells c.requires.trip c.requires.table c.loop-place.place c.loop-place.stop c.loop-place.stops.items
+        (omega (arith, c.loop-place-test.false)) c.loop-place.invariant in
+    subst (λ (plan : List Stop). FollowsRoute route plan) (sym c.in_ok-push.ensures.items) done.0.follows
+
+pub returns-clause-time : goal.returns-clause-time
+returns-clause-time c =
+    let g = c.args.self.now.inst.now in
+    let route = c.args.self.now.route.now in
+    let nodes = c.args.self.now.stations.now in
+    let start = c.args.start.level in
+    let cells = c.args.cells.now in
+    let done = walked-home g route nodes start cells c.requires.trip c.requires.table c.loop-place.place c.loop-place.stop c.loop-place.stops.items
+        (omega (arith, c.loop-place-test.false)) c.loop-place.invariant in
+    subst (λ (plan : List Stop). IfSome (cell_at cells (index_of g c.args.start)) (λ r. time_of g 1 start plan ≤ r.time)) (sym c.in_ok-push.ensures.items)
+    (plan-time g route nodes start cells c.requires.trip c.requires.table c.args.start (cell_at cells (index_of g c.args.start))
+        (time_of g 1 start (c.loop-place.stops.items ++ c.loop-place.stop ∷ [])) c.requires.start refl done.1)

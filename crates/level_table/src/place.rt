@@ -1,0 +1,12 @@
+//! Where the vehicle is.
+
+/// A place from which the vehicle goes on along its route.
+///
+/// `passed` is the index in the route of the last node that was served. `slot` is 0 at that node, and
+/// `j + 1` at the station number `j`, inserted after it. `level` is the charge, in units of charge.
+#[derive(Clone, Copy, Debug, PartialEq, Eq)]
+pub(crate) struct Place {
+    pub(crate) passed: usize,
+    pub(crate) slot: usize,
+    pub(crate) level: u64,
+}
