@@ -1,5 +1,5 @@
 -- The job that the words of a command line name: `fixed FILE ROUTE [--limit N] [--charge N]`.
-use Rattle.std.specs.Prelude.{ℕ, ◌^◌, ◌&&◌, Bool, true, false, not, List, [], ◌∷◌, length, Option, None, Some, Result, Ok, Err, is_none, codes, nat_eq, option_map, if◌then◌else◌}
+use Rattle.std.specs.Prelude.{ℕ, ◌^◌, ◌&&◌, Bool, true, not, List, [], ◌∷◌, length, Option, None, Some, Result, Ok, Err, is_none, codes, nat_eq, option_map, if◌then◌else◌}
 use Rattle.std.specs.Str.{bytes_eq}
 use Rattle.ev_text.specs.Scans.{rest_of, whole_at}
 use Rattle.ev_text.specs.declared.TextFault.{TextFault}

@@ -2,7 +2,6 @@
 #![tactic(auto)]
 
 ghost use Rattle.std.specs.Prelude.{◌≡◌, map, option_map, string_bytes};
-
 ghost use Rattle.command_line.specs.Words.{is_fixed, is_plain, job_of, number_of, with_option};
 
 use ev_text::Scan;
@@ -103,13 +102,22 @@ fn with_option(options: Options, name: &str, value: &str) -> Option<Options>
     };
     if is_limit {
         match options.limit {
-            None => Some(Options { limit: Some(number), ..options }),
+            None => Some(Options {
+                limit: Some(number),
+                ..options
+            }),
             Some(_) => None,
         }
     } else {
         match options.charge {
-            None => Some(Options { charge: Some(number), ..options }),
+            None => Some(Options {
+                charge: Some(number),
+                ..options
+            }),
             Some(_) => None,
         }
     }
 }
+
+#[cfg(test)]
+mod tests;

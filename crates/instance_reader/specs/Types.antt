@@ -45,6 +45,10 @@ wrong_type_in curves stations = first
 unfoldable pub first_wrong_type : Contents → Option Place
 first_wrong_type c = wrong_type_in c.curves c.stations
 
+-- the number of a name among names; the number of names, where it is none of them
+abbrev pub number_among : List Name → Name → ℕ
+number_among names name = position_or_len (same_name name) names
+
 -- the number of a station's curve; the number of curves, where its type isn't listed
 abbrev pub type_number : List CurveOfType → Station → ℕ
-type_number curves s = position_or_len (same_name s.type_name) (names_of curves)
+type_number curves s = number_among (names_of curves) s.type_name

@@ -1,6 +1,6 @@
 //! Puts an instance together from fields that no rule refuses.
 
-ghost use Rattle.std.specs.Prelude.{◌≡◌, ◌-◌, ◌++◌, ◌≤◌, IfOk, length, replicate, vec_len};
+ghost use Rattle.std.specs.Prelude.{◌≡◌, ◌-◌, ◌++◌, ◌≤◌, IfOk, length, replicate};
 ghost use Rattle.instance_reader.specs.Meaning.{network_of};
 ghost use Rattle.instance_reader.specs.Parts.{AreParts};
 ghost use Rattle.instance_reader.specs.Views.{contents_view};
@@ -14,7 +14,8 @@ use std::alloc::{AllocError, Global};
 /// The process times of all nodes: those that are missing are 0.
 fn padded(mut process_times: Vec<u64>, nodes: usize) -> Result<Vec<u64>, AllocError>
     requires { length process_times.items ≤ nodes }
-    ensures { IfOk result (λ v. v.items ≡ process_times.items ++ replicate (nodes - length process_times.items) 0) }
+    ensures { IfOk result
+        (λ v. v.items ≡ process_times.items ++ replicate (nodes - length process_times.items) 0) }
 {
     for _node in process_times.len()..nodes {
         process_times.push(0)?;
@@ -22,8 +23,8 @@ fn padded(mut process_times: Vec<u64>, nodes: usize) -> Result<Vec<u64>, AllocEr
     Ok(process_times)
 }
 
-/// The instance of fields that no rule refuses, with the curves by number, the number of each node's curve,
-/// the denominator and the limit.
+/// The instance of fields that no rule refuses, with the curves by number, the number of each
+/// node's curve, the denominator and the limit.
 pub(crate) fn build(
     alloc: Global,
     fields: Fields,
@@ -33,7 +34,8 @@ pub(crate) fn build(
     limit: u64,
 ) -> Result<Instance, AllocError>
     requires { AreParts (contents_view fields) curves.items curve_numbers.items denominator limit }
-    ensures { IfOk result (λ g. g ≡ record (network_of denominator (contents_view fields)) { limit = limit }) }
+    ensures { IfOk result
+        (λ g. g ≡ record (network_of denominator (contents_view fields)) { limit = limit }) }
 {
     let Customers { nodes, numbers } = numbered_customers(alloc, curve_numbers.as_slice())?;
     let process_times = padded(fields.process_times, curve_numbers.len())?;

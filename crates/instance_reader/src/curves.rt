@@ -68,7 +68,8 @@ pub(crate) fn curves(
 ) -> Result<Vec<Curve>, ReadFault>
     requires { All (λ entry. IsSmall (points_of entry) max_q) (map curve_view entries.now) }
     ensures good { IfOk result (λ _. bad_curve_in max_q (map curve_view entries.now) ≡ None) }
-    ensures value { IfOk result (λ v. v.items ≡ map (cut_curve max_q) (map curve_view entries.now)) }
+    ensures value { IfOk result
+        (λ v. v.items ≡ map (cut_curve max_q) (map curve_view entries.now)) }
     ensures accepted { IfOk result (λ v. All IsAccepted v.items) }
     ensures err { IfErr result (Refuses (bad_curve_in max_q (map curve_view entries.now))) }
 {
@@ -92,7 +93,8 @@ pub(crate) fn scaled(
     requires small { denominator ≤ 10 ^ 9 }
     requires multiple { All (λ c. IsMultipleOfSlopes c.full c.points denominator) curves.items }
     ensures same { IfOk result (λ v. map (λ s. s.curve) v.items ≡ curves.items) }
-    ensures scaled { IfOk result (λ v. All (λ s. TellsChargeTime s.curve.full denominator s.curve.points s.scaled) v.items) }
+    ensures scaled { IfOk result
+        (λ v. All (λ s. TellsChargeTime s.curve.full denominator s.curve.points s.scaled) v.items) }
 {
     let mut scaled_curves = Vec::new(alloc);
     for curve in curves {

@@ -4,8 +4,8 @@ use crate::instance::Instance;
 use crate::places::{Key, Place};
 use charge_curve::CurveFault;
 
-/// The first broken rule of an instance file. The rules are tried in this order, and within a rule the
-/// places in the order of the fields: `max_q`, `css`, `breakpoints_by_type`, `process_times`,
+/// The first broken rule of an instance file. The rules are tried in this order, and within a rule
+/// the places in the order of the fields: `max_q`, `css`, `breakpoints_by_type`, `process_times`,
 /// `energy_matrix`, `time_matrix`, `t_max`, `max_t`.
 #[derive(Clone, Copy, Debug, Drop, PartialEq, Eq)]
 pub enum ReadFault {
@@ -15,7 +15,8 @@ pub enum ReadFault {
     NotJson,
     /// The top value is no object (the key is then `max_q`), or a required key is absent.
     Missing { key: Key },
-    /// A value is of another kind than its field's. A whole number is an integer literal that fits 64 bits.
+    /// A value is of another kind than its field's. A whole number is an integer literal that fits
+    /// 64 bits.
     Kind { place: Place },
     /// A number is past 10^9 where that limit stands.
     TooLarge { place: Place },
@@ -35,8 +36,8 @@ pub enum ReadFault {
     Memory,
 }
 
-/// Why a limit isn't taken: the instance's denominator times the limit is past 10^18. The instance is
-/// given back as it was.
+/// Why a limit isn't taken: the instance's denominator times the limit is past 10^18. The instance
+/// is given back as it was.
 #[derive(Drop)]
 pub struct LimitFault {
     pub inst: Instance,

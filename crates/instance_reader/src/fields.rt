@@ -14,7 +14,8 @@ pub(crate) struct StationEntry {
     pub type_name: TypeName,
 }
 
-/// An entry of `breakpoints_by_type`: a type, and the times and the charges of its curve's breakpoints.
+/// An entry of `breakpoints_by_type`: a type, and the times and the charges of its curve's
+/// breakpoints.
 #[derive(Drop)]
 pub(crate) struct CurveEntry {
     pub type_name: TypeName,

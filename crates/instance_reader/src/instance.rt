@@ -13,9 +13,9 @@ use std::marker::Model;
 
 /// An instance: a network of nodes, the vehicle's battery and the limit on a route.
 ///
-/// Nodes are numbered from 0, which is the depot. Levels and energies are in units of charge. Times are in
-/// units of time; a scaled time is a time multiplied by [`Instance::denominator`]. Contracts see the
-/// network. No call here takes memory.
+/// Nodes are numbered from 0, which is the depot. Levels and energies are in units of charge. Times
+/// are in units of time; a scaled time is a time multiplied by [`Instance::denominator`]. Contracts
+/// see the network. No call here takes memory.
 #[derive(Drop)]
 pub struct Instance {
     pub(crate) max_q: u64,
@@ -102,8 +102,9 @@ impl Instance {
         }
     }
 
-    /// The number by which a time is multiplied to be a scaled time: the least common multiple of the
-    /// reduced denominators of all slopes (time over charge) of the curves below a full battery.
+    /// The number by which a time is multiplied to be a scaled time: the least common multiple of
+    /// the reduced denominators of all slopes (time over charge) of the curves below a full
+    /// battery.
     pub fn denominator(&self) -> u64
         ensures value { result ≡ self.now.denominator }
         ensures some { 1 ≤ result }
@@ -130,8 +131,8 @@ impl Instance {
         self.customers.as_slice()
     }
 
-    /// The number of the customer at a node, which is its index in [`Instance::customers`]; `None` exactly
-    /// where the node is no customer.
+    /// The number of the customer at a node, which is its index in [`Instance::customers`]; `None`
+    /// exactly where the node is no customer.
     pub fn customer_number(&self, node: usize) -> Option<usize>
         requires { node < node_count self.now }
         ensures value { IsCustomerNumber self.now node result }
@@ -143,8 +144,10 @@ impl Instance {
     /// The instance with another limit, whether smaller or larger. It is refused exactly where the
     /// denominator times the limit is past 10^18.
     pub fn with_limit(mut self, l: u64) -> Result<Instance, LimitFault>
-        ensures ok { IfOk result (λ inst. (inst ≡ record self { limit = l }) × (l * self.denominator ≤ 10 ^ 18)) }
-        ensures err { IfErr result (λ e. (e.inst ≡ self) × (e.limit ≡ l) × (10 ^ 18 < l * self.denominator)) }
+        ensures ok { IfOk result
+            (λ inst. (inst ≡ record self { limit = l }) × (l * self.denominator ≤ 10 ^ 18)) }
+        ensures err { IfErr result
+            (λ e. (e.inst ≡ self) × (e.limit ≡ l) × (10 ^ 18 < l * self.denominator)) }
     {
         if is_past_horizon(self.denominator, l) {
             return Err(LimitFault {

@@ -60,9 +60,12 @@ fn items(value: Option<&Value>) -> Option<&[Value]>
 
 /// The whole numbers of a list.
 fn whole_items(alloc: Global, items: &[Value], place: Place) -> Result<Vec<u64>, PlaceFault>
-    ensures kind { IfOk result (λ _. look_along (λ at d. not_whole at (Some d)) place (map view items.now) ≡ None) }
-    ensures value { IfOk result (λ v. v.items ≡ map (λ d. number_in (Some d)) (map view items.now)) }
-    ensures err { IfErr result (RefusesAt (look_along (λ at d. not_whole at (Some d)) place (map view items.now))) }
+    ensures kind { IfOk result
+        (λ _. look_along (λ at d. not_whole at (Some d)) place (map view items.now) ≡ None) }
+    ensures value { IfOk result
+        (λ v. v.items ≡ map (λ d. number_in (Some d)) (map view items.now)) }
+    ensures err { IfErr result
+        (RefusesAt (look_along (λ at d. not_whole at (Some d)) place (map view items.now))) }
 {
     let mut numbers = Vec::new(alloc);
     for (index, item) in items.iter().enumerate() {
@@ -92,9 +95,12 @@ fn wholes(alloc: Global, value: Option<&Value>, place: Place) -> Result<Vec<u64>
 
 /// The rows of a list.
 fn row_items(alloc: Global, items: &[Value], place: Place) -> Result<Vec<Vec<u64>>, PlaceFault>
-    ensures kind { IfOk result (λ _. look_along (λ at d. not_wholes at (Some d)) place (map view items.now) ≡ None) }
-    ensures value { IfOk result (λ v. map (λ row. row.items) v.items ≡ map (λ d. numbers_in (Some d)) (map view items.now)) }
-    ensures err { IfErr result (RefusesAt (look_along (λ at d. not_wholes at (Some d)) place (map view items.now))) }
+    ensures kind { IfOk result
+        (λ _. look_along (λ at d. not_wholes at (Some d)) place (map view items.now) ≡ None) }
+    ensures value { IfOk result
+        (λ v. map (λ row. row.items) v.items ≡ map (λ d. numbers_in (Some d)) (map view items.now)) }
+    ensures err { IfErr result
+        (RefusesAt (look_along (λ at d. not_wholes at (Some d)) place (map view items.now))) }
 {
     let mut rows = Vec::new(alloc);
     for (index, item) in items.iter().enumerate() {
@@ -109,7 +115,8 @@ fn row_items(alloc: Global, items: &[Value], place: Place) -> Result<Vec<Vec<u64
 /// An array of arrays of whole numbers.
 fn rows(alloc: Global, value: Option<&Value>, place: Place) -> Result<Vec<Vec<u64>>, PlaceFault>
     ensures kind { IfOk result (λ _. not_rows place (data_of value.entry) ≡ None) }
-    ensures value { IfOk result (λ v. map (λ row. row.items) v.items ≡ rows_in (data_of value.entry)) }
+    ensures value { IfOk result
+        (λ v. map (λ row. row.items) v.items ≡ rows_in (data_of value.entry)) }
     ensures err { IfErr result (RefusesAt (not_rows place (data_of value.entry))) }
 {
     match items(value) {
@@ -193,7 +200,8 @@ fn station_items(
     place: Place,
 ) -> Result<Vec<StationEntry>, PlaceFault>
     ensures kind { IfOk result (λ _. look_along no_station place (map view items.now) ≡ None) }
-    ensures value { IfOk result (λ v. map station_view v.items ≡ map station_in (map view items.now)) }
+    ensures value { IfOk result
+        (λ v. map station_view v.items ≡ map station_in (map view items.now)) }
     ensures err { IfErr result (RefusesAt (look_along no_station place (map view items.now))) }
 {
     let mut stations = Vec::new(alloc);
@@ -229,7 +237,8 @@ fn stations(
     place: Place,
 ) -> Result<Vec<StationEntry>, PlaceFault>
     ensures kind { IfOk result (λ _. in_array no_station place (data_of value.entry) ≡ None) }
-    ensures value { IfOk result (λ v. map station_view v.items ≡ map station_in (items_in (data_of value.entry))) }
+    ensures value { IfOk result
+        (λ v. map station_view v.items ≡ map station_in (items_in (data_of value.entry))) }
     ensures err { IfErr result (RefusesAt (in_array no_station place (data_of value.entry))) }
 {
     match items(value) {
@@ -241,7 +250,8 @@ fn stations(
 /// The curves of `breakpoints_by_type`.
 fn curves(alloc: Global, value: Option<&Value>, place: Place) -> Result<Vec<CurveEntry>, PlaceFault>
     ensures kind { IfOk result (λ _. in_array no_curve place (data_of value.entry) ≡ None) }
-    ensures value { IfOk result (λ v. map curve_view v.items ≡ map curve_in (items_in (data_of value.entry))) }
+    ensures value { IfOk result
+        (λ v. map curve_view v.items ≡ map curve_in (items_in (data_of value.entry))) }
     ensures err { IfErr result (RefusesAt (in_array no_curve place (data_of value.entry))) }
 {
     match items(value) {

@@ -36,8 +36,8 @@ pub(crate) fn greatest(denominator: u64) -> u64
     HORIZON / denominator
 }
 
-/// The limit in force: the given one, or else the greatest. A given limit that is scaled past 10^18 is
-/// refused.
+/// The limit in force: the given one, or else the greatest. A given limit that is scaled past 10^18
+/// is refused.
 pub(crate) fn checked_limit(denominator: u64, given: Option<u64>) -> Result<u64, ReadFault>
     requires { 1 ≤ denominator }
     ensures value { IfOk result (λ limit. limit ≡ unwrap_or given (10 ^ 18 / denominator)) }

@@ -24,16 +24,19 @@ fn is_wrong(numbers: &[Option<usize>], node: usize) -> bool
     node >= numbers.len() || numbers[node].is_some()
 }
 
-/// The number of the station at each node, or the place of the first node that isn't below `nodes` or has
-/// a station already.
+/// The number of the station at each node, or the place of the first node that isn't below `nodes`
+/// or has a station already.
 pub(crate) fn station_numbers(
     alloc: Global,
     stations: &[StationEntry],
     nodes: usize,
 ) -> Result<Vec<Option<usize>>, PlaceFault>
-    ensures node { IfOk result (λ _. wrong_node_in nodes 0 [] (map station_view stations.now) ≡ None) }
-    ensures value { IfOk result (λ v. AreStationNumbers (map station_view stations.now) nodes v.items) }
-    ensures err { IfErr result (RefusesAt (wrong_node_in nodes 0 [] (map station_view stations.now))) }
+    ensures node { IfOk result
+        (λ _. wrong_node_in nodes 0 [] (map station_view stations.now) ≡ None) }
+    ensures value { IfOk result
+        (λ v. AreStationNumbers (map station_view stations.now) nodes v.items) }
+    ensures err { IfErr result
+        (RefusesAt (wrong_node_in nodes 0 [] (map station_view stations.now))) }
 {
     let Ok(mut numbers) = vec![in alloc; None; nodes] else {
         return Err(PlaceFault::Memory);

@@ -37,9 +37,10 @@ pub enum Part {
     Charge,
 }
 
-/// Where a value stands in an instance file: under `key`, there in the item number `i`, of that in the
-/// part `part`, and there in the item number `j`. Items are numbered from 0, and what isn't there is
-/// `None`: the entry of `energy_matrix` in row 2 and column 3 has `i` 2, no part, and `j` 3.
+/// Where a value stands in an instance file: under `key`, there in the item number `i`, of that in
+/// the part `part`, and there in the item number `j`. Items are numbered from 0, and what isn't
+/// there is `None`: the entry of `energy_matrix` in row 2 and column 3 has `i` 2, no part, and `j`
+/// 3.
 #[derive(Clone, Copy, Debug, PartialEq, Eq)]
 pub struct Place {
     pub key: Key,
@@ -67,8 +68,8 @@ impl Key {
 }
 
 impl Part {
-    /// The part as a place is printed with it. It is the part's key in a file, but that a type may stand
-    /// under `cs_type` too.
+    /// The part as a place is printed with it. It is the part's key in a file, but that a type may
+    /// stand under `cs_type` too.
     pub fn name(self) -> &'static str
         ensures { result.now ≡ part_text self }
     {

@@ -29,14 +29,16 @@ const MOST_DENOMINATOR: u64 = 1_000_000_000;
 
 /// Reads an instance from the bytes of a JSON file.
 ///
-/// The top value is an object with the keys `max_q` (the charge of a full battery), `css` (the stations, each
-/// with a `node_id` and a type), `breakpoints_by_type` (the charging curves, each with a type and its
-/// breakpoints as `time` and `charge`), `process_times` (by node, missing ones are 0), `energy_matrix` and
-/// `time_matrix` (by the node left and the node reached), and maybe `t_max` and `max_t` (limits on the time
-/// of a route, of which the smaller holds). A type stands under `cs_type`, or under `type` where that is
-/// absent. Other keys are passed over. All numbers are whole.
+/// The top value is an object with the keys `max_q` (the charge of a full battery), `css` (the
+/// stations, each with a `node_id` and a type), `breakpoints_by_type` (the charging curves, each
+/// with a type and its breakpoints as `time` and `charge`), `process_times` (by node, missing ones
+/// are 0), `energy_matrix` and `time_matrix` (by the node left and the node reached), and maybe
+/// `t_max` and `max_t` (limits on the time of a route, of which the smaller holds). A type stands
+/// under `cs_type`, or under `type` where that is absent. Other keys are passed over. All numbers
+/// are whole.
 ///
-/// The answer is the instance that the bytes mean, or the first broken rule, as [`ReadFault`] lists them.
+/// The answer is the instance that the bytes mean, or the first broken rule, as [`ReadFault`] lists
+/// them.
 pub fn read_instance(alloc: Global, bytes: &[u8]) -> Result<Instance, ReadFault>
     ensures instance { IfOk result (IsInstanceOf bytes.now) }
     ensures fault { IfErr result (IsFirstFault bytes.now) }
@@ -81,8 +83,8 @@ fn size_fault(fields: &Fields) -> Option<ReadFault>
     }
 }
 
-/// What fields have that no rule up to those on curves refuses: the curves, and by node the number of its
-/// curve.
+/// What fields have that no rule up to those on curves refuses: the curves, and by node the number
+/// of its curve.
 #[derive(Drop)]
 struct GoodCurves {
     curves: Vec<Curve>,
@@ -92,7 +94,8 @@ struct GoodCurves {
 /// Tries the rules on sizes, shapes, stations and curves.
 fn good_curves(alloc: Global, fields: &Fields) -> Result<GoodCurves, ReadFault>
     ensures good { IfOk result (λ k. AreGood (contents_view fields.now) k.curves.items) }
-    ensures by_node { IfOk result (λ k. AreCurveNumbers (contents_view fields.now) k.curve_numbers.items) }
+    ensures by_node { IfOk result
+        (λ k. AreCurveNumbers (contents_view fields.now) k.curve_numbers.items) }
     ensures fault { IfErr result (IsFirstFaultIn (contents_view fields.now)) }
 {
     if let Some(fault) = size_fault(fields) {

@@ -12,8 +12,8 @@ use crate::nodes::station_numbers;
 use crate::types::station_types;
 use std::alloc::{AllocError, Global};
 
-/// The numbers of the curves by node, where the stations' numbers are given by node and the curves' numbers
-/// by station.
+/// The numbers of the curves by node, where the stations' numbers are given by node and the curves'
+/// numbers by station.
 fn by_node(
     alloc: Global,
     stations: &[Option<usize>],

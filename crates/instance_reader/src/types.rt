@@ -1,11 +1,9 @@
 //! Each type is listed once, and each station's type is listed.
 
 ghost use Rattle.std.specs.Prelude.{◌≡◌, None, [], is_some, map, IfOk, IfErr, IfSome};
-ghost use Rattle.std.specs.List.{position_or_len};
 ghost use Rattle.instance_reader.specs.Refusal.{RefusesAt};
 ghost use Rattle.instance_reader.specs.Search.{first_along};
-ghost use Rattle.instance_reader.specs.Types.{is_among, names_of, repeated_in, type_number, type_place, unlisted, wrong_type_in};
-ghost use Rattle.instance_reader.specs.Values.{same_name};
+ghost use Rattle.instance_reader.specs.Types.{is_among, names_of, number_among, repeated_in, type_number, type_place, unlisted, wrong_type_in};
 ghost use Rattle.instance_reader.specs.Views.{curve_view, name_view, names_in, station_view};
 
 use crate::faults::PlaceFault;
@@ -26,9 +24,12 @@ fn numbered<'a>(
     alloc: Global,
     curves: &'a [CurveEntry],
 ) -> Result<IndexSet<&'a TypeName>, PlaceFault>
-    ensures names { IfOk result (λ names. names_in names.keys ≡ names_of (map curve_view curves.now)) }
-    ensures once { IfOk result (λ _. repeated_in 0 [] (names_of (map curve_view curves.now)) ≡ None) }
-    ensures err { IfErr result (RefusesAt (repeated_in 0 [] (names_of (map curve_view curves.now)))) }
+    ensures names { IfOk result
+        (λ names. names_in names.keys ≡ names_of (map curve_view curves.now)) }
+    ensures once { IfOk result
+        (λ _. repeated_in 0 [] (names_of (map curve_view curves.now)) ≡ None) }
+    ensures err { IfErr result
+        (RefusesAt (repeated_in 0 [] (names_of (map curve_view curves.now)))) }
 {
     let mut names = IndexSet::new(alloc);
     for (index, curve) in curves.iter().enumerate() {
@@ -48,7 +49,8 @@ fn numbered<'a>(
 /// The number of a type, if it is listed.
 fn number_of<'a>(names: &IndexSet<&'a TypeName>, name: &'a TypeName) -> Option<usize>
     ensures listed { is_some result ≡ is_among (name_view name.now) (names_in names.now.keys) }
-    ensures number { IfSome result (λ number. number ≡ position_or_len (same_name (name_view name.now)) (names_in names.now.keys)) }
+    ensures number { IfSome result
+        (λ number. number ≡ number_among (names_in names.now.keys) (name_view name.now)) }
 {
     names.get_index_of(&name)
 }
@@ -59,9 +61,13 @@ fn type_numbers<'a>(
     names: &IndexSet<&'a TypeName>,
     stations: &'a [StationEntry],
 ) -> Result<Vec<usize>, PlaceFault>
-    ensures listed { IfOk result (λ _. first_along (unlisted (names_in names.now.keys)) 0 (map station_view stations.now) ≡ None) }
-    ensures value { IfOk result (λ v. v.items ≡ map (λ s. position_or_len (same_name s.type_name) (names_in names.now.keys)) (map station_view stations.now)) }
-    ensures err { IfErr result (RefusesAt (first_along (unlisted (names_in names.now.keys)) 0 (map station_view stations.now))) }
+    ensures listed { IfOk result
+        (λ _. first_along (unlisted (names_in names.now.keys)) 0 (map station_view stations.now) ≡ None) }
+    ensures value { IfOk result
+        (λ v. v.items ≡ map (λ s. number_among (names_in names.now.keys) s.type_name)
+        (map station_view stations.now)) }
+    ensures err { IfErr result
+        (RefusesAt (first_along (unlisted (names_in names.now.keys)) 0 (map station_view stations.now))) }
 {
     let mut numbers = Vec::new(alloc);
     for (index, station) in stations.iter().enumerate() {
@@ -77,17 +83,20 @@ fn type_numbers<'a>(
     Ok(numbers)
 }
 
-/// The number of each station's curve, or the first place of a type that is listed already, and then of
-/// a station's type that isn't listed.
+/// The number of each station's curve, or the first place of a type that is listed already, and
+/// then of a station's type that isn't listed.
 #[tactic(auto, using(crate::proofs::SearchLemmas::several))]
 pub(crate) fn station_types<'a>(
     alloc: Global,
     curves: &'a [CurveEntry],
     stations: &'a [StationEntry],
 ) -> Result<Vec<usize>, PlaceFault>
-    ensures types { IfOk result (λ _. wrong_type_in (map curve_view curves.now) (map station_view stations.now) ≡ None) }
-    ensures value { IfOk result (λ v. v.items ≡ map (type_number (map curve_view curves.now)) (map station_view stations.now)) }
-    ensures err { IfErr result (RefusesAt (wrong_type_in (map curve_view curves.now) (map station_view stations.now))) }
+    ensures types { IfOk result
+        (λ _. wrong_type_in (map curve_view curves.now) (map station_view stations.now) ≡ None) }
+    ensures value { IfOk result
+        (λ v. v.items ≡ map (type_number (map curve_view curves.now)) (map station_view stations.now)) }
+    ensures err { IfErr result
+        (RefusesAt (wrong_type_in (map curve_view curves.now) (map station_view stations.now))) }
 {
     let names = numbered(alloc, curves)?;
     type_numbers(alloc, &names, stations)

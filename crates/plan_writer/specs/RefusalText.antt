@@ -1,4 +1,4 @@
--- The line of a refusal: its kind, the number of the broken rule, and the place or the number that breaks it.
+-- The line of a refusal (want of memory has no line, and no text here): its kind, the number of the broken rule, and the place or the number that breaks it.
 use Rattle.std.specs.Prelude.{ℕ, ◌++◌, ◌∷◌, [], List, Option, None, Some, decimal, codes}
 use Rattle.charge_curve.specs.declared.fault.CurveFault.{CurveFault}
 use Rattle.charge_curve.specs.declared.fault.CurveFault.TheVariants as curve
@@ -65,10 +65,3 @@ cause_text (Levels cells) = codes "levels " ++ decimal cells
 
 abbrev pub refusal_text : Refusal → List ℕ
 refusal_text refusal = codes "refused " ++ cause_text refusal ++ 10 ∷ []
-
--- want of memory has no line
-abbrev pub HasLine : Refusal → Type 0
-HasLine (Instance instance.Memory) = ⊥
-HasLine (Instance (instance.BadCurve index curve.Memory)) = ⊥
-HasLine (Route route.Memory) = ⊥
-HasLine other = Unit {0}

@@ -1,15 +1,35 @@
 //! The text of `fixed`.
 
-ghost use Rattle.std.specs.Prelude.{◌≡◌, ◌++◌, ◌∷◌, [], Some, None, OnOk, OnErr, codes, decimal};
+ghost use Rattle.std.specs.Prelude.{◌≡◌, ◌++◌, ◌∷◌, [], Some, None, OnOk, OnErr, codes, decimal, option_map};
 
 ghost use Rattle.ev_outside.specs.Counts.{IsPrefixOf};
 ghost use Rattle.plan_writer.specs.FixedText.{amount_text, fixed_text, over, stop_line, stop_lines};
 
 use ev_model::Stop;
+use instance_reader::Instance;
+use route_plan::RoutePlan;
 use std::alloc::{AllocError, Global};
 
+/// Appends what `fixed` puts: a charged route and its scaled time, or that no plan is feasible.
+///
+/// After an `Err` `out` has kept its old bytes as a prefix.
+pub fn push_fixed(
+    alloc: Global,
+    out: &mut Vec<u8>,
+    inst: &Instance,
+    plan: Option<(&RoutePlan, u64)>,
+) -> Result<(), AllocError>
+    ensures ok { OnOk result (out.new.items ≡ out.old.items ++ fixed_text inst.now.denominator (option_map (λ p. (p.0.now.stops, p.1)) plan.entry)) }
+    ensures err { OnErr result (IsPrefixOf out.old.items out.new.items) }
+{
+    match plan {
+        Some((plan, time)) => push_charged(alloc, out, plan.stops.as_slice(), time, inst.denominator()),
+        None => push_infeasible(out),
+    }
+}
+
 /// Appends `infeasible`.
-pub fn push_infeasible(out: &mut Vec<u8>) -> Result<(), AllocError>
+fn push_infeasible(out: &mut Vec<u8>) -> Result<(), AllocError>
     ensures ok { OnOk result (out.new.items ≡ out.old.items ++ (codes "infeasible" ++ 10 ∷ [])) }
     ensures err { OnErr result (IsPrefixOf out.old.items out.new.items) }
 {
@@ -17,7 +37,7 @@ pub fn push_infeasible(out: &mut Vec<u8>) -> Result<(), AllocError>
 }
 
 /// Appends a charged route and its scaled time.
-pub fn push_fixed_over(alloc: Global, out: &mut Vec<u8>, stops: &[Stop], time: u64, denominator: u64) -> Result<(), AllocError>
+fn push_charged(alloc: Global, out: &mut Vec<u8>, stops: &[Stop], time: u64, denominator: u64) -> Result<(), AllocError>
     ensures ok { OnOk result (out.new.items ≡ out.old.items ++ fixed_text denominator (Some (stops.now, time))) }
     ensures err { OnErr result (IsPrefixOf out.old.items out.new.items) }
 {

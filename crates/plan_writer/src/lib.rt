@@ -4,5 +4,5 @@
 mod fixed;
 mod refusal;
 
-pub use fixed::{push_fixed_over, push_infeasible};
+pub use fixed::push_fixed;
 pub use refusal::{push_refusal, Refusal};

@@ -1,12 +1,13 @@
 //! The line of a refusal.
 
-ghost use Rattle.std.specs.Prelude.{◌≡◌, ◌++◌, IfOk, OnErr, OnOk, decimal, codes, string_bytes};
+ghost use Rattle.std.specs.Prelude.{◌≡◌, ◌++◌, OnErr, OnOk, codes, decimal};
 
 ghost use Rattle.ev_outside.specs.Counts.{IsPrefixOf};
-ghost use Rattle.plan_writer.specs.RefusalText.{cause_text, curve_text, HasLine, instance_text, place_text, refusal_text, route_text, slash_index};
+ghost use Rattle.plan_writer.specs.RefusalText.{cause_text, curve_text, instance_text, place_text, refusal_text, route_text, slash_index, slash_part};
 
 use charge_curve::CurveFault;
-use instance_reader::{Place, ReadFault};
+use ev_text::push_whole;
+use instance_reader::{Part, Place, ReadFault};
 use route_plan::RouteFault;
 use std::alloc::{AllocError, Global};
 
@@ -26,123 +27,161 @@ pub enum Refusal {
 }
 
 /// Appends the line of a refusal: its kind, the number of the broken rule, and the place or the
-/// number that breaks it. Want of memory has no line.
+/// number that breaks it. Want of memory is no rule: callers handle it before.
 ///
-/// After a refusal `out` has kept its old bytes as a prefix.
+/// After an `Err` `out` has kept its old bytes as a prefix.
 pub fn push_refusal(alloc: Global, out: &mut Vec<u8>, refusal: &Refusal) -> Result<(), AllocError>
-    requires { HasLine refusal.now }
     ensures ok { OnOk result (out.new.items ≡ out.old.items ++ refusal_text refusal.now) }
     ensures err { OnErr result (IsPrefixOf out.old.items out.new.items) }
 {
-    let cause = cause(alloc, refusal)?;
-    let line = format!(in alloc; "refused {cause}\n")?;
-    out.extend_from_slice(line.as_bytes())
+    out.extend_from_slice(b"refused ")?;
+    push_cause(alloc, out, refusal)?;
+    out.extend_from_slice(b"\n")
 }
 
-/// The kind of a refusal and its rule.
-fn cause(alloc: Global, refusal: &Refusal) -> Result<String, AllocError>
-    ensures { IfOk result (λ text. string_bytes text ≡ cause_text refusal.now) }
+/// Appends the kind of a refusal and its rule.
+fn push_cause(alloc: Global, out: &mut Vec<u8>, refusal: &Refusal) -> Result<(), AllocError>
+    ensures ok { OnOk result (out.new.items ≡ out.old.items ++ cause_text refusal.now) }
+    ensures err { OnErr result (IsPrefixOf out.old.items out.new.items) }
 {
     match refusal {
         Refusal::Instance(fault) => {
-            let text = instance_cause(alloc, fault)?;
-            format!(in alloc; "instance {text}")
+            out.extend_from_slice(b"instance ")?;
+            push_instance_fault(alloc, out, fault)
         }
-        Refusal::Limit(limit) => format!(in alloc; "limit {limit}"),
-        Refusal::Charge(level) => format!(in alloc; "charge {level}"),
+        Refusal::Limit(limit) => push_numbered(alloc, out, b"limit ", *limit as u128),
+        Refusal::Charge(level) => push_numbered(alloc, out, b"charge ", *level as u128),
         Refusal::Route(fault) => {
-            let text = route_cause(alloc, fault)?;
-            format!(in alloc; "route {text}")
+            out.extend_from_slice(b"route ")?;
+            push_route_fault(alloc, out, fault)
         }
-        Refusal::Levels(cells) => format!(in alloc; "levels {cells}"),
+        Refusal::Levels(cells) => push_numbered(alloc, out, b"levels ", *cells),
     }
 }
 
-/// The number of a broken rule of an instance, and its place.
-fn instance_cause(alloc: Global, fault: &ReadFault) -> Result<String, AllocError>
-    ensures { IfOk result (λ text. string_bytes text ≡ instance_text fault.now) }
+/// Appends a word and a number.
+fn push_numbered(alloc: Global, out: &mut Vec<u8>, word: &[u8], number: u128) -> Result<(), AllocError>
+    ensures ok { OnOk result (out.new.items ≡ out.old.items ++ (word.now ++ decimal number)) }
+    ensures err { OnErr result (IsPrefixOf out.old.items out.new.items) }
+{
+    out.extend_from_slice(word)?;
+    push_whole(alloc, out, number)
+}
+
+/// Appends the number of a broken rule of an instance, and its place.
+fn push_instance_fault(alloc: Global, out: &mut Vec<u8>, fault: &ReadFault) -> Result<(), AllocError>
+    ensures ok { OnOk result (out.new.items ≡ out.old.items ++ instance_text fault.now) }
+    ensures err { OnErr result (IsPrefixOf out.old.items out.new.items) }
 {
     match fault {
-        ReadFault::TooLong { len } => format!(in alloc; "1 {len}"),
-        ReadFault::NotJson => format!(in alloc; "2"),
+        ReadFault::TooLong { len } => push_numbered(alloc, out, b"1 ", *len as u128),
+        ReadFault::NotJson => push_word(out, b"2"),
         ReadFault::Missing { key } => {
-            let name = key.name();
-            format!(in alloc; "3 {name}")
+            out.extend_from_slice(b"3 ")?;
+            push_word(out, key.name().as_bytes())
         }
-        ReadFault::Kind { place } => numbered(alloc, 4, place),
-        ReadFault::TooLarge { place } => numbered(alloc, 5, place),
-        ReadFault::Shape { place } => numbered(alloc, 6, place),
-        ReadFault::Node { place } => numbered(alloc, 7, place),
-        ReadFault::TypeName { place } => numbered(alloc, 8, place),
-        ReadFault::BadCurve { index, fault } => {
-            let text = curve_cause(alloc, fault)?;
-            format!(in alloc; "9 breakpoints_by_type/{index} {text}")
-        }
-        ReadFault::Denominator => format!(in alloc; "10"),
-        ReadFault::Horizon { limit } => format!(in alloc; "11 {limit}"),
-        ReadFault::Memory => Ok(String::new(alloc)),
+        ReadFault::Kind { place } => push_placed(alloc, out, b"4 ", place),
+        ReadFault::TooLarge { place } => push_placed(alloc, out, b"5 ", place),
+        ReadFault::Shape { place } => push_placed(alloc, out, b"6 ", place),
+        ReadFault::Node { place } => push_placed(alloc, out, b"7 ", place),
+        ReadFault::TypeName { place } => push_placed(alloc, out, b"8 ", place),
+        ReadFault::BadCurve { index, fault } => push_curve_fault(alloc, out, *index, fault),
+        ReadFault::Denominator => push_word(out, b"10"),
+        ReadFault::Horizon { limit } => push_numbered(alloc, out, b"11 ", *limit as u128),
+        ReadFault::Memory => Ok(()),
     }
 }
 
-/// The number of a rule and the place where it is broken.
-fn numbered(alloc: Global, number: u8, place: &Place) -> Result<String, AllocError>
-    ensures { IfOk result (λ text. string_bytes text ≡ decimal number ++ codes " " ++ place_text place.now) }
+/// Appends a word.
+fn push_word(out: &mut Vec<u8>, word: &[u8]) -> Result<(), AllocError>
+    ensures ok { OnOk result (out.new.items ≡ out.old.items ++ word.now) }
+    ensures err { OnErr result (IsPrefixOf out.old.items out.new.items) }
 {
-    let place = place_name(alloc, place)?;
-    format!(in alloc; "{number} {place}")
+    out.extend_from_slice(word)
 }
 
-/// A place as keys and indices joined by slashes.
-fn place_name(alloc: Global, place: &Place) -> Result<String, AllocError>
-    ensures { IfOk result (λ text. string_bytes text ≡ place_text place.now) }
+/// Appends the number of a rule and the place where it is broken.
+fn push_placed(alloc: Global, out: &mut Vec<u8>, rule: &[u8], place: &Place) -> Result<(), AllocError>
+    ensures ok { OnOk result (out.new.items ≡ out.old.items ++ (rule.now ++ place_text place.now)) }
+    ensures err { OnErr result (IsPrefixOf out.old.items out.new.items) }
 {
-    let key = place.key.name();
-    let item = index_name(alloc, place.i)?;
-    let within = index_name(alloc, place.j)?;
-    match place.part {
-        Some(part) => {
-            let part = part.name();
-            format!(in alloc; "{key}{item}/{part}{within}")
-        }
-        None => format!(in alloc; "{key}{item}{within}"),
-    }
+    out.extend_from_slice(rule)?;
+    push_place(alloc, out, place)
 }
 
-/// An index behind a slash, where there is one.
-fn index_name(alloc: Global, index: Option<usize>) -> Result<String, AllocError>
-    ensures { IfOk result (λ text. string_bytes text ≡ slash_index index) }
+/// Appends a place as keys and indices joined by slashes.
+fn push_place(alloc: Global, out: &mut Vec<u8>, place: &Place) -> Result<(), AllocError>
+    ensures ok { OnOk result (out.new.items ≡ out.old.items ++ place_text place.now) }
+    ensures err { OnErr result (IsPrefixOf out.old.items out.new.items) }
+{
+    out.extend_from_slice(place.key.name().as_bytes())?;
+    push_index(alloc, out, place.i)?;
+    push_part(out, place.part)?;
+    push_index(alloc, out, place.j)
+}
+
+/// Appends an index behind a slash, where there is one.
+fn push_index(alloc: Global, out: &mut Vec<u8>, index: Option<usize>) -> Result<(), AllocError>
+    ensures ok { OnOk result (out.new.items ≡ out.old.items ++ slash_index index) }
+    ensures err { OnErr result (IsPrefixOf out.old.items out.new.items) }
 {
     match index {
-        Some(index) => format!(in alloc; "/{index}"),
-        None => Ok(String::new(alloc)),
+        Some(index) => push_numbered(alloc, out, b"/", index as u128),
+        None => Ok(()),
     }
 }
 
-/// The broken rule of a curve.
-fn curve_cause(alloc: Global, fault: &CurveFault) -> Result<String, AllocError>
-    ensures { IfOk result (λ text. string_bytes text ≡ curve_text fault.now) }
+/// Appends a part behind a slash, where there is one.
+fn push_part(out: &mut Vec<u8>, part: Option<Part>) -> Result<(), AllocError>
+    ensures ok { OnOk result (out.new.items ≡ out.old.items ++ slash_part part) }
+    ensures err { OnErr result (IsPrefixOf out.old.items out.new.items) }
 {
-    match fault {
-        CurveFault::Start => format!(in alloc; "start"),
-        CurveFault::Rise { index } => format!(in alloc; "rise {index}"),
-        CurveFault::Concave { index } => format!(in alloc; "concave {index}"),
-        CurveFault::Short { last } => format!(in alloc; "short {last}"),
-        CurveFault::TooMany => format!(in alloc; "toomany"),
-        CurveFault::Memory => Ok(String::new(alloc)),
+    match part {
+        Some(part) => {
+            out.extend_from_slice(b"/")?;
+            push_word(out, part.name().as_bytes())
+        }
+        None => Ok(()),
     }
 }
 
-/// The number of a broken rule of a route, and its place.
-fn route_cause(alloc: Global, fault: &RouteFault) -> Result<String, AllocError>
-    ensures { IfOk result (λ text. string_bytes text ≡ route_text fault.now) }
+/// Appends the entry of a curve and its broken rule.
+fn push_curve_fault(alloc: Global, out: &mut Vec<u8>, index: usize, fault: &CurveFault) -> Result<(), AllocError>
+    ensures ok { OnOk result (out.new.items ≡ out.old.items ++ (codes "9 breakpoints_by_type/" ++ decimal index ++ codes " " ++ curve_text fault.now)) }
+    ensures err { OnErr result (IsPrefixOf out.old.items out.new.items) }
+{
+    push_numbered(alloc, out, b"9 breakpoints_by_type/", index as u128)?;
+    out.extend_from_slice(b" ")?;
+    push_curve_rule(alloc, out, fault)
+}
+
+/// Appends the broken rule of a curve.
+fn push_curve_rule(alloc: Global, out: &mut Vec<u8>, fault: &CurveFault) -> Result<(), AllocError>
+    ensures ok { OnOk result (out.new.items ≡ out.old.items ++ curve_text fault.now) }
+    ensures err { OnErr result (IsPrefixOf out.old.items out.new.items) }
 {
     match fault {
-        RouteFault::Text { at } => format!(in alloc; "1 at {at}"),
-        RouteFault::TooLong => format!(in alloc; "2"),
-        RouteFault::Unknown { at } => format!(in alloc; "3 at {at}"),
-        RouteFault::Ends => format!(in alloc; "4"),
-        RouteFault::InnerDepot { at } => format!(in alloc; "5 at {at}"),
-        RouteFault::Again { at } => format!(in alloc; "6 at {at}"),
-        RouteFault::Memory => Ok(String::new(alloc)),
+        CurveFault::Start => push_word(out, b"start"),
+        CurveFault::Rise { index } => push_numbered(alloc, out, b"rise ", *index as u128),
+        CurveFault::Concave { index } => push_numbered(alloc, out, b"concave ", *index as u128),
+        CurveFault::Short { last } => push_numbered(alloc, out, b"short ", *last as u128),
+        CurveFault::TooMany => push_word(out, b"toomany"),
+        CurveFault::Memory => Ok(()),
+    }
+}
+
+/// Appends the number of a broken rule of a route, and its place.
+fn push_route_fault(alloc: Global, out: &mut Vec<u8>, fault: &RouteFault) -> Result<(), AllocError>
+    ensures ok { OnOk result (out.new.items ≡ out.old.items ++ route_text fault.now) }
+    ensures err { OnErr result (IsPrefixOf out.old.items out.new.items) }
+{
+    match fault {
+        RouteFault::Text { at } => push_numbered(alloc, out, b"1 at ", *at as u128),
+        RouteFault::TooLong => push_word(out, b"2"),
+        RouteFault::Unknown { at } => push_numbered(alloc, out, b"3 at ", *at as u128),
+        RouteFault::Ends => push_word(out, b"4"),
+        RouteFault::InnerDepot { at } => push_numbered(alloc, out, b"5 at ", *at as u128),
+        RouteFault::Again { at } => push_numbered(alloc, out, b"6 at ", *at as u128),
+        RouteFault::Memory => Ok(()),
     }
 }

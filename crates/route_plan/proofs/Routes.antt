@@ -61,13 +61,15 @@ no_depot_inside at (n ∷ m ∷ ns) none =
 -- from the depot on
 route_from : (g : Network) (ns : List ℕ) → ends_at_depot ns ≡ true → All (λ node. node < node_count g) (0 ∷ ns) → first_inner_depot 1 ns ≡ None → Moves (0 ∷ ns) → IsRoute g (0 ∷ ns)
 route_from g ns ends known none moves =
-    let cut = without_end ns ends in
-    (cut.0, record {
-      ends = ap (λ xs. 0 ∷ xs) cut.1;
-      known = known;
-      no_depot = no_depot_inside 1 cut.0 (subst (λ (xs : List ℕ). first_inner_depot 1 xs ≡ None) cut.1 none);
-      moves = moves;
-    })
+    let cut = without_end ns ends in (
+      cut.0,
+      record {
+        ends = ap (λ xs. 0 ∷ xs) cut.1;
+        known = known;
+        no_depot = no_depot_inside 1 cut.0 (subst (λ (xs : List ℕ). first_inner_depot 1 xs ≡ None) cut.1 none);
+        moves = moves;
+      },
+    )
 
 route_of_ends : (g : Network) (nodes : List ℕ) → has_ends nodes ≡ true → All (λ node. node < node_count g) nodes → first_inner_depot 1 (after_first nodes) ≡ None → Moves nodes → IsRoute g nodes
 route_of_ends g [] ends known none moves = absurd (false≢true ends)
@@ -75,7 +77,7 @@ route_of_ends g (n ∷ ns) ends known none moves =
     let parts = and_parts (nat_eq n 0) (ends_at_depot ns) ends in
     let depot : n ≡ 0 = eqb-true n 0 parts.0 in
     subst (λ x. IsRoute g (x ∷ ns)) (sym depot)
-        (route_from g ns parts.1 (subst (λ x. All (λ node. node < node_count g) (x ∷ ns)) depot known) none (subst (λ x. Moves (x ∷ ns)) depot moves))
+    (route_from g ns parts.1 (subst (λ x. All (λ node. node < node_count g) (x ∷ ns)) depot known) none (subst (λ x. Moves (x ∷ ns)) depot moves))
 
 pub is_route : (g : Network) (nodes : List ℕ) → route_fault (node_count g) nodes ≡ None → IsRoute g nodes
 is_route g nodes none =

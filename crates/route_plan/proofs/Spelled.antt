@@ -68,7 +68,7 @@ no_bytes [] none = refl
 no_bytes (x ∷ xs) none = absurd (omega (arith, none))
 
 followed_end : (s : List ℕ × ℕ) (ns : List ℕ) → rest_of s ≡ [] → [] ≡ ns → IsFollowed s ns
-followed_end s ns none same = subst (λ (xs : List ℕ). IsFollowed s xs) same (record { text = none; small = All-nil IsSmall; })
+followed_end s ns none same = subst (λ (xs : List ℕ). IsFollowed s xs) same (record { text = none; small = All-nil IsSmall })
 
 more_are_followed : (most : ℕ) (s : List ℕ × ℕ) (ns : List ℕ) → length (rest_of s) ≤ most → more_nodes most s ≡ Ok ns → IsFollowed s ns
 more_are_followed zero s ns le is = followed_end s ns (no_bytes (rest_of s) (omega (arith, le))) (Ok-injective [] ns is)
@@ -83,7 +83,7 @@ more_are_followed (suc most) s ns le is = elim (cases_eq (length (rest_of s)) 0)
       let parts = and_then-ok (comma_at s) node_at step.0 step.1 in
       let rest = with_nodes-ok step.0.0 (more_nodes most step.0.1) ns step.2 in
       followed_on most s parts.0 step.0.1 step.0.0 rest.0 ns le (comma_read s parts.0 parts.1) (node_read parts.0 step.0.1 step.0.0 parts.2) rest.2
-          (λ fewer. more_are_followed most step.0.1 rest.0 fewer rest.1)
+      (λ fewer. more_are_followed most step.0.1 rest.0 fewer rest.1)
 ]
   where
     followed_on : (most : ℕ) (s t u : List ℕ × ℕ) (n : ℕ) (ms ns : List ℕ) → length (rest_of s) ≤ suc most → rest_of s ≡ 44 ∷ rest_of t → (n ≤ 10 ^ 9) × (rest_of t ≡ decimal n ++ rest_of u) → ns ≡ n ∷ ms

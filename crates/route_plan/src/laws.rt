@@ -1,7 +1,6 @@
 //! Laws of the word of a route. Each is the contract of an empty function.
 
 ghost use Rattle.std.specs.Prelude.{◌≡◌, ◌↔◌, List, ℕ, None, Ok};
-
 ghost use Rattle.ev_model.specs.Network.{Network, node_count};
 ghost use Rattle.ev_model.specs.Route.{IsRoute};
 ghost use Rattle.route_plan.specs.RouteRules.{route_fault};

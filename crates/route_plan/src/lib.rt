@@ -8,4 +8,7 @@ mod route;
 pub use ev_model::Stop;
 pub use laws::{unbroken_nodes_are_routes, words_spell_routes};
 pub use plan::{FleetPlan, RoutePlan};
-pub use route::{read_route_in, RouteFault};
+pub use route::{RouteFault, read_route};
+
+#[cfg(test)]
+mod tests;

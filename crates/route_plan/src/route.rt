@@ -1,12 +1,14 @@
 //! The word of a route.
 
 ghost use Rattle.std.specs.Prelude.{◌≡◌, ◌≢◌, ◌<◌, ◌≤◌, [], ◌∷◌, ◌++◌, Ok, Err, IfErr, IfOk, OnErr, OnOk, length};
-
+ghost use Rattle.ev_model.specs.Network.{node_count};
+ghost use Rattle.ev_model.specs.Route.{IsRoute};
 ghost use Rattle.ev_text.specs.Scans.{rest_of};
 ghost use Rattle.route_plan.specs.RouteRules.{after_first, first_again, first_inner_depot, first_unknown, has_ends, route_fault, route_in};
-ghost use Rattle.route_plan.specs.RouteWords.{comma_at, next_at, node_at, nodes_in};
+ghost use Rattle.route_plan.specs.RouteWords.{comma_at, next_at, node_at, nodes_in, SpellsRoute};
 
 use ev_text::Scan;
+use instance_reader::Instance;
 use std::alloc::Global;
 
 /// The first broken rule of the word of a route. `at` of `Text` is a byte of the word, elsewhere it is
@@ -35,13 +37,18 @@ const GREATEST_NODE: u128 = 1_000_000_000;
 /// The most nodes of a route.
 const MOST_NODES: usize = 400;
 
-/// The route of a word in a network of `count` nodes.
-pub fn read_route_in(alloc: Global, word: &[u8], count: usize) -> Result<Vec<usize>, RouteFault>
-    ensures ok { IfOk result (λ nodes. route_in count word.now ≡ Ok nodes.items) }
-    ensures fault { IfErr result (λ fault. fault ≢ RouteFault.Memory → route_in count word.now ≡ Err fault) }
+/// The route of a word: decimal numbers joined by single commas, from the depot to the depot. A station may
+/// stand in a route, and a customer may stand there more than once.
+///
+/// The first broken rule is answered, as [`RouteFault`] lists them.
+pub fn read_route(alloc: Global, word: &str, inst: &Instance) -> Result<Vec<usize>, RouteFault>
+    ensures ok { IfOk result (λ nodes. route_in (node_count inst.now) word.now ≡ Ok nodes.items) }
+    ensures route { IfOk result (λ nodes. IsRoute inst.now nodes.items) }
+    ensures spelled { IfOk result (λ nodes. SpellsRoute word.now nodes.items) }
+    ensures fault { IfErr result (λ fault. fault ≢ RouteFault.Memory → route_in (node_count inst.now) word.now ≡ Err fault) }
 {
-    let nodes = read_nodes(alloc, word)?;
-    match first_fault(nodes.as_slice(), count) {
+    let nodes = read_nodes(alloc, word.as_bytes())?;
+    match first_fault(nodes.as_slice(), inst.nodes()) {
         Some(fault) => Err(fault),
         None => Ok(nodes),
     }

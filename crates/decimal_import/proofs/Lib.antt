@@ -1,0 +1,14 @@
+pub mod DigitRuns
+pub mod Nestings
+pub mod Numbers
+pub mod Ceilings
+pub mod Places
+pub mod Points
+pub mod Wholes
+pub mod Tokens
+pub mod Fronts
+pub mod Cuts
+pub mod Steps
+pub mod Faults
+pub mod Longest
+pub mod Conversions

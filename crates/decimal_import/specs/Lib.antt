@@ -1,0 +1,10 @@
+pub mod Conversion
+pub mod Converted
+pub mod Digits
+pub mod Grammar
+pub mod Literal
+pub mod Nesting
+pub mod Progress
+pub mod Rounding
+pub mod Token
+pub mod View
