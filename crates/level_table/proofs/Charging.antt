@@ -1,9 +1,9 @@
 -- Times of charging in whole units.
-use Rattle.std.proofs.Common.{◌≡◌, ◌∙◌, ℕ, ◌+◌, ◌-◌, ◌<◌, ◌≤◌, List, Option, Some, None, length, get_or, refl, sym, subst, inl, inr, arith}
+use Rattle.std.proofs.Common.{◌≡◌, ℕ, ◌+◌, ◌-◌, ◌≤◌, List, Option, Some, None, length, refl, sym, subst, inl, inr, arith}
 use Rattle.std.proofs.lemmas.Bool.{cases_lt}
 use Rattle.std.proofs.lemmas.List.{get_or_past}
 use Rattle.std.proofs.lemmas.List.Elements.{All-get_or}
-use Rattle.ev_model.specs.Curve.{Rises, charge_time, charge_time_in}
+use Rattle.ev_model.specs.Curve.{Rises, charge_time}
 use Rattle.ev_model.specs.Network.{HasFittingCurve, IsNetwork, Network, curve_at}
 use Rattle.std.specs.Option.{IsSome}
 use Rattle.charge_curve.specs.Points.{time_on}

@@ -1,4 +1,4 @@
-use Rattle.std.proofs.Common.{◌≡◌, ◌+◌, ◌≤◌, ◌<◌, ◌++◌, ◌∷◌, [], List, Option, Some, sym, subst, refl, ap, arith}
+use Rattle.std.proofs.Common.{◌≤◌, ◌++◌, ◌∷◌, [], List, Option, sym, subst, refl, arith}
 use Rattle.std.specs.Option.{IsSome, IfSome}
 use Rattle.ev_model.specs.Feasible.{IsFeasible}
 use Rattle.ev_model.specs.Route.{FollowsRoute}
@@ -18,7 +18,7 @@ unwrap-offer-requires c =
     let place = c.loop-place.place in
     let is = on-way g route nodes c.args.start.level c.args.cells.now c.requires.trip c.requires.table place (omega (arith, c.loop-place-test.true)) c.loop-place.invariant.on_route in
     let found = best-move g route nodes c.args.cells.now place c.loop-place.invariant.held.0 c.best.result c.requires.trip c.requires.table is
-        c.loop-place.invariant.held.1 c.best.ensures.least in
+    c.loop-place.invariant.held.1 c.best.ensures.least in
     subst (λ (o : Option Offer). IsSome o) (sym found.1) refl
 
 pub loop-place-smaller : goal.loop-place-smaller
@@ -32,7 +32,7 @@ loop-place-smaller c =
     let held = c.loop-place.invariant.held in
     let is = on-way g route nodes start cells c.requires.trip c.requires.table place (omega (arith, c.loop-place-test.true)) c.loop-place.invariant.on_route in
     let best = best-offer g route nodes start cells c.requires.trip c.requires.table place held.0 c.best.result c.unwrap-offer.result is held.1
-        c.unwrap-offer.ensures c.best.ensures.some c.best.ensures.least in
+    c.unwrap-offer.ensures c.best.ensures.some c.best.ensures.least in
     rank-falls g route nodes start cells c.requires.trip c.requires.table place c.unwrap-offer.result held.0 best.0 held.1 best.1
 
 pub loop-place-preserved : goal.loop-place-preserved
@@ -46,7 +46,7 @@ loop-place-preserved c =
     let held = c.loop-place.invariant.held in
     let is = on-way g route nodes start cells c.requires.trip c.requires.table place (omega (arith, c.loop-place-test.true)) c.loop-place.invariant.on_route in
     let best = best-offer g route nodes start cells c.requires.trip c.requires.table place held.0 c.best.result c.unwrap-offer.result is held.1
-        c.unwrap-offer.ensures c.best.ensures.some c.best.ensures.least in
+    c.unwrap-offer.ensures c.best.ensures.some c.best.ensures.least in
     walked-on g route nodes start cells c.requires.trip c.requires.table place c.loop-place.stop c.in_ok-stop.stop c.loop-place.stops.items c.go_on.new.stops.items
     c.unwrap-offer.result held.0 is c.loop-place.invariant best.0 held.1 best.1 c.in_ok-stop.ensures.stop c.in_ok-stop.ensures.stops
 
@@ -58,10 +58,10 @@ returns-clause-feasible c =
     let start = c.args.start.level in
     let cells = c.args.cells.now in
     let done = walked-home g route nodes start cells c.requires.trip c.requires.table c.loop-place.place c.loop-place.stop c.loop-place.stops.items
-        (omega (arith, c.loop-place-test.false)) c.loop-place.invariant in
+    (omega (arith, c.loop-place-test.false)) c.loop-place.invariant in
     subst (λ (plan : List Stop). IsFeasible g 1 start plan) (sym c.in_ok-push.ensures.items)
     (feasible-plan g route nodes start cells c.requires.trip c.requires.table c.args.start (cell_at cells (index_of g c.args.start))
-        (c.loop-place.stops.items ++ c.loop-place.stop ∷ []) c.requires.start refl c.requires.reached done.0 done.1)
+    (c.loop-place.stops.items ++ c.loop-place.stop ∷ []) c.requires.start refl c.requires.reached done.0 done.1)
 
 pub returns-clause-follows : goal.returns-clause-follows
 returns-clause-follows c =
@@ -71,7 +71,7 @@ returns-clause-follows c =
     let start = c.args.start.level in
     let cells = c.args.cells.now in
     let done = walked-home g route nodes start cells c.requires.trip c.requires.table c.loop-place.place c.loop-place.stop c.loop-place.stops.items
-        (omega (arith, c.loop-place-test.false)) c.loop-place.invariant in
+    (omega (arith, c.loop-place-test.false)) c.loop-place.invariant in
     subst (λ (plan : List Stop). FollowsRoute route plan) (sym c.in_ok-push.ensures.items) done.0.follows
 
 pub returns-clause-time : goal.returns-clause-time
@@ -82,7 +82,7 @@ returns-clause-time c =
     let start = c.args.start.level in
     let cells = c.args.cells.now in
     let done = walked-home g route nodes start cells c.requires.trip c.requires.table c.loop-place.place c.loop-place.stop c.loop-place.stops.items
-        (omega (arith, c.loop-place-test.false)) c.loop-place.invariant in
+    (omega (arith, c.loop-place-test.false)) c.loop-place.invariant in
     subst (λ (plan : List Stop). IfSome (cell_at cells (index_of g c.args.start)) (λ r. time_of g 1 start plan ≤ r.time)) (sym c.in_ok-push.ensures.items)
     (plan-time g route nodes start cells c.requires.trip c.requires.table c.args.start (cell_at cells (index_of g c.args.start))
-        (time_of g 1 start (c.loop-place.stops.items ++ c.loop-place.stop ∷ [])) c.requires.start refl done.1)
+    (time_of g 1 start (c.loop-place.stops.items ++ c.loop-place.stop ∷ [])) c.requires.start refl done.1)
