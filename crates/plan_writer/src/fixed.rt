@@ -1,7 +1,6 @@
 //! The text of `fixed`.
 
 ghost use Rattle.std.specs.Prelude.{◌≡◌, ◌++◌, ◌∷◌, [], Some, None, OnOk, OnErr, codes, decimal, option_map};
-
 ghost use Rattle.ev_outside.specs.Counts.{IsPrefixOf};
 ghost use Rattle.plan_writer.specs.FixedText.{amount_text, fixed_text, over, stop_line, stop_lines};
 
@@ -23,7 +22,13 @@ pub fn push_fixed(
     ensures err { OnErr result (IsPrefixOf out.old.items out.new.items) }
 {
     match plan {
-        Some((plan, time)) => push_charged(alloc, out, plan.stops.as_slice(), time, inst.denominator()),
+        Some((plan, time)) => push_charged(
+            alloc,
+            out,
+            plan.stops.as_slice(),
+            time,
+            inst.denominator(),
+        ),
         None => push_infeasible(out),
     }
 }
@@ -37,7 +42,13 @@ fn push_infeasible(out: &mut Vec<u8>) -> Result<(), AllocError>
 }
 
 /// Appends a charged route and its scaled time.
-fn push_charged(alloc: Global, out: &mut Vec<u8>, stops: &[Stop], time: u64, denominator: u64) -> Result<(), AllocError>
+fn push_charged(
+    alloc: Global,
+    out: &mut Vec<u8>,
+    stops: &[Stop],
+    time: u64,
+    denominator: u64,
+) -> Result<(), AllocError>
     ensures ok { OnOk result (out.new.items ≡ out.old.items ++ fixed_text denominator (Some (stops.now, time))) }
     ensures err { OnErr result (IsPrefixOf out.old.items out.new.items) }
 {
@@ -46,7 +57,12 @@ fn push_charged(alloc: Global, out: &mut Vec<u8>, stops: &[Stop], time: u64, den
 }
 
 /// Appends the line of a scaled time.
-fn push_time(alloc: Global, out: &mut Vec<u8>, time: u64, denominator: u64) -> Result<(), AllocError>
+fn push_time(
+    alloc: Global,
+    out: &mut Vec<u8>,
+    time: u64,
+    denominator: u64,
+) -> Result<(), AllocError>
     ensures ok { OnOk result (out.new.items ≡ out.old.items ++ (codes "time " ++ over denominator time ++ 10 ∷ [])) }
     ensures err { OnErr result (out.new.items ≡ out.old.items) }
 {

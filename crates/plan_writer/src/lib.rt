@@ -5,4 +5,7 @@ mod fixed;
 mod refusal;
 
 pub use fixed::push_fixed;
-pub use refusal::{push_refusal, Refusal};
+pub use refusal::{Refusal, push_refusal};
+
+#[cfg(test)]
+mod tests;

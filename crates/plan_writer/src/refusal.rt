@@ -1,7 +1,6 @@
 //! The line of a refusal.
 
 ghost use Rattle.std.specs.Prelude.{◌≡◌, ◌++◌, OnErr, OnOk, codes, decimal};
-
 ghost use Rattle.ev_outside.specs.Counts.{IsPrefixOf};
 ghost use Rattle.plan_writer.specs.RefusalText.{cause_text, curve_text, instance_text, place_text, refusal_text, route_text, slash_index, slash_part};
 
@@ -60,7 +59,12 @@ fn push_cause(alloc: Global, out: &mut Vec<u8>, refusal: &Refusal) -> Result<(),
 }
 
 /// Appends a word and a number.
-fn push_numbered(alloc: Global, out: &mut Vec<u8>, word: &[u8], number: u128) -> Result<(), AllocError>
+fn push_numbered(
+    alloc: Global,
+    out: &mut Vec<u8>,
+    word: &[u8],
+    number: u128,
+) -> Result<(), AllocError>
     ensures ok { OnOk result (out.new.items ≡ out.old.items ++ (word.now ++ decimal number)) }
     ensures err { OnErr result (IsPrefixOf out.old.items out.new.items) }
 {
@@ -69,7 +73,11 @@ fn push_numbered(alloc: Global, out: &mut Vec<u8>, word: &[u8], number: u128) ->
 }
 
 /// Appends the number of a broken rule of an instance, and its place.
-fn push_instance_fault(alloc: Global, out: &mut Vec<u8>, fault: &ReadFault) -> Result<(), AllocError>
+fn push_instance_fault(
+    alloc: Global,
+    out: &mut Vec<u8>,
+    fault: &ReadFault,
+) -> Result<(), AllocError>
     ensures ok { OnOk result (out.new.items ≡ out.old.items ++ instance_text fault.now) }
     ensures err { OnErr result (IsPrefixOf out.old.items out.new.items) }
 {
@@ -101,7 +109,12 @@ fn push_word(out: &mut Vec<u8>, word: &[u8]) -> Result<(), AllocError>
 }
 
 /// Appends the number of a rule and the place where it is broken.
-fn push_placed(alloc: Global, out: &mut Vec<u8>, rule: &[u8], place: &Place) -> Result<(), AllocError>
+fn push_placed(
+    alloc: Global,
+    out: &mut Vec<u8>,
+    rule: &[u8],
+    place: &Place,
+) -> Result<(), AllocError>
     ensures ok { OnOk result (out.new.items ≡ out.old.items ++ (rule.now ++ place_text place.now)) }
     ensures err { OnErr result (IsPrefixOf out.old.items out.new.items) }
 {
@@ -146,7 +159,12 @@ fn push_part(out: &mut Vec<u8>, part: Option<Part>) -> Result<(), AllocError>
 }
 
 /// Appends the entry of a curve and its broken rule.
-fn push_curve_fault(alloc: Global, out: &mut Vec<u8>, index: usize, fault: &CurveFault) -> Result<(), AllocError>
+fn push_curve_fault(
+    alloc: Global,
+    out: &mut Vec<u8>,
+    index: usize,
+    fault: &CurveFault,
+) -> Result<(), AllocError>
     ensures ok { OnOk result (out.new.items ≡ out.old.items ++ (codes "9 breakpoints_by_type/" ++ decimal index ++ codes " " ++ curve_text fault.now)) }
     ensures err { OnErr result (IsPrefixOf out.old.items out.new.items) }
 {

@@ -2,3 +2,5 @@ pub mod Reading
 pub mod Rules
 pub mod Routes
 pub mod Spelled
+pub mod Ends
+pub mod Walked

@@ -1,2 +1,3 @@
 pub mod RouteWords
 pub mod RouteRules
+pub mod Walking

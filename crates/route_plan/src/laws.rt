@@ -1,10 +1,14 @@
 //! Laws of the word of a route. Each is the contract of an empty function.
 
 ghost use Rattle.std.specs.Prelude.{◌≡◌, ◌↔◌, List, ℕ, None, Ok};
+ghost use Rattle.ev_model.specs.Feasible.{IsFeasible};
 ghost use Rattle.ev_model.specs.Network.{Network, node_count};
 ghost use Rattle.ev_model.specs.Route.{IsRoute};
+ghost use Rattle.ev_model.specs.Time.{time_of};
+ghost use Rattle.ev_model.specs.declared.Stop.{Stop};
 ghost use Rattle.route_plan.specs.RouteRules.{route_fault};
 ghost use Rattle.route_plan.specs.RouteWords.{nodes_in, SpellsRoute};
+ghost use Rattle.route_plan.specs.Walking.{walked};
 
 /// A word is read as nodes exactly where it spells them: decimal numbers joined by single commas.
 pub fn words_spell_routes()
@@ -14,4 +18,10 @@ pub fn words_spell_routes()
 /// Nodes of which no rule is broken are a route of the network.
 pub fn unbroken_nodes_are_routes()
     ensures { (g : Network) (nodes : List ℕ) → route_fault (node_count g) nodes ≡ None → IsRoute g nodes }
+{}
+
+/// A feasible whole plan is walked to its end, and the walk tells its time.
+pub fn feasible_plans_are_walked()
+    ensures { (g : Network) (start : ℕ) (stops : List Stop) → IsFeasible g 1 start stops →
+        (last : ℕ) × (walked g start stops ≡ Ok (record { time = time_of g 1 start stops; last = last })) }
 {}

@@ -1,14 +1,18 @@
 //! Plans of one vehicle and of a fleet, and the routes that they follow.
 #![tactic(auto)]
 
+mod judge;
 mod laws;
 mod plan;
 mod route;
+mod walks;
 
 pub use ev_model::Stop;
-pub use laws::{unbroken_nodes_are_routes, words_spell_routes};
+pub use judge::walk;
+pub use laws::{feasible_plans_are_walked, unbroken_nodes_are_routes, words_spell_routes};
 pub use plan::{FleetPlan, RoutePlan};
 pub use route::{RouteFault, read_route};
+pub use walks::{Walk, WalkFault};
 
 #[cfg(test)]
 mod tests;

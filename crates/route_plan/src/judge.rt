@@ -1,0 +1,104 @@
+//! The walk along a plan, which judges it.
+
+ghost use Rattle.std.specs.Prelude.{◌≡◌, ◌+◌, ◌<◌, ◌≤◌, ◌^◌, ◌*◌, Err, IfErr, IfOk, IsSome, MatchResult, Ok};
+
+ghost use Rattle.ev_model.specs.Network.{curve_at, node_count, scaled_limit};
+ghost use Rattle.route_plan.specs.Walking.{charging, has_both_ends, has_station, is_end, stepped, walked, walked_from};
+
+use ev_model::Stop;
+use instance_reader::Instance;
+
+use crate::walks::{Walk, WalkFault};
+
+/// Walks along the stops of a whole plan, from a level at the start. It takes no memory.
+///
+/// The rule on the ends is tried first, over the whole plan; then the stops are taken in order, and at each
+/// the other rules in the order of [`WalkFault`].
+pub fn walk(inst: &Instance, start: u64, stops: &[Stop]) -> Result<Walk, WalkFault>
+    requires { start ≤ inst.now.capacity }
+    ensures { result ≡ walked inst.now start stops.now }
+{
+    if !both_ends(stops) {
+        return Err(WalkFault::Ends);
+    }
+    let count = inst.nodes();
+    let mut from = 0;
+    let mut reached = Walk {
+        time: 0,
+        last: start,
+    };
+    for at in 1..stops.len() {
+        let stop = stops[at];
+        if stop.node >= count {
+            return Err(WalkFault::Unknown { at });
+        }
+        reached = step(inst, from, reached, at, stop)?;
+        from = stop.node;
+    }
+    Ok(reached)
+}
+
+/// Whether the first and the last of at least two stops are ends.
+fn both_ends(stops: &[Stop]) -> bool
+    ensures { result ≡ has_both_ends stops.now }
+{
+    if stops.len() < 2 {
+        return false;
+    }
+    is_end(stops[0]) && is_end(stops[stops.len() - 1])
+}
+
+/// Whether a stop is at the depot, was not inserted and charges nothing.
+fn is_end(stop: Stop) -> bool
+    ensures { result ≡ is_end stop }
+{
+    stop.node == 0 && !stop.via && stop.added == 0
+}
+
+/// The level and the time on leaving a stop at a node of the instance, or the first rule that the stop breaks.
+fn step(inst: &Instance, from: usize, before: Walk, at: usize, stop: Stop) -> Result<Walk, WalkFault>
+    requires from { from < node_count inst.now }
+    requires known { stop.node < node_count inst.now }
+    requires level { before.last ≤ inst.now.capacity }
+    ensures exact { result ≡ stepped inst.now from before.last before.time at stop }
+    ensures level { IfOk result (λ w. w.last ≤ inst.now.capacity) }
+{
+    if stop.node == from {
+        return Err(WalkFault::Again { at });
+    }
+    let needed = inst.energy(from, stop.node);
+    if before.last < needed {
+        return Err(WalkFault::Empty { at });
+    }
+    if inst.curve_at(stop.node).is_none() && (stop.via || stop.added > 0) {
+        return Err(WalkFault::NotStation { at });
+    }
+    let arriving = before.last - needed;
+    if stop.added > inst.max_q() - arriving {
+        return Err(WalkFault::Full { at });
+    }
+    let last = arriving + stop.added;
+    let driving = inst.denominator() * (inst.time(from, stop.node) + inst.service(stop.node));
+    let charging = charging_time(inst, stop.node, arriving, last);
+    let time = before.time as u128 + driving as u128 + charging as u128;
+    if time > (inst.denominator() * inst.limit()) as u128 {
+        return Err(WalkFault::Late { at });
+    }
+    Ok(Walk {
+        time: time as u64,
+        last,
+    })
+}
+
+/// The scaled time of charging at a node between two levels.
+fn charging_time(inst: &Instance, node: usize, before: u64, after: u64) -> u64
+    requires node { node < node_count inst.now }
+    requires order { before ≤ after }
+    requires full { after ≤ inst.now.capacity }
+    ensures { result ≡ charging inst.now.denominator (curve_at inst.now node) before after }
+{
+    match inst.curve_at(node) {
+        Some(curve) => curve.time_to(after).saturating_sub(curve.time_to(before)),
+        None => 0,
+    }
+}
