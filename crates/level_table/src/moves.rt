@@ -54,7 +54,7 @@ impl Trip<'_> {
         ensures place { IfSome result (λ leg. IsPlace self.now.inst.now self.now.route.now leg.to) }
     {
         let full = self.inst.max_q();
-        if from.passed == 0 && from.slot == 0 || from.level == full {
+        if from.is_start() || from.level == full {
             return None;
         }
         let node = self.node_at(from.passed, from.slot);
@@ -62,9 +62,7 @@ impl Trip<'_> {
             return None;
         };
         let level = from.level + 1;
-        let time = curve
-            .time_to(level)
-            .saturating_sub(curve.time_to(from.level));
+        let time = curve.time_to(level) - curve.time_to(from.level);
         Some(Leg {
             time,
             to: Place { level, ..from },

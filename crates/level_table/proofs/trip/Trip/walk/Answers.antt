@@ -1,4 +1,4 @@
-use Rattle.std.proofs.Common.{◌≤◌, ◌++◌, ◌∷◌, [], List, Option, sym, subst, refl, arith}
+use Rattle.std.proofs.Common.{◌≡◌, ◌≤◌, ◌++◌, ◌∷◌, [], List, Option, None, Some, false, true, sym, subst, refl, arith}
 use Rattle.std.specs.Option.{IsSome, IfSome}
 use Rattle.ev_model.specs.Feasible.{IsFeasible}
 use Rattle.ev_model.specs.Route.{FollowsRoute}
@@ -7,7 +7,8 @@ use Rattle.ev_model.specs.declared.Stop.{Stop}
 use Rattle.level_table.specs.Cells.{cell_at}
 use Rattle.level_table.specs.Places.{index_of}
 use Rattle.level_table.specs.declared.offers.Offer.{Offer}
-use Rattle.level_table.proofs.Walked.{best-move, best-offer, feasible-plan, on-way, plan-time, rank-falls, walked-home, walked-on}
+use Rattle.level_table.specs.declared.reach.Reach.{Reach}
+use Rattle.level_table.proofs.Walked.{best-move, best-offer, feasible-plan, on-way, plan-time, rank-falls, walked-home, walked-on, walked-start, IsWalked}
 use Rattle.level_table.proofs.trip.Trip.walk.Goals as goal
 
 pub unwrap-offer-requires : goal.unwrap-offer-requires
@@ -86,3 +87,17 @@ returns-clause-time c =
     subst (λ (plan : List Stop). IfSome (cell_at cells (index_of g c.args.start)) (λ r. time_of g 1 start plan ≤ r.time)) (sym c.in_ok-push.ensures.items)
     (plan-time g route nodes start cells c.requires.trip c.requires.table c.args.start (cell_at cells (index_of g c.args.start))
     (time_of g 1 start (c.loop-place.stops.items ++ c.loop-place.stop ∷ [])) c.requires.start refl done.1)
+
+some_reach : (o : Option Reach) → IsSome o → (r : Reach) × (o ≡ Some r)
+some_reach None some = let both : false ≡ true = some in cc
+some_reach (Some r) some = (r, refl)
+
+pub loop-place-init : goal.loop-place-init
+loop-place-init c =
+    let g = c.args.self.now.inst.now in
+    let route = c.args.self.now.route.now in
+    let nodes = c.args.self.now.stations.now in
+    let cells = c.args.cells.now in
+    let held = some_reach (cell_at cells (index_of g c.args.start)) c.requires.reached in
+    subst (λ (stops : List Stop). IsWalked g route c.args.start.level cells c.args.start (record { node = 0; added = 0; via = false }) stops) (sym c.new-stops.ensures.items)
+    (walked-start g route nodes c.args.start.level cells c.requires.trip c.requires.table c.args.start held.0 c.requires.start c.requires.level held.1)
