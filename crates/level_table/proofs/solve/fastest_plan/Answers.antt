@@ -1,4 +1,4 @@
-use Rattle.std.proofs.Common.{◌≡◌, ◌∙◌}
+use Rattle.std.proofs.Common.{◌∙◌}
 use Rattle.level_table.proofs.solve.fastest_plan.Goals as goal
 
 pub fastest-requires-clause-trip : goal.fastest-requires-clause-trip
