@@ -1,0 +1,4 @@
+pub mod Floors
+pub mod Times
+pub mod Shape
+pub mod Whole
