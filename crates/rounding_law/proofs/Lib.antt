@@ -2,3 +2,5 @@ pub mod Floors
 pub mod Times
 pub mod Shape
 pub mod Whole
+pub mod Begin
+pub mod Fastest

@@ -6,9 +6,13 @@
 //! time in kths, so one of them is no slower.
 #![tactic(auto)]
 
+mod best;
 mod laws;
+mod rounding;
 
+pub use best::best_rounding;
 pub use laws::{
     no_fraction_is_faster, rounded_plans_keep_the_battery, rounded_times_add_up,
     whole_levels_add_up, whole_plans_suffice,
 };
+pub use rounding::rounded;
