@@ -26,7 +26,12 @@ const MOST_CELLS: u128 = 20_000_000;
 /// The cells of the table are counted as `(route.len() - 1) * (stations + 1) * (max_q + 1)`, where the stations are
 /// the nodes that have a curve. `Levels` states this number and comes exactly where it is past 2 * 10^7. A number
 /// that doesn't fit 128 bits is `Memory`, since no memory holds such a table.
-pub fn solve_levels(alloc: Global, inst: &Instance, route: &[usize], start: u64) -> Result<Option<RoutePlan>, LevelFault>
+pub fn solve_levels(
+    alloc: Global,
+    inst: &Instance,
+    route: &[usize],
+    start: u64,
+) -> Result<Option<RoutePlan>, LevelFault>
     requires route { IsRoute inst.now route.now }
     requires start { start ≤ inst.now.capacity }
 
@@ -59,7 +64,12 @@ fn table_size(inst: &Instance, route: &[usize]) -> Option<u128>
 }
 
 /// The answer where the table is small enough.
-fn fastest_plan(alloc: Global, inst: &Instance, route: &[usize], start: u64) -> Result<Option<RoutePlan>, AllocError>
+fn fastest_plan(
+    alloc: Global,
+    inst: &Instance,
+    route: &[usize],
+    start: u64,
+) -> Result<Option<RoutePlan>, AllocError>
     requires route { IsRoute inst.now route.now }
     requires start { start ≤ inst.now.capacity }
     requires small { cell_count inst.now route.now ≤ 2 * 10 ^ 7 }
