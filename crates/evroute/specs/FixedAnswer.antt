@@ -5,7 +5,8 @@ use Rattle.ev_model.specs.Time.{time_of}
 use Rattle.ev_model.specs.declared.Stop.{Stop}
 use Rattle.command_line.specs.declared.Options.{Options}
 use Rattle.instance_reader.specs.Faults.{IsFirstFault, IsInstanceOf}
-use Rattle.level_table.specs.Answer.{IsFastestWhole, HasNoWholePlan, cell_count}
+use Rattle.ev_model.specs.Fastest.{HasNoPlan, IsFastest}
+use Rattle.level_table.specs.Answer.{cell_count}
 use Rattle.plan_writer.specs.FixedText.{fixed_text}
 use Rattle.plan_writer.specs.RefusalText.{refusal_text}
 use Rattle.plan_writer.specs.declared.refusal.Refusal.{Refusal}
@@ -62,21 +63,21 @@ IsRefused options word bytes (refusal.Route fault) =
 IsRefused options word bytes (refusal.Levels cells) =
     (g : Network) × ((route : List ℕ) × IsTask options word bytes g route × (cells ≡ cell_count g route) × (most_cells < cells))
 
--- a fastest plan of the route with its time
+-- a plan of the route than which none is faster in any fraction of a unit, with its time
 pub record PutsPlan (options : Options) (word bytes text : List ℕ) : Type 0 where
   pub network : Network
   pub route : List ℕ
   pub task : IsTask options word bytes network route
   pub stops : List Stop
-  pub fastest : IsFastestWhole network route (start_of network options.charge) stops
+  pub fastest : IsFastest network route (start_of network options.charge) stops
   pub text_is : text ≡ fixed_text network.denominator (Some (stops, time_of network 1 (start_of network options.charge) stops))
 
--- no plan of the route is feasible
+-- no plan of the route is feasible, in any fraction of a unit
 pub record PutsInfeasible (options : Options) (word bytes text : List ℕ) : Type 0 where
   pub network : Network
   pub route : List ℕ
   pub task : IsTask options word bytes network route
-  pub none : HasNoWholePlan network route (start_of network options.charge)
+  pub none : HasNoPlan network route (start_of network options.charge)
   pub text_is : text ≡ fixed_text network.denominator None
 
 -- the first broken rule

@@ -4,3 +4,4 @@ pub mod Grid
 pub mod Filling
 pub mod WayHome
 pub mod Walked
+pub mod AnyFraction

@@ -1,8 +1,9 @@
 //! The answer for one route.
 
 ghost use Rattle.std.specs.Prelude.{◌≡◌, ◌↔◌, ◌*◌, ◌^◌, ◌<◌, ◌≤◌, ℕ, IfOk, IsErr, IsErrOf, MatchOption};
+ghost use Rattle.ev_model.specs.Fastest.{HasNoPlan, IsFastest};
 ghost use Rattle.ev_model.specs.Route.{IsRoute};
-ghost use Rattle.level_table.specs.Answer.{cell_count, HasNoWholePlan, IsFastestWhole};
+ghost use Rattle.level_table.specs.Answer.{cell_count};
 ghost use Rattle.level_table.specs.declared.fault.LevelFault.{LevelFault};
 
 use crate::fault::LevelFault;
@@ -16,10 +17,11 @@ use std::alloc::{AllocError, Global};
 /// The most cells of a table.
 const MOST_CELLS: u128 = 20_000_000;
 
-/// A fastest whole plan of the route for a vehicle that starts with the charge `start`, in units of charge.
+/// A fastest plan of the route for a vehicle that starts with the charge `start`, in units of charge: a whole plan
+/// than which no feasible plan in any fraction of a unit is faster.
 ///
 /// `route` holds the nodes of the route in order, from the depot to the depot. `Ok(None)` comes exactly where no
-/// whole plan of the route is feasible.
+/// plan of the route is feasible, in any fraction of a unit.
 ///
 /// The cells of the table are counted as `(route.len() - 1) * (stations + 1) * (max_q + 1)`, where the stations are
 /// the nodes that have a curve. `Levels` states this number and comes exactly where it is past 2 * 10^7. A number
@@ -33,8 +35,8 @@ pub fn solve_levels(
     requires route { IsRoute inst.now route.now }
     requires start { start ≤ inst.now.capacity }
 
-    ensures answer { IfOk result (λ answer. MatchOption answer (HasNoWholePlan inst.now route.now start)
-        (λ plan. IsFastestWhole inst.now route.now start plan.stops)) }
+    ensures answer { IfOk result (λ answer. MatchOption answer (HasNoPlan inst.now route.now start)
+        (λ plan. IsFastest inst.now route.now start plan.stops)) }
 
     ensures levels { (cells : ℕ) → IsErrOf result (LevelFault.Levels cells)
         ↔ ((cells ≡ cell_count inst.now route.now) × (2 * 10 ^ 7 < cells) × (cells < 2 ^ 128)) }
@@ -71,8 +73,8 @@ fn fastest_plan(
     requires route { IsRoute inst.now route.now }
     requires start { start ≤ inst.now.capacity }
     requires small { cell_count inst.now route.now ≤ 2 * 10 ^ 7 }
-    ensures { IfOk result (λ answer. MatchOption answer (HasNoWholePlan inst.now route.now start)
-        (λ plan. IsFastestWhole inst.now route.now start plan.stops)) }
+    ensures { IfOk result (λ answer. MatchOption answer (HasNoPlan inst.now route.now start)
+        (λ plan. IsFastest inst.now route.now start plan.stops)) }
 {
     let stations = station_nodes(alloc, inst)?;
     let trip = Trip {

@@ -4,3 +4,4 @@ pub mod Routes
 pub mod Spelled
 pub mod Ends
 pub mod Walked
+pub mod Feasibly

@@ -1,11 +1,11 @@
 -- Nodes of which no rule is broken are a route.
-use Rattle.std.proofs.Common.{◌≡◌, ◌≢◌, ◌∙◌, ℕ, zero, suc, ◌+◌, ◌<◌, ◌≤◌, List, [], ◌∷◌, ◌++◌, length, Option, None, Some, Bool, true, false, nat_eq, nat_le, nat_lt, ◌&&◌, if◌then◌else◌, refl, sym, ap, subst, arith}
+use Rattle.std.proofs.Common.{◌≡◌, ◌≢◌, ◌∙◌, ℕ, ◌+◌, ◌<◌, List, [], ◌∷◌, ◌++◌, length, Option, None, Some, Bool, true, false, nat_eq, nat_le, nat_lt, if◌then◌else◌, refl, sym, ap, subst}
 use Rattle.std.specs.List.{All}
 use Rattle.std.proofs.lemmas.Bool.{and_parts, eq-eqb, eqb-true, ltb-true, false≢true}
 use Rattle.std.proofs.lemmas.Option.{none-some}
 use Rattle.std.proofs.lemmas.List.Elements.{All-cons, All-nil}
 use Rattle.ev_model.specs.Network.{Network, node_count}
-use Rattle.ev_model.specs.Route.{IsRoute, IsRouteOver, Moves}
+use Rattle.ev_model.specs.Route.{IsRoute, Moves}
 use Rattle.route_plan.specs.RouteRules.{after_first, ends_at_depot, first_again, first_inner_depot, first_unknown, has_ends, or_again, or_ends, or_inner_depot, or_later, route_fault}
 use Rattle.route_plan.specs.declared.route.RouteFault.{RouteFault}
 use Rattle.route_plan.specs.declared.route.RouteFault.TheVariants.{Again, Ends, InnerDepot, TooLong, Unknown}

@@ -1,5 +1,5 @@
 -- The searches of the rules of a route, at their ends.
-use Rattle.std.proofs.Common.{◌≡◌, ◌∙◌, ℕ, zero, suc, ◌+◌, ◌-◌, ◌<◌, ◌≤◌, List, [], ◌∷◌, length, length-drop, get_or, drop, nat_eq, refl, None, arith}
+use Rattle.std.proofs.Common.{◌≡◌, ℕ, suc, ◌+◌, ◌-◌, ◌<◌, ◌≤◌, List, [], ◌∷◌, length, length-drop, get_or, drop, nat_eq, refl, None, arith}
 use Rattle.route_plan.specs.RouteRules.{ends_at_depot, first_again, first_inner_depot, has_ends}
 
 one_has_no_again : (at : ℕ) (ns : List ℕ) → length ns ≤ 1 → first_again at ns ≡ None

@@ -1,11 +1,11 @@
 -- A word is read as the nodes that it spells.
-use Rattle.std.proofs.Common.{◌≡◌, ◌≢◌, ◌∙◌, ◌↔◌, ℕ, zero, suc, ◌+◌, ◌^◌, ◌<◌, ◌≤◌, ◌==◌, true, false, inl, inr, List, [], ◌∷◌, ◌++◌, length, length-append, decimal, Result, Ok, Err, refl, sym, ap, subst, append_assoc, append-nil, arith}
+use Rattle.std.proofs.Common.{◌≡◌, ◌∙◌, ℕ, zero, suc, ◌+◌, ◌^◌, ◌<◌, ◌≤◌, ◌==◌, true, false, inl, inr, List, [], ◌∷◌, ◌++◌, length, length-append, decimal, Result, Ok, Err, refl, sym, ap, subst, append-nil, arith}
 use Rattle.std.specs.List.{All}
 use Rattle.std.specs.Result.{is_ok}
 use Rattle.std.proofs.lemmas.Bool.{cases_eq, eq-eqb, false≢true, ne_eqb}
 use Rattle.std.proofs.lemmas.List.Elements.{All-cons, All-head, All-nil, All-tail}
 use Rattle.ev_text.specs.Numerals.{BeginsWithoutDigit}
-use Rattle.ev_text.specs.Scans.{TakesNumber, TakesWord, and_then, past, rest_of, whole_at, word_at}
+use Rattle.ev_text.specs.Scans.{and_then, past, rest_of, whole_at, word_at}
 use Rattle.ev_text.specs.declared.TextFault.{TextFault}
 use Rattle.ev_text.proofs.Readings.{TakesNumber-from_whole_at, TakesWord-from_word_at, number_read, word_read}
 use Rattle.route_plan.specs.RouteWords.{SpellsRoute, comma_at, more_nodes, next_at, node_at, nodes_in, or_text, route_text, with_nodes}
@@ -35,7 +35,7 @@ Ok-injective {A} {E} a b same = ap (λ (r : Result A E). value_or a r) same
 Err-ne-Ok : {A E : Type 0} (fault : E) (a : A) → ◌≡◌ {A = Result A E} (Err fault) (Ok a) → ⊥
 Err-ne-Ok {A} {E} fault a same = false≢true (ap (λ (r : Result A E). is_ok r) same)
 
-and_then-ok : {A B E : Type 0} (r : Result A E) (next : A → Result B E) (v : B) → and_then r next ≡ Ok v → (a : A) × (r ≡ Ok a) × (next a ≡ Ok v)
+pub and_then-ok : {A B E : Type 0} (r : Result A E) (next : A → Result B E) (v : B) → and_then r next ≡ Ok v → (a : A) × (r ≡ Ok a) × (next a ≡ Ok v)
 and_then-ok (Ok a) next v is = (a, refl, is)
 and_then-ok (Err fault) next v is = absurd (Err-ne-Ok fault v is)
 

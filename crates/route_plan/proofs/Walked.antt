@@ -1,7 +1,6 @@
 -- A feasible plan is walked to its end, and the walk tells its time and last level.
-use Rattle.std.proofs.Common.{◌≡◌, ◌≢◌, ◌∙◌, ℕ, ◌+◌, ◌-◌, ◌*◌, ◌<◌, ◌≤◌, Bool, true, false, ◌&&◌, ◌||◌, not, List, [], ◌∷◌, Option, None, Some, Ok, is_some, nat_eq, nat_lt, refl, sym, ap, subst, arith, IsTrue, IsSome, ◌⊎◌, inl, inr, if◌then◌else◌}
+use Rattle.std.proofs.Common.{◌≡◌, ◌≢◌, ◌∙◌, ℕ, ◌+◌, ◌-◌, ◌*◌, ◌≤◌, Bool, true, false, ◌||◌, List, [], ◌∷◌, Option, None, Some, Ok, is_some, nat_lt, refl, sym, ap, subst, arith, inl, inr}
 use Rattle.std.proofs.lemmas.Bool.{cases_Bool, cases_lt, le-ltb, lt-ltb, ne_eqb}
-use Rattle.ev_model.specs.Curve.{charge_time}
 use Rattle.ev_model.specs.Feasible.{IsFeasible}
 use Rattle.ev_model.specs.Levels.{KeepsBatteryFrom, arriving_level, leaving_level, level_after}
 use Rattle.ev_model.specs.Network.{Network, curve_at, energy, node_count, process_time, scaled_limit, travel_time}
@@ -10,7 +9,7 @@ use Rattle.ev_model.specs.Time.{charging_time, stop_time, time_from, time_of}
 use Rattle.ev_model.specs.declared.Stop.{Stop}
 use Rattle.route_plan.specs.declared.walks.Walk.{Walk}
 use Rattle.ev_model.proofs.ChargeTime.{charge_time_in-one}
-use Rattle.route_plan.specs.Walking.{after_start, charging, ends_well, has_both_ends, has_station, is_end, stepped, time_after, walked, walked_from}
+use Rattle.route_plan.specs.Walking.{charging, end_level, ends_well, has_both_ends, has_station, is_end, stepped, time_after, walked, walked_from}
 
 -- charging in whole units
 charging_in_ones : (d : ℕ) (curve : Option (List (ℕ × ℕ))) (before after : ℕ) → charging_time 1 d curve before after ≡ charging d curve before after
@@ -20,7 +19,7 @@ charging_in_ones d (Some points) before after = rw (charge_time_in-one d points 
 arriving_in_ones : (g : Network) (from level : ℕ) (s : Stop) → arriving_level g 1 from level s ≡ level - energy g from s.node
 arriving_in_ones g from level s = let once : 1 * energy g from s.node ≡ energy g from s.node = omega arith in ap (λ e. level - e) once
 
-leaving_in_ones : (g : Network) (from level : ℕ) (s : Stop) → leaving_level g 1 from level s ≡ level - energy g from s.node + s.added
+pub leaving_in_ones : (g : Network) (from level : ℕ) (s : Stop) → leaving_level g 1 from level s ≡ level - energy g from s.node + s.added
 leaving_in_ones g from level s = ap (λ l. l + s.added) (arriving_in_ones g from level s)
 
 -- the time of a stop is what the walk adds
@@ -29,10 +28,10 @@ time_after-stop g from level time s =
     let drive = g.denominator * (travel_time g from s.node + process_time g s.node) in
     let once : 1 * drive ≡ drive = omega arith in
     let charge : charging_time 1 g.denominator (curve_at g s.node) (arriving_level g 1 from level s) (leaving_level g 1 from level s)
-            ≡ charging g.denominator (curve_at g s.node) (level - energy g from s.node) (level - energy g from s.node + s.added) =
-        charging_in_ones g.denominator (curve_at g s.node) (arriving_level g 1 from level s) (leaving_level g 1 from level s)
-        ∙ ap (λ l. charging g.denominator (curve_at g s.node) l (leaving_level g 1 from level s)) (arriving_in_ones g from level s)
-        ∙ ap (λ l. charging g.denominator (curve_at g s.node) (level - energy g from s.node) l) (leaving_in_ones g from level s) in
+    ≡ charging g.denominator (curve_at g s.node) (level - energy g from s.node) (level - energy g from s.node + s.added) =
+    charging_in_ones g.denominator (curve_at g s.node) (arriving_level g 1 from level s) (leaving_level g 1 from level s)
+    ∙ ap (λ l. charging g.denominator (curve_at g s.node) l (leaving_level g 1 from level s)) (arriving_in_ones g from level s)
+    ∙ ap (λ l. charging g.denominator (curve_at g s.node) (level - energy g from s.node) l) (leaving_in_ones g from level s) in
     let spent = charging g.denominator (curve_at g s.node) (level - energy g from s.node) (level - energy g from s.node + s.added) in
     let sum : time + drive + spent ≡ time + (drive + spent) = omega arith in
     sum ∙ sym (ap (λ x. time + (x + charging_time 1 g.denominator (curve_at g s.node) (arriving_level g 1 from level s) (leaving_level g 1 from level s))) once ∙ ap (λ x. time + (drive + x)) charge)
@@ -57,8 +56,14 @@ station_of g s stop = elim (cases_Bool s.via) [
 stepped_well : (g : Network) (from level time at : ℕ) (s : Stop) → s.node ≢ from → IsStop g s → energy g from s.node ≤ level → level - energy g from s.node + s.added ≤ g.capacity → time_after g from level time s ≤ scaled_limit g →
     stepped g from level time at s ≡ Ok (record { time = time_after g from level time s; last = level - energy g from s.node + s.added })
 stepped_well g from level time at s moves stop reaches full in_time =
-    rw (lt-ltb s.node (node_count g) stop.known, ne_eqb s.node from moves, le-ltb level (energy g from s.node) reaches, station_of g s stop,
-        le-ltb g.capacity (level - energy g from s.node + s.added) full, le-ltb (scaled_limit g) (time_after g from level time s) in_time) refl
+    rw (
+      lt-ltb s.node (node_count g) stop.known,
+      ne_eqb s.node from moves,
+      le-ltb level (energy g from s.node) reaches,
+      station_of g s stop,
+      le-ltb g.capacity (level - energy g from s.node + s.added) full,
+      le-ltb (scaled_limit g) (time_after g from level time s) in_time,
+    ) refl
 
 -- the stops of a plan that keeps the battery and the limit
 walked_well : (g : Network) (from level time at : ℕ) (ss : List Stop) → AreStopsFrom g from ss → KeepsBatteryFrom g 1 from level ss → time + time_from g 1 from level ss ≤ scaled_limit g →
@@ -77,7 +82,7 @@ walked_well g from level time at (s ∷ ss) stops kept in_time =
     let reached : Walk = record { time = time_after g from level time s; last = level - energy g from s.node + s.added } in
     let same : reached ≡ record { time = left_at; last = next } = ap (λ t. record { time = t; last = level - energy g from s.node + s.added }) spends ∙ ap (λ l. record { time = left_at; last = l }) (sym leaves) in
     rw here (subst (λ (w : Walk). walked_from g s.node w.last w.time (at + 1) ss ≡ Ok (record { time = time + time_from g 1 from level (s ∷ ss); last = level_after g 1 from level (s ∷ ss) })) (sym same)
-        (rest ∙ ap (λ t. Ok (record { time = t; last = level_after g 1 from level (s ∷ ss) })) later))
+    (rest ∙ ap (λ t. Ok (record { time = t; last = level_after g 1 from level (s ∷ ss) })) later))
 
 end_of : (s : Stop) → IsEnd s → is_end s ≡ true
 end_of s is = rw is refl
@@ -88,7 +93,8 @@ ends_of (s ∷ []) ends = end_of s ends
 ends_of (s ∷ t ∷ ss) ends = ends_of (t ∷ ss) ends
 
 -- a feasible plan is walked to its end
-pub feasible_is_walked : (g : Network) (start : ℕ) (stops : List Stop) → IsFeasible g 1 start stops → (last : ℕ) × (walked g start stops ≡ Ok (record { time = time_of g 1 start stops; last = last }))
+pub feasible_is_walked : (g : Network) (start : ℕ) (stops : List Stop) → IsFeasible g 1 start stops →
+    walked g start stops ≡ Ok (record { time = time_of g 1 start stops; last = end_level g start stops })
 feasible_is_walked g start [] feasible = absurd feasible.plan
 feasible_is_walked g start (first ∷ stops) feasible =
     let plan = feasible.plan in
@@ -98,4 +104,4 @@ feasible_is_walked g start (first ∷ stops) feasible =
     let time_is : time_of g 1 start (first ∷ stops) ≡ 0 + time_from g 1 first.node start stops = ap (λ l. time_from g 1 first.node l stops) once ∙ omega arith in
     let both : has_both_ends (first ∷ stops) ≡ true = rw (end_of first plan.1, ends_of stops plan.2) refl in
     let walk = walked_well g first.node start 0 1 stops plan.3 kept (omega (arith, time_is, whole, feasible.in_time)) in
-    (level_after g 1 first.node start stops, rw both (walk ∙ ap (λ t. Ok (record { time = t; last = level_after g 1 first.node start stops })) (sym time_is)))
+    rw both (walk ∙ ap (λ t. Ok (record { time = t; last = level_after g 1 first.node start stops })) (sym time_is))

@@ -1,6 +1,7 @@
 -- A walk along the stops of a whole plan: its time and last level, or the first rule that it breaks.
-use Rattle.std.specs.Prelude.{ℕ, ◌+◌, ◌-◌, ◌*◌, Bool, true, false, ◌&&◌, ◌||◌, not, List, [], ◌∷◌, Option, None, Some, Result, Ok, Err, is_some, nat_eq, nat_le, nat_lt, if◌then◌else◌}
+use Rattle.std.specs.Prelude.{ℕ, ◌+◌, ◌-◌, ◌*◌, Bool, false, ◌&&◌, ◌||◌, not, List, [], ◌∷◌, Option, None, Some, Result, Ok, Err, is_some, nat_eq, nat_lt, if◌then◌else◌}
 use Rattle.ev_model.specs.Curve.{charge_time}
+use Rattle.ev_model.specs.Levels.{level_after}
 use Rattle.ev_model.specs.Network.{Network, curve_at, energy, node_count, process_time, scaled_limit, travel_time}
 use Rattle.ev_model.specs.declared.Stop.{Stop}
 use Rattle.ev_text.specs.Scans.{and_then}
@@ -61,3 +62,8 @@ after_start g start (s ∷ ss) = walked_from g s.node start 0 1 ss
 -- the whole plan: the ends first, and then stop by stop
 abbrev pub walked : Network → ℕ → List Stop → Result Walk WalkFault
 walked g start stops = if has_both_ends stops then after_start g start stops else Err Ends
+
+-- the level at the end of a whole plan
+abbrev pub end_level : Network → ℕ → List Stop → ℕ
+end_level g start [] = start
+end_level g start (first ∷ stops) = level_after g 1 first.node start stops

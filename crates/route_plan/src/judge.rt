@@ -1,26 +1,37 @@
 //! The walk along a plan, which judges it.
 
-ghost use Rattle.std.specs.Prelude.{◌≡◌, ◌+◌, ◌<◌, ◌≤◌, ◌^◌, ◌*◌, Err, IfErr, IfOk, IsSome, MatchResult, Ok};
-
+ghost use Rattle.std.specs.Prelude.{◌≡◌, ◌<◌, ◌≤◌, IfErr, IfOk, true};
+ghost use Rattle.ev_model.specs.Feasible.{IsFeasible};
 ghost use Rattle.ev_model.specs.Network.{curve_at, node_count, scaled_limit};
-ghost use Rattle.route_plan.specs.Walking.{charging, has_both_ends, has_station, is_end, stepped, walked, walked_from};
-
-use ev_model::Stop;
-use instance_reader::Instance;
+ghost use Rattle.ev_model.specs.Time.{time_of};
+ghost use Rattle.route_plan.specs.Walking.{after_start, charging, end_level, has_both_ends, has_station, is_end, stepped, walked, walked_from};
 
 use crate::walks::{Walk, WalkFault};
+use ev_model::Stop;
+use instance_reader::Instance;
 
 /// Walks along the stops of a whole plan, from a level at the start. It takes no memory.
 ///
 /// The rule on the ends is tried first, over the whole plan; then the stops are taken in order, and at each
-/// the other rules in the order of [`WalkFault`].
+/// the other rules in the order of [`WalkFault`]. So the walk comes to its end exactly where the plan is feasible.
 pub fn walk(inst: &Instance, start: u64, stops: &[Stop]) -> Result<Walk, WalkFault>
-    requires { start ≤ inst.now.capacity }
-    ensures { result ≡ walked inst.now start stops.now }
+    ensures exact { result ≡ walked inst.now start stops.now }
+    ensures feasible { IfOk result (λ w. IsFeasible inst.now 1 start stops.now) }
+    ensures time { IfOk result (λ w. w.time ≡ time_of inst.now 1 start stops.now) }
+    ensures last { IfOk result (λ w. w.last ≡ end_level inst.now start stops.now) }
+    ensures infeasible { IfErr result (λ fault. IsFeasible inst.now 1 start stops.now → ⊥) }
 {
     if !both_ends(stops) {
         return Err(WalkFault::Ends);
     }
+    walk_on(inst, start, stops)
+}
+
+/// Walks along the stops of a plan whose ends are at the depot.
+fn walk_on(inst: &Instance, start: u64, stops: &[Stop]) -> Result<Walk, WalkFault>
+    requires { has_both_ends stops.now ≡ true }
+    ensures { result ≡ after_start inst.now start stops.now }
+{
     let count = inst.nodes();
     let mut from = 0;
     let mut reached = Walk {
@@ -56,12 +67,16 @@ fn is_end(stop: Stop) -> bool
 }
 
 /// The level and the time on leaving a stop at a node of the instance, or the first rule that the stop breaks.
-fn step(inst: &Instance, from: usize, before: Walk, at: usize, stop: Stop) -> Result<Walk, WalkFault>
+fn step(
+    inst: &Instance,
+    from: usize,
+    before: Walk,
+    at: usize,
+    stop: Stop,
+) -> Result<Walk, WalkFault>
     requires from { from < node_count inst.now }
     requires known { stop.node < node_count inst.now }
-    requires level { before.last ≤ inst.now.capacity }
-    ensures exact { result ≡ stepped inst.now from before.last before.time at stop }
-    ensures level { IfOk result (λ w. w.last ≤ inst.now.capacity) }
+    ensures { result ≡ stepped inst.now from before.last before.time at stop }
 {
     if stop.node == from {
         return Err(WalkFault::Again { at });
@@ -74,7 +89,7 @@ fn step(inst: &Instance, from: usize, before: Walk, at: usize, stop: Stop) -> Re
         return Err(WalkFault::NotStation { at });
     }
     let arriving = before.last - needed;
-    if stop.added > inst.max_q() - arriving {
+    if arriving > inst.max_q() || stop.added > inst.max_q() - arriving {
         return Err(WalkFault::Full { at });
     }
     let last = arriving + stop.added;

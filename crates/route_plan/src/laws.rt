@@ -1,4 +1,4 @@
-//! Laws of the word of a route. Each is the contract of an empty function.
+//! Laws of the word of a route and of the walk along a plan. Each is the contract of an empty function.
 
 ghost use Rattle.std.specs.Prelude.{◌≡◌, ◌↔◌, List, ℕ, None, Ok};
 ghost use Rattle.ev_model.specs.Feasible.{IsFeasible};
@@ -8,7 +8,8 @@ ghost use Rattle.ev_model.specs.Time.{time_of};
 ghost use Rattle.ev_model.specs.declared.Stop.{Stop};
 ghost use Rattle.route_plan.specs.RouteRules.{route_fault};
 ghost use Rattle.route_plan.specs.RouteWords.{nodes_in, SpellsRoute};
-ghost use Rattle.route_plan.specs.Walking.{walked};
+ghost use Rattle.route_plan.specs.Walking.{end_level, walked};
+ghost use Rattle.route_plan.specs.declared.walks.Walk.{Walk};
 
 /// A word is read as nodes exactly where it spells them: decimal numbers joined by single commas.
 pub fn words_spell_routes()
@@ -20,8 +21,8 @@ pub fn unbroken_nodes_are_routes()
     ensures { (g : Network) (nodes : List ℕ) → route_fault (node_count g) nodes ≡ None → IsRoute g nodes }
 {}
 
-/// A feasible whole plan is walked to its end, and the walk tells its time.
+/// A whole plan is walked to its end exactly where it is feasible, and the walk tells its time and its last level.
 pub fn feasible_plans_are_walked()
-    ensures { (g : Network) (start : ℕ) (stops : List Stop) → IsFeasible g 1 start stops →
-        (last : ℕ) × (walked g start stops ≡ Ok (record { time = time_of g 1 start stops; last = last })) }
+    ensures { (g : Network) (start : ℕ) (stops : List Stop) (w : Walk) → (walked g start stops ≡ Ok w)
+        ↔ (IsFeasible g 1 start stops × (w.time ≡ time_of g 1 start stops) × (w.last ≡ end_level g start stops)) }
 {}

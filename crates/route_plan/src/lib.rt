@@ -10,7 +10,7 @@ mod walks;
 pub use ev_model::Stop;
 pub use judge::walk;
 pub use laws::{feasible_plans_are_walked, unbroken_nodes_are_routes, words_spell_routes};
-pub use plan::{FleetPlan, RoutePlan};
+pub use plan::{FleetPlan, FracPlan, RoutePlan};
 pub use route::{RouteFault, read_route};
 pub use walks::{Walk, WalkFault};
 

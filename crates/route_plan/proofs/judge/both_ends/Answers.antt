@@ -1,4 +1,4 @@
-use Rattle.std.proofs.Common.{◌∙◌, ◌&&◌, ◌-◌, ◌≡◌, ap, arith, false, get_or, length, sym}
+use Rattle.std.proofs.Common.{◌∙◌, ◌&&◌, ◌-◌, ap, false, get_or, length, sym}
 use Rattle.ev_model.specs.declared.Stop.{Stop}
 use Rattle.route_plan.specs.Walking.{is_end}
 use Rattle.route_plan.proofs.Ends.{has_both_ends-two}

@@ -1,5 +1,5 @@
-use Rattle.route_plan.proofs.Walked.{feasible_is_walked}
+use Rattle.route_plan.proofs.Feasibly.{feasible_as_walked, walked_is_feasible}
 use Rattle.route_plan.proofs.laws.feasible_plans_are_walked.Goals as goal
 
 pub returns : goal.returns
-returns c = feasible_is_walked
+returns c = λ g start stops w. (walked_is_feasible g start stops w, λ is. feasible_as_walked g start stops w is.0 is.1 is.2)

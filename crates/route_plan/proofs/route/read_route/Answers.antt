@@ -1,8 +1,4 @@
-use Rattle.std.proofs.Common.{◌≡◌, ◌∙◌, List, ℕ, None, Ok, ap, rules, subst, sym}
-use Rattle.ev_model.specs.Network.{Network, node_count}
-use Rattle.ev_model.specs.Route.{IsRoute}
-use Rattle.route_plan.specs.RouteRules.{route_fault}
-use Rattle.route_plan.specs.RouteWords.{SpellsRoute, nodes_in}
+use Rattle.std.proofs.Common.{rules}
 use Rattle.route_plan.proofs.Routes.{is_route}
 use Rattle.route_plan.proofs.Spelled.{spells_what_is_read}
 use Rattle.route_plan.proofs.route.read_route.Goals as goal

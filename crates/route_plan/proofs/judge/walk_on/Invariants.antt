@@ -1,13 +1,12 @@
 use Rattle.std.proofs.Common.{◌≡◌, ◌<◌, ◌≤◌, drop}
 use Rattle.ev_model.specs.Network.{node_count}
 use Rattle.route_plan.specs.Walking.{after_start, walked_from}
-use Rattle.route_plan.proofs.judge.walk.Given as goal
+use Rattle.route_plan.proofs.judge.walk_on.Given as goal
 
 -- what is left gives the answer for all
 abbrev pub invariant-loop-at : goal.invariant-loop-at
 invariant-loop-at l = record {
   from : l.from < node_count l.inst;
-  level : l.reached.last ≤ l.inst.capacity;
   some : 1 ≤ l.at;
   told : walked_from l.inst l.from l.reached.last l.reached.time l.at (drop l.at l.stops) ≡ after_start l.inst l.start l.stops;
 }
