@@ -29,7 +29,7 @@ is_answer job files answered old new given text put empty appends same answers p
 }
 
 pub puts_answer : (job : FixedJob) (files : Option Files) (answered : Status) (text : List ℕ) (old new : Option (List ℕ)) → IsAnswer job files answered text → Adds old new text → PutsAnswer job files old new answered
-puts_answer job files answered text old new is adds = record { bytes = is.bytes; read = is.read; text = text; answers = is.answers; put = adds; }
+puts_answer job files answered text old new is adds = record { bytes = is.bytes; read = is.read; text = text; answers = is.answers; put = adds }
 
 pub puts_part : (job : FixedJob) (files : Option Files) (answered : Status) (text : List ℕ) (old new : Option (List ℕ)) → IsAnswer job files answered text → AddsPrefix old new text → PutsPart job files old new
 puts_part job files answered text old new is adds = inr (is.bytes, is.read, (answered, (text, is.answers, adds)))

@@ -1,17 +1,15 @@
 //! The program over any files and any output.
 
 ghost use Rattle.std.specs.Prelude.{◌≡◌, ◌↔◌, ◌⊎◌, IfSome, IsNone, map, string_bytes};
-
 ghost use Rattle.command_line.specs.Words.{job_of};
 ghost use Rattle.ev_outside.specs.Counts.{NeverFalls, Rose};
 ghost use Rattle.evroute.specs.Run.{IsAnswered, PutsAnswer, PutsPart};
 
-use command_line::{fixed_words, Options};
-use ev_outside::{Shelf, ShelfFault, Sink, SinkFault};
-use std::alloc::Global;
-
 use crate::fixed::answer_to;
 use crate::status::Status;
+use command_line::{Options, fixed_words};
+use ev_outside::{Shelf, ShelfFault, Sink, SinkFault};
+use std::alloc::Global;
 
 /// One byte more than the longest file that is read.
 const MOST_BYTES: usize = (1 << 26) + 1;

@@ -1,7 +1,6 @@
 //! The answer of `fixed`: one route of an instance is charged.
 
 ghost use Rattle.std.specs.Prelude.{◌≡◌, ◌≤◌, IfErr, IfOk, IfSome, List, None, Ok, Some, ℕ};
-
 ghost use Rattle.command_line.specs.declared.Options.{Options};
 ghost use Rattle.ev_model.specs.Feasible.{IsFeasible};
 ghost use Rattle.ev_model.specs.Network.{node_count};
@@ -13,14 +12,13 @@ ghost use Rattle.plan_writer.specs.FixedText.{fixed_text};
 ghost use Rattle.plan_writer.specs.RefusalText.{refusal_text};
 ghost use Rattle.route_plan.specs.RouteRules.{route_in};
 
-use command_line::Options;
-use instance_reader::{read_instance, Instance, ReadFault};
-use level_table::{solve_levels, LevelFault};
-use plan_writer::{push_fixed, push_refusal, Refusal};
-use route_plan::{read_route, walk, RouteFault, RoutePlan};
-use std::alloc::Global;
-
 use crate::status::Status;
+use command_line::Options;
+use instance_reader::{Instance, ReadFault, read_instance};
+use level_table::{LevelFault, solve_levels};
+use plan_writer::{Refusal, push_fixed, push_refusal};
+use route_plan::{RouteFault, RoutePlan, read_route, walk};
+use std::alloc::Global;
 
 /// What is put, and the status that goes with it.
 #[derive(Drop)]

@@ -6,9 +6,8 @@ mod fixed;
 mod status;
 
 pub use command::run;
-pub use status::Status;
-
 use ev_outside::{FileShelf, OutSink};
+pub use status::Status;
 use std::env;
 use std::io::ErrorKind;
 use std::process::ExitCode;
@@ -18,7 +17,11 @@ fn main(rt: HostRuntime) -> ExitCode {
     let all = match env::args(&rt) {
         Ok(all) => all,
         Err(error) => {
-            let code = if error.kind() == ErrorKind::OutOfMemory { 5 } else { 7 };
+            let code = if error.kind() == ErrorKind::OutOfMemory {
+                5
+            } else {
+                7
+            };
             return ExitCode::from(code);
         }
     };
@@ -29,3 +32,6 @@ fn main(rt: HostRuntime) -> ExitCode {
     let mut out = OutSink::new(&rt);
     ExitCode::from(run(alloc, words.as_slice(), &mut shelf, &mut out).code())
 }
+
+#[cfg(test)]
+mod tests;
