@@ -197,10 +197,10 @@ every_charge v curve limit rows are level time is =
     let here = Contains-get_or rows (is.from - v.first) v inside in
     (here.0, slice_index_or rows (is.from - v.first) v, here.1, here.2, (level, low, (omega arith, omega (arith, from.later level low, is.takes))))
 
-pub charges_keep : (v : LevelTimes) (curve : List (ℕ × ℕ)) (limit : ℕ) (rows : List LevelTimes) → ((a b : ℕ) → a ≤ b → time_on curve a ≤ time_on curve b) → ((level : ℕ) → IsLevel v level → level ≤ last_level curve)
-    → ((level time : ℕ) → IsCharge v curve limit level time → SomeReaches (λ w. w) rows 0 level time)
-    → (other : LevelTimes) (extra level time : ℕ) → CoversEach v other extra → IsCharge other curve limit level time → SomeReaches (λ w. w) rows extra level time
-charges_keep v curve limit rows rises fits every other extra level time covers is =
+pub charges_keep : {V : Type 0} (meaning : V → LevelTimes) (v : LevelTimes) (curve : List (ℕ × ℕ)) (limit : ℕ) (values : List V) → ((a b : ℕ) → a ≤ b → time_on curve a ≤ time_on curve b) → ((level : ℕ) → IsLevel v level → level ≤ last_level curve)
+    → ((level time : ℕ) → IsCharge v curve limit level time → SomeReaches meaning values 0 level time)
+    → (other : LevelTimes) (extra level time : ℕ) → CoversEach v other extra → IsCharge other curve limit level time → SomeReaches meaning values extra level time
+charges_keep meaning v curve limit values rises fits every other extra level time covers is =
     let own = charge_keeps v other curve limit extra rises fits covers level time is in
     let found = every own.high own.at own.is in
     (found.0, found.1, found.2, found.3, (found.4.0, found.4.1, (omega (arith, found.4.2, own.above), omega (arith, found.4.2, own.in_time))))

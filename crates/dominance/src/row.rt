@@ -133,11 +133,11 @@ impl Row {
         let mut times = Vec::new(*self.times.allocator());
         let skipped = skipped.min(self.times.len() as u64) as usize;
         for before in &self.times[skipped..] {
-            let after = u128::from(*before) + u128::from(time);
-            if after > u128::from(limit) {
+            let grown = u128::from(*before) + u128::from(time);
+            if grown > u128::from(limit) {
                 return Ok(times);
             }
-            times.push(after as u64)?;
+            times.push(grown as u64)?;
         }
         Ok(times)
     }

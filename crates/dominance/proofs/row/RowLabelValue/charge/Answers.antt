@@ -19,5 +19,5 @@ returns-clause-every c = every_charge c.args.self.now c.args.curve.now c.args.li
 
 pub returns-clause-keeps : goal.returns-clause-keeps
 returns-clause-keeps c other extra level time covers is =
-    charges_keep c.args.self.now c.args.curve.now c.args.limit c.loop-index.rows.items c.full_level-full.ensures.rises c.requires.levels
+    charges_keep (λ (w : LevelTimes). w) c.args.self.now c.args.curve.now c.args.limit c.loop-index.rows.items c.full_level-full.ensures.rises c.requires.levels
     (every_charge c.args.self.now c.args.curve.now c.args.limit c.loop-index.rows.items (are_whole c)) other extra level time covers is
