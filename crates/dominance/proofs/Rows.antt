@@ -1,18 +1,17 @@
 -- Values by plain lists of times: what loops over the times give.
-use Rattle.std.proofs.Common.{◌≡◌, ◌∙◌, ℕ, zero, suc, ◌+◌, ◌-◌, ◌<◌, ◌≤◌, refl, sym, ap, subst, List, length, arith, inl, inr, get_or, Bool, true, false, ◌↔◌, ◌++◌, ◌∷◌, [], length-append}
+use Rattle.std.proofs.Common.{◌≡◌, ◌∙◌, ℕ, ◌+◌, ◌-◌, ◌<◌, ◌≤◌, refl, sym, ap, subst, List, length, arith, inl, inr, get_or, Bool, true, false, ◌↔◌, ◌++◌, ◌∷◌, [], length-append}
 use Rattle.std.specs.Prelude.{slice_index, slice_index_or}
-use Rattle.std.specs.List.{All, Any, Contains}
-use Rattle.std.specs.List.Sorted.{IsNonDecreasing}
-use Rattle.std.proofs.lemmas.Bool.{cases_eq, cases_lt}
+use Rattle.std.specs.List.{All}
+use Rattle.std.proofs.lemmas.Bool.{cases_lt}
 use Rattle.std.proofs.Math.Seq.{get_or-append_seam}
 use Rattle.std.proofs.lemmas.List.{get_or_append_left, get_or_default}
-use Rattle.std.proofs.lemmas.List.Elements.{Contains-get_or, All-get_or}
+use Rattle.std.proofs.lemmas.List.Elements.{Contains-get_or}
 use Rattle.charge_curve.specs.Points.{last_level, time_on}
 use Rattle.dominance.specs.LevelTimes.{IsLevel, IsValue, LevelTimes, time_at}
 use Rattle.dominance.specs.Coverage.{CoversEach, Reaches, SomeReaches}
 use Rattle.dominance.specs.Steps.{charged, IsCharge, IsChargeFrom, IsShift, NothingLeft}
 use Rattle.dominance.specs.Later.{AreLater}
-use Rattle.dominance.specs.Laws.{charge_keeps, shift_keeps, shift_keeps_some}
+use Rattle.dominance.specs.Laws.{charge_keeps}
 
 abbrev pub row : ℕ → List ℕ → LevelTimes
 row first times = record { first = first; times = times }

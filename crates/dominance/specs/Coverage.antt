@@ -1,5 +1,5 @@
 -- When one value makes another needless.
-use Rattle.std.specs.Prelude.{◌≡◌, ℕ, ◌+◌, ◌<◌, ◌≤◌, Bool, ◌&&◌, List, length, nat_le}
+use Rattle.std.specs.Prelude.{ℕ, ◌+◌, ◌≤◌, Bool, ◌&&◌, List, length, nat_le}
 use Rattle.std.specs.List.{Any, list_all, list_any, range_with_len}
 use Rattle.dominance.specs.LevelTimes.{IsLevel, LevelTimes, time_at}
 

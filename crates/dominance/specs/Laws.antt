@@ -5,7 +5,7 @@ use Rattle.std.proofs.Common.{◌∙◌, ap, sym, arith, inl, inr}
 use Rattle.std.proofs.lemmas.Bool.{and_from, and_parts, cases_eq, cases_lt, false≢true, le-leb, leb-true, or_cases, or_left, or_right}
 use Rattle.charge_curve.specs.Points.{last_level, time_on}
 use Rattle.dominance.specs.LevelTimes.{IsLevel, LevelTimes, time_at}
-use Rattle.dominance.specs.Coverage.{CoversEach, does_cover, does_reach, levels_of, Reaches}
+use Rattle.dominance.specs.Coverage.{CoversEach, does_cover, does_reach, Reaches}
 use Rattle.dominance.specs.Steps.{charged, IsCharge, IsShift}
 
 pub covers_itself : (v : LevelTimes) → CoversEach v v 0

@@ -258,7 +258,7 @@ part_of from down zero_time base limit ps (p ∷ cut) is are low early fits =
       times = λ level le high. up.times (level - down) (omega (arith, high)) ∙ value level le;
       within =
           let here : time_on (moved down zero_time base (p ∷ cut)) (last_level (up_to limit (moved down zero_time base (p ∷ cut)))) ≡ base + (time_on ps (last_level (up_to limit (moved down zero_time base (p ∷ cut))) + down) - zero_time)
-              = ap (λ x. time_on (moved down zero_time base (p ∷ cut)) x) (sym at_last) ∙ value (last_level (up_to limit (moved down zero_time base (p ∷ cut))) + down) last_high in
+          = ap (λ x. time_on (moved down zero_time base (p ∷ cut)) x) (sym at_last) ∙ value (last_level (up_to limit (moved down zero_time base (p ∷ cut))) + down) last_high in
           omega (arith, here, up.within);
       all = λ level le high inside.
           let here = value level le in

@@ -8,7 +8,7 @@ ghost use Rattle.dominance.specs.LevelTimes.{IsLevel, IsValue, LevelTimes, time_
 ghost use Rattle.dominance.specs.Steps.{IsCharge, IsChargeFrom};
 ghost use Rattle.piece_fn.specs.PieceFn.{first_level, IsChargeList, IsReach, level_times};
 
-use crate::charging::{carried, Move, Points, starts};
+use crate::charging::{Move, Points, carried, starts};
 use crate::coverage::{covers, is_in_time};
 use crate::points::{are_points, last_level, time_at};
 use crate::reach::farthest;

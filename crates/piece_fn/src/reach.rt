@@ -50,13 +50,7 @@ fn next_bend(points: &[(u64, u64)], low: u64) -> u64
     match points {
         [] => low,
         [point] => point.0,
-        [point, next, ..] => {
-            if low < point.0 {
-                point.0
-            } else {
-                next.0
-            }
-        }
+        [point, next, ..] => { if low < point.0 { point.0 } else { next.0 } }
     }
 }
 

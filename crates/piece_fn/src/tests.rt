@@ -13,7 +13,10 @@ fn a_value_steps_along_an_arc_and_charges(rt: HostRuntime) {
         (MOST, [(5u64, 22u64), (6, 23), (8, 35)].as_slice()),
         (30, [(5, 22), (6, 23), (7, 29)].as_slice()),
     ] {
-        let shifted = f.shift(2, 6, limit).expect(&rt, "memory").expect(&rt, "a level is left");
+        let shifted = f
+            .shift(2, 6, limit)
+            .expect(&rt, "memory")
+            .expect(&rt, "a level is left");
         assert_eq!(rt; shifted.points(), points);
     }
     assert!(rt; f.shift(11, 0, MOST).expect(&rt, "memory").is_none());

@@ -1,4 +1,4 @@
-use Rattle.std.proofs.Common.{ℕ, ◌<◌, ◌≤◌, ◌∙◌, ap, arith, length, refl, List, [], ◌∷◌, sym, subst}
+use Rattle.std.proofs.Common.{ℕ, ◌<◌, arith, length, List, [], ◌∷◌}
 use Rattle.charge_curve.specs.Points.{ArePoints}
 use Rattle.dominance.proofs.Pieces.{last_level-get_or, never_falls}
 use Rattle.dominance.proofs.row.full_level.Goals as goal

@@ -1,6 +1,6 @@
-use Rattle.std.proofs.Common.{◌≡◌, ℕ, ◌+◌, ◌-◌, ◌<◌, ◌≤◌, ◌∙◌, ap, arith, subst, sym, length}
-use Rattle.charge_curve.specs.Points.{last_level, time_on}
-use Rattle.dominance.specs.LevelTimes.{IsLevel, LevelTimes, time_at}
+use Rattle.std.proofs.Common.{◌≡◌, ℕ, ◌+◌, ◌<◌, ap, arith, subst, length}
+use Rattle.charge_curve.specs.Points.{last_level}
+use Rattle.dominance.specs.LevelTimes.{IsLevel, LevelTimes}
 use Rattle.dominance.specs.Steps.{charged, IsChargeFrom}
 use Rattle.dominance.proofs.Rows.{AreCharged, charged_is_charge, charged_is_value, charged_past, charged_whole, row, some_charged, time_at-number}
 use Rattle.dominance.proofs.row.Row.charge_from.Goals as goal

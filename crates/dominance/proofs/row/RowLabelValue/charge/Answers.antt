@@ -1,4 +1,4 @@
-use Rattle.std.proofs.Common.{◌≡◌, ℕ, ◌∙◌, ap, arith, length, subst}
+use Rattle.std.proofs.Common.{◌≡◌, ◌∙◌, ap, arith, length, subst}
 use Rattle.dominance.specs.LevelTimes.{LevelTimes}
 use Rattle.dominance.proofs.Rows.{AreCharges, charges_keep, charges_more, every_charge}
 use Rattle.dominance.proofs.row.RowLabelValue.charge.Goals as goal
