@@ -1,20 +1,20 @@
 -- Charging from few levels is enough: each charge is covered by one that begins at a supporting level or ends where it began.
-use Rattle.std.proofs.Common.{◌≡◌, ◌↔◌, ◌∙◌, ℕ, zero, suc, ◌+◌, ◌-◌, ◌<◌, ◌≤◌, Bool, true, false, ◌||◌, ◌⊎◌, refl, sym, ap, subst, List, [], ◌∷◌, ◌++◌, length, take, get_or, arith, inl, inr}
+use Rattle.std.proofs.Common.{◌≡◌, ◌∙◌, ℕ, zero, suc, ◌+◌, ◌-◌, ◌<◌, ◌≤◌, Bool, true, false, ◌||◌, ◌⊎◌, refl, sym, ap, subst, List, [], ◌∷◌, ◌++◌, length, take, get_or, arith, inl, inr}
 use Rattle.std.specs.Prelude.{nat_eq}
 use Rattle.std.specs.List.{All, AllZip, Any, filter, list_any, range_with_len}
 use Rattle.std.proofs.lemmas.Bool.{cases_Bool, cases_eq, cases_lt, eq-eqb, eqb-true, false≢true, or_cases, or_left, or_right}
 use Rattle.std.proofs.lemmas.List.{take_more}
 use Rattle.std.proofs.lemmas.List.Elements.{All-cons, All-head, All-nil, All-tail}
 use Rattle.charge_curve.specs.Points.{ArePoints, IsSlowing, last_level, time_on}
-use Rattle.dominance.specs.Coverage.{levels_of, Reaches, SomeReaches}
-use Rattle.dominance.specs.LevelTimes.{IsLevel, IsValue, LevelTimes, time_at}
-use Rattle.dominance.specs.Steps.{charged, IsCharge, IsChargeFrom}
+use Rattle.dominance.specs.Coverage.{Reaches, SomeReaches}
+use Rattle.dominance.specs.LevelTimes.{IsLevel, LevelTimes, time_at}
+use Rattle.dominance.specs.Steps.{IsCharge, IsChargeFrom}
 use Rattle.dominance.proofs.Pieces.{never_falls}
 use Rattle.piece_fn.specs.PieceFn.{first_level, IsChargeList, IsChargedFrom, is_support, level_times, starts}
 use Rattle.piece_fn.proofs.LeastDifference.{Bends, IsLeastAt, least_at}
 use Rattle.piece_fn.proofs.Straight.{slows, straight}
 use Rattle.piece_fn.proofs.Exact.{first_support, last_support}
-use Rattle.piece_fn.proofs.Levels.{is_level, is_value, level_is, time_at-level_times}
+use Rattle.piece_fn.proofs.Levels.{is_level, level_is, time_at-level_times}
 
 -- the end of a charge by the points
 abbrev by_points : List (ℕ × ℕ) → List (ℕ × ℕ) → ℕ → ℕ → ℕ

@@ -1,7 +1,7 @@
 -- How long one time stays below another: on straight parts up to a quotient, and no further.
-use Rattle.std.proofs.Common.{◌≡◌, ◌∙◌, ◌⊎◌, ℕ, zero, suc, ◌+◌, ◌-◌, ◌*◌, ◌/◌, ◌<◌, ◌≤◌, refl, sym, ap, subst, List, [], ◌∷◌, arith, inl, inr, ◌↔◌, length, get_or}
+use Rattle.std.proofs.Common.{◌≡◌, ◌∙◌, ℕ, zero, suc, ◌+◌, ◌-◌, ◌*◌, ◌/◌, ◌<◌, ◌≤◌, sym, ap, subst, List, [], ◌∷◌, arith, inl, inr, ◌↔◌, length, get_or}
 use Rattle.std.proofs.Math.Nat.{div-mul-le_self, mul-le-mul_left, mul-le-mul_right}
-use Rattle.std.proofs.lemmas.Bool.{cases_lt, cases_eq}
+use Rattle.std.proofs.lemmas.Bool.{cases_lt}
 use Rattle.std.proofs.lemmas.Nat.{le-div}
 use Rattle.charge_curve.specs.Points.{ArePoints, last_level, slope, time_on}
 use Rattle.dominance.proofs.Pieces.{time_on-before, time_on-first, time_on-next}

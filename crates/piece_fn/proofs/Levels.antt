@@ -1,11 +1,10 @@
 -- The levels and times of a value by supporting points.
-use Rattle.std.proofs.Common.{◌≡◌, ◌↔◌, ◌∙◌, ℕ, ◌+◌, ◌-◌, ◌<◌, ◌≤◌, refl, sym, ap, List, [], ◌∷◌, arith, inl, inr, length, map, get_or}
-use Rattle.std.specs.List.{range_with_len}
+use Rattle.std.proofs.Common.{◌≡◌, ◌∙◌, ℕ, ◌+◌, ◌-◌, ◌<◌, ◌≤◌, refl, List, [], ◌∷◌, arith, inl, inr}
 use Rattle.std.proofs.lemmas.Bool.{cases_lt}
 use Rattle.std.proofs.lemmas.List.FromFn.{get_or-map-range_with_len, length-map-range_with_len}
 use Rattle.charge_curve.specs.Points.{ArePoints, last_level, time_on}
 use Rattle.dominance.specs.Coverage.{Reaches}
-use Rattle.dominance.specs.LevelTimes.{IsLevel, IsValue, LevelTimes, time_at}
+use Rattle.dominance.specs.LevelTimes.{IsLevel, IsValue, time_at}
 use Rattle.dominance.proofs.Pieces.{never_falls, time_on-before}
 use Rattle.piece_fn.specs.PieceFn.{first_level, level_times}
 

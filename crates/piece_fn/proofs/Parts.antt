@@ -1,5 +1,5 @@
 -- What is left of points from a level on, moved, up to a limit.
-use Rattle.std.proofs.Common.{◌≡◌, ◌↔◌, ◌∙◌, ℕ, ◌+◌, ◌-◌, ◌*◌, ◌/◌, ◌%◌, ◌<◌, ◌≤◌, max, refl, sym, ap, subst, List, [], ◌∷◌, arith, drop, get_or, inl, inr}
+use Rattle.std.proofs.Common.{◌≡◌, ◌∙◌, ℕ, ◌+◌, ◌-◌, ◌*◌, ◌/◌, ◌<◌, ◌≤◌, max, refl, sym, ap, subst, List, [], ◌∷◌, arith, drop, get_or, inl, inr}
 use Rattle.std.proofs.Math.Nat.{mul-le-mul_left, mul-mod_left, mul-div_cancel, div-mul-le_self, lt-div-mul-add}
 use Rattle.std.proofs.lemmas.Bool.{cases_eq, cases_lt, le-leb, lt-leb, lt-ltb, le-ltb}
 use Rattle.charge_curve.specs.Points.{ArePoints, last_level, slope, time_on}

@@ -1,9 +1,9 @@
 -- Times by supporting points are straight off the supporting levels, and a slowing list bends upward alone.
-use Rattle.std.proofs.Common.{◌≡◌, ◌≢◌, ◌∙◌, ℕ, zero, suc, ◌+◌, ◌-◌, ◌*◌, ◌<◌, ◌≤◌, Bool, true, false, ◌||◌, refl, sym, ap, subst, List, [], ◌∷◌, arith, inl, inr}
+use Rattle.std.proofs.Common.{◌≡◌, ◌≢◌, ◌∙◌, ℕ, zero, suc, ◌+◌, ◌-◌, ◌*◌, ◌<◌, ◌≤◌, Bool, false, ◌||◌, refl, sym, subst, List, [], ◌∷◌, arith, inl, inr}
 use Rattle.std.specs.Prelude.{nat_eq}
 use Rattle.std.proofs.lemmas.Bool.{cases_eq, cases_lt, eq-eqb, or_parts, false≢true}
 use Rattle.charge_curve.specs.Points.{ArePoints, IsSlowing, last_level, slope, time_on}
-use Rattle.dominance.proofs.Pieces.{never_falls, piece_end, time_on-first, time_on-later}
+use Rattle.dominance.proofs.Pieces.{piece_end, time_on-first, time_on-later}
 use Rattle.piece_fn.specs.PieceFn.{is_support}
 
 scaled_sum : (a m d : ℕ) → 0 < d → (a + m * (d + 1)) + (a + m * (d - 1)) ≡ 2 * (a + m * d)

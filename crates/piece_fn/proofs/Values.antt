@@ -1,11 +1,10 @@
 -- What the parts of points mean as values.
-use Rattle.std.proofs.Common.{◌≡◌, ◌↔◌, ◌∙◌, ℕ, ◌+◌, ◌-◌, ◌<◌, ◌≤◌, max, min, refl, sym, ap, subst, List, [], ◌∷◌, length, get_or, arith, inl, inr}
-use Rattle.std.proofs.lemmas.Bool.{cases_lt}
+use Rattle.std.proofs.Common.{◌≡◌, ◌∙◌, ℕ, ◌+◌, ◌-◌, ◌<◌, min, refl, sym, ap, List, [], ◌∷◌, get_or, arith}
 use Rattle.charge_curve.specs.Points.{ArePoints, last_level, time_on}
 use Rattle.charge_curve.specs.Scaled.{BeginsEmpty}
 use Rattle.dominance.specs.Coverage.{Reaches}
-use Rattle.dominance.specs.LevelTimes.{IsLevel, LevelTimes, time_at}
-use Rattle.dominance.specs.Steps.{charged, IsChargeFrom, IsShift, NothingLeft}
+use Rattle.dominance.specs.LevelTimes.{IsLevel, time_at}
+use Rattle.dominance.specs.Steps.{IsChargeFrom, IsShift, NothingLeft}
 use Rattle.dominance.proofs.Pieces.{never_falls, time_on-before}
 use Rattle.piece_fn.specs.PieceFn.{first_level, IsReach, level_times}
 use Rattle.piece_fn.specs.Reach.{LastsTo}

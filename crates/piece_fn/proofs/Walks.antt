@@ -1,5 +1,5 @@
 -- Lists of points, walked from piece to piece.
-use Rattle.std.proofs.Common.{◌≡◌, ◌↔◌, ◌∙◌, ℕ, zero, suc, ◌+◌, ◌-◌, ◌*◌, ◌%◌, ◌<◌, ◌≤◌, Bool, true, false, ◌&&◌, not, ◌||◌, refl, sym, ap, subst, List, [], ◌∷◌, length, length-drop, drop, get_or, arith, inl, inr}
+use Rattle.std.proofs.Common.{◌≡◌, ◌∙◌, ℕ, zero, suc, ◌+◌, ◌-◌, ◌%◌, ◌<◌, ◌≤◌, Bool, true, false, ◌&&◌, not, ◌||◌, refl, sym, ap, subst, List, [], ◌∷◌, length, drop, get_or, arith, inl, inr}
 use Rattle.std.specs.List.{list_all}
 use Rattle.std.specs.Prelude.{nat_eq, nat_le, nat_lt}
 use Rattle.std.proofs.Math.Seq.{drop-cons}
@@ -8,7 +8,6 @@ use Rattle.charge_curve.specs.Points.{ArePoints, last_level, time_on}
 use Rattle.charge_curve.proofs.Denominators.{two_from}
 use Rattle.dominance.proofs.Pieces.{time_on-later}
 use Rattle.piece_fn.specs.Cuts.{are_points, from_piece, IsBeforeSecond, IsOnFirst, is_step, point_is_reached, point_reaches}
-use Rattle.piece_fn.specs.PieceFn.{first_level}
 
 pub some_point : (ps : List (ℕ × ℕ)) → ArePoints ps → 0 < length ps
 some_point [] are = absurd are

@@ -1,5 +1,5 @@
 -- Lists of supporting points, walked and cut.
-use Rattle.std.specs.Prelude.{◌≡◌, ℕ, ◌+◌, ◌-◌, ◌*◌, ◌/◌, ◌%◌, ◌<◌, ◌≤◌, Bool, true, false, ◌&&◌, ◌||◌, not, List, [], ◌∷◌, ◌++◌, map, max, nat_eq, nat_le, nat_lt, if◌then◌else◌}
+use Rattle.std.specs.Prelude.{ℕ, ◌+◌, ◌-◌, ◌*◌, ◌/◌, ◌%◌, ◌<◌, ◌≤◌, Bool, true, false, ◌&&◌, ◌||◌, not, List, [], ◌∷◌, ◌++◌, map, max, nat_eq, nat_le, nat_lt, if◌then◌else◌}
 use Rattle.std.specs.List.{filter, list_all}
 use Rattle.charge_curve.specs.Points.{last_level, slope, time_on}
 use Rattle.piece_fn.specs.PieceFn.{first_level}

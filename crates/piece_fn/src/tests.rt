@@ -1,3 +1,5 @@
+ghost use Rattle.std.specs.Prelude.{◌<◌};
+
 use crate::PieceFn;
 use charge_curve::Curve;
 use dominance::{Covers, LabelValue, Row};
@@ -39,4 +41,94 @@ fn a_value_steps_along_an_arc_and_charges(rt: HostRuntime) {
     assert_eq!(rt; f.least(), (7, 16));
     assert!(rt; PieceFn::is_points(f.points()));
     assert!(rt; !PieceFn::is_points(&[(7, 16), (9, 17)]));
+}
+
+/// Three points with small levels and times, for each number below 288.
+fn points_of(number: u64) -> [(u64, u64); 3]
+    requires { number < 288 }
+{
+    let first = (number % 3, number / 144);
+    let second = (
+        first.0 + 1 + number / 3 % 2,
+        first.1 + (1 + number / 3 % 2) * (number / 6 % 3),
+    );
+    let third = (
+        second.0 + 1 + number / 18 % 2,
+        second.1 + (1 + number / 18 % 2) * (number / 36 % 4),
+    );
+    [first, second, third]
+}
+
+/// The value as a plain row of times, if its times are in order. Its levels are below 12.
+fn row_of(alloc: Global, value: &PieceFn) -> Result<Option<Row>, AllocError> {
+    let mut times = Vec::new(alloc);
+    for level in 0..12 {
+        if let Some(time) = value.at(level) {
+            times.push(time)?;
+        }
+    }
+    let (first, _) = value.least();
+    let times = times.as_slice();
+    if times.is_empty() || !times.is_sorted() {
+        return Ok(None);
+    }
+    Ok(Some(Row::from_times(alloc, first, times)?))
+}
+
+/// Whether the value has the row's time at each level, and no other levels below 12.
+fn is_row(value: &PieceFn, row: &Row) -> bool {
+    let (first, _) = row.least();
+    for level in 0..12 {
+        let time = if level < first {
+            None
+        } else {
+            row.times().get((level - first) as usize).copied()
+        };
+        if value.at(level) != time {
+            return false;
+        }
+    }
+    true
+}
+
+/// Whether both are the same after an arc.
+fn shifts_alike(value: &PieceFn, row: &Row, limit: u64) -> Result<bool, AllocError> {
+    let left = value.shift(2, 1, limit)?;
+    let row_left = row.shift(2, 1, limit)?;
+    match (left, row_left) {
+        (None, None) => Ok(true),
+        (Some(left), Some(row_left)) => Ok(is_row(&left, &row_left)),
+        _ => Ok(false),
+    }
+}
+
+/// Whether both cover, and are covered, alike.
+fn covers_alike(value: &PieceFn, row: &Row, other: &PieceFn, other_row: &Row) -> bool {
+    for extra in 0..3 {
+        if value.covers(other, extra) != row.covers(other_row, extra) {
+            return false;
+        }
+        if other.covers(value, extra) != other_row.covers(row, extra) {
+            return false;
+        }
+    }
+    value.least() == row.least()
+}
+
+#[test]
+fn few_points_and_plain_rows_agree(rt: HostRuntime) {
+    let alloc = rt.alloc();
+    let other = PieceFn::from_points(alloc, &[(1, 1), (3, 3), (4, 6)]).expect(&rt, "memory");
+    let other_row = Row::from_times(alloc, 1, &[1, 2, 3, 6]).expect(&rt, "memory");
+    for number in 0..288 {
+        let points = points_of(number);
+        assert!(rt; PieceFn::is_points(&points));
+        let value = PieceFn::from_points(alloc, &points).expect(&rt, "memory");
+        let row = row_of(alloc, &value)
+            .expect(&rt, "memory")
+            .expect(&rt, "times in order");
+        assert!(rt; is_row(&value, &row));
+        assert!(rt; shifts_alike(&value, &row, 6).expect(&rt, "memory"));
+        assert!(rt; covers_alike(&value, &row, &other, &other_row));
+    }
 }

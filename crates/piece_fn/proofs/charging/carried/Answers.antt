@@ -1,8 +1,7 @@
-use Rattle.std.proofs.Common.{◌≡◌, ℕ, ◌+◌, ◌-◌, ◌≤◌, ◌∷◌, ◌++◌, ◌∙◌, [], List, ap, arith, drop, get_or, max, subst, sym}
-use Rattle.charge_curve.specs.Points.{ArePoints, last_level, time_on}
-use Rattle.piece_fn.specs.Cuts.{begun_at, from_piece, moved, tail_to, up_to}
-use Rattle.piece_fn.specs.PieceFn.{first_level}
-use Rattle.piece_fn.proofs.Parts.{begun_above, begun_moved, begun_points, is_start, IsStart, moved_begun}
+use Rattle.std.proofs.Common.{◌≡◌, ℕ, ◌+◌, ◌-◌, ◌∷◌, ◌++◌, ◌∙◌, [], List, ap, arith, drop, get_or, max, subst, sym}
+use Rattle.charge_curve.specs.Points.{ArePoints, time_on}
+use Rattle.piece_fn.specs.Cuts.{begun_at, moved, tail_to, up_to}
+use Rattle.piece_fn.proofs.Parts.{begun_above, begun_moved, begun_points, is_start, moved_begun}
 use Rattle.piece_fn.proofs.Walks.{some_point}
 use Rattle.piece_fn.proofs.charging.carried.Goals as goal
 

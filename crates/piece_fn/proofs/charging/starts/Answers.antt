@@ -1,4 +1,4 @@
-use Rattle.std.proofs.Common.{◌≡◌, ℕ, ◌-◌, ◌++◌, ◌∙◌, [], ◌∷◌, ap, arith, drop, get_or, length, sym}
+use Rattle.std.proofs.Common.{◌≡◌, ◌-◌, ◌++◌, ◌∙◌, ap, arith, drop, length, sym}
 use Rattle.piece_fn.specs.Cuts.{supports}
 use Rattle.piece_fn.proofs.Starts.{supports_are_starts, supports_end}
 use Rattle.piece_fn.proofs.Walks.{some_point}

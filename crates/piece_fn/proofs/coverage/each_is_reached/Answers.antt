@@ -1,8 +1,6 @@
 use Rattle.std.proofs.Common.{◌≡◌, ◌+◌, ℕ, Bool, List, ◌∙◌, ap, drop, false, get_or, sym, true}
 use Rattle.std.specs.List.{list_all}
-use Rattle.charge_curve.specs.Points.{last_level}
 use Rattle.piece_fn.specs.Cuts.{from_piece, point_is_reached}
-use Rattle.piece_fn.specs.PieceFn.{first_level}
 use Rattle.piece_fn.proofs.Walks.{Agrees, fail_on, from_piece-on_first, from_piece-points, pass_on, reached_agrees}
 use Rattle.piece_fn.proofs.coverage.each_is_reached.Goals as goal
 

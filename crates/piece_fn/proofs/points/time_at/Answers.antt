@@ -1,6 +1,5 @@
-use Rattle.std.proofs.Common.{◌∙◌, ◌≤◌, arith, sym, ap}
-use Rattle.charge_curve.specs.Points.{ArePoints, time_on}
-use Rattle.piece_fn.specs.Cuts.{IsOnFirst}
+use Rattle.std.proofs.Common.{◌∙◌, arith, ap}
+use Rattle.charge_curve.specs.Points.{time_on}
 use Rattle.piece_fn.proofs.Walks.{from_piece-on_first, from_piece-points, time_on-from_piece}
 use Rattle.piece_fn.proofs.points.time_at.Goals as goal
 

@@ -1,4 +1,4 @@
-use Rattle.std.proofs.Common.{◌≡◌, ◌+◌, ◌-◌, ◌/◌, ◌<◌, ◌≤◌, arith, refl, subst, sym}
+use Rattle.std.proofs.Common.{◌≡◌, ◌+◌, ◌-◌, ◌/◌, ◌<◌, arith, refl, subst, sym}
 use Rattle.std.proofs.lemmas.Bool.{leb-false, leb-true}
 use Rattle.charge_curve.specs.Points.{time_on}
 use Rattle.piece_fn.specs.Reach.{LastsTo}

@@ -1,5 +1,5 @@
-use Rattle.std.proofs.Common.{◌≡◌, ◌≤◌, ◌<◌, ◌∙◌, ap, arith, get_or, subst, sym}
-use Rattle.charge_curve.specs.Points.{ArePoints, last_level, time_on}
+use Rattle.std.proofs.Common.{◌≤◌, ◌<◌, ◌∙◌, ap, arith, get_or, sym}
+use Rattle.charge_curve.specs.Points.{last_level, time_on}
 use Rattle.piece_fn.proofs.Levels.{is_level, level_is, time_at-level_times}
 use Rattle.piece_fn.proofs.Values.{first_level-get_or}
 use Rattle.piece_fn.proofs.piece_fn.PieceFn.at.Goals as goal

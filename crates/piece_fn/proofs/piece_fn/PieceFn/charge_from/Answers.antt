@@ -1,8 +1,6 @@
-use Rattle.std.proofs.Common.{◌≡◌, ◌+◌, ◌-◌, ◌≤◌, ◌∙◌, ap, arith, max, subst, sym}
-use Rattle.charge_curve.specs.Points.{ArePoints, last_level, time_on}
-use Rattle.dominance.specs.LevelTimes.{time_at}
+use Rattle.std.proofs.Common.{◌∙◌, ap, arith, subst, sym}
+use Rattle.charge_curve.specs.Points.{time_on}
 use Rattle.piece_fn.specs.Cuts.{begun_at, from_piece, moved, up_to}
-use Rattle.piece_fn.specs.PieceFn.{level_times}
 use Rattle.piece_fn.proofs.Levels.{time_at-level_times}
 use Rattle.piece_fn.proofs.Parts.{is_part, IsPart}
 use Rattle.piece_fn.proofs.Values.{part_is_charge}

@@ -1,6 +1,6 @@
-use Rattle.std.proofs.Common.{◌≡◌, ◌+◌, ◌≤◌, ◌<◌, ◌∙◌, ap, arith, min, subst, sym}
+use Rattle.std.proofs.Common.{◌≡◌, ◌∙◌, ap, arith, min, subst, sym}
 use Rattle.std.proofs.lemmas.Bool.{leb-false}
-use Rattle.charge_curve.specs.Points.{ArePoints, last_level, time_on}
+use Rattle.charge_curve.specs.Points.{last_level, time_on}
 use Rattle.piece_fn.specs.Reach.{LastsTo}
 use Rattle.piece_fn.proofs.Values.{is_reach, not_reached_late, not_reached_past}
 use Rattle.piece_fn.proofs.piece_fn.PieceFn.reach.Goals as goal

@@ -1,8 +1,7 @@
-use Rattle.std.proofs.Common.{◌≡◌, ℕ, ◌+◌, ◌<◌, ◌≤◌, ◌∙◌, List, ap, arith, get_or, length, subst, sym, take}
-use Rattle.std.specs.List.{All}
+use Rattle.std.proofs.Common.{◌≡◌, ℕ, ◌<◌, ◌∙◌, List, ap, get_or, length, subst, sym}
 use Rattle.std.proofs.lemmas.List.{take_all}
 use Rattle.std.proofs.lemmas.List.Elements.{All-get_or, All-push, All-weaker}
-use Rattle.charge_curve.specs.Points.{ArePoints, last_level}
+use Rattle.charge_curve.specs.Points.{ArePoints}
 use Rattle.dominance.specs.LevelTimes.{IsLevel, IsValue}
 use Rattle.dominance.proofs.Pieces.{never_falls}
 use Rattle.dominance.proofs.Rows.{charges_keep}

@@ -1,4 +1,4 @@
-use Rattle.std.proofs.Common.{◌≡◌, ◌∙◌, ap, sym, true}
+use Rattle.std.proofs.Common.{◌∙◌, ap, sym}
 use Rattle.piece_fn.specs.Cuts.{covers_at_points}
 use Rattle.piece_fn.proofs.Exact.{exact}
 use Rattle.piece_fn.proofs.piece_fn.PieceFnLabelValue.covers.Goals as goal

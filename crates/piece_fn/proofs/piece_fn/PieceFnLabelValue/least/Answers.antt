@@ -1,6 +1,4 @@
-use Rattle.std.proofs.Common.{◌≡◌, ◌∙◌, ap, get_or, sym}
-use Rattle.dominance.specs.LevelTimes.{time_at}
-use Rattle.piece_fn.specs.PieceFn.{level_times}
+use Rattle.std.proofs.Common.{◌∙◌, sym}
 use Rattle.piece_fn.proofs.Levels.{first-level_times, is_value}
 use Rattle.piece_fn.proofs.Values.{first_level-get_or, first_time-get_or}
 use Rattle.piece_fn.proofs.piece_fn.PieceFnLabelValue.least.Goals as goal

@@ -1,8 +1,8 @@
-use Rattle.std.proofs.Common.{◌≡◌, ℕ, ◌+◌, ◌-◌, ◌<◌, ◌≤◌, ◌∙◌, ap, arith, max, subst, sym}
+use Rattle.std.proofs.Common.{◌∙◌, ap, arith, subst, sym}
 use Rattle.std.proofs.lemmas.Bool.{leb-false, leb-true}
-use Rattle.charge_curve.specs.Points.{ArePoints, last_level, time_on}
+use Rattle.charge_curve.specs.Points.{last_level, time_on}
 use Rattle.dominance.specs.Laws.{shift_keeps, shift_keeps_some}
-use Rattle.dominance.specs.Steps.{IsShift, NothingLeft}
+use Rattle.dominance.specs.Steps.{IsShift}
 use Rattle.piece_fn.specs.Cuts.{begun_at, from_piece, moved, up_to}
 use Rattle.piece_fn.specs.PieceFn.{level_times}
 use Rattle.piece_fn.proofs.Levels.{is_value}
