@@ -1,0 +1,3 @@
+pub mod CustSet
+pub mod Members
+pub mod Restored

@@ -1,0 +1,10 @@
+pub mod LeastDifference
+pub mod Straight
+pub mod Levels
+pub mod Exact
+pub mod Walks
+pub mod Parts
+pub mod Charges
+pub mod Starts
+pub mod Lasting
+pub mod Values

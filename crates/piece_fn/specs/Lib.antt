@@ -1,0 +1,3 @@
+pub mod PieceFn
+pub mod Cuts
+pub mod Reach
