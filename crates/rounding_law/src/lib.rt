@@ -16,3 +16,6 @@ pub use laws::{
     whole_levels_add_up, whole_plans_suffice,
 };
 pub use rounding::rounded;
+
+#[cfg(test)]
+mod tests;
