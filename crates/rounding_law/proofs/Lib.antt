@@ -4,4 +4,3 @@ pub mod Shape
 pub mod Whole
 pub mod Begin
 pub mod Fastest
-pub mod Halves
