@@ -4,4 +4,5 @@ pub mod Shape
 pub mod Whole
 pub mod Begin
 pub mod Fastest
+pub mod Only
 pub mod Halves
