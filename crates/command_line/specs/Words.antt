@@ -58,10 +58,14 @@ options_of other = None
 abbrev pub is_fixed : List ℕ → List ℕ → List ℕ → Bool
 is_fixed command file route = bytes_eq command (codes "fixed") && is_plain file && is_plain route
 
+-- the job of these words with these options
+abbrev pub job_with : List ℕ → List ℕ → Options → FixedJob
+job_with file route options = record { file = file; route = route; options = options }
+
 -- the job of the words, if they name one
 abbrev pub job_of : List (List ℕ) → Option FixedJob
 job_of (command ∷ file ∷ route ∷ words) =
     if is_fixed command file route
-    then option_map (λ options. record { file = file; route = route; options = options }) (options_of words)
+    then option_map (job_with file route) (options_of words)
     else None
 job_of other = None

@@ -1,8 +1,8 @@
 //! The words of the command line, and the job that they name.
 #![tactic(auto)]
 
-ghost use Rattle.std.specs.Prelude.{◌≡◌, map, option_map, string_bytes};
-ghost use Rattle.command_line.specs.Words.{is_fixed, is_plain, job_of, number_of, with_option};
+ghost use Rattle.std.specs.Prelude.{◌≡◌, None, if◌then◌else◌, map, option_map, string_bytes};
+ghost use Rattle.command_line.specs.Words.{is_fixed, is_plain, job_of, job_with, number_of, with_option};
 
 use ev_text::Scan;
 
@@ -24,39 +24,63 @@ const NO_OPTIONS: Options = Options {
 /// The greatest value of an option.
 const GREATEST_VALUE: u128 = 1_000_000_000_000_000_000;
 
-/// The options of the words `fixed FILE ROUTE [--limit N] [--charge N]`, where FILE is the second word and
-/// ROUTE the third. `None` comes exactly where the words are no such job.
+/// The words of the job `fixed`: the file, the word of the route, and the options.
+#[derive(Clone, Copy, Debug, Drop)]
+pub struct FixedWords<'a> {
+    pub file: &'a str,
+    pub route: &'a str,
+    pub options: Options,
+}
+
+/// The job of the words `fixed FILE ROUTE [--limit N] [--charge N]`. `None` comes exactly where the words are
+/// no such job.
 ///
 /// The options stand behind the route, each at most once, a name and its number as two words. FILE and
 /// ROUTE do not begin with `-`.
-pub fn fixed_options(words: &[String]) -> Option<Options>
-    ensures { result ≡ option_map (λ job. job.options) (job_of (map (λ word. string_bytes word) words.now)) }
+pub fn fixed_words(words: &[String]) -> Option<FixedWords<'_>>
+    ensures { option_map (λ w. job_with w.file.now w.route.now w.options) result ≡ job_of (map (λ word. string_bytes word) words.now) }
 {
     match words {
-        [command, file, route] => {
-            if is_fixed(command.as_str(), file.as_str(), route.as_str()) {
-                Some(NO_OPTIONS)
-            } else {
-                None
-            }
-        }
+        [command, file, route] => named(
+            command.as_str(),
+            file.as_str(),
+            route.as_str(),
+            Some(NO_OPTIONS),
+        ),
         [command, file, route, name, value] => {
-            if is_fixed(command.as_str(), file.as_str(), route.as_str()) {
-                with_option(NO_OPTIONS, name.as_str(), value.as_str())
-            } else {
-                None
-            }
+            let options = with_option(NO_OPTIONS, name.as_str(), value.as_str());
+            named(command.as_str(), file.as_str(), route.as_str(), options)
         }
         [command, file, route, name, value, other_name, other_value] => {
-            if !is_fixed(command.as_str(), file.as_str(), route.as_str()) {
-                return None;
-            }
-            match with_option(NO_OPTIONS, name.as_str(), value.as_str()) {
+            let options = match with_option(NO_OPTIONS, name.as_str(), value.as_str()) {
                 Some(options) => with_option(options, other_name.as_str(), other_value.as_str()),
                 None => None,
-            }
+            };
+            named(command.as_str(), file.as_str(), route.as_str(), options)
         }
         _ => None,
+    }
+}
+
+/// The job of these words, where their options may stand.
+fn named<'a>(
+    command: &str,
+    file: &'a str,
+    route: &'a str,
+    options: Option<Options>,
+) -> Option<FixedWords<'a>>
+    ensures { option_map (λ w. job_with w.file.now w.route.now w.options) result ≡ (if is_fixed command.now file.now route.now then option_map (job_with file.now route.now) options else None) }
+{
+    if !is_fixed(command, file, route) {
+        return None;
+    }
+    match options {
+        Some(options) => Some(FixedWords {
+            file,
+            route,
+            options,
+        }),
+        None => None,
     }
 }
 

@@ -1,4 +1,4 @@
-use crate::{Options, fixed_options};
+use crate::{Options, fixed_words};
 use std::alloc::{AllocError, Global};
 
 /// The options of a line of words that are parted by single spaces.
@@ -7,7 +7,7 @@ fn options_of(alloc: Global, line: &str) -> Result<Option<Options>, AllocError> 
     for word in line.split(' ') {
         words.push(String::from_str(alloc, word)?)?;
     }
-    Ok(fixed_options(words.as_slice()))
+    Ok(fixed_words(words.as_slice()).map(|job| job.options))
 }
 
 #[test]

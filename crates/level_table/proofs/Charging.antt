@@ -1,9 +1,9 @@
 -- Times of charging in whole units.
-use Rattle.std.proofs.Common.{◌≡◌, ◌∙◌, ℕ, ◌+◌, ◌-◌, ◌<◌, ◌≤◌, List, Option, Some, None, length, get_or, refl, sym, subst, inl, inr, arith}
+use Rattle.std.proofs.Common.{◌≡◌, ℕ, ◌+◌, ◌-◌, ◌≤◌, List, Option, Some, None, length, refl, sym, subst, inl, inr, arith}
 use Rattle.std.proofs.lemmas.Bool.{cases_lt}
 use Rattle.std.proofs.lemmas.List.{get_or_past}
 use Rattle.std.proofs.lemmas.List.Elements.{All-get_or}
-use Rattle.ev_model.specs.Curve.{Rises, charge_time, charge_time_in}
+use Rattle.ev_model.specs.Curve.{Rises, charge_time}
 use Rattle.ev_model.specs.Network.{HasFittingCurve, IsNetwork, Network, curve_at}
 use Rattle.std.specs.Option.{IsSome}
 use Rattle.charge_curve.specs.Points.{time_on}
@@ -59,3 +59,9 @@ station-charging g node scaled a b is low high =
 -- a station's node has a curve
 pub station-has_curve : (g : Network) (node : ℕ) (scaled : List (ℕ × ℕ)) → IsCurveAt g node scaled → IsSome (curve_at g node)
 station-has_curve g node scaled is = rw is.1 refl
+
+-- a station's scaled curve takes no less time to a higher level
+pub station-rises : (g : Network) (node : ℕ) (scaled : List (ℕ × ℕ)) (a b : ℕ) → IsNetwork g → IsCurveAt g node scaled → a ≤ b → b ≤ g.capacity → time_on scaled a ≤ time_on scaled b
+station-rises g node scaled a b network is le high =
+    let up = charge_time-rises g.denominator is.0 a b (curve-rises g network node is.0 is.1) le in
+    rw (is.2.times a (omega arith), is.2.times b high) up

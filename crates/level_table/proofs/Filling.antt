@@ -1,9 +1,8 @@
 -- Facts about tables: sizes, and what a better cell changes.
-use Rattle.std.proofs.Common.{◌≡◌, ◌∙◌, ℕ, zero, suc, ◌+◌, ◌-◌, ◌*◌, ◌^◌, ◌<◌, ◌≤◌, ◌++◌, List, [], ◌∷◌, Option, Some, None, length, get_or, refl, sym, ap, arith, length-append}
+use Rattle.std.proofs.Common.{◌≡◌, ◌∙◌, ℕ, zero, suc, ◌+◌, ◌-◌, ◌*◌, ◌^◌, ◌<◌, ◌≤◌, List, [], ◌∷◌, Option, Some, None, length, refl, sym, ap, arith, length-append}
 use Rattle.std.proofs.Math.Nat.{mul-le-mul_left, mul-le-mul_right}
-use Rattle.std.specs.List.{count_by}
 use Rattle.std.proofs.lemmas.List.Sums.{count_by-le-length, sum_by-cons}
-use Rattle.std.specs.Prelude.{nat_lt, cond, set, false, true, Bool, MatchOption, IsTrue, ◌↔◌}
+use Rattle.std.specs.Prelude.{nat_lt, cond, set, false, true, MatchOption, IsTrue, ◌↔◌}
 use Rattle.std.proofs.Common.{◌⊎◌, ◌≢◌, inl, inr, subst, length-set}
 use Rattle.std.proofs.lemmas.Bool.{cases_lt}
 use Rattle.std.proofs.lemmas.Bool.Decides.{nat_tests}
@@ -12,8 +11,8 @@ use Rattle.std.proofs.lemmas.List.Sums.{sum_by-set}
 use Rattle.ev_model.specs.Network.{Network, scaled_limit}
 use Rattle.ev_model.specs.Route.{IsRoute}
 use Rattle.level_table.specs.Answer.{cell_count, stations}
-use Rattle.level_table.specs.Cells.{IsClosedAt, IsNoFarther, IsOffer, IsSupported, IsTable, cell_at, nearer_count, offer_rank, rank_at, rank_over, total_rank}
-use Rattle.level_table.specs.Moves.{CanMove, move_time, place_after}
+use Rattle.level_table.specs.Cells.{IsClosedAt, IsNoFarther, IsOffer, IsSupported, IsTable, cell_at, nearer_count, rank_at, rank_over, total_rank}
+use Rattle.level_table.specs.Moves.{place_after}
 use Rattle.level_table.specs.Places.{IsTrip, index_of, place_of}
 use Rattle.level_table.specs.declared.moves.Move.{Move}
 use Rattle.level_table.specs.declared.offers.Offer.{Offer}
@@ -133,9 +132,8 @@ same_or_not a b = elim (cases_lt a b) [
 
 -- a cell of the table takes a nearer way home
 module _ (g : Network) (route nodes : List ℕ) (cells : List (Option Reach)) (index : ℕ) (offer : Offer)
-  (trip : IsTrip g route nodes) (table : IsTable g route cells) (below : index < cell_count g route)
-  (is_offer : IsOffer g route cells (place_of g index) offer) (nearer : rank offer.reach < rank_at g cells index) where
-
+    (trip : IsTrip g route nodes) (table : IsTable g route cells) (below : index < cell_count g route)
+    (is_offer : IsOffer g route cells (place_of g index) offer) (nearer : rank offer.reach < rank_at g cells index) where
   abbrev better : List (Option Reach)
   better = set cells index (Some offer.reach)
 
@@ -199,8 +197,8 @@ module _ (g : Network) (route nodes : List ℕ) (cells : List (Option Reach)) (i
   better-table = record {
     count = length-set cells index (Some offer.reach) ∙ table.count;
     home = λ i from within.
-      at_other i (λ same. absurd (omega (arith, same)))
-      ∙ table.home i from (let same : length better ≡ length cells = length-set cells index (Some offer.reach) in omega (arith, within, same));
+        at_other i (λ same. absurd (omega (arith, same)))
+        ∙ table.home i from (let same : length better ≡ length cells = length-set cells index (Some offer.reach) in omega (arith, within, same));
     in_time = λ i r is. elim (same_or_not i index) [
       | inl same ↦ subst (λ (x : Reach). x.time ≤ scaled_limit g) (same_reach r (subst (λ (j : ℕ). cell_at better j ≡ Some r) same is)) is_offer.in_time
       | inr other ↦ table.in_time i r (sym (at_other i other) ∙ is)

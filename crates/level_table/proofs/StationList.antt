@@ -1,14 +1,14 @@
 -- The nodes that have a curve.
-use Rattle.std.proofs.Common.{◌≡◌, ◌∙◌, ℕ, zero, suc, ◌+◌, ◌-◌, ◌<◌, ◌≤◌, List, [], ◌∷◌, ◌++◌, Option, Some, None, Bool, true, false, cond, length, filter, get_or, is_some, refl, sym, ap, subst, inl, inr, arith}
+use Rattle.std.proofs.Common.{◌≡◌, ◌∙◌, ℕ, zero, suc, ◌+◌, ◌<◌, List, [], ◌∷◌, ◌++◌, Option, Some, None, Bool, true, false, length, filter, get_or, is_some, refl, ap, inl, inr, arith}
 use Rattle.std.specs.Prelude.{MatchOption}
 use Rattle.instance_reader.specs.Instance.{IsCurveAt}
 use Rattle.std.specs.Option.{IsSome}
 use Rattle.std.specs.List.{All, range_with_len}
-use Rattle.std.proofs.lemmas.Bool.{cases_Bool, cases_lt}
+use Rattle.std.proofs.lemmas.Bool.{cases_Bool}
 use Rattle.std.proofs.lemmas.List.{append-nil, map-id}
 use Rattle.std.proofs.lemmas.List.Elements.{All-filter, All-from_get_or, All-get_or, filter-append}
 use Rattle.std.proofs.lemmas.List.FromFn.{get_or-range_with_len, length-range_with_len, map-range_with_len_more}
-use Rattle.ev_model.specs.Network.{IsNetwork, Network, curve_at, node_count}
+use Rattle.ev_model.specs.Network.{Network, curve_at, node_count}
 use Rattle.level_table.specs.Answer.{stations}
 
 passes_head : (p : ℕ → Bool) (x : ℕ) (ys : List ℕ) (j : ℕ) → p x ≡ true → ((i : ℕ) → i < length ys → p (get_or ys i 0) ≡ true) →

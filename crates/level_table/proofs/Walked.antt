@@ -1,24 +1,23 @@
 -- A walk of best moves: whatever the vehicle may still do makes a plan with what it has done.
-use Rattle.std.proofs.Common.{◌≡◌, ◌≢◌, ◌∙◌, ◌⊎◌, ℕ, zero, suc, ◌+◌, ◌-◌, ◌*◌, ◌^◌, ◌<◌, ◌≤◌, List, [], ◌∷◌, ◌++◌, Option, Some, None, Bool, true, false, length, get_or, drop, nat_eq, refl, sym, ap, subst, inl, inr, arith, append_assoc, length-append, length-drop}
+use Rattle.std.proofs.Common.{◌≡◌, ◌∙◌, ◌⊎◌, ℕ, zero, suc, ◌+◌, ◌-◌, ◌*◌, ◌^◌, ◌<◌, ◌≤◌, List, [], ◌∷◌, ◌++◌, Option, Some, None, Bool, true, false, length, get_or, drop, refl, sym, ap, subst, inl, inr, arith, append_assoc, length-append, length-drop}
 use Rattle.std.specs.Option.{IsSome, IfSome}
-use Rattle.std.specs.Prelude.{nat_lt, IsTrue}
+use Rattle.std.specs.Prelude.{nat_lt}
 use Rattle.std.proofs.lemmas.Bool.Decides.{nat_tests}
-use Rattle.std.proofs.lemmas.Bool.{cases_lt}
 use Rattle.std.proofs.lemmas.List.{get_or_push}
 use Rattle.std.proofs.Math.Seq.{drop-cons}
 use Rattle.std.proofs.Math.ListN.{drop_of_length-le}
 use Rattle.std.proofs.lemmas.List.Elements.{All-get_or}
 use Rattle.ev_model.specs.Feasible.{IsFeasible}
 use Rattle.ev_model.specs.Levels.{KeepsBattery, KeepsBatteryFrom}
-use Rattle.ev_model.specs.Network.{IsNetwork, Network, curve_at, energy, node_count, process_time, scaled_limit, travel_time}
-use Rattle.ev_model.specs.Plan.{AreStopsFrom, EndsAtDepot, IsEnd, IsPlanIn, IsStop}
-use Rattle.ev_model.specs.Route.{FollowsRoute, IsRoute, route_of}
+use Rattle.ev_model.specs.Network.{Network, curve_at, energy, node_count, process_time, scaled_limit, travel_time}
+use Rattle.ev_model.specs.Plan.{AreStopsFrom, EndsAtDepot, IsPlanIn}
+use Rattle.ev_model.specs.Route.{FollowsRoute, route_of}
 use Rattle.ev_model.specs.Time.{charging_time, time_from, time_of}
 use Rattle.ev_model.specs.declared.Stop.{Stop}
-use Rattle.level_table.specs.Answer.{cell_count, stations}
-use Rattle.level_table.specs.Cells.{IsNoFarther, IsOffer, IsSupported, IsTable, cell_at, offer_rank, rank_at, rank_over}
+use Rattle.level_table.specs.Answer.{stations}
+use Rattle.level_table.specs.Cells.{IsNoFarther, IsOffer, IsSupported, IsTable, cell_at, offer_rank, rank_at}
 use Rattle.level_table.specs.Moves.{CanMove, move_time, next_node, node_of, passed_after, place_after}
-use Rattle.level_table.specs.Places.{IsHome, IsPlace, IsTrip, index_of, node_at, place_of}
+use Rattle.level_table.specs.Places.{IsHome, IsPlace, IsTrip, index_of, node_at}
 use Rattle.level_table.specs.Reach.{rank, rank_of}
 use Rattle.level_table.specs.Walk.{start_place, stop_after, stops_after}
 use Rattle.level_table.specs.declared.moves.Move.{Move}
@@ -114,7 +113,6 @@ inserted-curve g route passed (suc j) few via =
     rw (not_zero j) (subst (λ (x : ℕ). IsSome (curve_at g (get_or (stations g) x 0))) (sym same) (station-curve g j (omega arith)))
 
 module _ (g : Network) (route nodes : List ℕ) (start : ℕ) (cells : List (Option Reach)) (trip : IsTrip g route nodes) (table : IsTable g route cells) where
-
   -- charging one unit is a part of what the vehicle may do
   charge_rest : (place : Place) (stop : Stop) (more : ℕ) (rest : List Stop) → CanMove g route Charge place → stop.node ≡ node_of g route place →
       IsRest g route (place_after g route Charge place) (record stop { added = stop.added + 1 }) more rest → IsRest g route place stop (1 + more) rest
@@ -139,10 +137,10 @@ module _ (g : Network) (route nodes : List ℕ) (start : ℕ) (cells : List (Opt
       ap (λ (s : Stop). stops ++ s ∷ rest) (charged-more stop more) in
       let levels : place.level + (1 + more) ≡ place.level + 1 + more = omega arith in
       let time : time_of g 1 start (stops ++ charged stop (1 + more) ∷ rest) + time_to_go g cells place
-          ≤ time_to_go g cells (start_place start) + charging_time 1 g.denominator (curve_at g stop.node) place.level (place.level + 1 + more)
-          + time_from g 1 stop.node (place.level + 1 + more) rest =
+      ≤ time_to_go g cells (start_place start) + charging_time 1 g.denominator (curve_at g stop.node) place.level (place.level + 1 + more)
+      + time_from g 1 stop.node (place.level + 1 + more) rest =
       subst (λ (level : ℕ). time_of g 1 start (stops ++ charged stop (1 + more) ∷ rest) + time_to_go g cells place
-          ≤ time_to_go g cells (start_place start) + charging_time 1 g.denominator (curve_at g stop.node) place.level level + time_from g 1 stop.node level rest) levels done.time in
+      ≤ time_to_go g cells (start_place start) + charging_time 1 g.denominator (curve_at g stop.node) place.level level + time_from g 1 stop.node level rest) levels done.time in
       let sums = charging-adds g stop.node place.level (place.level + 1) (place.level + 1 + more) trip.network (omega arith) (omega arith) in
       let unit : charging_time 1 g.denominator (curve_at g stop.node) place.level (place.level + 1) ≡ move_time g route Charge place =
       ap (λ x. charging_time 1 g.denominator (curve_at g x) place.level (place.level + 1)) walked.node in
@@ -192,8 +190,11 @@ module _ (g : Network) (route nodes : List ℕ) (start : ℕ) (cells : List (Opt
           },
           is.next,
         );
-        battery = (omega (arith, energies, can.2), omega (arith, leaving, is.room),
-          subst (λ (level : ℕ). KeepsBatteryFrom g 1 x level rest) leaving is.battery);
+        battery = (
+          omega (arith, energies, can.2),
+          omega (arith, leaving, is.room),
+          subst (λ (level : ℕ). KeepsBatteryFrom g 1 x level rest) leaving is.battery,
+        );
         follows = follows_from place slot more rest (omega (arith, is_place.passed)) is.follows;
       }
 
@@ -213,18 +214,18 @@ module _ (g : Network) (route nodes : List ℕ) (start : ℕ) (cells : List (Opt
       let level = place.level - energy g n x in
       let plan = stops ++ charged stop 0 ∷ charged (arrived place slot) more ∷ rest in
       let P : ℕ → ℕ → ℕ → ℕ → Type 0 = λ here node before after. time_of g 1 start plan + time_to_go g cells place
-          ≤ time_to_go g cells (start_place start) + charging_time 1 g.denominator (curve_at g stop.node) place.level here
-          + (1 * (g.denominator * (travel_time g node x + process_time g x)) + charging_time 1 g.denominator (curve_at g x) before after + time_from g 1 x after rest) in
+      ≤ time_to_go g cells (start_place start) + charging_time 1 g.denominator (curve_at g stop.node) place.level here
+      + (1 * (g.denominator * (travel_time g node x + process_time g x)) + charging_time 1 g.denominator (curve_at g x) before after + time_from g 1 x after rest) in
       let here : place.level + 0 ≡ place.level = omega arith in
       let energies : energy g stop.node x ≡ energy g n x = ap (λ m. energy g m x) walked.node in
       let before : place.level + 0 - 1 * energy g stop.node x ≡ level = omega (arith, energies) in
       let after : place.level + 0 - 1 * energy g stop.node x + (0 + more) ≡ level + more = omega (arith, energies) in
       let raw : P (place.level + 0) stop.node (place.level + 0 - 1 * energy g stop.node x) (place.level + 0 - 1 * energy g stop.node x + (0 + more)) = done.time in
       let time : P place.level n level (level + more) =
-          subst (λ (a : ℕ). P place.level n level a) after
-          (subst (λ (b : ℕ). P place.level n b (place.level + 0 - 1 * energy g stop.node x + (0 + more))) before
-          (subst (λ (m : ℕ). P place.level m (place.level + 0 - 1 * energy g stop.node x) (place.level + 0 - 1 * energy g stop.node x + (0 + more))) walked.node
-          (subst (λ (h : ℕ). P h stop.node (place.level + 0 - 1 * energy g stop.node x) (place.level + 0 - 1 * energy g stop.node x + (0 + more))) here raw))) in
+      subst (λ (a : ℕ). P place.level n level a) after
+      (subst (λ (b : ℕ). P place.level n b (place.level + 0 - 1 * energy g stop.node x + (0 + more))) before
+      (subst (λ (m : ℕ). P place.level m (place.level + 0 - 1 * energy g stop.node x) (place.level + 0 - 1 * energy g stop.node x + (0 + more))) walked.node
+      (subst (λ (h : ℕ). P h stop.node (place.level + 0 - 1 * energy g stop.node x) (place.level + 0 - 1 * energy g stop.node x + (0 + more))) here raw))) in
       let nothing = charging-nothing g.denominator (curve_at g stop.node) place.level in
       record {
         whole = subst (IsWhole g route start) plans done.whole;
@@ -267,8 +268,8 @@ module _ (g : Network) (route nodes : List ℕ) (start : ℕ) (cells : List (Opt
       let nearer : move_time g route offer.step place + time_to_go g cells offer.to ≤ time_to_go g cells place =
       rank-times_back g route nodes cells (index_of g place) (index_of g offer.to) (move_time g route offer.step place) trip table (omega (arith, ranks, here, nearest)) in
       let P : Place → Type 0 = λ to. IsPlace g route to ⊎ IsHome g route to → (r : Reach) × (cell_at cells (index_of g to) ≡ Some r) →
-          move_time g route offer.step place + time_to_go g cells to ≤ time_to_go g cells place →
-          IsWalked g route start cells to (stop_after g route offer.step to stop) (stops_after offer.step stop stops) in
+      move_time g route offer.step place + time_to_go g cells to ≤ time_to_go g cells place →
+      IsWalked g route start cells to (stop_after g route offer.step to stop) (stops_after offer.step stop stops) in
       let base : P (place_after g route offer.step place) = walked_by place stop stops offer.step is is_offer.can walked in
       let moved : P offer.to = subst P (sym is_offer.leads) base in
       rw (next_is, longer_is) (moved is_offer.on_route (is_offer.rest.0, is_offer.rest.1) nearer)
@@ -321,8 +322,8 @@ module _ (g : Network) (route nodes : List ℕ) (start : ℕ) (cells : List (Opt
           follows = follows;
         };
         time =
-          let same : time_from g 1 0 (start + 0) (t ∷ rest) ≡ time_from g 1 0 (1 * start) (t ∷ rest) = ap (λ l. time_from g 1 0 l (t ∷ rest)) level in
-          omega (arith, same);
+            let same : time_from g 1 0 (start + 0) (t ∷ rest) ≡ time_from g 1 0 (1 * start) (t ∷ rest) = ap (λ l. time_from g 1 0 l (t ∷ rest)) level in
+            omega (arith, same);
       }
 
   -- a walk that has not begun

@@ -1,21 +1,21 @@
 -- No plan is faster than a closed table says.
-use Rattle.std.proofs.Common.{◌≡◌, ◌≢◌, ◌∙◌, ◌⊎◌, ℕ, zero, suc, ◌+◌, ◌-◌, ◌*◌, ◌^◌, ◌<◌, ◌≤◌, List, [], ◌∷◌, ◌++◌, Option, Some, None, Bool, true, false, length, get_or, drop, filter, map, not, nat_eq, refl, sym, ap, subst, inl, inr, arith, length-drop}
+use Rattle.std.proofs.Common.{◌≡◌, ◌≢◌, ◌∙◌, ℕ, zero, suc, ◌+◌, ◌-◌, ◌*◌, ◌^◌, ◌<◌, ◌≤◌, List, [], ◌∷◌, Option, Some, None, false, length, get_or, drop, nat_eq, refl, sym, ap, subst, inl, inr, arith, length-drop}
 use Rattle.std.specs.Option.{IsSome}
-use Rattle.std.proofs.lemmas.Bool.{cases_Bool, cases_lt}
+use Rattle.std.proofs.lemmas.Bool.{cases_Bool}
 use Rattle.std.proofs.lemmas.Bool.Decides.{nat_tests}
 use Rattle.std.proofs.Math.Seq.{drop-cons}
 use Rattle.ev_model.specs.Feasible.{IsFeasible}
 use Rattle.ev_model.specs.Levels.{KeepsBatteryFrom, arriving_level, leaving_level}
-use Rattle.ev_model.specs.Network.{IsNetwork, Network, curve_at, energy, process_time, scaled_limit, travel_time}
-use Rattle.ev_model.specs.Plan.{AreStopsFrom, EndsAtDepot, IsEnd}
-use Rattle.ev_model.specs.Route.{FollowsRoute, IsRoute, route_of}
-use Rattle.ev_model.specs.Time.{charging_time, stop_time, time_from, time_of}
+use Rattle.ev_model.specs.Network.{Network, curve_at, energy, process_time, scaled_limit, travel_time}
+use Rattle.ev_model.specs.Plan.{AreStopsFrom, EndsAtDepot}
+use Rattle.ev_model.specs.Route.{FollowsRoute, route_of}
+use Rattle.ev_model.specs.Time.{charging_time, time_from, time_of}
 use Rattle.ev_model.specs.declared.Stop.{Stop}
 use Rattle.level_table.specs.Answer.{cell_count, stations}
 use Rattle.level_table.specs.Cells.{IsClosed, IsTable, cell_at, rank_at}
 use Rattle.level_table.specs.Moves.{CanMove, move_time, next_node, node_of, passed_after, place_after}
-use Rattle.level_table.specs.Places.{IsPlace, IsTrip, index_of, place_of}
-use Rattle.level_table.specs.Reach.{rank, rank_of}
+use Rattle.level_table.specs.Places.{IsPlace, IsTrip, index_of}
+use Rattle.level_table.specs.Reach.{rank_of}
 use Rattle.level_table.specs.declared.moves.Move.{Move}
 use Rattle.level_table.specs.declared.moves.Move.TheVariants.{Charge, Drive}
 use Rattle.level_table.specs.declared.place.Place.{Place}
@@ -72,8 +72,7 @@ pub passed_after-station : (passed j : ℕ) → passed_after passed (suc j) ≡ 
 passed_after-station passed j = rw (not_zero j) refl
 
 module _ (g : Network) (route nodes : List ℕ) (cells : List (Option Reach)) (trip : IsTrip g route nodes) (table : IsTable g route cells)
-  (closed : IsClosed g route cells 0 (cell_count g route)) where
-
+    (closed : IsClosed g route cells 0 (cell_count g route)) where
   -- a closed table makes no move longer than it is
   move_bound : (place : Place) (step : Move) → IsPlace g route place → CanMove g route step place →
       time_at g cells (index_of g place) ≤ move_time g route step place + time_at g cells (index_of g (place_after g route step place))
@@ -116,13 +115,13 @@ module _ (g : Network) (route nodes : List ℕ) (cells : List (Option Reach)) (t
       ≤ 1 * (g.denominator * (travel_time g node next + process_time g next)) + time_here (passed_after place.passed slot) slot (place.level - 1 * energy g node next)
   drive_bound place slot node next is few at to =
       let P : ℕ → ℕ → Type 0 = λ n x. x ≢ n → 1 * energy g n x ≤ place.level →
-          time_at g cells (index_of g place) ≤ 1 * (g.denominator * (travel_time g n x + process_time g x)) + time_here (passed_after place.passed slot) slot (place.level - 1 * energy g n x) in
+      time_at g cells (index_of g place) ≤ 1 * (g.denominator * (travel_time g n x + process_time g x)) + time_here (passed_after place.passed slot) slot (place.level - 1 * energy g n x) in
       let n = node_of g route place in
       let x = next_node g route place slot in
       let base : P n x = λ other enough.
-          let bound = move_bound place (Drive slot) is (few, other, omega (arith, enough)) in
-          let level : place.level - 1 * energy g n x ≡ place.level - energy g n x = omega arith in
-          rw level (omega (arith, bound)) in
+      let bound = move_bound place (Drive slot) is (few, other, omega (arith, enough)) in
+      let level : place.level - 1 * energy g n x ≡ place.level - energy g n x = omega arith in
+      rw level (omega (arith, bound)) in
       subst (λ (y : ℕ). P node y) to (subst (λ (m : ℕ). P m x) at base)
 
   last_is_own : (s : Stop) (ss : List Stop) → EndsAtDepot (s ∷ ss) → 1 ≤ length (route_of (s ∷ ss))
@@ -143,9 +142,9 @@ module _ (g : Network) (route nodes : List ℕ) (cells : List (Option Reach)) (t
   stop_bound s ss place slot node is few at to next battery passed later rest =
       let drive = drive_bound place slot node s.node is few at to next.0 battery.0 in
       let here : IsPlace g route (place_at (passed_after place.passed slot) slot (arriving_level g 1 node place.level s)) =
-          record { passed = passed; slot = few; level = omega (arith, is.level) } in
+      record { passed = passed; slot = few; level = omega (arith, is.level) } in
       let charge = charge_bound s.added (passed_after place.passed slot) slot (arriving_level g 1 node place.level s) s.node here to
-          (λ some. (later, next.1.station (inr some))) (omega (arith, battery.1)) in
+      (λ some. (later, next.1.station (inr some))) (omega (arith, battery.1)) in
       omega (arith, drive, charge, rest)
 
   after_stop : (s : Stop) (place : Place) (slot node : ℕ) → slot ≤ length (stations g) → leaving_level g 1 node place.level s ≤ 1 * g.capacity →
@@ -197,7 +196,7 @@ module _ (g : Network) (route nodes : List ℕ) (cells : List (Option Reach)) (t
         let below : passed < length route - 1 = omega (arith, same, is.passed) in
         let follows_on : route_of (t ∷ ss) ≡ drop (passed + 1) route = (rw via at follows) ∙ ap (λ n. drop (n + 1) route) (sym same) in
         let rest = way_home (t ∷ ss) (place_at passed slot (leaving_level g 1 node place.level s)) s.node
-            (after_stop s place slot node few battery.1 below) to next.2 ends battery.2 follows_on in
+        (after_stop s place slot node few battery.1 below) to next.2 ends battery.2 follows_on in
         stop_bound s (t ∷ ss) place slot node is few at to next battery below (omega arith) rest
     | inr own ↦
         let head = own_head s.node place.passed (route_of (t ∷ ss)) (omega (arith, is.passed)) (rw own at follows) in
@@ -205,7 +204,7 @@ module _ (g : Network) (route nodes : List ℕ) (cells : List (Option Reach)) (t
         let count = ap length head.1 ∙ length-drop (place.passed + 1 + 1) route in
         let passed : place.passed + 1 < length route - 1 = omega (arith, some, count) in
         let rest = way_home (t ∷ ss) (place_at (place.passed + 1) 0 (leaving_level g 1 node place.level s)) s.node
-            (after_stop s place 0 node (omega arith) battery.1 passed) head.0 next.2 ends battery.2 head.1 in
+        (after_stop s place 0 node (omega arith) battery.1 passed) head.0 next.2 ends battery.2 head.1 in
         stop_bound s (t ∷ ss) place 0 node is (omega arith) at head.0 next battery passed (omega arith) rest
   ]
 

@@ -1,5 +1,5 @@
 -- Places on the way along a route, and the cells of the table that stand for them.
-use Rattle.std.specs.Prelude.{◌≡◌, ℕ, ◌+◌, ◌-◌, ◌*◌, ◌/◌, ◌%◌, ◌^◌, ◌<◌, ◌≤◌, List, length, nat_eq, slice_index, if◌then◌else◌}
+use Rattle.std.specs.Prelude.{◌≡◌, ℕ, ◌+◌, ◌-◌, ◌*◌, ◌/◌, ◌%◌, ◌<◌, ◌≤◌, List, length, nat_eq, slice_index, if◌then◌else◌}
 use Rattle.ev_model.specs.Network.{IsNetwork, Network}
 use Rattle.ev_model.specs.Route.{IsRoute}
 use Rattle.level_table.specs.Answer.{cell_count, stations}

@@ -18,3 +18,6 @@ mod walk;
 
 pub use fault::LevelFault;
 pub use solve::solve_levels;
+
+#[cfg(test)]
+mod tests;

@@ -54,7 +54,7 @@ impl Trip<'_> {
         ensures place { IfSome result (λ leg. IsPlace self.now.inst.now self.now.route.now leg.to) }
     {
         let full = self.inst.max_q();
-        if from.passed == 0 && from.slot == 0 || from.level == full {
+        if from.is_start() || from.level == full {
             return None;
         }
         let node = self.node_at(from.passed, from.slot);
@@ -62,8 +62,11 @@ impl Trip<'_> {
             return None;
         };
         let level = from.level + 1;
-        let time = curve.time_to(level).saturating_sub(curve.time_to(from.level));
-        Some(Leg { time, to: Place { level, ..from } })
+        let time = curve.time_to(level) - curve.time_to(from.level);
+        Some(Leg {
+            time,
+            to: Place { level, ..from },
+        })
     }
 
     /// What a drive does, `None` exactly where it can't be made.
@@ -81,7 +84,11 @@ impl Trip<'_> {
             return None;
         }
         let node = self.node_at(from.passed, from.slot);
-        let passed = if slot == 0 { from.passed + 1 } else { from.passed };
+        let passed = if slot == 0 {
+            from.passed + 1
+        } else {
+            from.passed
+        };
         let next = self.node_at(passed, slot);
         let energy = self.inst.energy(node, next);
         if next == node || energy > from.level {
@@ -89,6 +96,13 @@ impl Trip<'_> {
         }
         let time = self.inst.denominator() * (self.inst.time(node, next) + self.inst.service(next));
         let level = from.level - energy;
-        Some(Leg { time, to: Place { passed, slot, level } })
+        Some(Leg {
+            time,
+            to: Place {
+                passed,
+                slot,
+                level,
+            },
+        })
     }
 }

@@ -42,8 +42,7 @@ impl Trip<'_> {
         requires place { IsPlace self.now.inst.now self.now.route.now from }
         requires table { IsTable self.now.inst.now self.now.route.now cells.now }
         ensures some { IfSome result (IsOffer self.now.inst.now self.now.route.now cells.now from) }
-        ensures least {
-            IsNoFarther self.now.inst.now self.now.route.now cells.now from step (offer_rank (scaled_limit self.now.inst.now) result) }
+        ensures least { IsNoFarther self.now.inst.now self.now.route.now cells.now from step (offer_rank (scaled_limit self.now.inst.now) result) }
     {
         let Some(leg) = self.leg(from, step) else {
             return None;

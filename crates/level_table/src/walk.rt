@@ -39,7 +39,12 @@ impl Trip<'_> {
     }
 
     /// The stops of the plan that makes the best move from each place, from the start on.
-    fn walk(&self, alloc: Global, cells: &[Option<Reach>], start: Place) -> Result<Vec<Stop>, AllocError>
+    fn walk(
+        &self,
+        alloc: Global,
+        cells: &[Option<Reach>],
+        start: Place,
+    ) -> Result<Vec<Stop>, AllocError>
         requires trip { IsTrip self.now.inst.now self.now.route.now self.now.stations.now }
         requires start { start ≡ start_place start.level }
         requires level { start.level ≤ self.now.inst.now.capacity }

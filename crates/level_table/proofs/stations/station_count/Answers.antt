@@ -1,4 +1,4 @@
-use Rattle.std.proofs.Common.{◌≡◌, ◌∙◌, ◌+◌, ◌≤◌, ◌∷◌, [], ◌++◌, ℕ, List, Bor, is_some, true, false, length, ap, sym, arith, length-append}
+use Rattle.std.proofs.Common.{◌≡◌, ◌∙◌, ◌+◌, ◌∷◌, [], ℕ, List, Bor, is_some, length, ap, sym, arith, length-append}
 use Rattle.ev_model.specs.Network.{curve_at}
 use Rattle.level_table.proofs.StationList.{has_curve, stations_below, stations_below-all, stations_below-other, stations_below-station}
 use Rattle.level_table.proofs.stations.station_count.Goals as goal

@@ -1,6 +1,6 @@
-use Rattle.std.proofs.Common.{◌≡◌, ◌∙◌, ◌+◌, ◌∷◌, [], ◌++◌, ℕ, List, Bor, Vec, Global, is_some, true, false, ap, sym, arith}
+use Rattle.std.proofs.Common.{◌≡◌, ◌∙◌, ◌∷◌, [], ◌++◌, ℕ, List, Bor, Vec, Global, is_some, ap, sym, arith}
 use Rattle.ev_model.specs.Network.{curve_at}
-use Rattle.level_table.proofs.StationList.{has_curve, stations_below, stations_below-all, stations_below-other, stations_below-station}
+use Rattle.level_table.proofs.StationList.{has_curve, stations_below-all, stations_below-other, stations_below-station}
 use Rattle.level_table.proofs.stations.station_nodes.Goals as goal
 use Rattle.level_table.proofs.stations.station_nodes.Goals.{then-is_some+in_ok-push, else-is_some}
 

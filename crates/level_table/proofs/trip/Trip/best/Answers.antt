@@ -1,4 +1,4 @@
-use Rattle.std.proofs.Common.{◌≡◌, ◌<◌, ◌≤◌, ◌+◌, ◌⊎◌, ℕ, List, length, Option, None, Some, sym, subst, inl, inr, arith}
+use Rattle.std.proofs.Common.{◌≡◌, ◌<◌, ◌≤◌, ◌⊎◌, ℕ, List, length, Option, None, Some, sym, subst, inl, inr, arith}
 use Rattle.std.specs.Prelude.{IfSome}
 use Rattle.std.proofs.lemmas.Bool.{cases_lt}
 use Rattle.ev_model.specs.Network.{Network, scaled_limit}
@@ -29,7 +29,7 @@ loop-slot-preserved c =
     let cells = c.args.cells.now in
     let from = c.args.from in
     let least = c.nearer-best.ensures.least (scaled_limit g)
-        (in_time g route cells from c.loop-slot.best c.loop-slot.invariant.some) (in_time g route cells from c.offer.result c.offer.ensures.some) in
+    (in_time g route cells from c.loop-slot.best c.loop-slot.invariant.some) (in_time g route cells from c.offer.result c.offer.ensures.some) in
     record {
       some = either-some (IsOffer g route cells from) c.nearer-best.result c.loop-slot.best c.offer.result c.nearer-best.ensures.either
           c.loop-slot.invariant.some c.offer.ensures.some;

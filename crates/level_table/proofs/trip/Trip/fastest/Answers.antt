@@ -1,5 +1,5 @@
-use Rattle.std.proofs.Common.{◌≡◌, ◌∙◌, ◌+◌, ◌*◌, ◌≤◌, ◌<◌, ℕ, List, Option, None, Some, Bool, true, false, not, length, get_or, is_some, sym, subst, refl, ap, arith}
-use Rattle.std.specs.Option.{IsSome, IfSome}
+use Rattle.std.proofs.Common.{◌≡◌, ◌∙◌, ◌+◌, ◌≤◌, ℕ, List, Option, None, Some, true, false, is_some, sym, subst, refl, ap, arith}
+use Rattle.std.specs.Option.{IfSome}
 use Rattle.std.proofs.lemmas.List.{get_or_read}
 use Rattle.ev_model.specs.Feasible.{IsFeasible}
 use Rattle.ev_model.specs.Network.{Network, scaled_limit}
@@ -62,4 +62,4 @@ returns c =
     (ap (λ (o : Option Reach). is_some o) (sym at) ∙ c.if-is_none.ensures)
     c.in_ok-stops.ensures.feasible c.in_ok-stops.ensures.follows
     (subst (λ (xs : List (Option Reach)). IfSome (cell_at xs (index_of g (start_place c.args.start))) (λ r. time_of g 1 c.args.start c.in_ok-stops.stops.items ≤ r.time))
-        c.deref.ensures.value c.in_ok-stops.ensures.time)
+    c.deref.ensures.value c.in_ok-stops.ensures.time)

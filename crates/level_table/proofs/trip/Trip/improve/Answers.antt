@@ -1,6 +1,6 @@
-use Rattle.std.proofs.Common.{◌≡◌, ◌<◌, ◌≤◌, ◌+◌, ◌^◌, ◌*◌, ◌↔◌, ℕ, Bool, true, false, Option, Some, None, MatchOption, IsTrue, subst, sym, arith}
+use Rattle.std.proofs.Common.{◌<◌, ◌+◌, ◌^◌, ◌*◌, subst, arith}
 use Rattle.ev_model.specs.Network.{scaled_limit}
-use Rattle.level_table.specs.Cells.{IsClosedAt, IsNoFarther, IsOffer, IsTable, cell_at, offer_rank, rank_at}
+use Rattle.level_table.specs.Cells.{IsNoFarther, IsOffer, cell_at, rank_at}
 use Rattle.level_table.specs.Places.{index_of, place_of}
 use Rattle.level_table.specs.Reach.{rank}
 use Rattle.level_table.specs.declared.moves.Move.{Move}

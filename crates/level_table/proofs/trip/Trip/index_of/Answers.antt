@@ -1,6 +1,6 @@
-use Rattle.std.proofs.Common.{◌≡◌, ◌+◌, ◌*◌, ◌<◌, ◌≤◌, ◌⊎◌, ℕ, List, length, inl, inr, arith, Fits, w64}
+use Rattle.std.proofs.Common.{◌+◌, ◌<◌, ◌⊎◌, ℕ, List, inl, inr, arith}
 use Rattle.ev_model.specs.Network.{Network}
-use Rattle.level_table.specs.Answer.{cell_count, stations}
+use Rattle.level_table.specs.Answer.{cell_count}
 use Rattle.level_table.specs.Places.{index_of, IsHome, IsPlace}
 use Rattle.level_table.specs.declared.place.Place.{Place}
 use Rattle.level_table.proofs.Grid.{home-index, place-below}

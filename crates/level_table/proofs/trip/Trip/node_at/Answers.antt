@@ -1,6 +1,5 @@
-use Rattle.std.proofs.Common.{◌-◌, ◌<◌, List, length, get_or, ℕ, ◌≡◌, subst, sym, arith}
+use Rattle.std.proofs.Common.{◌-◌, ◌<◌, List, get_or, ℕ, subst, sym, arith}
 use Rattle.ev_model.specs.Network.{node_count}
-use Rattle.level_table.specs.Answer.{stations}
 use Rattle.level_table.proofs.StationList.{station-known}
 use Rattle.level_table.proofs.trip.Trip.node_at.Goals as goal
 

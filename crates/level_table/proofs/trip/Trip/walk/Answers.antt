@@ -1,4 +1,4 @@
-use Rattle.std.proofs.Common.{◌≡◌, ◌+◌, ◌≤◌, ◌<◌, ◌++◌, ◌∷◌, [], List, Option, Some, sym, subst, refl, ap, arith}
+use Rattle.std.proofs.Common.{◌≡◌, ◌≤◌, ◌++◌, ◌∷◌, [], List, Option, None, Some, false, true, sym, subst, refl, arith}
 use Rattle.std.specs.Option.{IsSome, IfSome}
 use Rattle.ev_model.specs.Feasible.{IsFeasible}
 use Rattle.ev_model.specs.Route.{FollowsRoute}
@@ -7,7 +7,8 @@ use Rattle.ev_model.specs.declared.Stop.{Stop}
 use Rattle.level_table.specs.Cells.{cell_at}
 use Rattle.level_table.specs.Places.{index_of}
 use Rattle.level_table.specs.declared.offers.Offer.{Offer}
-use Rattle.level_table.proofs.Walked.{best-move, best-offer, feasible-plan, on-way, plan-time, rank-falls, walked-home, walked-on}
+use Rattle.level_table.specs.declared.reach.Reach.{Reach}
+use Rattle.level_table.proofs.Walked.{best-move, best-offer, feasible-plan, on-way, plan-time, rank-falls, walked-home, walked-on, walked-start, IsWalked}
 use Rattle.level_table.proofs.trip.Trip.walk.Goals as goal
 
 pub unwrap-offer-requires : goal.unwrap-offer-requires
@@ -18,7 +19,7 @@ unwrap-offer-requires c =
     let place = c.loop-place.place in
     let is = on-way g route nodes c.args.start.level c.args.cells.now c.requires.trip c.requires.table place (omega (arith, c.loop-place-test.true)) c.loop-place.invariant.on_route in
     let found = best-move g route nodes c.args.cells.now place c.loop-place.invariant.held.0 c.best.result c.requires.trip c.requires.table is
-        c.loop-place.invariant.held.1 c.best.ensures.least in
+    c.loop-place.invariant.held.1 c.best.ensures.least in
     subst (λ (o : Option Offer). IsSome o) (sym found.1) refl
 
 pub loop-place-smaller : goal.loop-place-smaller
@@ -32,7 +33,7 @@ loop-place-smaller c =
     let held = c.loop-place.invariant.held in
     let is = on-way g route nodes start cells c.requires.trip c.requires.table place (omega (arith, c.loop-place-test.true)) c.loop-place.invariant.on_route in
     let best = best-offer g route nodes start cells c.requires.trip c.requires.table place held.0 c.best.result c.unwrap-offer.result is held.1
-        c.unwrap-offer.ensures c.best.ensures.some c.best.ensures.least in
+    c.unwrap-offer.ensures c.best.ensures.some c.best.ensures.least in
     rank-falls g route nodes start cells c.requires.trip c.requires.table place c.unwrap-offer.result held.0 best.0 held.1 best.1
 
 pub loop-place-preserved : goal.loop-place-preserved
@@ -46,7 +47,7 @@ loop-place-preserved c =
     let held = c.loop-place.invariant.held in
     let is = on-way g route nodes start cells c.requires.trip c.requires.table place (omega (arith, c.loop-place-test.true)) c.loop-place.invariant.on_route in
     let best = best-offer g route nodes start cells c.requires.trip c.requires.table place held.0 c.best.result c.unwrap-offer.result is held.1
-        c.unwrap-offer.ensures c.best.ensures.some c.best.ensures.least in
+    c.unwrap-offer.ensures c.best.ensures.some c.best.ensures.least in
     walked-on g route nodes start cells c.requires.trip c.requires.table place c.loop-place.stop c.in_ok-stop.stop c.loop-place.stops.items c.go_on.new.stops.items
     c.unwrap-offer.result held.0 is c.loop-place.invariant best.0 held.1 best.1 c.in_ok-stop.ensures.stop c.in_ok-stop.ensures.stops
 
@@ -58,10 +59,10 @@ returns-clause-feasible c =
     let start = c.args.start.level in
     let cells = c.args.cells.now in
     let done = walked-home g route nodes start cells c.requires.trip c.requires.table c.loop-place.place c.loop-place.stop c.loop-place.stops.items
-        (omega (arith, c.loop-place-test.false)) c.loop-place.invariant in
+    (omega (arith, c.loop-place-test.false)) c.loop-place.invariant in
     subst (λ (plan : List Stop). IsFeasible g 1 start plan) (sym c.in_ok-push.ensures.items)
     (feasible-plan g route nodes start cells c.requires.trip c.requires.table c.args.start (cell_at cells (index_of g c.args.start))
-        (c.loop-place.stops.items ++ c.loop-place.stop ∷ []) c.requires.start refl c.requires.reached done.0 done.1)
+    (c.loop-place.stops.items ++ c.loop-place.stop ∷ []) c.requires.start refl c.requires.reached done.0 done.1)
 
 pub returns-clause-follows : goal.returns-clause-follows
 returns-clause-follows c =
@@ -71,7 +72,7 @@ returns-clause-follows c =
     let start = c.args.start.level in
     let cells = c.args.cells.now in
     let done = walked-home g route nodes start cells c.requires.trip c.requires.table c.loop-place.place c.loop-place.stop c.loop-place.stops.items
-        (omega (arith, c.loop-place-test.false)) c.loop-place.invariant in
+    (omega (arith, c.loop-place-test.false)) c.loop-place.invariant in
     subst (λ (plan : List Stop). FollowsRoute route plan) (sym c.in_ok-push.ensures.items) done.0.follows
 
 pub returns-clause-time : goal.returns-clause-time
@@ -82,7 +83,21 @@ returns-clause-time c =
     let start = c.args.start.level in
     let cells = c.args.cells.now in
     let done = walked-home g route nodes start cells c.requires.trip c.requires.table c.loop-place.place c.loop-place.stop c.loop-place.stops.items
-        (omega (arith, c.loop-place-test.false)) c.loop-place.invariant in
+    (omega (arith, c.loop-place-test.false)) c.loop-place.invariant in
     subst (λ (plan : List Stop). IfSome (cell_at cells (index_of g c.args.start)) (λ r. time_of g 1 start plan ≤ r.time)) (sym c.in_ok-push.ensures.items)
     (plan-time g route nodes start cells c.requires.trip c.requires.table c.args.start (cell_at cells (index_of g c.args.start))
-        (time_of g 1 start (c.loop-place.stops.items ++ c.loop-place.stop ∷ [])) c.requires.start refl done.1)
+    (time_of g 1 start (c.loop-place.stops.items ++ c.loop-place.stop ∷ [])) c.requires.start refl done.1)
+
+some_reach : (o : Option Reach) → IsSome o → (r : Reach) × (o ≡ Some r)
+some_reach None some = let both : false ≡ true = some in cc
+some_reach (Some r) some = (r, refl)
+
+pub loop-place-init : goal.loop-place-init
+loop-place-init c =
+    let g = c.args.self.now.inst.now in
+    let route = c.args.self.now.route.now in
+    let nodes = c.args.self.now.stations.now in
+    let cells = c.args.cells.now in
+    let held = some_reach (cell_at cells (index_of g c.args.start)) c.requires.reached in
+    subst (λ (stops : List Stop). IsWalked g route c.args.start.level cells c.args.start (record { node = 0; added = 0; via = false }) stops) (sym c.new-stops.ensures.items)
+    (walked-start g route nodes c.args.start.level cells c.requires.trip c.requires.table c.args.start held.0 c.requires.start c.requires.level held.1)

@@ -1,0 +1,94 @@
+-- What `fixed` answers to the bytes of its file.
+use Rattle.std.specs.Prelude.{◌≡◌, ℕ, ◌*◌, ◌^◌, ◌<◌, ◌≤◌, List, Option, None, Some, Ok, Err}
+use Rattle.ev_model.specs.Network.{Network, node_count}
+use Rattle.ev_model.specs.Time.{time_of}
+use Rattle.ev_model.specs.declared.Stop.{Stop}
+use Rattle.command_line.specs.declared.Options.{Options}
+use Rattle.instance_reader.specs.Faults.{IsFirstFault, IsInstanceOf}
+use Rattle.ev_model.specs.Fastest.{HasNoPlan, IsFastest}
+use Rattle.level_table.specs.Answer.{cell_count}
+use Rattle.plan_writer.specs.FixedText.{fixed_text}
+use Rattle.plan_writer.specs.RefusalText.{refusal_text}
+use Rattle.plan_writer.specs.declared.refusal.Refusal.{Refusal}
+use Rattle.plan_writer.specs.declared.refusal.Refusal.TheVariants as refusal
+use Rattle.route_plan.specs.RouteRules.{route_in}
+use Rattle.evroute.specs.declared.status.Status.{Status}
+use Rattle.evroute.specs.declared.status.Status.TheVariants as status
+
+-- the network with the limit of the words in place of its own
+abbrev pub limited : Network → Option ℕ → Network
+limited g None = g
+limited g (Some limit) = record g { limit = limit }
+
+-- a limit of the words fits: scaled it is at most 10^18
+abbrev pub FitsLimit : Network → Option ℕ → Type 0
+FitsLimit g None = Unit {0}
+FitsLimit g (Some limit) = limit * g.denominator ≤ 10 ^ 18
+
+-- the level at which the vehicle starts: that of the words, else a full battery
+abbrev pub start_of : Network → Option ℕ → ℕ
+start_of g None = g.capacity
+start_of g (Some charge) = charge
+
+-- the bytes are an instance, and g is its network with the limit of the words
+pub record HasNetwork (options : Options) (bytes : List ℕ) (g : Network) : Type 0 where
+  pub read : Network
+  pub instance : IsInstanceOf bytes read
+  pub fits : FitsLimit read options.limit
+  pub limited_to : g ≡ limited read options.limit
+
+-- besides, the vehicle can start with the charge of the words
+pub record HasStart (options : Options) (bytes : List ℕ) (g : Network) : Type 0 where
+  pub network : HasNetwork options bytes g
+  pub within : start_of g options.charge ≤ g.capacity
+
+-- besides, the word spells this route
+pub record IsTask (options : Options) (word bytes : List ℕ) (g : Network) (route : List ℕ) : Type 0 where
+  pub start : HasStart options bytes g
+  pub spelled : route_in (node_count g) word ≡ Ok route
+
+-- the most cells of a table
+abbrev pub most_cells : ℕ
+most_cells = 2 * 10 ^ 7
+
+-- the first broken rule: of the instance, the limit, the charge, the route, the size of the table
+abbrev pub IsRefused : Options → List ℕ → List ℕ → Refusal → Type 0
+IsRefused options word bytes (refusal.Instance fault) = IsFirstFault bytes fault
+IsRefused options word bytes (refusal.Limit limit) =
+    (g : Network) × IsInstanceOf bytes g × (options.limit ≡ Some limit) × (10 ^ 18 < limit * g.denominator)
+IsRefused options word bytes (refusal.Charge level) =
+    (g : Network) × HasNetwork options bytes g × (options.charge ≡ Some level) × (g.capacity < level)
+IsRefused options word bytes (refusal.Route fault) =
+    (g : Network) × HasStart options bytes g × (route_in (node_count g) word ≡ Err fault)
+IsRefused options word bytes (refusal.Levels cells) =
+    (g : Network) × ((route : List ℕ) × IsTask options word bytes g route × (cells ≡ cell_count g route) × (most_cells < cells))
+
+-- a plan of the route than which none is faster in any fraction of a unit, with its time
+pub record PutsPlan (options : Options) (word bytes text : List ℕ) : Type 0 where
+  pub network : Network
+  pub route : List ℕ
+  pub task : IsTask options word bytes network route
+  pub stops : List Stop
+  pub fastest : IsFastest network route (start_of network options.charge) stops
+  pub text_is : text ≡ fixed_text network.denominator (Some (stops, time_of network 1 (start_of network options.charge) stops))
+
+-- no plan of the route is feasible, in any fraction of a unit
+pub record PutsInfeasible (options : Options) (word bytes text : List ℕ) : Type 0 where
+  pub network : Network
+  pub route : List ℕ
+  pub task : IsTask options word bytes network route
+  pub none : HasNoPlan network route (start_of network options.charge)
+  pub text_is : text ≡ fixed_text network.denominator None
+
+-- the first broken rule
+pub record PutsRefusal (options : Options) (word bytes text : List ℕ) : Type 0 where
+  pub refusal : Refusal
+  pub refused : IsRefused options word bytes refusal
+  pub text_is : text ≡ refusal_text refusal
+
+-- the text that belongs to a status
+abbrev pub Answers : Options → List ℕ → List ℕ → Status → List ℕ → Type 0
+Answers options word bytes status.Done text = PutsPlan options word bytes text
+Answers options word bytes status.Negative text = PutsInfeasible options word bytes text
+Answers options word bytes status.Refused text = PutsRefusal options word bytes text
+Answers options word bytes other text = ⊥

@@ -1,0 +1,4 @@
+pub mod Codes
+pub mod FixedAnswer
+pub mod Ended
+pub mod Run

@@ -1,0 +1,195 @@
+//! The answer of `fixed`: one route of an instance is charged.
+
+ghost use Rattle.std.specs.Prelude.{◌≡◌, ◌≤◌, IfErr, IfOk, IfSome, List, None, Ok, Some, ℕ};
+ghost use Rattle.command_line.specs.declared.Options.{Options};
+ghost use Rattle.ev_model.specs.Feasible.{IsFeasible};
+ghost use Rattle.ev_model.specs.Network.{node_count};
+ghost use Rattle.ev_model.specs.Route.{IsRoute};
+ghost use Rattle.ev_model.specs.Time.{time_of};
+ghost use Rattle.evroute.specs.Ended.{IsEnded};
+ghost use Rattle.evroute.specs.FixedAnswer.{Answers, HasNetwork, HasStart, IsTask, start_of};
+ghost use Rattle.plan_writer.specs.FixedText.{fixed_text};
+ghost use Rattle.plan_writer.specs.RefusalText.{refusal_text};
+ghost use Rattle.route_plan.specs.RouteRules.{route_in};
+
+use crate::status::Status;
+use command_line::Options;
+use instance_reader::{Instance, ReadFault, read_instance};
+use level_table::{LevelFault, solve_levels};
+use plan_writer::{Refusal, push_fixed, push_refusal};
+use route_plan::{RouteFault, RoutePlan, read_route, walk};
+use std::alloc::Global;
+
+/// What is put, and the status that goes with it.
+#[derive(Drop)]
+pub struct Answer {
+    pub status: Status,
+    pub text: Vec<u8>,
+}
+
+/// Why a step of the job is the last.
+#[derive(Clone, Copy, Debug, Drop, PartialEq, Eq)]
+pub enum Ended {
+    /// A rule is broken.
+    Refused(Refusal),
+    /// Memory was refused.
+    Memory,
+}
+
+/// The answer to the bytes of a file and the word of a route. `None` comes only for want of memory.
+pub fn answer_to(alloc: Global, bytes: &[u8], word: &str, options: Options) -> Option<Answer>
+    ensures { IfSome result (λ a. Answers options word.now bytes.now a.status a.text.items) }
+{
+    match charged(alloc, bytes, word, options) {
+        Ok(answer) => Some(answer),
+        Err(Ended::Refused(refusal)) => refused(alloc, refusal),
+        Err(Ended::Memory) => None,
+    }
+}
+
+/// The line of a refusal. `None` comes only for want of memory.
+fn refused(alloc: Global, refusal: Refusal) -> Option<Answer>
+    ensures status { IfSome result (λ a. a.status ≡ Status.Refused) }
+    ensures text { IfSome result (λ a. a.text.items ≡ refusal_text refusal) }
+{
+    let mut text = Vec::new(alloc);
+    match push_refusal(alloc, &mut text, &refusal) {
+        Ok(()) => Some(Answer {
+            status: Status::Refused,
+            text,
+        }),
+        Err(_) => None,
+    }
+}
+
+/// The charged route, or why there is none.
+fn charged(alloc: Global, bytes: &[u8], word: &str, options: Options) -> Result<Answer, Ended>
+    ensures ok { IfOk result (λ a. Answers options word.now bytes.now a.status a.text.items) }
+    ensures ended { IfErr result (IsEnded options word.now bytes.now) }
+{
+    match network(alloc, bytes, options) {
+        Ok(inst) => charged_on(alloc, &inst, word, options),
+        Err(ended) => Err(ended),
+    }
+}
+
+/// The charged route of an instance whose limit is that of the words.
+fn charged_on(alloc: Global, inst: &Instance, word: &str, options: Options) -> Result<Answer, Ended>
+    ensures ok { (bytes : List ℕ) → HasNetwork options bytes inst.now → IfOk result (λ a. Answers options word.now bytes a.status a.text.items) }
+    ensures ended { (bytes : List ℕ) → HasNetwork options bytes inst.now → IfErr result (IsEnded options word.now bytes) }
+{
+    match start(inst, options) {
+        Ok(start) => match route(alloc, word, inst) {
+            Ok(route) => solved(alloc, inst, route.as_slice(), start),
+            Err(ended) => Err(ended),
+        },
+        Err(ended) => Err(ended),
+    }
+}
+
+/// The instance of the bytes, with the limit of the words.
+fn network(alloc: Global, bytes: &[u8], options: Options) -> Result<Instance, Ended>
+    ensures ok { IfOk result (HasNetwork options bytes.now) }
+    ensures ended { (word : List ℕ) → IfErr result (IsEnded options word bytes.now) }
+{
+    let inst = match read_instance(alloc, bytes) {
+        Ok(inst) => inst,
+        Err(ReadFault::Memory) => return Err(Ended::Memory),
+        Err(fault) => return Err(Ended::Refused(Refusal::Instance(fault))),
+    };
+    let Some(limit) = options.limit else {
+        return Ok(inst);
+    };
+    match inst.with_limit(limit) {
+        Ok(inst) => Ok(inst),
+        Err(fault) => Err(Ended::Refused(Refusal::Limit(fault.limit))),
+    }
+}
+
+/// The level at which the vehicle starts.
+fn start(inst: &Instance, options: Options) -> Result<u64, Ended>
+    ensures ok { IfOk result (λ level. (level ≡ start_of inst.now options.charge)) }
+    ensures within { IfOk result (λ level. level ≤ inst.now.capacity) }
+    ensures ended { (word bytes : List ℕ) → HasNetwork options bytes inst.now → IfErr result (IsEnded options word bytes) }
+{
+    let full = inst.max_q();
+    match options.charge {
+        Some(level) => {
+            if level <= full {
+                Ok(level)
+            } else {
+                Err(Ended::Refused(Refusal::Charge(level)))
+            }
+        }
+        None => Ok(full),
+    }
+}
+
+/// The route of the word.
+fn route(alloc: Global, word: &str, inst: &Instance) -> Result<Vec<usize>, Ended>
+    ensures spelled { IfOk result (λ nodes. route_in (node_count inst.now) word.now ≡ Ok nodes.items) }
+    ensures is_route { IfOk result (λ nodes. IsRoute inst.now nodes.items) }
+    ensures ended { (options : Options) (bytes : List ℕ) → HasStart options bytes inst.now → IfErr result (IsEnded options word.now bytes) }
+{
+    match read_route(alloc, word, inst) {
+        Ok(nodes) => Ok(nodes),
+        Err(RouteFault::Memory) => Err(Ended::Memory),
+        Err(fault) => Err(Ended::Refused(Refusal::Route(fault))),
+    }
+}
+
+/// The text of a fastest plan of the route, or that there is none.
+fn solved(alloc: Global, inst: &Instance, route: &[usize], start: u64) -> Result<Answer, Ended>
+    requires route { IsRoute inst.now route.now }
+    requires start { start ≤ inst.now.capacity }
+    ensures ok { (options : Options) (word bytes : List ℕ) → IsTask options word bytes inst.now route.now → start ≡ start_of inst.now options.charge → IfOk result (λ a. Answers options word bytes a.status a.text.items) }
+    ensures ended { (options : Options) (word bytes : List ℕ) → IsTask options word bytes inst.now route.now → IfErr result (IsEnded options word bytes) }
+{
+    let plan = match solve_levels(alloc, inst, route, start) {
+        Ok(plan) => plan,
+        Err(LevelFault::Levels { cells }) => return Err(Ended::Refused(Refusal::Levels(cells))),
+        Err(LevelFault::Memory) => return Err(Ended::Memory),
+    };
+    match plan {
+        Some(plan) => planned(alloc, inst, start, &plan),
+        None => infeasible(alloc, inst),
+    }
+}
+
+/// The text of a feasible plan.
+fn planned(alloc: Global, inst: &Instance, start: u64, plan: &RoutePlan) -> Result<Answer, Ended>
+    requires start { start ≤ inst.now.capacity }
+    requires feasible { IsFeasible inst.now 1 start plan.now.stops }
+    ensures status { IfOk result (λ a. a.status ≡ Status.Done) }
+    ensures text { IfOk result (λ a. a.text.items ≡ fixed_text inst.now.denominator (Some (plan.now.stops, time_of inst.now 1 start plan.now.stops))) }
+    ensures memory { IfErr result (λ e. e ≡ Ended.Memory) }
+{
+    // A feasible plan is walked to its end.
+    let Ok(walk) = walk(inst, start, plan.stops.as_slice()) else {
+        return Err(Ended::Memory);
+    };
+    let mut text = Vec::new(alloc);
+    match push_fixed(alloc, &mut text, inst, Some((plan, walk.time))) {
+        Ok(()) => Ok(Answer {
+            status: Status::Done,
+            text,
+        }),
+        Err(_) => Err(Ended::Memory),
+    }
+}
+
+/// The text of a route without a feasible plan.
+fn infeasible(alloc: Global, inst: &Instance) -> Result<Answer, Ended>
+    ensures status { IfOk result (λ a. a.status ≡ Status.Negative) }
+    ensures text { IfOk result (λ a. a.text.items ≡ fixed_text inst.now.denominator None) }
+    ensures memory { IfErr result (λ e. e ≡ Ended.Memory) }
+{
+    let mut text = Vec::new(alloc);
+    match push_fixed(alloc, &mut text, inst, None) {
+        Ok(()) => Ok(Answer {
+            status: Status::Negative,
+            text,
+        }),
+        Err(_) => Err(Ended::Memory),
+    }
+}
