@@ -4,3 +4,4 @@ pub mod Shape
 pub mod Whole
 pub mod Begin
 pub mod Fastest
+pub mod Only

@@ -31,6 +31,13 @@ pub fn rounded_plans_keep_the_battery()
         FollowsRoute route (rounded_plan g k j start stops) }
 {}
 
+/// The same stops and the rounded levels leave no choice of the amounts: a whole plan that has them is
+/// the rounded plan.
+pub fn rounded_levels_tell_the_plan()
+    ensures { (g : Network) (k j start : ℕ) (stops whole : List Stop) → IsFeasible g k start stops → j < k →
+        IsPlanIn g 1 whole → IsRounded g k j start stops whole → whole ≡ rounded_plan g k j start stops }
+{}
+
 /// The times of the `k` whole plans that a plan in kths rounds to add up to its time in kths.
 pub fn rounded_times_add_up()
     ensures { (g : Network) (k start : ℕ) (stops : List Stop) → IsNetwork g → IsFeasible g k start stops →

@@ -12,8 +12,8 @@ mod rounding;
 
 pub use best::best_rounding;
 pub use laws::{
-    no_fraction_is_faster, rounded_plans_keep_the_battery, rounded_times_add_up,
-    whole_levels_add_up, whole_plans_suffice,
+    no_fraction_is_faster, rounded_levels_tell_the_plan, rounded_plans_keep_the_battery,
+    rounded_times_add_up, whole_levels_add_up, whole_plans_suffice,
 };
 pub use rounding::rounded;
 
