@@ -1,3 +1,5 @@
 pub mod RouteWords
 pub mod RouteRules
 pub mod Walking
+pub mod PlanTexts
+pub mod PlanReading
