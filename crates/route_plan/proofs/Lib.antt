@@ -9,3 +9,9 @@ pub mod PlanReadingParts
 pub mod PlanReadingLines
 pub mod PlanReadingWhole
 pub mod PlanReadingRoutes
+pub mod PlanReadingTexts
+pub mod PlanReadingFound
+pub mod PlanReadingSpelled
+pub mod PlanReadingTaken
+pub mod PlanReadingLinesTaken
+pub mod PlanReadingRead

@@ -16,7 +16,7 @@ Ok_injective a b same = cc
 pub Err_is_not_Ok : {A E : Type 0} (fault : E) (a : A) → ◌≡◌ {A = Result A E} (Err fault) (Ok a) → ⊥
 Err_is_not_Ok fault a same = cc
 
-small_limit : 10 ^ 9 < 10 ^ 64
+pub small_limit : 10 ^ 9 < 10 ^ 64
 small_limit = omega arith
 
 -- a word that may stand there, by whether it was taken

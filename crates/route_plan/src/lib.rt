@@ -11,7 +11,9 @@ mod walks;
 
 pub use ev_model::Stop;
 pub use judge::walk;
-pub use laws::{feasible_plans_are_walked, unbroken_nodes_are_routes, words_spell_routes};
+pub use laws::{
+    feasible_plans_are_walked, texts_spell_plans, unbroken_nodes_are_routes, words_spell_routes,
+};
 pub use plan::{FleetPlan, FracPlan, RoutePlan};
 pub use plan_reading::{read_fleet_plan, read_plan};
 pub use plan_text::PlanText;

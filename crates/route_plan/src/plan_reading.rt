@@ -4,6 +4,7 @@ ghost use Rattle.std.specs.Prelude.{◌≡◌, ◌≢◌, ◌^◌, [], Ok, Err, 
 ghost use Rattle.ev_text.specs.Scans.{rest_of, whole_at};
 ghost use Rattle.ev_text.specs.declared.TextFault.TheVariants.{Word};
 ghost use Rattle.route_plan.specs.PlanReading.{amount_at, amount_behind, ends_in_either, file_at, fleet_plan_in, optional_at, or_bad, plan_in, plans_at, route_at, routes_at, stop_at};
+ghost use Rattle.route_plan.specs.PlanTexts.{SpellsFleetPlan, SpellsPlan};
 ghost use Rattle.route_plan.specs.declared.plan_text.PlanText.TheVariants.{Bad, Memory};
 
 use crate::{FleetPlan, PlanText, RoutePlan, Stop};
@@ -48,6 +49,7 @@ impl<T: Drop> From<AllocFailed<T>> for PlanText {
 /// last line feed. A `v` and a `+` may stand, and are never missed. `Memory`: memory was refused.
 pub fn read_plan(alloc: Global, bytes: &[u8]) -> Result<RoutePlan, PlanText>
     ensures ok { IfOk result (λ plan. plan_in bytes.now ≡ Ok plan.stops) }
+    ensures spelled { IfOk result (λ plan. SpellsPlan bytes.now plan.stops) }
     ensures fault { IfErr result (λ fault. fault ≢ PlanText.Memory → plan_in bytes.now ≡ Err fault) }
 {
     let len = bytes.len();
@@ -69,6 +71,7 @@ pub fn read_plan(alloc: Global, bytes: &[u8]) -> Result<RoutePlan, PlanText>
 /// routes above 10^6 is `TooLarge`. A line too many is `Word` at its beginning, a line too few `End` there.
 pub fn read_fleet_plan(alloc: Global, bytes: &[u8]) -> Result<Option<FleetPlan>, PlanText>
     ensures ok { IfOk result (λ plan. fleet_plan_in bytes.now ≡ Ok plan) }
+    ensures spelled { IfOk result (SpellsFleetPlan bytes.now) }
     ensures fault { IfErr result (λ fault. fault ≢ PlanText.Memory → fleet_plan_in bytes.now ≡ Err fault) }
 {
     let len = bytes.len();
