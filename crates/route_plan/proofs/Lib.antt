@@ -5,3 +5,4 @@ pub mod Spelled
 pub mod Ends
 pub mod Walked
 pub mod Feasibly
+pub mod Writing
