@@ -1,6 +1,6 @@
 //! The texts of plans and of fleet plans, written.
 
-ghost use Rattle.std.specs.Prelude.{◌≡◌, [], ◌∷◌, ◌++◌, OnErr, OnOk, Some, codes, decimal, option_map};
+ghost use Rattle.std.specs.Prelude.{◌≡◌, [], ◌∷◌, ◌++◌, OnErr, OnOk, Some, codes, decimal, nat_lt, option_map, if◌then◌else◌};
 ghost use Rattle.route_plan.specs.PlanTexts.{FitsFile, FitsText, fleet_plan_text, plan_lines, plan_text, stop_text, stops_text};
 
 use crate::{FleetPlan, RoutePlan, Stop};
@@ -82,12 +82,25 @@ fn write_stops(alloc: Global, text: &mut Vec<u8>, stops: &[Stop]) -> Result<(), 
     ensures { OnOk result (text.new.items ≡ text.old.items ++ stops_text stops.now) }
 {
     for (at, stop) in stops.iter().enumerate() {
-        if at > 0 {
-            text.push(b' ')?;
-        }
-        write_stop(alloc, text, stop)?;
+        write_stop_at(alloc, text, at, stop)?;
     }
     Ok(())
+}
+
+/// Appends the stop at a position, counted from 0, behind a space unless it is the first. After an `Err` the
+/// space may stand there.
+fn write_stop_at(
+    alloc: Global,
+    text: &mut Vec<u8>,
+    at: usize,
+    stop: &Stop,
+) -> Result<(), AllocError>
+    ensures { OnOk result (text.new.items ≡ text.old.items ++ (if nat_lt 0 at then codes " " else []) ++ stop_text stop.now) }
+{
+    if at > 0 {
+        text.push(b' ')?;
+    }
+    write_stop(alloc, text, stop)
 }
 
 /// Appends a stop. After an `Err` nothing of it stands there.
