@@ -5,6 +5,7 @@ pub mod Spelled
 pub mod Ends
 pub mod Walked
 pub mod Feasibly
+pub mod Writing
 pub mod PlanReadingParts
 pub mod PlanReadingLines
 pub mod PlanReadingWhole

@@ -6,6 +6,7 @@ mod laws;
 mod plan;
 mod plan_reading;
 mod plan_text;
+mod plan_writing;
 mod route;
 mod walks;
 
@@ -17,8 +18,11 @@ pub use laws::{
 pub use plan::{FleetPlan, FracPlan, RoutePlan};
 pub use plan_reading::{read_fleet_plan, read_plan};
 pub use plan_text::PlanText;
+pub use plan_writing::{push_fleet_plan, push_plan};
 pub use route::{RouteFault, read_route};
 pub use walks::{Walk, WalkFault};
 
 #[cfg(test)]
 mod tests;
+#[cfg(test)]
+mod writing_tests;
