@@ -1,5 +1,5 @@
 -- A whole text that was read spells its value.
-use Rattle.std.proofs.Common.{◌≡◌, ◌≢◌, ◌∙◌, ℕ, ◌^◌, ◌≤◌, Bool, true, false, List, [], ◌∷◌, ◌++◌, length, Option, None, Some, Result, Ok, Err, codes, decimal, nat_eq, nat_lt, refl, sym, ap, subst, append_assoc, append-nil, arith, if◌then◌else◌}
+use Rattle.std.proofs.Common.{◌≡◌, ◌∙◌, ℕ, ◌^◌, ◌≤◌, Bool, true, false, List, [], ◌∷◌, ◌++◌, length, Option, None, Some, Result, Ok, Err, codes, decimal, nat_eq, nat_lt, refl, sym, ap, subst, append_assoc, append-nil, arith, if◌then◌else◌}
 use Rattle.std.proofs.lemmas.Bool.{eqb-true, ltb-false}
 use Rattle.ev_model.specs.declared.Stop.{Stop}
 use Rattle.ev_text.specs.Scans.{and_then, rest_of, whole_at, word_at}
@@ -10,7 +10,6 @@ use Rattle.route_plan.specs.PlanReading.{ends_in_either, file_at, fleet_plan_in,
 use Rattle.route_plan.specs.PlanTexts.{FitsFile, SpellsFleetPlan, SpellsPlan, fleet_plan_text, plan_lines, plan_text}
 use Rattle.route_plan.specs.declared.plan.FleetPlan.{FleetPlan}
 use Rattle.route_plan.specs.declared.plan.RoutePlan.{RoutePlan}
-use Rattle.route_plan.specs.declared.plan_text.PlanText.{PlanText}
 use Rattle.route_plan.specs.declared.plan_text.PlanText.TheVariants.{Bad, TooLong}
 use Rattle.route_plan.proofs.PlanReadingFound.{AreRoutesAt, route_read, routes_read}
 use Rattle.route_plan.proofs.PlanReadingParts.{Err_is_not_Ok, Ok_injective}
