@@ -49,7 +49,7 @@ breaks start s t stops fault (most, le, is) space found =
     let after = next most s t le space in
     sym is ∙ ap (λ r. with_stops stops r) (after.2 ∙ ap (λ r. and_then r (λ found. with_stops (found.0 ∷ []) (more_stops after.0 found.1))) found)
 
-no_bytes : (xs : List ℕ) → length xs ≡ 0 → xs ≡ []
+pub no_bytes : (xs : List ℕ) → length xs ≡ 0 → xs ≡ []
 no_bytes [] none = refl
 no_bytes (x ∷ xs) none = absurd (omega (arith, none))
 
