@@ -16,3 +16,9 @@ pub mod PlanReadingSpelled
 pub mod PlanReadingTaken
 pub mod PlanReadingLinesTaken
 pub mod PlanReadingRead
+pub mod FirstFaultGrown
+pub mod FirstFaultNumbers
+pub mod FirstFaultLines
+pub mod FirstFaultMended
+pub mod FirstFaultWhole
+pub mod FirstFaultPlans
