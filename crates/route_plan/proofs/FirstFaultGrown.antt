@@ -4,7 +4,7 @@ use Rattle.std.proofs.lemmas.Bool.{eqb-true, eqb-false}
 use Rattle.std.proofs.lemmas.List.{drop-append-le}
 use Rattle.ev_text.specs.Scans.{and_then, past, rest_of, word_at, BeginsWith, IsProperPrefix}
 use Rattle.ev_text.specs.declared.TextFault.{TextFault}
-use Rattle.ev_text.specs.declared.TextFault.TheVariants.{Word}
+use Rattle.ev_text.specs.declared.TextFault.TheVariants.{End, Word}
 use Rattle.ev_text.proofs.Readings.{word_at-at_end, word_at-cases, word_at-differs, word_at-word}
 use Rattle.route_plan.specs.FirstFault.{IsNoEnd}
 use Rattle.route_plan.specs.PlanReading.{if_taken, optional_at}
@@ -90,34 +90,40 @@ still_uncut word rest more uncut (m, e, some) = uncut (more ++ m, e ∙ append_a
     behind_nothing [] ys none = none
     behind_nothing (x ∷ xs) ys none = absurd (cc)
 
+-- the answers for a word, each with what it tells of the answer in a text that goes on
+pub word_at-grown : (b : ℕ) (bs more : List ℕ) (s : List ℕ × ℕ) (P : Result (List ℕ × ℕ) TextFault → Result (List ℕ × ℕ) TextFault → Type 0) → Within s
+    → ((t : List ℕ × ℕ) → Within t → t ≡ past (b ∷ bs) s → rest_of s ≢ [] → P (Ok t) (Ok (grown more t)))
+    → ((later : Result (List ℕ × ℕ) TextFault) → IsProperPrefix (rest_of s) (b ∷ bs) → P (Err (End s.1)) later)
+    → (rest_of s ≢ [] → P (Err (Word s.1)) (Err (Word s.1)))
+    → P (word_at (b ∷ bs) s) (word_at (b ∷ bs) (grown more s))
+word_at-grown b bs more s P within stands cut differs =
+    word_at-cases (b ∷ bs) s (λ r. P r (word_at (b ∷ bs) (grown more s)))
+    (λ (rest, e).
+    let t = past (b ∷ bs) s in
+    let later : word_at (b ∷ bs) (grown more s) ≡ Ok (grown more t) = word_at-word (b ∷ bs) (rest ++ more) (grown more s) (is ∙ ap (λ xs. xs ++ more) e ∙ append_assoc (b ∷ bs) rest more) in
+    subst (λ (r : Result (List ℕ × ℕ) TextFault). P (Ok t) r) (sym later) (stands t (past_within (b ∷ bs) rest s within e) refl (λ none. no_list_is_shorter b bs rest (sym e ∙ none))))
+    (λ short. cut (word_at (b ∷ bs) (grown more s)) short)
+    (λ other uncut.
+    let later : word_at (b ∷ bs) (grown more s) ≡ Err (Word s.1) =
+    (word_at-differs (b ∷ bs) (grown more s)).1 (
+      λ h. still_differs (b ∷ bs) (rest_of s) more other uncut (h.0, sym is ∙ h.1),
+      λ h. still_uncut (b ∷ bs) (rest_of s) more uncut (h.0, h.1 ∙ ap (λ xs. xs ++ h.0) is, h.2),
+    ) in
+    subst (λ (r : Result (List ℕ × ℕ) TextFault). P (Err (Word s.1)) r) (sym later) (differs (λ none. uncut (b ∷ bs, ap (λ xs. xs ++ (b ∷ bs)) (sym none), λ same. absurd (cc)))))
+  where
+    is : rest_of (grown more s) ≡ rest_of s ++ more
+    is = rest_of-grown more s within
+
 -- a word, and what follows it
 pub keeps-word : {B : Type 0} (b : ℕ) (bs more : List ℕ) (s : List ℕ × ℕ) (next next_later : List ℕ × ℕ → Result (B × (List ℕ × ℕ)) TextFault)
     → Within s
     → ((t : List ℕ × ℕ) → Within t → Keeps more t (next t) (next_later (grown more t)))
     → Keeps more s (and_then (word_at (b ∷ bs) s) next) (and_then (word_at (b ∷ bs) (grown more s)) next_later)
 keeps-word {B} b bs more s next next_later within nexts =
-    word_at-cases word s (λ r. Keeps more s (and_then r next) (and_then (word_at word (grown more s)) next_later))
-    stands
-    (λ cut. (λ none no_end. no_end, λ no_end. absurd no_end))
-    (λ other uncut. (λ none no_end. uncut (word, ap (λ xs. xs ++ word) (sym none), λ same. absurd (cc)), λ no_end. ap (λ r. and_then r next_later) (differs other uncut)))
-  where
-    word : List ℕ
-    word = b ∷ bs
-
-    stands : BeginsWith (rest_of s) (b ∷ bs) → Keeps more s (next (past (b ∷ bs) s)) (and_then (word_at (b ∷ bs) (grown more s)) next_later)
-    stands (rest, e) =
-        let t = past (b ∷ bs) s in
-        let later : word_at (b ∷ bs) (grown more s) ≡ Ok (grown more t) = word_at-word (b ∷ bs) (rest ++ more) (grown more s) (rest_of-grown more s within ∙ ap (λ xs. xs ++ more) e ∙ append_assoc (b ∷ bs) rest more) in
-        keeps-from more s t (next t) (and_then (word_at (b ∷ bs) (grown more s)) next_later) refl (λ none. absurd (no_list_is_shorter b bs rest (sym e ∙ none)))
-        (subst (λ (r : Result (List ℕ × ℕ) TextFault). Keeps more t (next t) (and_then r next_later)) (sym later) (nexts t (past_within (b ∷ bs) rest s within e)))
-
-    differs : ¬ (BeginsWith (rest_of s) (b ∷ bs)) → ¬ (IsProperPrefix (rest_of s) (b ∷ bs)) → word_at (b ∷ bs) (grown more s) ≡ Err (Word s.1)
-    differs other uncut =
-        let is = rest_of-grown more s within in
-        (word_at-differs (b ∷ bs) (grown more s)).1 (
-          λ h. still_differs (b ∷ bs) (rest_of s) more other uncut (h.0, sym is ∙ h.1),
-          λ h. still_uncut (b ∷ bs) (rest_of s) more uncut (h.0, h.1 ∙ ap (λ xs. xs ++ h.0) is, h.2),
-        )
+    word_at-grown b bs more s (λ here later. Keeps more s (and_then here next) (and_then later next_later)) within
+    (λ t inside moved some. keeps-from more s t (next t) (next_later (grown more t)) (ap (λ (u : List ℕ × ℕ). u.0) moved) (λ none. absurd (some none)) (nexts t inside))
+    (λ later short. (λ none no_end. no_end, λ no_end. absurd no_end))
+    (λ some. (λ none no_end. some none, λ no_end. refl))
 
 -- a byte that may stand at a place, and what follows
 pub keeps-optional : {B : Type 0} (b : ℕ) (more : List ℕ) (s : List ℕ × ℕ) (next next_later : Bool × (List ℕ × ℕ) → Result (B × (List ℕ × ℕ)) TextFault)

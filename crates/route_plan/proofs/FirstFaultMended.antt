@@ -89,7 +89,7 @@ optional_takes word s t = by (word_at word s) refl
     by (Ok u) is same = TakesWord-from_word_at word s t (is ∙ ap (λ (p : Bool × (List ℕ × ℕ)). let found : Result (List ℕ × ℕ) TextFault = Ok p.1 in found) same)
     by (Err fault) is same = absurd (let untrue : false ≡ true = ap (λ (p : Bool × (List ℕ × ℕ)). p.0) same in cc)
 
-word_moves : (word : List ℕ) (s t : List ℕ × ℕ) → TakesWord word s t → t.1 ≡ s.1 + length word
+pub word_moves : (word : List ℕ) (s t : List ℕ × ℕ) → TakesWord word s t → t.1 ≡ s.1 + length word
 word_moves word s t takes = ap (λ (u : List ℕ × ℕ). u.1) takes.moved
 
 mended-added : (Language : List ℕ → Type 0) (tail : List ℕ) (s : List ℕ × ℕ) (fault : TextFault) → ((added : ℕ) → added ≤ 10 ^ 9 → Language (amount_text added ++ tail))

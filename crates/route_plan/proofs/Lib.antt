@@ -22,3 +22,6 @@ pub mod FirstFaultLines
 pub mod FirstFaultMended
 pub mod FirstFaultWhole
 pub mod FirstFaultPlans
+pub mod FirstFaultFileGrown
+pub mod FirstFaultFileMended
+pub mod FirstFaultFiles

@@ -20,7 +20,7 @@ IsNoEnd (TooLarge at) = Unit {0}
 IsNoEnd (Word at) = Unit {0}
 IsNoEnd (End at) = ⊥
 
--- the bytes begin the text of a plan: they are one, or can be continued to one
+-- the bytes begin the text of a plan: they are one, or can be continued to one, which may be of any length
 abbrev pub BeginsPlan : List ℕ → Type 0
 BeginsPlan bytes = (more : List ℕ) × ((stops : List Stop) × FitsText stops × (plan_text stops ≡ bytes ++ more))
 
