@@ -1,15 +1,14 @@
 -- What was read is what the text spells.
-use Rattle.std.proofs.Common.{◌≡◌, ◌≢◌, ◌∙◌, ℕ, zero, suc, ◌^◌, ◌≤◌, Bool, true, false, List, [], ◌∷◌, ◌++◌, length, Option, None, Some, Result, Ok, Err, codes, decimal, refl, sym, ap, subst, append_assoc, arith, if◌then◌else◌}
+use Rattle.std.proofs.Common.{◌≡◌, ◌∙◌, ℕ, zero, suc, Bool, true, false, List, [], ◌∷◌, ◌++◌, length, Result, Ok, Err, codes, refl, sym, ap, subst, arith, if◌then◌else◌}
 use Rattle.std.specs.List.{All}
 use Rattle.std.proofs.lemmas.List.Elements.{All-cons, All-nil}
 use Rattle.ev_model.specs.declared.Stop.{Stop}
-use Rattle.ev_text.specs.Scans.{and_then, rest_of, whole_at, word_at}
+use Rattle.ev_text.specs.Scans.{and_then, rest_of, word_at}
 use Rattle.ev_text.specs.declared.TextFault.{TextFault}
 use Rattle.ev_text.specs.declared.TextFault.TheVariants.{End}
-use Rattle.ev_text.proofs.Readings.{TakesNumber-from_whole_at, TakesWord-from_word_at}
-use Rattle.route_plan.specs.PlanReading.{ends_in_either, file_at, more_stops, optional_at, plans_at, route_at, routes_at, second_line, stop_at, with_stops}
-use Rattle.route_plan.specs.PlanTexts.{FitsFile, FitsText, IsSmallStop, fleet_plan_text, plan_lines, plan_text, stop_text}
-use Rattle.route_plan.specs.declared.plan.FleetPlan.{FleetPlan}
+use Rattle.ev_text.proofs.Readings.{TakesWord-from_word_at}
+use Rattle.route_plan.specs.PlanReading.{more_stops, optional_at, route_at, routes_at, stop_at, with_stops}
+use Rattle.route_plan.specs.PlanTexts.{FitsText, IsSmallStop, plan_lines, plan_text, stop_text}
 use Rattle.route_plan.specs.declared.plan.RoutePlan.{RoutePlan}
 use Rattle.route_plan.proofs.PlanReadingParts.{IsStopAt, Err_is_not_Ok, Ok_injective, optional_taken, stop_read}
 use Rattle.route_plan.proofs.PlanReadingTexts.{ends_line, plan_lines-cons, plan_text-line}

@@ -1,5 +1,5 @@
 -- Reading the stops of a line, one after another.
-use Rattle.std.proofs.Common.{◌≡◌, ◌∙◌, ℕ, zero, suc, ◌+◌, ◌<◌, ◌≤◌, Bool, true, false, List, [], ◌∷◌, ◌++◌, length, Result, Ok, Err, codes, refl, sym, ap, subst, append_assoc, append-nil, length-append, length-drop, if◌then◌else◌, arith}
+use Rattle.std.proofs.Common.{◌≡◌, ◌∙◌, ℕ, zero, suc, ◌+◌, ◌<◌, ◌≤◌, true, false, List, [], ◌∷◌, ◌++◌, length, Result, Ok, Err, codes, refl, sym, ap, append_assoc, append-nil, length-append, length-drop, arith}
 use Rattle.ev_model.specs.declared.Stop.{Stop}
 use Rattle.ev_text.specs.Scans.{and_then, rest_of, word_at}
 use Rattle.ev_text.specs.declared.TextFault.{TextFault}
@@ -49,7 +49,7 @@ breaks start s t stops fault (most, le, is) space found =
     let after = next most s t le space in
     sym is ∙ ap (λ r. with_stops stops r) (after.2 ∙ ap (λ r. and_then r (λ found. with_stops (found.0 ∷ []) (more_stops after.0 found.1))) found)
 
-no_bytes : (xs : List ℕ) → length xs ≡ 0 → xs ≡ []
+pub no_bytes : (xs : List ℕ) → length xs ≡ 0 → xs ≡ []
 no_bytes [] none = refl
 no_bytes (x ∷ xs) none = absurd (omega (arith, none))
 

@@ -1,12 +1,12 @@
 -- Lines of plans that stand in a text are taken.
-use Rattle.std.proofs.Common.{◌≡◌, ◌≢◌, ◌∙◌, ℕ, zero, suc, ◌<◌, ◌≤◌, true, false, List, [], ◌∷◌, ◌++◌, length, Result, Ok, codes, refl, sym, ap, arith}
+use Rattle.std.proofs.Common.{◌≡◌, ◌∙◌, ℕ, zero, suc, ◌<◌, List, [], ◌∷◌, ◌++◌, length, Result, Ok, codes, refl, ap, arith}
 use Rattle.std.specs.List.{All}
 use Rattle.std.proofs.lemmas.List.Elements.{All-head, All-tail}
 use Rattle.ev_model.specs.declared.Stop.{Stop}
-use Rattle.ev_text.specs.Scans.{past, rest_of, word_at}
+use Rattle.ev_text.specs.Scans.{past, rest_of}
 use Rattle.ev_text.specs.declared.TextFault.{TextFault}
 use Rattle.ev_text.proofs.Readings.{word_read}
-use Rattle.route_plan.specs.PlanReading.{more_stops, optional_at, route_at, routes_at, stop_at}
+use Rattle.route_plan.specs.PlanReading.{more_stops, route_at, routes_at}
 use Rattle.route_plan.specs.PlanTexts.{FitsText, IsSmallStop, plan_lines, plan_text, stop_text}
 use Rattle.route_plan.specs.declared.plan.RoutePlan.{RoutePlan}
 use Rattle.route_plan.proofs.PlanReadingLines.{no_longer_than_text}

@@ -1,5 +1,5 @@
 -- What is taken as a part of a stop stands there.
-use Rattle.std.proofs.Common.{◌≡◌, ◌≢◌, ◌∙◌, ℕ, ◌^◌, ◌<◌, ◌≤◌, Bool, true, false, List, [], ◌∷◌, ◌++◌, Result, Ok, Err, codes, decimal, nat_eq, nat_lt, if◌then◌else◌, refl, sym, ap, subst, append_assoc, arith}
+use Rattle.std.proofs.Common.{◌≡◌, ◌≢◌, ◌∙◌, ℕ, ◌^◌, ◌<◌, ◌≤◌, Bool, true, false, List, [], ◌++◌, Result, Ok, Err, codes, decimal, nat_eq, if◌then◌else◌, refl, sym, ap, subst, append_assoc, arith}
 use Rattle.std.proofs.lemmas.Bool.{eqb-false, lt-ltb}
 use Rattle.ev_model.specs.declared.Stop.{Stop}
 use Rattle.ev_text.specs.Scans.{and_then, rest_of, whole_at, word_at}

@@ -1,12 +1,11 @@
 -- A text that spells a value is read as this value.
-use Rattle.std.proofs.Common.{◌≡◌, ◌∙◌, ℕ, ◌^◌, List, [], ◌∷◌, ◌++◌, length, Option, None, Some, Result, Ok, Err, codes, decimal, refl, sym, ap, append_assoc, append-nil, arith}
-use Rattle.std.specs.List.{All}
+use Rattle.std.proofs.Common.{◌≡◌, ◌∙◌, ℕ, ◌^◌, List, [], ◌∷◌, ◌++◌, length, Option, None, Some, Ok, Err, codes, decimal, refl, sym, ap, append-nil, arith}
 use Rattle.ev_model.specs.declared.Stop.{Stop}
-use Rattle.ev_text.specs.Scans.{and_then, past, rest_of, whole_at, word_at}
+use Rattle.ev_text.specs.Scans.{and_then, past, rest_of, word_at}
 use Rattle.ev_text.specs.declared.TextFault.TheVariants.{Word}
 use Rattle.ev_text.proofs.Readings.{number_read, word_at-other_byte, word_read}
-use Rattle.route_plan.specs.PlanReading.{file_at, fleet_plan_in, plan_in, plans_at, route_at, routes_at, second_line}
-use Rattle.route_plan.specs.PlanTexts.{FitsFile, FitsText, SpellsFleetPlan, SpellsPlan, fleet_plan_text, plan_lines, plan_text}
+use Rattle.route_plan.specs.PlanReading.{file_at, fleet_plan_in, plan_in, plans_at, route_at, second_line}
+use Rattle.route_plan.specs.PlanTexts.{FitsFile, SpellsFleetPlan, SpellsPlan, fleet_plan_text, plan_lines, plan_text}
 use Rattle.route_plan.specs.declared.plan.FleetPlan.{FleetPlan}
 use Rattle.route_plan.specs.declared.plan.RoutePlan.{RoutePlan}
 use Rattle.route_plan.proofs.PlanReadingLinesTaken.{route_is_taken, routes_are_taken}

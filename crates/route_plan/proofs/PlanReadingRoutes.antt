@@ -1,6 +1,5 @@
 -- Reading the lines of plans, one after another.
-use Rattle.std.proofs.Common.{◌≡◌, ◌∙◌, ℕ, zero, suc, ◌+◌, ◌-◌, ◌<◌, List, [], ◌∷◌, ◌++◌, Result, Ok, Err, refl, sym, ap, subst, append_assoc, append-nil, arith}
-use Rattle.ev_model.specs.declared.Stop.{Stop}
+use Rattle.std.proofs.Common.{◌≡◌, ◌∙◌, ℕ, suc, List, [], ◌∷◌, ◌++◌, Result, Ok, Err, refl, sym, ap, append_assoc, append-nil}
 use Rattle.ev_text.specs.Scans.{and_then}
 use Rattle.ev_text.specs.declared.TextFault.{TextFault}
 use Rattle.route_plan.specs.PlanReading.{or_bad, route_at, routes_at}

@@ -1,5 +1,5 @@
 -- A whole text that was read spells its value.
-use Rattle.std.proofs.Common.{◌≡◌, ◌≢◌, ◌∙◌, ℕ, ◌^◌, ◌≤◌, Bool, true, false, List, [], ◌∷◌, ◌++◌, length, Option, None, Some, Result, Ok, Err, codes, decimal, nat_eq, nat_lt, refl, sym, ap, subst, append_assoc, append-nil, arith, if◌then◌else◌}
+use Rattle.std.proofs.Common.{◌≡◌, ◌∙◌, ℕ, ◌^◌, ◌≤◌, Bool, true, false, List, [], ◌∷◌, ◌++◌, length, Option, None, Some, Result, Ok, Err, codes, decimal, nat_eq, nat_lt, refl, sym, ap, subst, append_assoc, append-nil, arith, if◌then◌else◌}
 use Rattle.std.proofs.lemmas.Bool.{eqb-true, ltb-false}
 use Rattle.ev_model.specs.declared.Stop.{Stop}
 use Rattle.ev_text.specs.Scans.{and_then, rest_of, whole_at, word_at}
@@ -10,9 +10,9 @@ use Rattle.route_plan.specs.PlanReading.{ends_in_either, file_at, fleet_plan_in,
 use Rattle.route_plan.specs.PlanTexts.{FitsFile, SpellsFleetPlan, SpellsPlan, fleet_plan_text, plan_lines, plan_text}
 use Rattle.route_plan.specs.declared.plan.FleetPlan.{FleetPlan}
 use Rattle.route_plan.specs.declared.plan.RoutePlan.{RoutePlan}
-use Rattle.route_plan.specs.declared.plan_text.PlanText.{PlanText}
 use Rattle.route_plan.specs.declared.plan_text.PlanText.TheVariants.{Bad, TooLong}
 use Rattle.route_plan.proofs.PlanReadingFound.{AreRoutesAt, route_read, routes_read}
+use Rattle.route_plan.proofs.PlanReadingLines.{no_bytes}
 use Rattle.route_plan.proofs.PlanReadingParts.{Err_is_not_Ok, Ok_injective}
 use Rattle.route_plan.proofs.PlanReadingWhole.{Reader, whole_with}
 use Rattle.route_plan.proofs.Spelled.{and_then-ok}
@@ -23,10 +23,6 @@ record IsReadWhole {A : Type 0} (read : Reader A) (bytes : List ℕ) (value : A)
   pub after : List ℕ × ℕ
   pub found : read (bytes, 0) ≡ Ok (value, after)
   pub none : rest_of after ≡ []
-
-no_bytes : (xs : List ℕ) → length xs ≡ 0 → xs ≡ []
-no_bytes [] none = refl
-no_bytes (x ∷ xs) none = absurd (omega (arith, none))
 
 inside : {A : Type 0} (bytes : List ℕ) (found : Result A TextFault) (value : A) → unless_too_long bytes found ≡ Ok value → (length bytes ≤ 2 ^ 26) × (found ≡ Ok value)
 inside {A} bytes found value is = by (nat_lt (2 ^ 26) (length bytes)) found refl is

@@ -1,12 +1,11 @@
 -- A stop that stands in a text is taken, up to the byte behind it.
-use Rattle.std.proofs.Common.{◌≡◌, ◌≢◌, ◌∙◌, ℕ, zero, suc, ◌^◌, ◌<◌, ◌≤◌, Bool, true, false, List, [], ◌∷◌, ◌++◌, Result, Ok, Err, codes, decimal, nat_eq, nat_lt, refl, sym, ap, append_assoc, arith, if◌then◌else◌}
+use Rattle.std.proofs.Common.{◌≡◌, ◌≢◌, ◌∙◌, ℕ, zero, suc, ◌^◌, ◌<◌, ◌≤◌, Bool, true, false, List, [], ◌∷◌, ◌++◌, Result, Ok, codes, decimal, nat_eq, refl, ap, append_assoc, arith, if◌then◌else◌}
 use Rattle.std.specs.Char.{is_ascii_digit}
 use Rattle.std.proofs.lemmas.Bool.{lt-ltb, ne_eqb}
 use Rattle.ev_model.specs.declared.Stop.{Stop}
 use Rattle.ev_text.specs.Numerals.{BeginsWithoutDigit}
-use Rattle.ev_text.specs.Scans.{past, rest_of, whole_at, word_at}
+use Rattle.ev_text.specs.Scans.{past, rest_of}
 use Rattle.ev_text.specs.declared.TextFault.{TextFault}
-use Rattle.ev_text.specs.declared.TextFault.TheVariants.{NotWhole}
 use Rattle.ev_text.proofs.Readings.{number_read, word_at-number, word_at-other_byte, word_read}
 use Rattle.route_plan.specs.PlanReading.{amount_at, amount_behind, if_taken, optional_at, stop_at, stop_behind}
 use Rattle.route_plan.specs.PlanTexts.{IsSmallStop, amount_text, stop_text}

@@ -1,5 +1,5 @@
 -- The text of a plan, cut behind its first stop, and what follows it.
-use Rattle.std.proofs.Common.{◌≡◌, ◌∙◌, ℕ, ◌+◌, ◌<◌, List, [], ◌∷◌, ◌++◌, length, codes, refl, ap, append_assoc, length-append, arith}
+use Rattle.std.proofs.Common.{◌≡◌, ◌∙◌, ℕ, ◌<◌, List, [], ◌∷◌, ◌++◌, length, codes, refl, ap, append_assoc, length-append, arith}
 use Rattle.ev_model.specs.declared.Stop.{Stop}
 use Rattle.route_plan.specs.PlanTexts.{plan_lines, plan_text, stop_text, stops_text}
 use Rattle.route_plan.specs.declared.plan.RoutePlan.{RoutePlan}

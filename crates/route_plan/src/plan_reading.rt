@@ -84,7 +84,7 @@ pub fn read_fleet_plan(alloc: Global, bytes: &[u8]) -> Result<Option<FleetPlan>,
     Ok(plan)
 }
 
-/// Takes both lines or more of a file: the word of the first line, and then `none` or the plans.
+/// Takes a file: the word of its first line, and then `none` or the plans.
 fn take_file(alloc: Global, scan: &mut Scan<'_>) -> Result<Option<FleetPlan>, PlanText>
     ensures ok { IfOk result (λ plan. file_at scan.old ≡ Ok (plan, scan.new)) }
     ensures fault { IfErr result (λ fault. fault ≢ PlanText.Memory → or_bad (file_at scan.old) ≡ Err fault) }

@@ -1,4 +1,7 @@
-use crate::{RouteFault, Stop, Walk, WalkFault, read_route, walk};
+use crate::{
+    PlanText, RouteFault, Stop, Walk, WalkFault, read_fleet_plan, read_plan, read_route, walk,
+};
+use ev_text::TextFault;
 use instance_reader::read_instance;
 
 /// A depot, a customer and a station.
@@ -93,4 +96,84 @@ fn a_walk_tells_time_and_last_level_or_the_first_broken_rule(rt: HostRuntime) {
     let short = inst.with_limit(21).ok().expect(&rt, "a limit");
     let late = walk(&short, 10, [at(0), via(2, 1), at(1), at(0)].as_slice());
     assert_eq!(rt; late, Err(WalkFault::Late { at: 3 }));
+}
+
+#[test]
+fn the_first_fault_of_a_plan_file_is_named(rt: HostRuntime) {
+    let alloc = rt.alloc();
+    let cases = [
+        ("", TextFault::End { at: 0 }),
+        ("evroute plan 1", TextFault::End { at: 0 }),
+        ("evroute plan 2\nnone\n", TextFault::Word { at: 0 }),
+        ("evroute plan 1\nnon", TextFault::End { at: 15 }),
+        ("evroute plan 1\nnox", TextFault::Word { at: 15 }),
+        ("evroute plan 1\nnone\n\n", TextFault::Word { at: 20 }),
+        (
+            "evroute plan 1\nroutes 1000001\n",
+            TextFault::TooLarge { at: 22 },
+        ),
+        (
+            "evroute plan 1\nroutes 01\n",
+            TextFault::NotWhole { at: 22 },
+        ),
+        ("evroute plan 1\nroutes 1\n", TextFault::End { at: 24 }),
+        (
+            "evroute plan 1\nroutes 1\nroute 0\nroute 0\n",
+            TextFault::Word { at: 32 },
+        ),
+    ];
+    for (text, wanted) in cases {
+        let found = read_fleet_plan(alloc, text.as_bytes()).err();
+        assert_eq!(rt; found, Some(PlanText::Bad { fault: wanted }), "{text}");
+    }
+}
+
+#[test]
+fn the_first_fault_of_a_plan_is_named(rt: HostRuntime) {
+    let alloc = rt.alloc();
+    let cases = [
+        ("route x\n", TextFault::NotWhole { at: 6 }),
+        ("route v\n", TextFault::NotWhole { at: 7 }),
+        ("route 0", TextFault::End { at: 7 }),
+        ("route 0+0\n", TextFault::NotWhole { at: 8 }),
+        ("route 0+ 1\n", TextFault::NotWhole { at: 8 }),
+        ("route 0  1\n", TextFault::NotWhole { at: 8 }),
+        ("route 0 \n", TextFault::NotWhole { at: 8 }),
+        ("route 1000000001\n", TextFault::TooLarge { at: 6 }),
+        ("route 0 v2+1000000001\n", TextFault::TooLarge { at: 11 }),
+        ("route 0 v2+1+1\n", TextFault::Word { at: 12 }),
+        ("route 0\n0", TextFault::Word { at: 8 }),
+    ];
+    for (text, wanted) in cases {
+        let found = read_plan(alloc, text.as_bytes()).err();
+        assert_eq!(rt; found, Some(PlanText::Bad { fault: wanted }), "{text}");
+    }
+}
+
+#[test]
+fn a_plan_and_a_plan_file_are_read_with_their_stops(rt: HostRuntime) {
+    let alloc = rt.alloc();
+    let plan = read_plan(alloc, b"route 0 v2+1 1 0\n").expect(&rt, "a plan");
+    let stops = [at(0), via(2, 1), at(1), at(0)];
+    assert_eq!(rt; plan.stops.as_slice(), stops.as_slice());
+    let none = read_fleet_plan(alloc, b"evroute plan 1\nnone\n").expect(&rt, "a file");
+    assert!(rt; none.is_none());
+    let file = b"evroute plan 1\nroutes 2\nroute 1000000000+1000000000\nroute 0 v2 0\n";
+    let fleet = read_fleet_plan(alloc, file)
+        .expect(&rt, "a file")
+        .expect(&rt, "a plan");
+    let mut routes = fleet.routes.as_slice().iter();
+    let first = routes.next().expect(&rt, "a first route");
+    let charged = Stop {
+        node: 1_000_000_000,
+        added: 1_000_000_000,
+        via: false,
+    };
+    assert_eq!(rt; first.stops.as_slice(), [charged].as_slice());
+    let second = routes.next().expect(&rt, "a second route");
+    assert_eq!(rt;
+        second.stops.as_slice(),
+        [at(0), via(2, 0), at(0)].as_slice()
+    );
+    assert!(rt; routes.next().is_none());
 }
