@@ -12,7 +12,7 @@ use Rattle.route_plan.specs.PlanReading.{amount_at, amount_behind, if_taken, mor
 use Rattle.route_plan.specs.PlanTexts.{FitsText, IsSmallStop, amount_text, plan_text, stop_text}
 use Rattle.route_plan.proofs.FirstFaultGrown.{Keeps, Within, grown, past_within}
 use Rattle.route_plan.proofs.FirstFaultLines.{keeps-stop}
-use Rattle.route_plan.proofs.PlanReadingLines.{no_longer_than_text}
+use Rattle.route_plan.proofs.PlanReadingLines.{no_bytes, no_longer_than_text}
 use Rattle.route_plan.proofs.PlanReadingParts.{Err_is_not_Ok, optional_left, small_limit, stop_read}
 use Rattle.route_plan.proofs.PlanReadingTexts.{ends_line, plan_text-line}
 
@@ -149,10 +149,6 @@ stop_moves s t stop within is =
     let whole = ap (λ xs. length xs) keeps.0 in
     (omega (arith, whole, length-drop s.1 s.0, length-drop t.1 t.0, ap (λ xs. length xs) (stop_read s t stop is).text, length-append (stop_text stop) (rest_of t)), inside)
 
-no_bytes : (xs : List ℕ) → length xs ≤ 0 → xs ≡ []
-no_bytes [] none = refl
-no_bytes (x ∷ xs) none = absurd (omega (arith, none))
-
 with_stops-err : (first : List Stop) (answer : Result (List Stop × (List ℕ × ℕ)) TextFault) (fault : TextFault) → with_stops first answer ≡ Err fault → answer ≡ Err fault
 with_stops-err first (Ok found) fault is = absurd (Err_is_not_Ok fault (first ++ found.0, found.1) (sym is))
 with_stops-err first (Err other) fault is = is
@@ -162,7 +158,7 @@ mended-more_stops : (most : ℕ) (Language : List ℕ → Type 0) (more : List �
 mended-more_stops zero Language more s fault within le whole is =
     let line_feed = whole [] (All-nil IsSmallStop) in
     let same : End s.1 ≡ fault = cc in
-    mended-here Language s fault (10 ∷ more) line_feed (ap place_of (sym same)) (λ end. (10 ∷ more, subst (λ (xs : List ℕ). Language (xs ++ 10 ∷ more)) (sym (no_bytes (rest_of s) le)) line_feed))
+    mended-here Language s fault (10 ∷ more) line_feed (ap place_of (sym same)) (λ end. (10 ∷ more, subst (λ (xs : List ℕ). Language (xs ++ 10 ∷ more)) (sym (no_bytes (rest_of s) (omega (arith, le)))) line_feed))
 mended-more_stops (suc most) Language more s fault within le whole is =
     by (λ stop u inside few follow. mended-more_stops most (behind (stop_text stop) (behind (codes " ") Language)) more u fault inside few follow) (optional_at (codes " ") s) refl is
   where
