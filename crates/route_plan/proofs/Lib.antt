@@ -16,3 +16,12 @@ pub mod PlanReadingSpelled
 pub mod PlanReadingTaken
 pub mod PlanReadingLinesTaken
 pub mod PlanReadingRead
+pub mod FirstFaultGrown
+pub mod FirstFaultNumbers
+pub mod FirstFaultLines
+pub mod FirstFaultMended
+pub mod FirstFaultWhole
+pub mod FirstFaultPlans
+pub mod FirstFaultFileGrown
+pub mod FirstFaultFileMended
+pub mod FirstFaultFiles

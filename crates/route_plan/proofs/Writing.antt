@@ -1,5 +1,5 @@
 -- Writing the stops of a plan, one after another.
-use Rattle.std.proofs.Common.{◌≡◌, ◌∙◌, ℕ, zero, suc, ◌+◌, ◌<◌, ◌++◌, List, [], ◌∷◌, codes, nat_lt, if◌then◌else◌, length, drop, get_or, refl, sym, ap, true, arith, append_assoc, append-nil, add-one, drop-cons}
+use Rattle.std.proofs.Common.{◌≡◌, ◌∙◌, ℕ, suc, ◌+◌, ◌<◌, ◌++◌, List, [], ◌∷◌, codes, nat_lt, if◌then◌else◌, length, drop, get_or, refl, sym, ap, true, arith, append_assoc, append-nil, add-one, drop-cons}
 use Rattle.std.proofs.lemmas.Bool.{lt-ltb}
 use Rattle.ev_model.specs.declared.Stop.{Stop}
 use Rattle.route_plan.specs.PlanTexts.{stop_text, stops_text}

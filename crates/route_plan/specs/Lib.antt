@@ -3,3 +3,4 @@ pub mod RouteRules
 pub mod Walking
 pub mod PlanTexts
 pub mod PlanReading
+pub mod FirstFault

@@ -1,6 +1,7 @@
 //! Plans of one vehicle and of a fleet, and the routes that they follow.
 #![tactic(auto)]
 
+mod fault_laws;
 mod judge;
 mod laws;
 mod plan;
@@ -11,6 +12,7 @@ mod route;
 mod walks;
 
 pub use ev_model::Stop;
+pub use fault_laws::{fleet_plan_faults_are_first, plan_faults_are_first};
 pub use judge::walk;
 pub use laws::{
     feasible_plans_are_walked, texts_spell_plans, unbroken_nodes_are_routes, words_spell_routes,
