@@ -1,4 +1,4 @@
--- The job that the words of a command line name: `fixed FILE ROUTE [--limit N] [--charge N]`.
+-- The job that the words of a command line name: `fixed FILE ROUTE [--limit N] [--charge N]` or `check FILE PLAN [--limit N]`.
 use Rattle.std.specs.Prelude.{ℕ, ◌^◌, ◌&&◌, Bool, true, not, List, [], ◌∷◌, length, Option, None, Some, Result, Ok, Err, is_none, codes, nat_eq, option_map, if◌then◌else◌}
 use Rattle.std.specs.Str.{bytes_eq}
 use Rattle.ev_text.specs.Scans.{rest_of, whole_at}
@@ -10,6 +10,16 @@ pub record FixedJob : Type 0 where
   pub file : List ℕ
   pub route : List ℕ
   pub options : Options
+
+-- the job of judging a plan: the names of its files, and the limit where one is given
+pub record CheckJob : Type 0 where
+  pub file : List ℕ
+  pub plan : List ℕ
+  pub limit : Option ℕ
+
+pub data Job : Type 0 where
+  FixedRoute : FixedJob → Job
+  CheckPlan : CheckJob → Job
 
 -- a word that may be a name or a route: it does not begin with `-`
 abbrev pub is_plain : List ℕ → Bool
@@ -54,18 +64,36 @@ options_of (name ∷ value ∷ other_name ∷ other_value ∷ []) =
     and_more (with_option no_options name value) (λ options. with_option options other_name other_value)
 options_of other = None
 
--- the first three words name the job of charging a route
-abbrev pub is_fixed : List ℕ → List ℕ → List ℕ → Bool
-is_fixed command file route = bytes_eq command (codes "fixed") && is_plain file && is_plain route
+-- no option, or a limit: its name and its number
+abbrev pub limit_named : List ℕ → List ℕ → Option (Option ℕ)
+limit_named name value = if bytes_eq name (codes "--limit") then option_map (λ n. Some n) (number_of value) else None
+
+abbrev pub limit_of : List (List ℕ) → Option (Option ℕ)
+limit_of [] = Some None
+limit_of (name ∷ value ∷ []) = limit_named name value
+limit_of other = None
 
 -- the job of these words with these options
 abbrev pub job_with : List ℕ → List ℕ → Options → FixedJob
 job_with file route options = record { file = file; route = route; options = options }
 
--- the job of the words, if they name one
-abbrev pub job_of : List (List ℕ) → Option FixedJob
-job_of (command ∷ file ∷ route ∷ words) =
-    if is_fixed command file route
-    then option_map (job_with file route) (options_of words)
+-- the names of the job `fixed`, and the words behind them
+abbrev pub fixed_of : List ℕ → List ℕ → List (List ℕ) → Option Job
+fixed_of file route words =
+    if is_plain file && is_plain route
+    then option_map (λ options. FixedRoute (job_with file route options)) (options_of words)
     else None
+
+-- the names of the job `check`, which are different, and the words behind them
+abbrev pub check_of : List ℕ → List ℕ → List (List ℕ) → Option Job
+check_of file plan words =
+    if is_plain file && is_plain plan && not (bytes_eq file plan)
+    then option_map (λ limit. CheckPlan (record { file = file; plan = plan; limit = limit })) (limit_of words)
+    else None
+
+-- the job of the words, if they name one
+abbrev pub job_of : List (List ℕ) → Option Job
+job_of (command ∷ file ∷ name ∷ words) =
+    if bytes_eq command (codes "fixed") then fixed_of file name words
+    else (if bytes_eq command (codes "check") then check_of file name words else None)
 job_of other = None

@@ -1,1 +1,3 @@
 pub mod FleetRules
+pub mod FirstFaults
+pub mod Tallies

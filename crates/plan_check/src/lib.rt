@@ -2,5 +2,13 @@
 #![tactic(auto)]
 
 mod fault;
+mod judge;
+mod laws;
+mod tally;
 
 pub use fault::PlanFault;
+pub use judge::check_fleet;
+pub use laws::fleet_plans_break_no_rule;
+
+#[cfg(test)]
+mod tests;

@@ -2,15 +2,19 @@
 use Rattle.std.specs.Prelude.{ℕ, ◌++◌, ◌∷◌, [], List, Option, None, Some, decimal, codes}
 use Rattle.charge_curve.specs.declared.fault.CurveFault.{CurveFault}
 use Rattle.charge_curve.specs.declared.fault.CurveFault.TheVariants as curve
+use Rattle.ev_text.specs.declared.TextFault.{TextFault}
+use Rattle.ev_text.specs.declared.TextFault.TheVariants as text
 use Rattle.instance_reader.specs.Places.{key_text, part_text}
 use Rattle.instance_reader.specs.declared.faults.ReadFault.{ReadFault}
 use Rattle.instance_reader.specs.declared.faults.ReadFault.TheVariants as instance
 use Rattle.instance_reader.specs.declared.places.Part.{Part}
 use Rattle.instance_reader.specs.declared.places.Place.{Place}
+use Rattle.route_plan.specs.declared.plan_text.PlanText.{PlanText}
+use Rattle.route_plan.specs.declared.plan_text.PlanText.TheVariants as plan
 use Rattle.route_plan.specs.declared.route.RouteFault.{RouteFault}
 use Rattle.route_plan.specs.declared.route.RouteFault.TheVariants as route
 use Rattle.plan_writer.specs.declared.refusal.Refusal.{Refusal}
-use Rattle.plan_writer.specs.declared.refusal.Refusal.TheVariants.{Instance, Limit, Charge, Route, Levels}
+use Rattle.plan_writer.specs.declared.refusal.Refusal.TheVariants.{Instance, Limit, Charge, Route, Levels, Customers, Plan}
 
 -- an index behind a slash, where there is one
 abbrev pub slash_index : Option ℕ → List ℕ
@@ -56,12 +60,26 @@ route_text (route.InnerDepot at) = codes "5 at " ++ decimal at
 route_text (route.Again at) = codes "6 at " ++ decimal at
 route_text route.Memory = []
 
+-- a place is a byte of the text
+abbrev pub fault_text : TextFault → List ℕ
+fault_text (text.NotWhole at) = codes "1 at " ++ decimal at
+fault_text (text.TooLarge at) = codes "2 at " ++ decimal at
+fault_text (text.Word at) = codes "3 at " ++ decimal at
+fault_text (text.End at) = codes "4 at " ++ decimal at
+
+abbrev pub plan_fault_text : PlanText → List ℕ
+plan_fault_text (plan.Bad fault) = fault_text fault
+plan_fault_text (plan.TooLong len) = codes "5 " ++ decimal len
+plan_fault_text plan.Memory = []
+
 abbrev pub cause_text : Refusal → List ℕ
 cause_text (Instance fault) = codes "instance " ++ instance_text fault
 cause_text (Limit limit) = codes "limit " ++ decimal limit
 cause_text (Charge level) = codes "charge " ++ decimal level
 cause_text (Route fault) = codes "route " ++ route_text fault
 cause_text (Levels cells) = codes "levels " ++ decimal cells
+cause_text (Customers count) = codes "customers " ++ decimal count
+cause_text (Plan fault) = codes "plan " ++ plan_fault_text fault
 
 abbrev pub refusal_text : Refusal → List ℕ
 refusal_text refusal = codes "refused " ++ cause_text refusal ++ 10 ∷ []

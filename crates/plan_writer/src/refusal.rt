@@ -2,12 +2,13 @@
 
 ghost use Rattle.std.specs.Prelude.{◌≡◌, ◌++◌, OnErr, OnOk, codes, decimal};
 ghost use Rattle.ev_outside.specs.Counts.{IsPrefixOf};
-ghost use Rattle.plan_writer.specs.RefusalText.{cause_text, curve_text, instance_text, place_text, refusal_text, route_text, slash_index, slash_part};
+ghost use Rattle.plan_writer.specs.RefusalText.{cause_text, curve_text, fault_text, instance_text, place_text, plan_fault_text, refusal_text, route_text, slash_index, slash_part};
 
+use crate::words::{push_numbered, push_word};
 use charge_curve::CurveFault;
-use ev_text::push_whole;
+use ev_text::TextFault;
 use instance_reader::{Part, Place, ReadFault};
-use route_plan::RouteFault;
+use route_plan::{PlanText, RouteFault};
 use std::alloc::{AllocError, Global};
 
 /// Why the program refuses a job, apart from want of memory and faults of files and output.
@@ -23,6 +24,10 @@ pub enum Refusal {
     Route(RouteFault),
     /// The table of levels would have this many cells, which are too many.
     Levels(u128),
+    /// The instance has this many customers, which are more than the 128 that a fleet command takes.
+    Customers(usize),
+    /// The bytes of the plan's file are no text of a fleet plan.
+    Plan(PlanText),
 }
 
 /// Appends the line of a refusal: its kind, the number of the broken rule, and the place or the
@@ -55,21 +60,12 @@ fn push_cause(alloc: Global, out: &mut Vec<u8>, refusal: &Refusal) -> Result<(),
             push_route_fault(alloc, out, fault)
         }
         Refusal::Levels(cells) => push_numbered(alloc, out, b"levels ", *cells),
+        Refusal::Customers(count) => push_numbered(alloc, out, b"customers ", *count as u128),
+        Refusal::Plan(fault) => {
+            out.extend_from_slice(b"plan ")?;
+            push_plan_fault(alloc, out, fault)
+        }
     }
-}
-
-/// Appends a word and a number.
-fn push_numbered(
-    alloc: Global,
-    out: &mut Vec<u8>,
-    word: &[u8],
-    number: u128,
-) -> Result<(), AllocError>
-    ensures ok { OnOk result (out.new.items ≡ out.old.items ++ (word.now ++ decimal number)) }
-    ensures err { OnErr result (IsPrefixOf out.old.items out.new.items) }
-{
-    out.extend_from_slice(word)?;
-    push_whole(alloc, out, number)
 }
 
 /// Appends the number of a broken rule of an instance, and its place.
@@ -98,14 +94,6 @@ fn push_instance_fault(
         ReadFault::Horizon { limit } => push_numbered(alloc, out, b"11 ", *limit as u128),
         ReadFault::Memory => Ok(()),
     }
-}
-
-/// Appends a word.
-fn push_word(out: &mut Vec<u8>, word: &[u8]) -> Result<(), AllocError>
-    ensures ok { OnOk result (out.new.items ≡ out.old.items ++ word.now) }
-    ensures err { OnErr result (IsPrefixOf out.old.items out.new.items) }
-{
-    out.extend_from_slice(word)
 }
 
 /// Appends the number of a rule and the place where it is broken.
@@ -201,5 +189,30 @@ fn push_route_fault(alloc: Global, out: &mut Vec<u8>, fault: &RouteFault) -> Res
         RouteFault::InnerDepot { at } => push_numbered(alloc, out, b"5 at ", *at as u128),
         RouteFault::Again { at } => push_numbered(alloc, out, b"6 at ", *at as u128),
         RouteFault::Memory => Ok(()),
+    }
+}
+
+/// Appends the number of a broken rule of a plan's text, and its place or the text's length.
+fn push_plan_fault(alloc: Global, out: &mut Vec<u8>, fault: &PlanText) -> Result<(), AllocError>
+    ensures ok { OnOk result (out.new.items ≡ out.old.items ++ plan_fault_text fault.now) }
+    ensures err { OnErr result (IsPrefixOf out.old.items out.new.items) }
+{
+    match fault {
+        PlanText::Bad { fault } => push_text_fault(alloc, out, fault),
+        PlanText::TooLong { len } => push_numbered(alloc, out, b"5 ", *len as u128),
+        PlanText::Memory => Ok(()),
+    }
+}
+
+/// Appends the number of what is wrong at a place of a text, and the place.
+fn push_text_fault(alloc: Global, out: &mut Vec<u8>, fault: &TextFault) -> Result<(), AllocError>
+    ensures ok { OnOk result (out.new.items ≡ out.old.items ++ fault_text fault.now) }
+    ensures err { OnErr result (IsPrefixOf out.old.items out.new.items) }
+{
+    match fault {
+        TextFault::NotWhole { at } => push_numbered(alloc, out, b"1 at ", *at as u128),
+        TextFault::TooLarge { at } => push_numbered(alloc, out, b"2 at ", *at as u128),
+        TextFault::Word { at } => push_numbered(alloc, out, b"3 at ", *at as u128),
+        TextFault::End { at } => push_numbered(alloc, out, b"4 at ", *at as u128),
     }
 }

@@ -1,9 +1,11 @@
-use crate::{Refusal, push_fixed, push_refusal};
+use crate::{Judgement, Refusal, push_check_report, push_fixed, push_refusal};
 use charge_curve::CurveFault;
 use ev_list::Listed;
 use ev_model::Stop;
+use ev_text::TextFault;
 use instance_reader::{Key, Part, Place, ReadFault, read_instance};
-use route_plan::{RouteFault, RoutePlan};
+use plan_check::PlanFault;
+use route_plan::{PlanText, RouteFault, RoutePlan, WalkFault};
 
 /// A depot, a customer and a station.
 const ONE_STATION: &str =
@@ -78,11 +80,102 @@ fn refusals_have_their_lines(rt: HostRuntime) {
         ),
         (Refusal::Route(RouteFault::Ends), "refused route 4\n"),
         (Refusal::Levels(4000000004), "refused levels 4000000004\n"),
+        (Refusal::Customers(129), "refused customers 129\n"),
     ];
     for (refusal, line) in cases {
         let mut out = Vec::new(alloc);
         push_refusal(alloc, &mut out, &refusal).expect(&rt, "memory");
         assert_eq!(rt; out.as_slice(), line.as_bytes());
+    }
+}
+
+#[test]
+fn refused_plans_have_their_lines(rt: HostRuntime) {
+    let alloc = rt.alloc();
+    let bad = |fault| Refusal::Plan(PlanText::Bad { fault });
+    let cases = [
+        (
+            bad(TextFault::NotWhole { at: 22 }),
+            "refused plan 1 at 22\n",
+        ),
+        (
+            bad(TextFault::TooLarge { at: 30 }),
+            "refused plan 2 at 30\n",
+        ),
+        (bad(TextFault::Word { at: 0 }), "refused plan 3 at 0\n"),
+        (bad(TextFault::End { at: 15 }), "refused plan 4 at 15\n"),
+        (
+            Refusal::Plan(PlanText::TooLong { len: 67108865 }),
+            "refused plan 5 67108865\n",
+        ),
+    ];
+    for (refusal, line) in cases {
+        let mut out = Vec::new(alloc);
+        push_refusal(alloc, &mut out, &refusal).expect(&rt, "memory");
+        assert_eq!(rt; out.as_slice(), line.as_bytes());
+    }
+}
+
+#[test]
+fn judgements_have_their_lines(rt: HostRuntime) {
+    let alloc = rt.alloc();
+    let inst = read_instance(alloc, ONE_STATION.as_bytes()).expect(&rt, "an instance");
+    let accepted = |cost| Judgement::Accepted { cost };
+    let walk = |route, fault| Judgement::Plan(PlanFault::Walk { route, fault });
+    let cases = [
+        (accepted(Some(86)), "accepted\ncost 86/2\n"),
+        (accepted(Some(0)), "accepted\ncost 0/2\n"),
+        (
+            accepted(Some(18446744073709551616)),
+            "accepted\ncost 18446744073709551616/2\n",
+        ),
+        (accepted(None), "accepted\ncost none\n"),
+        (walk(0, WalkFault::Ends), "rejected plan 1 route 0 walk 1\n"),
+        (
+            walk(1, WalkFault::Unknown { at: 2 }),
+            "rejected plan 1 route 1 walk 2 at 2\n",
+        ),
+        (
+            walk(1, WalkFault::Again { at: 3 }),
+            "rejected plan 1 route 1 walk 3 at 3\n",
+        ),
+        (
+            walk(2, WalkFault::Empty { at: 1 }),
+            "rejected plan 1 route 2 walk 4 at 1\n",
+        ),
+        (
+            walk(3, WalkFault::NotStation { at: 10 }),
+            "rejected plan 1 route 3 walk 5 at 10\n",
+        ),
+        (
+            walk(12, WalkFault::Full { at: 4 }),
+            "rejected plan 1 route 12 walk 6 at 4\n",
+        ),
+        (
+            walk(0, WalkFault::Late { at: 5 }),
+            "rejected plan 1 route 0 walk 7 at 5\n",
+        ),
+        (
+            Judgement::Plan(PlanFault::Twice { customer: 7 }),
+            "rejected plan 2 customer 7\n",
+        ),
+        (
+            Judgement::Plan(PlanFault::Unserved { customer: 8 }),
+            "rejected plan 3 customer 8\n",
+        ),
+        (
+            Judgement::Plan(PlanFault::EmptyRoute { route: 9 }),
+            "rejected plan 4 route 9\n",
+        ),
+        (
+            Judgement::Plan(PlanFault::Stray { route: 6, at: 2 }),
+            "rejected plan 5 route 6 at 2\n",
+        ),
+    ];
+    for (judgement, lines) in cases {
+        let mut out = Vec::new(alloc);
+        push_check_report(alloc, &mut out, &inst, &judgement).expect(&rt, "memory");
+        assert_eq!(rt; out.as_slice(), lines.as_bytes());
     }
 }
 

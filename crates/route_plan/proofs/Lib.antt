@@ -5,3 +5,14 @@ pub mod Spelled
 pub mod Ends
 pub mod Walked
 pub mod Feasibly
+pub mod Writing
+pub mod PlanReadingParts
+pub mod PlanReadingLines
+pub mod PlanReadingWhole
+pub mod PlanReadingRoutes
+pub mod PlanReadingTexts
+pub mod PlanReadingFound
+pub mod PlanReadingSpelled
+pub mod PlanReadingTaken
+pub mod PlanReadingLinesTaken
+pub mod PlanReadingRead

@@ -1,19 +1,28 @@
-//! Laws of the word of a route and of the walk along a plan. Each is the contract of an empty function.
+//! Laws of the word of a route, of the texts of plans and of the walk along a plan. Each is the contract of an empty function.
 
-ghost use Rattle.std.specs.Prelude.{◌≡◌, ◌↔◌, List, ℕ, None, Ok};
+ghost use Rattle.std.specs.Prelude.{◌≡◌, ◌↔◌, List, ℕ, None, Ok, Option};
 ghost use Rattle.ev_model.specs.Feasible.{IsFeasible};
 ghost use Rattle.ev_model.specs.Network.{Network, node_count};
 ghost use Rattle.ev_model.specs.Route.{IsRoute};
 ghost use Rattle.ev_model.specs.Time.{time_of};
 ghost use Rattle.ev_model.specs.declared.Stop.{Stop};
+ghost use Rattle.route_plan.specs.PlanReading.{fleet_plan_in, plan_in};
+ghost use Rattle.route_plan.specs.PlanTexts.{SpellsFleetPlan, SpellsPlan};
 ghost use Rattle.route_plan.specs.RouteRules.{route_fault};
 ghost use Rattle.route_plan.specs.RouteWords.{nodes_in, SpellsRoute};
 ghost use Rattle.route_plan.specs.Walking.{end_level, walked};
+ghost use Rattle.route_plan.specs.declared.plan.FleetPlan.{FleetPlan};
 ghost use Rattle.route_plan.specs.declared.walks.Walk.{Walk};
 
 /// A word is read as nodes exactly where it spells them: decimal numbers joined by single commas.
 pub fn words_spell_routes()
     ensures { (word nodes : List ℕ) → (nodes_in word ≡ Ok nodes) ↔ SpellsRoute word nodes }
+{}
+
+/// Bytes are read as a plan exactly where they spell it, and the same of fleet plans.
+pub fn texts_spell_plans()
+    ensures plan { (bytes : List ℕ) (stops : List Stop) → (plan_in bytes ≡ Ok stops) ↔ SpellsPlan bytes stops }
+    ensures fleet { (bytes : List ℕ) (plan : Option FleetPlan) → (fleet_plan_in bytes ≡ Ok plan) ↔ SpellsFleetPlan bytes plan }
 {}
 
 /// Nodes of which no rule is broken are a route of the network.

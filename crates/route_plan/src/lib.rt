@@ -4,17 +4,25 @@
 mod judge;
 mod laws;
 mod plan;
+mod plan_reading;
 mod plan_text;
+mod plan_writing;
 mod route;
 mod walks;
 
 pub use ev_model::Stop;
 pub use judge::walk;
-pub use laws::{feasible_plans_are_walked, unbroken_nodes_are_routes, words_spell_routes};
+pub use laws::{
+    feasible_plans_are_walked, texts_spell_plans, unbroken_nodes_are_routes, words_spell_routes,
+};
 pub use plan::{FleetPlan, FracPlan, RoutePlan};
+pub use plan_reading::{read_fleet_plan, read_plan};
 pub use plan_text::PlanText;
+pub use plan_writing::{push_fleet_plan, push_plan};
 pub use route::{RouteFault, read_route};
 pub use walks::{Walk, WalkFault};
 
 #[cfg(test)]
 mod tests;
+#[cfg(test)]
+mod writing_tests;
