@@ -1,7 +1,6 @@
 -- What the program does with files and output.
 use Rattle.std.specs.Prelude.{◌≡◌, ℕ, ◌+◌, ◌^◌, ◌≤◌, ◌⊎◌, List, length, take, Option, None, Some}
-use Rattle.command_line.specs.Words.{CheckJob, Job}
-use Rattle.command_line.specs.Words.Job.{FixedRoute, CheckPlan}
+use Rattle.command_line.specs.Words.{CheckJob, CheckPlan, FixedRoute, Job}
 use Rattle.ev_model.specs.Network.{Network}
 use Rattle.ev_outside.specs.Counts.{Rose}
 use Rattle.ev_outside.specs.Shelf.{Files, bytes_under}
@@ -38,6 +37,12 @@ pub record PutsAnswer (job : Job) (files : Option Files) (old new : Option (List
 abbrev pub PutsPart : Job → Option Files → Option (List ℕ) → Option (List ℕ) → Type 0
 PutsPart job files old new =
     (new ≡ old) ⊎ ((answered : Status) × ((text : List ℕ) × JobAnswers job files answered text × AddsPrefix old new text))
+
+-- the network was read for the job, whose plan stands under this name
+pub record IsReadFor (job : CheckJob) (files : Option Files) (name bytes : List ℕ) (g : Network) : Type 0 where
+  pub name_is : name ≡ job.plan
+  pub read : AreRead files job.file bytes
+  pub fleet : HasFleetNetwork job.limit bytes g
 
 -- `check` comes to its plan file: no rule of a step before it is broken
 abbrev pub ComesToPlan : CheckJob → Option Files → Type 0

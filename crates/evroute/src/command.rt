@@ -1,12 +1,12 @@
 //! The program over any files and any output.
 
-ghost use Rattle.std.specs.Prelude.{◌≡◌, ◌↔◌, ◌≤◌, IfErr, IfOk, IfSome, IsErrOf, IsNone, Option, List, ℕ, map, string_bytes};
-ghost use Rattle.command_line.specs.Words.{CheckJob, Job, job_of};
-ghost use Rattle.command_line.specs.Words.Job.{FixedRoute, CheckPlan};
+ghost use Rattle.std.specs.Prelude.{◌≡◌, ◌↔◌, ◌≤◌, ◌⊎◌, IfSome, IsNone, List, ℕ, map, string_bytes};
+ghost use Rattle.command_line.specs.Words.{CheckJob, CheckPlan, FixedRoute, job_of};
 ghost use Rattle.ev_outside.specs.Counts.{NeverFalls, Rose};
 ghost use Rattle.ev_outside.specs.Sink.{Adds, AddsPrefix};
-ghost use Rattle.evroute.specs.CheckAnswer.{HasFleetNetwork};
-ghost use Rattle.evroute.specs.Run.{AreRead, HasFaultCause, IsAnswered, JobAnswers, PutsAnswer, PutsPart};
+ghost use Rattle.evroute.specs.CheckAnswer.{customer_count, most_customers};
+ghost use Rattle.evroute.specs.Run.{HasFaultCause, IsAnswered, IsReadFor, PutsAnswer, PutsPart};
+ghost use Rattle.plan_writer.specs.RefusalText.{refusal_text};
 
 use crate::answer::{Ended, refused};
 use crate::check::{fleet_instance, judged};
@@ -16,6 +16,7 @@ use crate::steps::{put_answer, read_file};
 use command_line::{Job, Options, job_words};
 use ev_outside::{Shelf, ShelfFault, Sink};
 use instance_reader::Instance;
+use plan_writer::Refusal;
 use std::alloc::Global;
 
 /// The program: its words after its name, the files and the output.

@@ -10,11 +10,7 @@ use plan_writer::Refusal;
 use std::alloc::Global;
 
 /// The instance of the bytes, with the limit of the words in place of its own where they give one.
-pub fn limited_instance(
-    alloc: Global,
-    bytes: &[u8],
-    limit: Option<u64>,
-) -> Result<Instance, Ended>
+pub fn limited_instance(alloc: Global, bytes: &[u8], limit: Option<u64>) -> Result<Instance, Ended>
     ensures ok { IfOk result (HasNetwork limit bytes.now) }
     ensures ended { IfErr result (IsNetworkEnded limit bytes.now) }
 {
