@@ -17,6 +17,7 @@ pub record CheckJob : Type 0 where
   pub plan : List ℕ
   pub limit : Option ℕ
 
+-- a job of the program
 pub data Job : Type 0 where
   FixedRoute : FixedJob → Job
   CheckPlan : CheckJob → Job
@@ -64,10 +65,11 @@ options_of (name ∷ value ∷ other_name ∷ other_value ∷ []) =
     and_more (with_option no_options name value) (λ options. with_option options other_name other_value)
 options_of other = None
 
--- no option, or a limit: its name and its number
+-- a limit: its name, and its number
 abbrev pub limit_named : List ℕ → List ℕ → Option (Option ℕ)
 limit_named name value = if bytes_eq name (codes "--limit") then option_map (λ n. Some n) (number_of value) else None
 
+-- no option, or a limit
 abbrev pub limit_of : List (List ℕ) → Option (Option ℕ)
 limit_of [] = Some None
 limit_of (name ∷ value ∷ []) = limit_named name value

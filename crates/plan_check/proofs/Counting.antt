@@ -3,7 +3,7 @@ use Rattle.std.proofs.Common.{◌≡◌, ◌∙◌, ℕ, suc, ◌+◌, ◌<◌, 
 use Rattle.std.specs.List.{AllPairs, find, range_with_len}
 use Rattle.std.proofs.lemmas.Bool.{cases_eq, cases_order, eq-eqb, ne_eqb}
 use Rattle.std.proofs.lemmas.Bool.Decides.{nat_tests}
-use Rattle.std.proofs.lemmas.List.{at_drop_more, map-append, take_more}
+use Rattle.std.proofs.lemmas.List.{append-nil, at_drop_more, map-append, take_more}
 use Rattle.std.proofs.lemmas.List.FromFn.{get_or-range_with_len, length-range_with_len}
 use Rattle.std.proofs.lemmas.List.Kept.{AllPairs-filter, AllPairs-from_increasing}
 use Rattle.std.proofs.lemmas.Option.{get_or_from_slice_get, same_Some, slice_get_within}
@@ -26,16 +26,12 @@ all_customers-append : (g : Network) (xs ys : List (List Stop)) → all_customer
 all_customers-append g [] ys = refl
 all_customers-append g (x ∷ xs) ys = ap (λ l. customers_of g x ++ l) (all_customers-append g xs ys) ∙ sym (append_assoc (customers_of g x) (all_customers g xs) (all_customers g ys))
 
-append-nil_at : (xs : List ℕ) → xs ++ [] ≡ xs
-append-nil_at [] = refl
-append-nil_at (x ∷ xs) = ap (λ l. x ∷ l) (append-nil_at xs)
-
 -- the customers of one route more
 pub all_customers-more : (g : Network) (plans : List RoutePlan) (i : ℕ) (p : RoutePlan) → i < length plans → p ≡ get_or plans i p →
     all_customers g (stops_of (take (i + 1) plans)) ≡ all_customers g (stops_of (take i plans)) ++ customers_of g p.stops
 all_customers-more g plans i p within is =
     let more : take (i + 1) plans ≡ take i plans ++ p ∷ [] = take_more plans i p within ∙ ap (λ (q : RoutePlan). take i plans ++ q ∷ []) (sym is) in
-    rw (more, map-append, all_customers-append, append-nil_at) refl
+    rw (more, map-append, all_customers-append, append-nil) refl
 
 -- customers rise with their numbers
 customers_rise : (g : Network) → AllPairs (λ x y. x < y) (customer_nodes g)
@@ -98,14 +94,14 @@ tallies_customer g before after nodes number node at served again tallies = reco
 }
 
 -- a customer that is not in the set is passed over
-pub first_in-next : (set nodes : List ℕ) (i : ℕ) → i < length nodes → has set i ≡ false → first_in set (i + 1) (drop (i + 1) nodes) ≡ first_in set i (drop i nodes)
-first_in-next set nodes i within absent =
+pub absent_passed : (set nodes : List ℕ) (i : ℕ) → i < length nodes → has set i ≡ false → first_in set (i + 1) (drop (i + 1) nodes) ≡ first_in set i (drop i nodes)
+absent_passed set nodes i within absent =
     let step : first_in set i (drop i nodes) ≡ (if has set i then Some (get_or nodes i 0) else first_in set (i + 1) (drop (i + 1) nodes)) = at_drop_more (first_in set i) nodes i 0 within in
     sym (rw absent at step)
 
 -- a customer that is in the set is passed over
-pub first_outside-next : (set nodes : List ℕ) (i : ℕ) → i < length nodes → has set i ≡ true → first_outside set (i + 1) (drop (i + 1) nodes) ≡ first_outside set i (drop i nodes)
-first_outside-next set nodes i within present =
+pub present_passed : (set nodes : List ℕ) (i : ℕ) → i < length nodes → has set i ≡ true → first_outside set (i + 1) (drop (i + 1) nodes) ≡ first_outside set i (drop i nodes)
+present_passed set nodes i within present =
     let step : first_outside set i (drop i nodes) ≡ (if has set i then first_outside set (i + 1) (drop (i + 1) nodes) else Some (get_or nodes i 0)) = at_drop_more (first_outside set i) nodes i 0 within in
     sym (rw present at step)
 
@@ -133,10 +129,7 @@ first_outside-find p set number (n ∷ ns) tells =
     let rest = first_outside-find p set (number + 1) ns (λ i x at. let next : number + 1 + i ≡ number + suc i = omega arith in ap (λ j. has set j) next ∙ tells (suc i) x at) in
     rw (here, rest) (turned (p n) (Some n) (find (λ x. not (p x)) ns))
 
--- a stop that serves a customer
-pub customers_of-served : (g : Network) (s : Stop) → s.via ≡ false → is_customer g s.node ≡ true → customers_of g (s ∷ []) ≡ s.node ∷ []
-customers_of-served g s own customer = rw (own, customer) refl
-
+-- the sets of all routes tell the first customer that is served more than once, and the first that is not
 pub first_in-twice : (g : Network) (t : Tally) (plans : List RoutePlan) → Tallies g t (all_customers g (stops_of plans)) → first_in t.again 0 (customer_nodes g) ≡ first_twice g plans
 first_in-twice g t plans tallies = first_in-find (λ x. nat_lt 1 (times_served g plans x)) t.again 0 (customer_nodes g) (λ i x at. let same : 0 + i ≡ i = omega arith in rw same (tallies.more i x at))
 

@@ -11,7 +11,7 @@ use Rattle.plan_check.specs.FleetRules.{IsBroken, IsCustomer, IsFirstBroken, IsR
 use Rattle.plan_check.specs.declared.fault.PlanFault.{PlanFault}
 use Rattle.plan_check.specs.declared.fault.PlanFault.TheVariants.{EmptyRoute, Stray, Twice, Unserved, Walk}
 use Rattle.plan_check.proofs.Customers.{first_customer, no_customer}
-use Rattle.plan_check.proofs.Routes.{IsEmpty, IsFirstRoute, IsFirstStrayOf, first_empty-None, first_empty-Some, first_stray_from-None, first_stray_from-Some}
+use Rattle.plan_check.proofs.Routes.{IsEmpty, IsFirstRoute, IsFirstStrayOf, first_empty-None, first_empty-Some, first_stray_from-None, first_stray_from-Some, or_later-None}
 use Rattle.plan_check.proofs.Walks.{AreWalked, IsFirstWalk, cost_from-Err, cost_from-Ok}
 
 -- no rule before this one is broken
@@ -178,10 +178,6 @@ at_place : (found : Option ℕ) (at : ℕ → PlanFault) (later : Option PlanFau
 at_place None at later fault is = inr (refl, is)
 at_place (Some place) at later fault is = inl (place, refl, same_Some (at place) fault is)
 
-nowhere : (found : Option ℕ) (at : ℕ → PlanFault) (later : Option PlanFault) → or_later found at later ≡ None → (found ≡ None) × (later ≡ None)
-nowhere None at later is = (refl, is)
-nowhere (Some place) at later is = absurd (cc)
-
 pub later_first : (g : Network) (plans : List RoutePlan) (cost : ℕ) (fault : PlanFault) → cost_from g 0 0 plans ≡ Ok cost → later_fault g plans ≡ Some fault → IsFirstBroken g plans fault
 later_first g plans cost fault walks is =
     let walked_well = walks_keep g plans 0 cost (cost_from-Ok g 0 0 cost plans walks) in
@@ -203,9 +199,9 @@ later_first g plans cost fault walks is =
 pub none_broken : (g : Network) (plans : List RoutePlan) (cost : ℕ) → cost_from g 0 0 plans ≡ Ok cost → later_fault g plans ≡ None → (fault : PlanFault) → IsBroken g plans fault → ⊥
 none_broken g plans cost walks is fault broken =
     let walked_well = walks_keep g plans 0 cost (cost_from-Ok g 0 0 cost plans walks) in
-    let once = nowhere (first_twice g plans) (λ customer. Twice customer) (or_unserved g plans) is in
-    let served = nowhere (first_unserved g plans) (λ customer. Unserved customer) (or_empty g plans) once.1 in
-    let filled = nowhere (first_empty g 0 plans) (λ route. EmptyRoute route) (first_stray_from g 0 plans) served.1 in
+    let once = or_later-None (first_twice g plans) (λ customer. Twice customer) (or_unserved g plans) is in
+    let served = or_later-None (first_unserved g plans) (λ customer. Unserved customer) (or_empty g plans) once.1 in
+    let filled = or_later-None (first_empty g 0 plans) (λ route. EmptyRoute route) (first_stray_from g 0 plans) served.1 in
     let no_twice = twice_keeps g plans walked_well once.0 in
     let all_served = unserved_keeps g plans no_twice served.0 in
     let none_empty = empty_keeps g plans all_served filled.0 in

@@ -110,7 +110,7 @@ pub first_stray_from-Some : (g : Network) (n : ℕ) (fault : PlanFault) (plans :
 first_stray_from-Some g n fault [] is = absurd (cc)
 first_stray_from-Some g n fault (p ∷ ps) is = stray_in g n fault p ps (first_stray g 1 (behind_first p.stops)) refl is (first_stray_from-Some g (n + 1) fault ps)
 
-or_later-None : (found : Option ℕ) (at : ℕ → PlanFault) (later : Option PlanFault) → or_later found at later ≡ None → (found ≡ None) × (later ≡ None)
+pub or_later-None : (found : Option ℕ) (at : ℕ → PlanFault) (later : Option PlanFault) → or_later found at later ≡ None → (found ≡ None) × (later ≡ None)
 or_later-None None at later is = (refl, is)
 or_later-None (Some n) at later is = absurd (cc)
 

@@ -16,10 +16,19 @@ use ev_model::Stop;
 use instance_reader::Instance;
 use route_plan::{FleetPlan, RoutePlan, walk};
 
-/// The cost of a fleet plan, which is the sum of the scaled times of its routes, or its first broken rule. It takes
-/// no memory.
+/// The cost of a fleet plan, or its first broken rule. It takes no memory.
 ///
-/// The rules are tried in the order of [`PlanFault`], each over the whole plan before the next.
+/// The cost is the sum of the scaled times of the routes: times multiplied by [`Instance::denominator`]. The rules,
+/// each tried over the whole plan before the next:
+///
+/// 1. A walk along a route, from a full battery, comes to its end.
+/// 2. No customer stands more than once over all routes.
+/// 3. Each customer stands on a route.
+/// 4. Each route serves a customer.
+/// 5. A stop that wasn't inserted is at a customer, or is the first or the last of its route.
+///
+/// Where a rule is broken at several places, the first route is named, or the customer with the least node, and of a
+/// route its first stray stop.
 pub fn check_fleet(inst: &Instance, plan: &FleetPlan) -> Result<u128, PlanFault>
     requires { length (customer_nodes inst.now) ≤ 128 }
     ensures valid { IfOk result (λ cost. IsFleetPlan inst.now 1 (stops_of plan.now.routes)) }
@@ -68,6 +77,7 @@ fn later_fault(inst: &Instance, routes: &[RoutePlan]) -> Option<PlanFault>
 }
 
 /// The first customer in the set.
+#[tactic(auto, using(crate::proofs::Counting::absent_passed))]
 fn first_in(inst: &Instance, set: CustSet) -> Option<usize>
     requires { length (customer_nodes inst.now) ≤ 128 }
     ensures { result ≡ first_in set 0 (customer_nodes inst.now) }
@@ -82,6 +92,7 @@ fn first_in(inst: &Instance, set: CustSet) -> Option<usize>
 }
 
 /// The first customer that isn't in the set.
+#[tactic(auto, using(crate::proofs::Counting::present_passed))]
 fn first_outside(inst: &Instance, set: CustSet) -> Option<usize>
     requires { length (customer_nodes inst.now) ≤ 128 }
     ensures { result ≡ first_outside set 0 (customer_nodes inst.now) }
@@ -108,7 +119,7 @@ fn empty_route(inst: &Instance, routes: &[RoutePlan]) -> Option<usize>
     None
 }
 
-/// Whether a stop serves a customer.
+/// Whether one of the stops serves a customer.
 fn has_customer(inst: &Instance, stops: &[Stop]) -> bool
     requires { AreKnown inst.now stops.now }
     ensures { result ≡ list_any (serves inst.now) stops.now }

@@ -57,27 +57,51 @@ fn a_fleet_plan_costs_the_scaled_times_of_its_routes(rt: HostRuntime) {
 }
 
 #[test]
-fn the_first_broken_rule_of_a_plan_is_named(rt: HostRuntime) {
+fn a_walk_is_judged_before_the_customers(rt: HostRuntime) {
     let alloc = rt.alloc();
     let inst = read_instance(alloc, ONE_STATION.as_bytes()).expect(&rt, "an instance");
     let good = [at(0), via(2, 1), at(1), at(0)];
     let flat = [at(0), at(1), at(0)];
+    let fault = WalkFault::Empty { at: 2 };
+    let first = PlanFault::Walk { route: 0, fault };
+    let third = PlanFault::Walk { route: 2, fault };
+    assert_eq!(rt; judged(alloc, &inst, &[&flat]), Some(Err(first)));
+    assert_eq!(rt;
+        judged(alloc, &inst, &[&good, &good, &flat]),
+        Some(Err(third))
+    );
+}
+
+#[test]
+fn each_customer_is_served_once(rt: HostRuntime) {
+    let alloc = rt.alloc();
+    let inst = read_instance(alloc, ONE_STATION.as_bytes()).expect(&rt, "an instance");
+    let good = [at(0), via(2, 1), at(1), at(0)];
     let empty = [at(0), via(2, 0), at(0)];
     let again = [at(0), via(2, 3), at(1), via(2, 4), at(1), at(0)];
-    let mut charged = at(2);
-    charged.added = 1;
-    let stray = [at(0), charged, at(1), at(0)];
-    let fault = WalkFault::Empty { at: 2 };
-    let cases: [(&[&[Stop]], PlanFault); 7] = [
-        (&[&flat], PlanFault::Walk { route: 0, fault }),
-        (&[&good, &good, &flat], PlanFault::Walk { route: 2, fault }),
-        (&[&empty, &good, &good], PlanFault::Twice { customer: 1 }),
-        (&[&again], PlanFault::Twice { customer: 1 }),
-        (&[], PlanFault::Unserved { customer: 1 }),
-        (&[&stray, &empty], PlanFault::EmptyRoute { route: 1 }),
-        (&[&stray], PlanFault::Stray { route: 0, at: 1 }),
-    ];
-    for (routes, wanted) in cases {
-        assert_eq!(rt; judged(alloc, &inst, routes), Some(Err(wanted)));
-    }
+    let twice = PlanFault::Twice { customer: 1 };
+    let unserved = PlanFault::Unserved { customer: 1 };
+    assert_eq!(rt;
+        judged(alloc, &inst, &[&good, &good, &empty]),
+        Some(Err(twice))
+    );
+    assert_eq!(rt; judged(alloc, &inst, &[&again]), Some(Err(twice)));
+    assert_eq!(rt; judged(alloc, &inst, &[]), Some(Err(unserved)));
+}
+
+#[test]
+fn each_route_serves_customers_alone(rt: HostRuntime) {
+    let alloc = rt.alloc();
+    let inst = read_instance(alloc, ONE_STATION.as_bytes()).expect(&rt, "an instance");
+    let empty = [at(0), via(2, 0), at(0)];
+    let mut station = at(2);
+    station.added = 1;
+    let astray = [at(0), station, at(1), at(0)];
+    let no_customer = PlanFault::EmptyRoute { route: 1 };
+    let stray = PlanFault::Stray { route: 0, at: 1 };
+    assert_eq!(rt;
+        judged(alloc, &inst, &[&astray, &empty]),
+        Some(Err(no_customer))
+    );
+    assert_eq!(rt; judged(alloc, &inst, &[&astray]), Some(Err(stray)));
 }
