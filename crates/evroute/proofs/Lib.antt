@@ -1,2 +1,3 @@
 pub mod Task
 pub mod Put
+pub mod Refused

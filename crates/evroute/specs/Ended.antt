@@ -1,11 +1,23 @@
--- Why a step of the job is the last.
-use Rattle.std.specs.Prelude.{List, ℕ}
+-- Why a step of a job is the last: the first rule is broken, or memory was refused.
+use Rattle.std.specs.Prelude.{List, Option, ℕ}
 use Rattle.command_line.specs.declared.Options.{Options}
+use Rattle.evroute.specs.CheckAnswer.{IsCheckRefused}
 use Rattle.evroute.specs.FixedAnswer.{IsRefused}
-use Rattle.evroute.specs.declared.fixed.Ended.{Ended}
-use Rattle.evroute.specs.declared.fixed.Ended.TheVariants.{Refused, Memory}
+use Rattle.evroute.specs.LimitedNetwork.{IsNetworkRefused}
+use Rattle.evroute.specs.declared.answer.Ended.{Ended}
+use Rattle.evroute.specs.declared.answer.Ended.TheVariants.{Refused, Memory}
 
--- the first rule is broken, or memory was refused
+-- of the steps that each job has
+abbrev pub IsNetworkEnded : Option ℕ → List ℕ → Ended → Type 0
+IsNetworkEnded limit bytes (Refused refusal) = IsNetworkRefused limit bytes refusal
+IsNetworkEnded limit bytes Memory = Unit {0}
+
+-- of `fixed`
 abbrev pub IsEnded : Options → List ℕ → List ℕ → Ended → Type 0
 IsEnded options word bytes (Refused refusal) = IsRefused options word bytes refusal
 IsEnded options word bytes Memory = Unit {0}
+
+-- of `check`
+abbrev pub IsCheckEnded : Option ℕ → List ℕ → List ℕ → Ended → Type 0
+IsCheckEnded limit bytes plan_bytes (Refused refusal) = IsCheckRefused limit bytes plan_bytes refusal
+IsCheckEnded limit bytes plan_bytes Memory = Unit {0}

@@ -4,7 +4,7 @@ use Rattle.ev_model.specs.Network.{Network, node_count}
 use Rattle.ev_model.specs.Time.{time_of}
 use Rattle.ev_model.specs.declared.Stop.{Stop}
 use Rattle.command_line.specs.declared.Options.{Options}
-use Rattle.instance_reader.specs.Faults.{IsFirstFault, IsInstanceOf}
+use Rattle.instance_reader.specs.Faults.{IsFirstFault}
 use Rattle.ev_model.specs.Fastest.{HasNoPlan, IsFastest}
 use Rattle.level_table.specs.Answer.{cell_count}
 use Rattle.plan_writer.specs.FixedText.{fixed_text}
@@ -12,34 +12,18 @@ use Rattle.plan_writer.specs.RefusalText.{refusal_text}
 use Rattle.plan_writer.specs.declared.refusal.Refusal.{Refusal}
 use Rattle.plan_writer.specs.declared.refusal.Refusal.TheVariants as refusal
 use Rattle.route_plan.specs.RouteRules.{route_in}
+use Rattle.evroute.specs.LimitedNetwork.{HasNetwork, IsPastLimit}
 use Rattle.evroute.specs.declared.status.Status.{Status}
 use Rattle.evroute.specs.declared.status.Status.TheVariants as status
-
--- the network with the limit of the words in place of its own
-abbrev pub limited : Network → Option ℕ → Network
-limited g None = g
-limited g (Some limit) = record g { limit = limit }
-
--- a limit of the words fits: scaled it is at most 10^18
-abbrev pub FitsLimit : Network → Option ℕ → Type 0
-FitsLimit g None = Unit {0}
-FitsLimit g (Some limit) = limit * g.denominator ≤ 10 ^ 18
 
 -- the level at which the vehicle starts: that of the words, else a full battery
 abbrev pub start_of : Network → Option ℕ → ℕ
 start_of g None = g.capacity
 start_of g (Some charge) = charge
 
--- the bytes are an instance, and g is its network with the limit of the words
-pub record HasNetwork (options : Options) (bytes : List ℕ) (g : Network) : Type 0 where
-  pub read : Network
-  pub instance : IsInstanceOf bytes read
-  pub fits : FitsLimit read options.limit
-  pub limited_to : g ≡ limited read options.limit
-
--- besides, the vehicle can start with the charge of the words
+-- the bytes are an instance, and the vehicle can start with the charge of the words
 pub record HasStart (options : Options) (bytes : List ℕ) (g : Network) : Type 0 where
-  pub network : HasNetwork options bytes g
+  pub network : HasNetwork options.limit bytes g
   pub within : start_of g options.charge ≤ g.capacity
 
 -- besides, the word spells this route
@@ -54,14 +38,14 @@ most_cells = 2 * 10 ^ 7
 -- the first broken rule: of the instance, the limit, the charge, the route, the size of the table
 abbrev pub IsRefused : Options → List ℕ → List ℕ → Refusal → Type 0
 IsRefused options word bytes (refusal.Instance fault) = IsFirstFault bytes fault
-IsRefused options word bytes (refusal.Limit limit) =
-    (g : Network) × IsInstanceOf bytes g × (options.limit ≡ Some limit) × (10 ^ 18 < limit * g.denominator)
+IsRefused options word bytes (refusal.Limit limit) = IsPastLimit options.limit bytes limit
 IsRefused options word bytes (refusal.Charge level) =
-    (g : Network) × HasNetwork options bytes g × (options.charge ≡ Some level) × (g.capacity < level)
+    (g : Network) × HasNetwork options.limit bytes g × (options.charge ≡ Some level) × (g.capacity < level)
 IsRefused options word bytes (refusal.Route fault) =
     (g : Network) × HasStart options bytes g × (route_in (node_count g) word ≡ Err fault)
 IsRefused options word bytes (refusal.Levels cells) =
     (g : Network) × ((route : List ℕ) × IsTask options word bytes g route × (cells ≡ cell_count g route) × (most_cells < cells))
+IsRefused options word bytes other = ⊥
 
 -- a plan of the route than which none is faster in any fraction of a unit, with its time
 pub record PutsPlan (options : Options) (word bytes text : List ℕ) : Type 0 where

@@ -1,4 +1,6 @@
 pub mod Codes
+pub mod LimitedNetwork
 pub mod FixedAnswer
+pub mod CheckAnswer
 pub mod Ended
 pub mod Run

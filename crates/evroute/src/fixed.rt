@@ -7,34 +7,20 @@ ghost use Rattle.ev_model.specs.Network.{node_count};
 ghost use Rattle.ev_model.specs.Route.{IsRoute};
 ghost use Rattle.ev_model.specs.Time.{time_of};
 ghost use Rattle.evroute.specs.Ended.{IsEnded};
-ghost use Rattle.evroute.specs.FixedAnswer.{Answers, HasNetwork, HasStart, IsTask, start_of};
+ghost use Rattle.evroute.specs.FixedAnswer.{Answers, HasStart, IsTask, start_of};
+ghost use Rattle.evroute.specs.LimitedNetwork.{HasNetwork};
 ghost use Rattle.plan_writer.specs.FixedText.{fixed_text};
-ghost use Rattle.plan_writer.specs.RefusalText.{refusal_text};
 ghost use Rattle.route_plan.specs.RouteRules.{route_in};
 
+use crate::answer::{Answer, Ended, refused};
+use crate::instance::limited_instance;
 use crate::status::Status;
 use command_line::Options;
-use instance_reader::{Instance, ReadFault, read_instance};
+use instance_reader::Instance;
 use level_table::{LevelFault, solve_levels};
-use plan_writer::{Refusal, push_fixed, push_refusal};
+use plan_writer::{Refusal, push_fixed};
 use route_plan::{RouteFault, RoutePlan, read_route, walk};
 use std::alloc::Global;
-
-/// What is put, and the status that goes with it.
-#[derive(Drop)]
-pub struct Answer {
-    pub status: Status,
-    pub text: Vec<u8>,
-}
-
-/// Why a step of the job is the last.
-#[derive(Clone, Copy, Debug, Drop, PartialEq, Eq)]
-pub enum Ended {
-    /// A rule is broken.
-    Refused(Refusal),
-    /// Memory was refused.
-    Memory,
-}
 
 /// The answer to the bytes of a file and the word of a route. `None` comes only for want of memory.
 pub fn answer_to(alloc: Global, bytes: &[u8], word: &str, options: Options) -> Option<Answer>
@@ -47,27 +33,12 @@ pub fn answer_to(alloc: Global, bytes: &[u8], word: &str, options: Options) -> O
     }
 }
 
-/// The line of a refusal. `None` comes only for want of memory.
-fn refused(alloc: Global, refusal: Refusal) -> Option<Answer>
-    ensures status { IfSome result (λ a. a.status ≡ Status.Refused) }
-    ensures text { IfSome result (λ a. a.text.items ≡ refusal_text refusal) }
-{
-    let mut text = Vec::new(alloc);
-    match push_refusal(alloc, &mut text, &refusal) {
-        Ok(()) => Some(Answer {
-            status: Status::Refused,
-            text,
-        }),
-        Err(_) => None,
-    }
-}
-
 /// The charged route, or why there is none.
 fn charged(alloc: Global, bytes: &[u8], word: &str, options: Options) -> Result<Answer, Ended>
     ensures ok { IfOk result (λ a. Answers options word.now bytes.now a.status a.text.items) }
     ensures ended { IfErr result (IsEnded options word.now bytes.now) }
 {
-    match network(alloc, bytes, options) {
+    match limited_instance(alloc, bytes, options.limit) {
         Ok(inst) => charged_on(alloc, &inst, word, options),
         Err(ended) => Err(ended),
     }
@@ -75,8 +46,8 @@ fn charged(alloc: Global, bytes: &[u8], word: &str, options: Options) -> Result<
 
 /// The charged route of an instance whose limit is that of the words.
 fn charged_on(alloc: Global, inst: &Instance, word: &str, options: Options) -> Result<Answer, Ended>
-    ensures ok { (bytes : List ℕ) → HasNetwork options bytes inst.now → IfOk result (λ a. Answers options word.now bytes a.status a.text.items) }
-    ensures ended { (bytes : List ℕ) → HasNetwork options bytes inst.now → IfErr result (IsEnded options word.now bytes) }
+    ensures ok { (bytes : List ℕ) → HasNetwork options.limit bytes inst.now → IfOk result (λ a. Answers options word.now bytes a.status a.text.items) }
+    ensures ended { (bytes : List ℕ) → HasNetwork options.limit bytes inst.now → IfErr result (IsEnded options word.now bytes) }
 {
     match start(inst, options) {
         Ok(start) => match route(alloc, word, inst) {
@@ -87,30 +58,11 @@ fn charged_on(alloc: Global, inst: &Instance, word: &str, options: Options) -> R
     }
 }
 
-/// The instance of the bytes, with the limit of the words.
-fn network(alloc: Global, bytes: &[u8], options: Options) -> Result<Instance, Ended>
-    ensures ok { IfOk result (HasNetwork options bytes.now) }
-    ensures ended { (word : List ℕ) → IfErr result (IsEnded options word bytes.now) }
-{
-    let inst = match read_instance(alloc, bytes) {
-        Ok(inst) => inst,
-        Err(ReadFault::Memory) => return Err(Ended::Memory),
-        Err(fault) => return Err(Ended::Refused(Refusal::Instance(fault))),
-    };
-    let Some(limit) = options.limit else {
-        return Ok(inst);
-    };
-    match inst.with_limit(limit) {
-        Ok(inst) => Ok(inst),
-        Err(fault) => Err(Ended::Refused(Refusal::Limit(fault.limit))),
-    }
-}
-
 /// The level at which the vehicle starts.
 fn start(inst: &Instance, options: Options) -> Result<u64, Ended>
     ensures ok { IfOk result (λ level. (level ≡ start_of inst.now options.charge)) }
     ensures within { IfOk result (λ level. level ≤ inst.now.capacity) }
-    ensures ended { (word bytes : List ℕ) → HasNetwork options bytes inst.now → IfErr result (IsEnded options word bytes) }
+    ensures ended { (word bytes : List ℕ) → HasNetwork options.limit bytes inst.now → IfErr result (IsEnded options word bytes) }
 {
     let full = inst.max_q();
     match options.charge {

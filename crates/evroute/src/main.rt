@@ -1,9 +1,13 @@
 //! `evroute`: a certified planner for electric delivery fleets.
 #![tactic(auto)]
 
+mod answer;
+mod check;
 mod command;
 mod fixed;
+mod instance;
 mod status;
+mod steps;
 
 pub use command::run;
 use ev_outside::{FileShelf, OutSink};

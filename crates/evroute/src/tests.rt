@@ -10,11 +10,13 @@ const ONE_STATION: &str =
 const FINE_LEVELS: &str =
     r#"{"max_q":1000000000,"css":[{"node_id":2,"cs_type":"fast"}],"breakpoints_by_type":[{"cs_type":"fast","time":[0,4,10],"charge":[0,800000000,1000000000]}],"process_times":[0,0,0],"energy_matrix":[[0,600000000,300000000],[600000000,0,200000000],[500000000,200000000,0]],"time_matrix":[[0,10,8],[10,0,3],[8,3,0]]}"#;
 
-/// How the program ends, and what it puts, where the calls of the shelf and of the output with these numbers fail.
+/// How the program ends, and what it puts, where `A` holds an instance and `P` a plan, and the calls of the shelf and
+/// of the output with these numbers fail.
 fn run_on(
     alloc: Global,
     line: &str,
-    text: &str,
+    instance: &str,
+    plan: &str,
     failing_reads: &[u64],
     failing_puts: &[u64],
 ) -> Result<(Status, Vec<u8>), AllocError> {
@@ -23,7 +25,8 @@ fn run_on(
         words.push(String::from_str(alloc, word)?)?;
     }
     let mut shelf = MemoryShelf::new(alloc, Vec::from_slice(alloc, failing_reads)?);
-    shelf.set("A", text.as_bytes())?;
+    shelf.set("A", instance.as_bytes())?;
+    shelf.set("P", plan.as_bytes())?;
     let mut out = MemorySink::new(alloc, Vec::from_slice(alloc, failing_puts)?);
     let status = run(alloc, words.as_slice(), &mut shelf, &mut out);
     Ok((status, Vec::from_slice(alloc, out.bytes())?))
@@ -93,7 +96,79 @@ fn a_route_is_charged_or_refused(rt: HostRuntime) {
         ("fixed A", ONE_STATION, Status::Words, ""),
     ];
     for (line, text, status, put) in cases {
-        let ended = run_on(alloc, line, text, &[], &[]).expect(&rt, "memory");
+        let ended = run_on(alloc, line, text, "", &[], &[]).expect(&rt, "memory");
+        assert_eq!(rt; ended.0, status, "{line}");
+        assert_eq!(rt; ended.1.as_slice(), put.as_bytes());
+    }
+}
+
+/// A fleet plan of the instance with one station.
+const CHARGED: &str = "evroute plan 1\nroutes 1\nroute 0 v2+1 1 0\n";
+
+#[test]
+fn a_plan_is_accepted_or_its_first_broken_rule_named(rt: HostRuntime) {
+    let alloc = rt.alloc();
+    let accepted = "accepted\ncost 43/2\n";
+    let uncharged = "evroute plan 1\nroutes 1\nroute 0 1 0\n";
+    let twice = "evroute plan 1\nroutes 2\nroute 0 v2+1 1 0\nroute 0 v2+1 1 0\n";
+    let empty = "evroute plan 1\nroutes 2\nroute 0 v2+1 1 0\nroute 0 v2 0\n";
+    let stray = "evroute plan 1\nroutes 1\nroute 0 2+1 1 0\n";
+    let cases = [
+        ("check A P", CHARGED, Status::Done, accepted),
+        (
+            "check A P",
+            "evroute plan 1\nnone\n",
+            Status::Done,
+            "accepted\ncost none\n",
+        ),
+        ("check A P", "", Status::Refused, "refused plan 4 at 0\n"),
+        (
+            "check A P",
+            uncharged,
+            Status::Negative,
+            "rejected plan 1 route 0 walk 4 at 2\n",
+        ),
+        (
+            "check A P --limit 21",
+            CHARGED,
+            Status::Negative,
+            "rejected plan 1 route 0 walk 7 at 3\n",
+        ),
+        (
+            "check A P",
+            twice,
+            Status::Negative,
+            "rejected plan 2 customer 1\n",
+        ),
+        (
+            "check A P",
+            "evroute plan 1\nroutes 0\n",
+            Status::Negative,
+            "rejected plan 3 customer 1\n",
+        ),
+        (
+            "check A P",
+            empty,
+            Status::Negative,
+            "rejected plan 4 route 1\n",
+        ),
+        (
+            "check A P",
+            stray,
+            Status::Negative,
+            "rejected plan 5 route 0 at 1\n",
+        ),
+        (
+            "check A P --limit 500000000000000001",
+            CHARGED,
+            Status::Refused,
+            "refused limit 500000000000000001\n",
+        ),
+        ("check A B", CHARGED, Status::Fault, ""),
+        ("check A A", CHARGED, Status::Words, ""),
+    ];
+    for (line, plan, status, put) in cases {
+        let ended = run_on(alloc, line, ONE_STATION, plan, &[], &[]).expect(&rt, "memory");
         assert_eq!(rt; ended.0, status, "{line}");
         assert_eq!(rt; ended.1.as_slice(), put.as_bytes());
     }
@@ -102,10 +177,53 @@ fn a_route_is_charged_or_refused(rt: HostRuntime) {
 #[test]
 fn a_failing_file_or_output_is_a_fault(rt: HostRuntime) {
     let alloc = rt.alloc();
-    let ended = run_on(alloc, "fixed A 0,1,0", ONE_STATION, &[0], &[]).expect(&rt, "memory");
-    assert_eq!(rt; ended.0, Status::Fault);
-    assert!(rt; ended.1.is_empty());
-    let ended = run_on(alloc, "fixed A 0,1,0", ONE_STATION, &[], &[0]).expect(&rt, "memory");
-    assert_eq!(rt; ended.0, Status::Fault);
-    assert_eq!(rt; ended.1.as_slice(), "time 43/2\nat 0\nvia 2".as_bytes());
+    let cases = [
+        (
+            "fixed A 0,1,0",
+            ONE_STATION,
+            Some(0),
+            None,
+            Status::Fault,
+            "",
+        ),
+        (
+            "fixed A 0,1,0",
+            ONE_STATION,
+            None,
+            Some(0),
+            Status::Fault,
+            "time 43/2\nat 0\nvia 2",
+        ),
+        ("check A P", ONE_STATION, Some(0), None, Status::Fault, ""),
+        ("check A P", ONE_STATION, Some(1), None, Status::Fault, ""),
+        (
+            "check A P",
+            "{",
+            Some(1),
+            None,
+            Status::Refused,
+            "refused instance 2\n",
+        ),
+        (
+            "check A P",
+            ONE_STATION,
+            None,
+            Some(0),
+            Status::Fault,
+            "accepted\n",
+        ),
+    ];
+    for (line, instance, failing_read, failing_put, status, put) in cases {
+        let ended = run_on(
+            alloc,
+            line,
+            instance,
+            CHARGED,
+            failing_read.as_slice(),
+            failing_put.as_slice(),
+        )
+        .expect(&rt, "memory");
+        assert_eq!(rt; ended.0, status, "{line}");
+        assert_eq!(rt; ended.1.as_slice(), put.as_bytes());
+    }
 }

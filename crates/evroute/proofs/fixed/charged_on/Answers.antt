@@ -1,7 +1,5 @@
-use Rattle.std.proofs.Common.{◌≡◌, List, ℕ, Ok, subst, sym}
-use Rattle.ev_model.specs.Network.{node_count}
+use Rattle.std.proofs.Common.{List, ℕ, subst, sym}
 use Rattle.evroute.specs.FixedAnswer.{IsTask}
-use Rattle.route_plan.specs.RouteRules.{route_in}
 use Rattle.evroute.proofs.Task.{has_start, is_task}
 use Rattle.evroute.proofs.fixed.charged_on.Goals as goal
 

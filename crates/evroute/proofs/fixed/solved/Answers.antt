@@ -1,4 +1,4 @@
-use Rattle.std.proofs.Common.{◌≡◌, ◌∙◌, ◌<◌, ℕ, Err, ap, subst, sym}
+use Rattle.std.proofs.Common.{◌∙◌, ◌<◌, Err, ap, subst, sym}
 use Rattle.evroute.specs.FixedAnswer.{most_cells}
 use Rattle.evroute.proofs.fixed.solved.Goals as goal
 

@@ -1,0 +1,11 @@
+use Rattle.std.proofs.Common.{◌∙◌, Ok, ap, sym}
+use Rattle.evroute.proofs.Refused.{refused_answers}
+use Rattle.evroute.proofs.check.judged.Goals as goal
+
+pub returns-in-Ok-clause-answers : goal.returns-in-Ok-clause-answers
+returns-in-Ok-clause-answers c = λ limit file fleet. c.reported.ensures.answers limit file c.args.bytes.now fleet (c.in-Ok.ensures.ok ∙ ap (λ p. Ok p) (sym c.as_ref.ensures.value))
+
+pub returns-in-Err-Refused-clause-answers : goal.returns-in-Err-Refused-clause-answers
+returns-in-Err-Refused-clause-answers c = λ limit file fleet.
+    refused_answers limit file c.args.bytes.now c.in-Err-Refused.field-0 c.in-Err-Refused.refusal c.refused.result c.in-Err-Refused.field-0-is
+    (c.in-Err-Refused.ensures.ended limit file c.args.inst.now fleet) c.refused.ensures.status c.refused.ensures.text

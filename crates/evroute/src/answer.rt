@@ -1,0 +1,39 @@
+//! What a job puts, and why one of its steps may be the last.
+
+ghost use Rattle.std.specs.Prelude.{◌≡◌, IfSome};
+ghost use Rattle.plan_writer.specs.RefusalText.{refusal_text};
+
+use crate::status::Status;
+use plan_writer::{Refusal, push_refusal};
+use std::alloc::Global;
+
+/// What is put, and the status that goes with it.
+#[derive(Drop)]
+pub struct Answer {
+    pub status: Status,
+    pub text: Vec<u8>,
+}
+
+/// Why a step of the job is the last.
+#[derive(Clone, Copy, Debug, Drop, PartialEq, Eq)]
+pub enum Ended {
+    /// A rule is broken.
+    Refused(Refusal),
+    /// Memory was refused.
+    Memory,
+}
+
+/// The line of a refusal. `None` comes only for want of memory.
+pub fn refused(alloc: Global, refusal: Refusal) -> Option<Answer>
+    ensures status { IfSome result (λ a. a.status ≡ Status.Refused) }
+    ensures text { IfSome result (λ a. a.text.items ≡ refusal_text refusal) }
+{
+    let mut text = Vec::new(alloc);
+    match push_refusal(alloc, &mut text, &refusal) {
+        Ok(()) => Some(Answer {
+            status: Status::Refused,
+            text,
+        }),
+        Err(_) => None,
+    }
+}

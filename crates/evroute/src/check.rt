@@ -1,0 +1,106 @@
+//! The answer of `check`: a plan file is judged on an instance.
+
+ghost use Rattle.std.specs.Prelude.{◌≡◌, ◌≤◌, IfErr, IfOk, IfSome, List, Ok, Option, option_map, ℕ};
+ghost use Rattle.ev_model.specs.Network.{Network};
+ghost use Rattle.evroute.specs.CheckAnswer.{CheckAnswers, HasFleetNetwork, customer_count, most_customers};
+ghost use Rattle.evroute.specs.Ended.{IsCheckEnded};
+ghost use Rattle.evroute.specs.Run.{IsAnswered};
+ghost use Rattle.plan_writer.specs.CheckText.{check_text};
+ghost use Rattle.plan_writer.specs.declared.check.Judgement.TheVariants as judgement;
+ghost use Rattle.route_plan.specs.PlanReading.{fleet_plan_in};
+
+use crate::answer::{Answer, Ended, refused};
+use crate::instance::limited_instance;
+use crate::status::Status;
+use instance_reader::Instance;
+use plan_check::{PlanFault, check_fleet};
+use plan_writer::{Judgement, Refusal, push_check_report};
+use route_plan::{FleetPlan, PlanText, read_fleet_plan};
+use std::alloc::Global;
+
+/// The most customers of a fleet.
+const MOST_CUSTOMERS: usize = 128;
+
+/// The instance of the bytes for a fleet: with the limit of the words, and without too many customers.
+pub fn fleet_instance(alloc: Global, bytes: &[u8], limit: Option<u64>) -> Result<Instance, Ended>
+    ensures ok { IfOk result (HasFleetNetwork limit bytes.now) }
+    ensures ended { (plan_bytes : List ℕ) → IfErr result (IsCheckEnded limit bytes.now plan_bytes) }
+{
+    let inst = limited_instance(alloc, bytes, limit)?;
+    let count = inst.customers().len();
+    if count > MOST_CUSTOMERS {
+        return Err(Ended::Refused(Refusal::Customers(count)));
+    }
+    Ok(inst)
+}
+
+/// The answer to the bytes of a plan file, on an instance without too many customers. `None` comes only for want
+/// of memory.
+pub fn judged(alloc: Global, inst: &Instance, bytes: &[u8]) -> Option<Answer>
+    requires { customer_count inst.now ≤ most_customers }
+    ensures answers { (limit : Option ℕ) (file : List ℕ) → HasFleetNetwork limit file inst.now → IfSome result (λ a. CheckAnswers limit file bytes.now a.status a.text.items) }
+    ensures answered { IfSome result (λ a. IsAnswered a.status) }
+{
+    match plan_of(alloc, bytes) {
+        Ok(plan) => reported(alloc, inst, plan.as_ref()),
+        Err(Ended::Refused(refusal)) => refused(alloc, refusal),
+        Err(Ended::Memory) => None,
+    }
+}
+
+/// The fleet plan of a plan file, or none where it says so.
+fn plan_of(alloc: Global, bytes: &[u8]) -> Result<Option<FleetPlan>, Ended>
+    ensures ok { IfOk result (λ plan. fleet_plan_in bytes.now ≡ Ok plan) }
+    ensures ended { (limit : Option ℕ) (file : List ℕ) (g : Network) → HasFleetNetwork limit file g → IfErr result (IsCheckEnded limit file bytes.now) }
+{
+    match read_fleet_plan(alloc, bytes) {
+        Ok(plan) => Ok(plan),
+        Err(PlanText::Memory) => Err(Ended::Memory),
+        Err(fault) => Err(Ended::Refused(Refusal::Plan(fault))),
+    }
+}
+
+/// The report on a fleet plan, or on none.
+fn reported(alloc: Global, inst: &Instance, plan: Option<&FleetPlan>) -> Option<Answer>
+    requires { customer_count inst.now ≤ most_customers }
+    ensures answered { IfSome result (λ a. IsAnswered a.status) }
+    ensures answers { (limit : Option ℕ) (file plan_bytes : List ℕ) → HasFleetNetwork limit file inst.now → fleet_plan_in plan_bytes ≡ Ok (option_map (λ p. p.now) plan.entry) → IfSome result (λ a. CheckAnswers limit file plan_bytes a.status a.text.items) }
+{
+    let Some(plan) = plan else {
+        return accepted(alloc, inst, None);
+    };
+    match check_fleet(inst, plan) {
+        Ok(cost) => accepted(alloc, inst, Some(cost)),
+        Err(fault) => rejected(alloc, inst, fault),
+    }
+}
+
+/// The report on a fleet plan of this scaled cost, or on none.
+fn accepted(alloc: Global, inst: &Instance, cost: Option<u128>) -> Option<Answer>
+    ensures status { IfSome result (λ a. a.status ≡ Status.Done) }
+    ensures text { IfSome result (λ a. a.text.items ≡ check_text inst.now.denominator (judgement.Accepted cost)) }
+{
+    let mut text = Vec::new(alloc);
+    match push_check_report(alloc, &mut text, inst, &Judgement::Accepted { cost }) {
+        Ok(()) => Some(Answer {
+            status: Status::Done,
+            text,
+        }),
+        Err(_) => None,
+    }
+}
+
+/// The report on plans that break a rule.
+fn rejected(alloc: Global, inst: &Instance, fault: PlanFault) -> Option<Answer>
+    ensures status { IfSome result (λ a. a.status ≡ Status.Negative) }
+    ensures text { IfSome result (λ a. a.text.items ≡ check_text inst.now.denominator (judgement.Plan fault)) }
+{
+    let mut text = Vec::new(alloc);
+    match push_check_report(alloc, &mut text, inst, &Judgement::Plan(fault)) {
+        Ok(()) => Some(Answer {
+            status: Status::Negative,
+            text,
+        }),
+        Err(_) => None,
+    }
+}
