@@ -15,7 +15,7 @@ use Rattle.route_plan.proofs.FirstFaultGrown.{Keeps, Within, grown, past_within}
 use Rattle.route_plan.proofs.FirstFaultLines.{keeps-route}
 use Rattle.route_plan.proofs.FirstFaultMended.{IsMended, behind, fault_of_two, mended-behind, mended-route, mended-whole, mended-word, word_moves}
 use Rattle.route_plan.proofs.PlanReadingFound.{route_read, routes_read}
-use Rattle.route_plan.proofs.PlanReadingParts.{Err_is_not_Ok}
+use Rattle.route_plan.proofs.Spelled.{Err-ne-Ok}
 
 -- a text of a language was taken
 pub record IsTaken (Language : List ℕ → Type 0) (s t : List ℕ × ℕ) : Type 0 where
@@ -61,7 +61,7 @@ some_routes (suc count) =
 
 mended-routes : (count : ℕ) (Language : List ℕ → Type 0) (s : List ℕ × ℕ) (fault : TextFault) → Within s
     → ((routes : List RoutePlan) → All (λ p. FitsText p.stops) routes → length routes ≡ count → Language (plan_lines routes)) → routes_at count s ≡ Err fault → IsMended Language s fault
-mended-routes zero Language s fault within whole is = absurd (Err_is_not_Ok fault ([], s) (sym is))
+mended-routes zero Language s fault within whole is = absurd (Err-ne-Ok fault ([], s) (sym is))
 mended-routes (suc count) Language s fault within whole is =
     elim (fault_of_two (route_at s) behind_first fault is) [
       | inl none ↦
@@ -88,7 +88,7 @@ mended-routes (suc count) Language s fault within whole is =
         whole (first ∷ routes) (All-cons (λ (p : RoutePlan). FitsText p.stops) first routes fits others) (ap (λ n. suc n) count_is)
 
     of_others : (stops : List Stop) (t : List ℕ × ℕ) → and_then (routes_at count t) (all stops) ≡ Err fault → routes_at count t ≡ Err fault
-    of_others stops t e = elim (fault_of_two (routes_at count t) (all stops) fault e) [ inl none ↦ none | inr h ↦ absurd (Err_is_not_Ok fault (record { stops = stops } ∷ h.0.0, h.0.1) (sym h.2)) ]
+    of_others stops t e = elim (fault_of_two (routes_at count t) (all stops) fault e) [ inl none ↦ none | inr h ↦ absurd (Err-ne-Ok fault (record { stops = stops } ∷ h.0.0, h.0.1) (sym h.2)) ]
 
 -- the lines of so many plans
 told-lines : (count : ℕ) (Language : List ℕ → Type 0) (s : List ℕ × ℕ) → Within s → ((routes : List RoutePlan) → All (λ p. FitsText p.stops) routes → length routes ≡ count → Language (plan_lines routes))

@@ -1,12 +1,11 @@
 -- The fault of the file of a fleet plan is the first from the left.
-use Rattle.std.proofs.Common.{◌≡◌, ◌∙◌, ℕ, ◌^◌, ◌≤◌, List, [], ◌∷◌, ◌++◌, codes, decimal, length, take, Option, None, Some, Result, Ok, Err, refl, sym, ap, subst, append-nil, arith}
-use Rattle.ev_text.specs.Scans.{and_then, past, rest_of, word_at}
+use Rattle.std.proofs.Common.{◌≡◌, ℕ, ◌≤◌, List, [], ◌++◌, length, take, Option, None, Some, Result, Ok, Err, refl, sym, subst, arith}
+use Rattle.ev_text.specs.Scans.{and_then}
 use Rattle.ev_text.specs.declared.TextFault.{TextFault}
-use Rattle.ev_text.specs.declared.TextFault.TheVariants.{End, Word}
-use Rattle.ev_text.proofs.Readings.{number_read, word_at-other_byte, word_read}
+use Rattle.ev_text.specs.declared.TextFault.TheVariants.{End}
 use Rattle.route_plan.specs.FirstFault.{BeginsFile, IsNoEnd, place_of}
-use Rattle.route_plan.specs.PlanReading.{file_at, fleet_plan_in, second_line, whole_text}
-use Rattle.route_plan.specs.PlanTexts.{FitsFile, fleet_plan_text, plan_lines}
+use Rattle.route_plan.specs.PlanReading.{file_at, fleet_plan_in, whole_text}
+use Rattle.route_plan.specs.PlanTexts.{FitsFile, fleet_plan_text}
 use Rattle.route_plan.specs.declared.plan.FleetPlan.{FleetPlan}
 use Rattle.route_plan.specs.declared.plan_text.PlanText.TheVariants.{Bad}
 use Rattle.route_plan.proofs.FirstFaultGrown.{Keeps, grown}
@@ -15,8 +14,7 @@ use Rattle.route_plan.proofs.FirstFaultFileMended.{IsTold, told-file}
 use Rattle.route_plan.proofs.FirstFaultLines.{cannot_be_mended}
 use Rattle.route_plan.proofs.FirstFaultMended.{IsMended}
 use Rattle.route_plan.proofs.FirstFaultWhole.{IsFound, fault_inside, first_fault, mended-end}
-use Rattle.route_plan.proofs.PlanReadingLinesTaken.{routes_are_taken}
-use Rattle.route_plan.proofs.PlanReadingTaken.{Takes}
+use Rattle.route_plan.proofs.PlanReadingRead.{file_is_taken}
 
 -- the files of fleet plans, and of none
 abbrev IsFileText : List ℕ → Type 0
@@ -46,40 +44,6 @@ file_ends_too_early bytes at is =
     let first = first_fault IsFileText bytes (End at) mended in
     (mended.ended (λ no_end. no_end), first.1)
 
--- a file that stands in a text is read, however long it is
-file_is_read : (plan : Option FleetPlan) (s : List ℕ × ℕ) → FitsFile plan → rest_of s ≡ fleet_plan_text plan → Takes (file_at s) plan []
-file_is_read None s fits e =
-    let first = word_read (codes "evroute plan 1" ++ 10 ∷ []) (codes "none" ++ 10 ∷ []) s e in
-    let t = past (codes "evroute plan 1" ++ 10 ∷ []) s in
-    let none = word_read (codes "none" ++ 10 ∷ []) [] t first.1 in
-    record {
-      after = past (codes "none" ++ 10 ∷ []) t;
-      is = ap (λ r. and_then r (λ u. second_line u (word_at (codes "none" ++ 10 ∷ []) u) (word_at (codes "routes ") u))) first.0 ∙ ap (λ r. second_line t r (word_at (codes "routes ") t)) none.0;
-      left = none.1;
-    }
-file_is_read (Some plan) s fits e =
-    let n = length plan.routes in
-    let few = fits.0 in
-    let lines_text = decimal n ++ 10 ∷ plan_lines plan.routes in
-    let first = word_read (codes "evroute plan 1" ++ 10 ∷ []) (codes "routes " ++ lines_text) s e in
-    let t = past (codes "evroute plan 1" ++ 10 ∷ []) s in
-    let other = word_at-other_byte 110 114 (codes "one" ++ 10 ∷ []) (codes "outes " ++ lines_text) t first.1 (λ same. absurd (omega arith)) in
-    let routes = word_read (codes "routes ") lines_text t first.1 in
-    let u = past (codes "routes ") t in
-    let number = number_read (10 ^ 6) n (10 ∷ plan_lines plan.routes) u (omega arith) few routes.1 refl in
-    let v = past (decimal n) u in
-    let feed = word_read (10 ∷ []) (plan_lines plan.routes) v number.1 in
-    let lines = routes_are_taken plan.routes [] (past (10 ∷ []) v) fits.1 (feed.1 ∙ sym (append-nil (plan_lines plan.routes))) in
-    record {
-      after = lines.after;
-      is =
-          ap (λ r. and_then r (λ x. second_line x (word_at (codes "none" ++ 10 ∷ []) x) (word_at (codes "routes ") x))) first.0
-          ∙ ap (λ r. second_line t r (word_at (codes "routes ") t)) other
-          ∙ ap (λ r. second_line t (Err (Word t.1)) r) routes.0
-          ∙ rw (number.0, feed.0, lines.is) refl;
-      left = lines.left;
-    }
-
 pub file_is_wrong : (bytes : List ℕ) (fault : TextFault) → fleet_plan_in bytes ≡ Err (Bad fault) → IsNoEnd fault → (BeginsFile bytes → ⊥) × BeginsFile (take (place_of fault) bytes) × (place_of fault ≤ length bytes)
 file_is_wrong bytes fault is no_end =
     let inside = fault_inside bytes (and_then (file_at (bytes, 0)) whole_text) fault is in
@@ -88,5 +52,5 @@ file_is_wrong bytes fault is no_end =
   where
     hopeless : and_then (file_at (bytes, 0)) whole_text ≡ Err fault → (more : List ℕ) (plan : Option FleetPlan) → FitsFile plan → fleet_plan_text plan ≡ bytes ++ more → ⊥
     hopeless inside more plan fits text =
-        let file = file_is_read plan (bytes ++ more, 0) fits (sym text) in
+        let file = file_is_taken plan (bytes ++ more, 0) fits (sym text) in
         cannot_be_mended more bytes (file_at (bytes, 0)) (file_at (bytes ++ more, 0)) fault plan file.after (keeps-file more (bytes, 0) (omega arith)) inside no_end file.is file.left

@@ -7,7 +7,7 @@ use Rattle.route_plan.specs.FirstFault.{IsNoEnd}
 use Rattle.route_plan.specs.PlanReading.{amount_behind, more_stops, optional_at, route_at, stop_at, stop_behind, whole_text, with_stops}
 use Rattle.route_plan.proofs.FirstFaultGrown.{Keeps, Within, grown, keeps-ok, keeps-optional, keeps-then, keeps-word, rest_of-grown}
 use Rattle.route_plan.proofs.FirstFaultNumbers.{keeps-amount, keeps-whole}
-use Rattle.route_plan.proofs.PlanReadingParts.{Err_is_not_Ok, Ok_injective}
+use Rattle.route_plan.proofs.Spelled.{Ok-injective, Err-ne-Ok}
 
 keeps-added : (more : List ℕ) (s : List ℕ × ℕ) → Within s → Keeps more s (amount_behind (optional_at (codes "+") s)) (amount_behind (optional_at (codes "+") (grown more s)))
 keeps-added more s within = keeps-optional 43 more s amount_behind amount_behind within (λ t inside. keeps-amount more t inside) (keeps-ok more s 0 within)
@@ -75,10 +75,10 @@ cannot_be_mended {A} more bytes (Ok (first, u)) later fault value t keeps is no_
     by : (rest : List ℕ) → rest_of u ≡ rest → ⊥
     by [] left =
         let whole : whole_text (first, u) ≡ Ok first = rw left refl in
-        Err_is_not_Ok fault first (sym is ∙ whole)
+        Err-ne-Ok fault first (sym is ∙ whole)
     by (b ∷ bs) left =
         let later_is = keeps.3 (λ empty. let same : b ∷ bs ≡ [] = sym left ∙ empty in cc) in
-        let same = Ok_injective (first, grown more u) (value, t) (sym later_is ∙ taken) in
+        let same = Ok-injective (first, grown more u) (value, t) (sym later_is ∙ taken) in
         let place : grown more u ≡ t = ap (λ (p : A × (List ℕ × ℕ)). p.1) same in
         let empty : (b ∷ bs) ++ more ≡ [] = ap (λ xs. xs ++ more) (sym left) ∙ sym (rest_of-grown more u keeps.1) ∙ ap rest_of place ∙ none in
         cc

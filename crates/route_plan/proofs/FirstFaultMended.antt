@@ -12,9 +12,10 @@ use Rattle.route_plan.specs.PlanReading.{amount_at, amount_behind, if_taken, mor
 use Rattle.route_plan.specs.PlanTexts.{FitsText, IsSmallStop, amount_text, plan_text, stop_text}
 use Rattle.route_plan.proofs.FirstFaultGrown.{Keeps, Within, grown, past_within}
 use Rattle.route_plan.proofs.FirstFaultLines.{keeps-stop}
-use Rattle.route_plan.proofs.PlanReadingLines.{no_bytes, no_longer_than_text}
-use Rattle.route_plan.proofs.PlanReadingParts.{Err_is_not_Ok, optional_left, small_limit, stop_read}
+use Rattle.route_plan.proofs.PlanReadingLines.{no_longer_than_text}
+use Rattle.route_plan.proofs.PlanReadingParts.{optional_left, small_limit, stop_read}
 use Rattle.route_plan.proofs.PlanReadingTexts.{ends_line, plan_text-line}
+use Rattle.route_plan.proofs.Spelled.{Err-ne-Ok, no_bytes}
 
 -- the text can be continued to one of a language
 abbrev pub Begins : (List ℕ → Type 0) → List ℕ → Type 0
@@ -51,7 +52,7 @@ module _ (Language : List ℕ → Type 0) (s : List ℕ × ℕ) (fault : TextFau
   pub mended-word : (word more : List ℕ) → word_at word s ≡ Err fault → Language (word ++ more) → IsMended Language s fault
   mended-word word more is whole =
       word_at-cases word s (λ r. r ≡ Err fault → IsMended Language s fault)
-      (λ stands e. absurd (Err_is_not_Ok fault (past word s) (sym e)))
+      (λ stands e. absurd (Err-ne-Ok fault (past word s) (sym e)))
       (λ cut e. let same : End s.1 ≡ fault = cc in mended-here (word ++ more) whole (ap place_of (sym same)) (λ end. (cut.0 ++ more, subst Language (ap (λ xs. xs ++ more) cut.1 ∙ append_assoc (rest_of s) cut.0 more) whole)))
       (λ other uncut e. let same : Word s.1 ≡ fault = cc in mended-here (word ++ more) whole (ap place_of (sym same)) (λ end. absurd (end (subst IsNoEnd same tt))))
       is
@@ -70,7 +71,7 @@ module _ (Language : List ℕ → Type 0) (s : List ℕ × ℕ) (fault : TextFau
     where
       at_zero : (n : ℕ) (t : List ℕ × ℕ) (none : Bool) → (let answer : Result (ℕ × (List ℕ × ℕ)) TextFault = if none then Err (NotWhole s.1) else Ok (n, t) in answer) ≡ Err fault → IsMended Language s fault
       at_zero n t true e = let same : NotWhole s.1 ≡ fault = cc in mended-here more whole (ap place_of (sym same)) (λ end. absurd (end (subst IsNoEnd same tt)))
-      at_zero n t false e = absurd (Err_is_not_Ok fault (n, t) (sym e))
+      at_zero n t false e = absurd (Err-ne-Ok fault (n, t) (sym e))
 
       by : (answer : Result (ℕ × (List ℕ × ℕ)) TextFault) → whole_at (10 ^ 9) s ≡ answer → and_then answer (λ found. if nat_eq found.0 0 then Err (NotWhole s.1) else Ok found) ≡ Err fault → IsMended Language s fault
       by (Err other) found e = let same : other ≡ fault = cc in mended-whole (10 ^ 9) more (found ∙ ap (λ f. Err f) same) whole
@@ -97,7 +98,7 @@ mended-added : (Language : List ℕ → Type 0) (tail : List ℕ) (s : List ℕ 
 mended-added Language tail s fault whole = by (optional_at (codes "+") s) refl
   where
     by : (plus : Bool × (List ℕ × ℕ)) → optional_at (codes "+") s ≡ plus → amount_behind plus ≡ Err fault → IsMended Language s fault
-    by (false, u) left is = absurd (Err_is_not_Ok fault (0, u) (sym is))
+    by (false, u) left is = absurd (Err-ne-Ok fault (0, u) (sym is))
     by (true, u) taken is =
         let takes = optional_takes (codes "+") s u taken in
         mended-behind Language s fault (codes "+") u takes.standing (word_moves (codes "+") s u takes) (mended-amount (behind (codes "+") Language) u fault (decimal 1 ++ tail) is (whole 1 (omega arith)))
@@ -120,7 +121,7 @@ mended-stop_behind Language tail via s fault whole is =
           | inl none ↦
               mended-behind Language s fault (decimal n) t takes.number.spelled (ap (λ (u : List ℕ × ℕ). u.1) takes.moved)
               (mended-added (behind (decimal n) Language) tail t fault (λ amount small. whole n amount takes.within small) none)
-          | inr h ↦ absurd (Err_is_not_Ok fault (record { node = n; added = h.0.0; via = via }, h.0.1) (sym h.2))
+          | inr h ↦ absurd (Err-ne-Ok fault (record { node = n; added = h.0.0; via = via }, h.0.1) (sym h.2))
         ]
 
 pub mended-stop : (Language : List ℕ → Type 0) (tail : List ℕ) (s : List ℕ × ℕ) (fault : TextFault) → ((stop : Stop) → IsSmallStop stop → Language (stop_text stop ++ tail))
@@ -150,7 +151,7 @@ stop_moves s t stop within is =
     (omega (arith, whole, length-drop s.1 s.0, length-drop t.1 t.0, ap (λ xs. length xs) (stop_read s t stop is).text, length-append (stop_text stop) (rest_of t)), inside)
 
 with_stops-err : (first : List Stop) (answer : Result (List Stop × (List ℕ × ℕ)) TextFault) (fault : TextFault) → with_stops first answer ≡ Err fault → answer ≡ Err fault
-with_stops-err first (Ok found) fault is = absurd (Err_is_not_Ok fault (first ++ found.0, found.1) (sym is))
+with_stops-err first (Ok found) fault is = absurd (Err-ne-Ok fault (first ++ found.0, found.1) (sym is))
 with_stops-err first (Err other) fault is = is
 
 mended-more_stops : (most : ℕ) (Language : List ℕ → Type 0) (more : List ℕ) (s : List ℕ × ℕ) (fault : TextFault) → Within s → length (rest_of s) ≤ most
@@ -176,7 +177,7 @@ mended-more_stops (suc most) Language more s fault within le whole is =
     by next (false, u) left is =
         elim (fault_of_two (word_at (10 ∷ []) s) ended fault is) [
           | inl none ↦ mended-word Language s fault (10 ∷ []) more none (whole [] (All-nil IsSmallStop))
-          | inr h ↦ absurd (Err_is_not_Ok fault ([], h.0) (sym h.2))
+          | inr h ↦ absurd (Err-ne-Ok fault ([], h.0) (sym h.2))
         ]
     by next (true, t) taken is =
         let takes = optional_takes (codes " ") s t taken in

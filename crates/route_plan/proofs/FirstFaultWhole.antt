@@ -10,7 +10,7 @@ use Rattle.route_plan.specs.PlanReading.{or_bad, unless_too_long, whole_text}
 use Rattle.route_plan.specs.declared.plan_text.PlanText.TheVariants.{Bad, TooLong}
 use Rattle.route_plan.proofs.FirstFaultGrown.{Within}
 use Rattle.route_plan.proofs.FirstFaultMended.{Begins, IsMended}
-use Rattle.route_plan.proofs.PlanReadingParts.{Err_is_not_Ok}
+use Rattle.route_plan.proofs.Spelled.{Err-ne-Ok}
 
 -- the fault of a text that is not too long
 pub fault_inside : {A : Type 0} (bytes : List ℕ) (found : Result A TextFault) (fault : TextFault) → unless_too_long bytes found ≡ Err (Bad fault) → found ≡ Err fault
@@ -37,7 +37,7 @@ pub something_behind : {A : Type 0} (value : A) (t : List ℕ × ℕ) (fault : T
 something_behind value t fault = by (nat_eq (length (rest_of t)) 0)
   where
     by : (none : Bool) → (if none then Ok value else Err (Word t.1)) ≡ Err fault → Word t.1 ≡ fault
-    by true is = absurd (Err_is_not_Ok fault value (sym is))
+    by true is = absurd (Err-ne-Ok fault value (sym is))
     by false is = cc
 
 -- a value was read in front of the bytes, and its text is of the language

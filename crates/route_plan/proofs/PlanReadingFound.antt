@@ -10,13 +10,13 @@ use Rattle.ev_text.proofs.Readings.{TakesWord-from_word_at}
 use Rattle.route_plan.specs.PlanReading.{more_stops, optional_at, route_at, routes_at, stop_at, with_stops}
 use Rattle.route_plan.specs.PlanTexts.{FitsText, IsSmallStop, plan_lines, plan_text, stop_text}
 use Rattle.route_plan.specs.declared.plan.RoutePlan.{RoutePlan}
-use Rattle.route_plan.proofs.PlanReadingParts.{IsStopAt, Err_is_not_Ok, Ok_injective, optional_taken, stop_read}
+use Rattle.route_plan.proofs.PlanReadingParts.{IsStopAt, optional_taken, stop_read}
 use Rattle.route_plan.proofs.PlanReadingTexts.{ends_line, plan_lines-cons, plan_text-line}
-use Rattle.route_plan.proofs.Spelled.{and_then-ok}
+use Rattle.route_plan.proofs.Spelled.{Err-ne-Ok, Ok-injective, and_then-ok}
 
 pub with_stops-ok : (first : List Stop) (rest : Result (List Stop × (List ℕ × ℕ)) TextFault) (all : List Stop × (List ℕ × ℕ)) → with_stops first rest ≡ Ok all → (found : List Stop × (List ℕ × ℕ)) × (rest ≡ Ok found) × ((first ++ found.0, found.1) ≡ all)
-with_stops-ok first (Ok found) all is = (found, refl, Ok_injective (first ++ found.0, found.1) all is)
-with_stops-ok first (Err fault) all is = absurd (Err_is_not_Ok fault all is)
+with_stops-ok first (Ok found) all is = (found, refl, Ok-injective (first ++ found.0, found.1) all is)
+with_stops-ok first (Err fault) all is = absurd (Err-ne-Ok fault all is)
 
 -- the stops that follow, and the line feed
 record IsLineEnd (s : List ℕ × ℕ) (ss : List Stop) (t : List ℕ × ℕ) : Type 0 where
@@ -30,7 +30,7 @@ one_more s t u v stop ss space first rest = record {
 }
 
 more_read : (most : ℕ) (s t : List ℕ × ℕ) (ss : List Stop) → more_stops most s ≡ Ok (ss, t) → IsLineEnd s ss t
-more_read zero s t ss is = absurd (Err_is_not_Ok (End s.1) (ss, t) is)
+more_read zero s t ss is = absurd (Err-ne-Ok (End s.1) (ss, t) is)
 more_read (suc most) s t ss is = by (optional_at (codes " ") s) refl is (more_read most)
   where
     found_to : List Stop × (List ℕ × ℕ) → Type 0
@@ -47,7 +47,7 @@ more_read (suc most) s t ss is = by (optional_at (codes " ") s) refl is (more_re
         subst found_to others.2 (one_more s u found.1 rest.1 found.0 rest.0 (optional_taken (codes " ") s u taken) (stop_read u found.1 found.0 step.1) (later found.1 rest.1 rest.0 others.1))
     by (false, u) left is later =
         let step = and_then-ok (word_at (10 ∷ []) s) (λ u. Ok ([], u)) (ss, t) is in
-        subst found_to (Ok_injective ([], step.0) (ss, t) step.2) (record { text = (TakesWord-from_word_at (10 ∷ []) s step.0 step.1).standing; small = All-nil IsSmallStop })
+        subst found_to (Ok-injective ([], step.0) (ss, t) step.2) (record { text = (TakesWord-from_word_at (10 ∷ []) s step.0 step.1).standing; small = All-nil IsSmallStop })
 
 -- the line of a plan
 pub record IsRouteAt (s : List ℕ × ℕ) (stops : List Stop) (t : List ℕ × ℕ) : Type 0 where
@@ -87,7 +87,7 @@ one_route_more count s t u route routes first rest = record {
 
 pub routes_read : (count : ℕ) (s t : List ℕ × ℕ) (routes : List RoutePlan) → routes_at count s ≡ Ok (routes, t) → AreRoutesAt count s routes t
 routes_read zero s t routes is =
-    subst (λ (p : List RoutePlan × (List ℕ × ℕ)). AreRoutesAt 0 s p.0 p.1) (Ok_injective ([], s) (routes, t) is) (record { text = refl; fits = All-nil (λ (p : RoutePlan). FitsText p.stops); count_is = refl })
+    subst (λ (p : List RoutePlan × (List ℕ × ℕ)). AreRoutesAt 0 s p.0 p.1) (Ok-injective ([], s) (routes, t) is) (record { text = refl; fits = All-nil (λ (p : RoutePlan). FitsText p.stops); count_is = refl })
 routes_read (suc count) s t routes is =
     let step = and_then-ok (route_at s) (λ first. and_then (routes_at count first.1) (λ others. Ok (record { stops = first.0 } ∷ others.0, others.1))) (routes, t) is in
     let first = step.0 in
@@ -95,5 +95,5 @@ routes_read (suc count) s t routes is =
     let more = and_then-ok (routes_at count first.1) (λ others. Ok (route ∷ others.0, others.1)) (routes, t) step.2 in
     let others = more.0 in
     let all : List RoutePlan × (List ℕ × ℕ) = (route ∷ others.0, others.1) in
-    subst (λ (p : List RoutePlan × (List ℕ × ℕ)). AreRoutesAt (suc count) s p.0 p.1) {x = all} {y = (routes, t)} (Ok_injective all (routes, t) more.2)
+    subst (λ (p : List RoutePlan × (List ℕ × ℕ)). AreRoutesAt (suc count) s p.0 p.1) {x = all} {y = (routes, t)} (Ok-injective all (routes, t) more.2)
     (one_route_more count s first.1 others.1 route others.0 (route_read s first.1 first.0 step.1) (routes_read count first.1 others.1 others.0 more.1))

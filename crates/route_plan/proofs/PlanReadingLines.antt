@@ -8,6 +8,7 @@ use Rattle.ev_text.proofs.Readings.{word_at-at_end}
 use Rattle.route_plan.specs.PlanReading.{more_stops, optional_at, route_at, stop_at, with_stops}
 use Rattle.route_plan.specs.PlanTexts.{stop_text}
 use Rattle.route_plan.proofs.PlanReadingParts.{optional_left, optional_taken, stop_read}
+use Rattle.route_plan.proofs.Spelled.{no_bytes}
 
 pub no_longer_than_text : (s : List ℕ × ℕ) → length (rest_of s) ≤ length s.0
 no_longer_than_text s = omega (arith, length-drop s.1 s.0)
@@ -48,10 +49,6 @@ pub breaks : (start s t : List ℕ × ℕ) (stops : List Stop) (fault : TextFaul
 breaks start s t stops fault (most, le, is) space found =
     let after = next most s t le space in
     sym is ∙ ap (λ r. with_stops stops r) (after.2 ∙ ap (λ r. and_then r (λ found. with_stops (found.0 ∷ []) (more_stops after.0 found.1))) found)
-
-pub no_bytes : (xs : List ℕ) → length xs ≡ 0 → xs ≡ []
-no_bytes [] none = refl
-no_bytes (x ∷ xs) none = absurd (omega (arith, none))
 
 -- where no space was taken, the line feed is next
 last : (most : ℕ) (s t : List ℕ × ℕ) → length (rest_of s) ≤ most → optional_at (codes " ") s ≡ (false, t) → more_stops most s ≡ and_then (word_at (10 ∷ []) t) (λ u. Ok ([], u))

@@ -8,13 +8,7 @@ use Rattle.ev_text.specs.declared.TextFault.TheVariants.{NotWhole}
 use Rattle.ev_text.proofs.Readings.{TakesNumber-from_whole_at, TakesWord-from_word_at}
 use Rattle.route_plan.specs.PlanReading.{amount_at, amount_behind, if_taken, optional_at, stop_at, stop_behind}
 use Rattle.route_plan.specs.PlanTexts.{IsSmallStop, amount_text, stop_text}
-use Rattle.route_plan.proofs.Spelled.{and_then-ok}
-
-pub Ok_injective : {A E : Type 0} (a b : A) → ◌≡◌ {A = Result A E} (Ok a) (Ok b) → a ≡ b
-Ok_injective a b same = cc
-
-pub Err_is_not_Ok : {A E : Type 0} (fault : E) (a : A) → ◌≡◌ {A = Result A E} (Err fault) (Ok a) → ⊥
-Err_is_not_Ok fault a same = cc
+use Rattle.route_plan.proofs.Spelled.{Err-ne-Ok, Ok-injective, and_then-ok}
 
 pub small_limit : 10 ^ 9 < 10 ^ 64
 small_limit = omega arith
@@ -46,9 +40,9 @@ amount_read s t n is =
     by (nat_eq parts.0.0 0) parts.0 refl parts.1 parts.2
   where
     by : (b : Bool) (found : ℕ × (List ℕ × ℕ)) → nat_eq found.0 0 ≡ b → whole_at (10 ^ 9) s ≡ Ok found → (if b then Err (NotWhole s.1) else Ok found) ≡ Ok (n, t) → IsAmount s n t
-    by true found zero_test is same = absurd (Err_is_not_Ok (NotWhole s.1) (n, t) same)
+    by true found zero_test is same = absurd (Err-ne-Ok (NotWhole s.1) (n, t) same)
     by false found zero_test is same =
-        let found_is : found ≡ (n, t) = Ok_injective found (n, t) same in
+        let found_is : found ≡ (n, t) = Ok-injective found (n, t) same in
         let takes = TakesNumber-from_whole_at (10 ^ 9) s n t small_limit (is ∙ same) in
         let some : n ≢ 0 = eqb-false n 0 (ap (λ (p : ℕ × (List ℕ × ℕ)). nat_eq p.0 0) (sym found_is) ∙ zero_test) in
         record { text = takes.number.spelled; some = omega arith; small = takes.within }
@@ -70,7 +64,7 @@ added_read s t n = by (optional_at (codes "+") s) refl
           small = amount.small;
         }
     by (false, u) left is =
-        let none : (0, u) ≡ (n, t) = Ok_injective (0, u) (n, t) is in
+        let none : (0, u) ≡ (n, t) = Ok-injective (0, u) (n, t) is in
         let same : u ≡ s = optional_left (codes "+") s u left in
         subst (λ (p : ℕ × (List ℕ × ℕ)). IsAdded s p.0 p.1) none (record { text = ap rest_of (sym same); small = omega arith })
 
@@ -94,7 +88,7 @@ stop_behind_read mark t stop is =
     let behind = added_read n.1 amount.1 amount.0 added.1 in
     let made : Stop = record { node = n.0; added = amount.0; via = mark.0 } in
     let found : Stop × (List ℕ × ℕ) = (made, amount.1) in
-    let same : found ≡ (stop, t) = Ok_injective found (stop, t) added.2 in
+    let same : found ≡ (stop, t) = Ok-injective found (stop, t) added.2 in
     subst (λ (p : Stop × (List ℕ × ℕ)). IsStopBehind mark p.0 p.1) {x = found} {y = (stop, t)} same (record {
       text = takes.number.spelled ∙ ap (λ xs. decimal n.0 ++ xs) behind.text ∙ sym (append_assoc (decimal n.0) (amount_text amount.0) (rest_of amount.1));
       marked = refl;

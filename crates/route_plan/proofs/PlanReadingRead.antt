@@ -49,7 +49,7 @@ unfolding lines_behind
 file_text None = refl
 file_text (Some plan) = refl
 
-file_is_taken : (plan : Option FleetPlan) (s : List ℕ × ℕ) → FitsFile plan → rest_of s ≡ fleet_plan_text plan → Takes (file_at s) plan []
+pub file_is_taken : (plan : Option FleetPlan) (s : List ℕ × ℕ) → FitsFile plan → rest_of s ≡ fleet_plan_text plan → Takes (file_at s) plan []
 file_is_taken plan s fits e =
     let first = word_read (codes "evroute plan 1" ++ 10 ∷ []) (lines_behind plan) s (e ∙ file_text plan) in
     let second = second_is_taken plan (past (codes "evroute plan 1" ++ 10 ∷ []) s) fits first.1 in

@@ -12,10 +12,8 @@ use Rattle.route_plan.specs.declared.plan.FleetPlan.{FleetPlan}
 use Rattle.route_plan.specs.declared.plan.RoutePlan.{RoutePlan}
 use Rattle.route_plan.specs.declared.plan_text.PlanText.TheVariants.{Bad, TooLong}
 use Rattle.route_plan.proofs.PlanReadingFound.{AreRoutesAt, route_read, routes_read}
-use Rattle.route_plan.proofs.PlanReadingLines.{no_bytes}
-use Rattle.route_plan.proofs.PlanReadingParts.{Err_is_not_Ok, Ok_injective}
 use Rattle.route_plan.proofs.PlanReadingWhole.{Reader, whole_with}
-use Rattle.route_plan.proofs.Spelled.{and_then-ok}
+use Rattle.route_plan.proofs.Spelled.{Err-ne-Ok, Ok-injective, and_then-ok, no_bytes}
 
 -- a text that was read whole is not too long, and nothing stands behind its value
 record IsReadWhole {A : Type 0} (read : Reader A) (bytes : List ℕ) (value : A) : Type 0 where
@@ -28,16 +26,16 @@ inside : {A : Type 0} (bytes : List ℕ) (found : Result A TextFault) (value : A
 inside {A} bytes found value is = by (nat_lt (2 ^ 26) (length bytes)) found refl is
   where
     by : (long : Bool) (found : Result A TextFault) → nat_lt (2 ^ 26) (length bytes) ≡ long → (if long then Err (TooLong (length bytes)) else or_bad found) ≡ Ok value → (length bytes ≤ 2 ^ 26) × (found ≡ Ok value)
-    by true found long is = absurd (Err_is_not_Ok (TooLong (length bytes)) value is)
-    by false (Ok other) long is = (ltb-false (2 ^ 26) (length bytes) long, ap (λ x. Ok x) (Ok_injective other value is))
-    by false (Err fault) long is = absurd (Err_is_not_Ok (Bad fault) value is)
+    by true found long is = absurd (Err-ne-Ok (TooLong (length bytes)) value is)
+    by false (Ok other) long is = (ltb-false (2 ^ 26) (length bytes) long, ap (λ x. Ok x) (Ok-injective other value is))
+    by false (Err fault) long is = absurd (Err-ne-Ok (Bad fault) value is)
 
 ended : {A : Type 0} (found : A × (List ℕ × ℕ)) (value : A) → whole_text found ≡ Ok value → (rest_of found.1 ≡ []) × (found.0 ≡ value)
 ended {A} found value = by (nat_eq (length (rest_of found.1)) 0) refl
   where
     by : (none : Bool) → nat_eq (length (rest_of found.1)) 0 ≡ none → (if none then Ok found.0 else Err (Word found.1.1)) ≡ Ok value → (rest_of found.1 ≡ []) × (found.0 ≡ value)
-    by true none is = (no_bytes (rest_of found.1) (eqb-true (length (rest_of found.1)) 0 none), Ok_injective found.0 value is)
-    by false none is = absurd (Err_is_not_Ok (Word found.1.1) value is)
+    by true none is = (no_bytes (rest_of found.1) (eqb-true (length (rest_of found.1)) 0 none), Ok-injective found.0 value is)
+    by false none is = absurd (Err-ne-Ok (Word found.1.1) value is)
 
 whole_read : {A : Type 0} (read : Reader A) (bytes : List ℕ) (value : A) → whole_with read bytes ≡ Ok value → IsReadWhole read bytes value
 whole_read {A} read bytes value is =
@@ -82,7 +80,7 @@ plans_read s u t plan words is =
     let end = lines.0.1 in
     let takes = TakesNumber-from_whole_at (10 ^ 6) u count.0 count.1 (omega arith) number.1 in
     let all : Option FleetPlan × (List ℕ × ℕ) = (Some (record { routes = routes }), end) in
-    subst (λ (p : Option FleetPlan × (List ℕ × ℕ)). IsFileAt s p.0 p.1) {x = all} {y = (plan, t)} (Ok_injective all (plan, t) lines.2)
+    subst (λ (p : Option FleetPlan × (List ℕ × ℕ)). IsFileAt s p.0 p.1) {x = all} {y = (plan, t)} (Ok-injective all (plan, t) lines.2)
     (plans_found s u count.1 v end count.0 routes words takes.number.spelled takes.within (TakesWord-from_word_at (10 ∷ []) count.1 v feed.1).standing (routes_read count.0 v end routes lines.1))
 
 file_read : (s t : List ℕ × ℕ) (plan : Option FleetPlan) → file_at s ≡ Ok (plan, t) → IsFileAt s plan t
@@ -99,9 +97,9 @@ file_read s t plan is =
     by : (u : List ℕ × ℕ) → rest_of s ≡ (codes "evroute plan 1" ++ 10 ∷ []) ++ rest_of u
         → (none routes : Result (List ℕ × ℕ) TextFault) → word_at (codes "none" ++ 10 ∷ []) u ≡ none → word_at (codes "routes ") u ≡ routes → second_line u none routes ≡ Ok (plan, t) → IsFileAt s plan t
     by u line (Ok v) routes none_is routes_is is =
-        subst (λ (p : Option FleetPlan × (List ℕ × ℕ)). IsFileAt s p.0 p.1) (Ok_injective (None, v) (plan, t) is) (record { text = behind u v (codes "none" ++ 10 ∷ []) line none_is; fits = tt })
+        subst (λ (p : Option FleetPlan × (List ℕ × ℕ)). IsFileAt s p.0 p.1) (Ok-injective (None, v) (plan, t) is) (record { text = behind u v (codes "none" ++ 10 ∷ []) line none_is; fits = tt })
     by u line (Err fault) (Ok v) none_is routes_is is = plans_read s v t plan (behind u v (codes "routes ") line routes_is) is
-    by u line (Err fault) (Err other) none_is routes_is is = absurd (Err_is_not_Ok (ends_in_either fault other) (plan, t) is)
+    by u line (Err fault) (Err other) none_is routes_is is = absurd (Err-ne-Ok (ends_in_either fault other) (plan, t) is)
 
 pub spells_fleet_plan : (bytes : List ℕ) (plan : Option FleetPlan) → fleet_plan_in bytes ≡ Ok plan → SpellsFleetPlan bytes plan
 spells_fleet_plan bytes plan is =

@@ -28,11 +28,11 @@ value_or : {A E : Type 0} → A → Result A E → A
 value_or d (Ok a) = a
 value_or d (Err fault) = d
 
-Ok-injective : {A E : Type 0} (a b : A) → ◌≡◌ {A = Result A E} (Ok a) (Ok b) → a ≡ b
+pub Ok-injective : {A E : Type 0} (a b : A) → ◌≡◌ {A = Result A E} (Ok a) (Ok b) → a ≡ b
 unfolding value_or
 Ok-injective {A} {E} a b same = ap (λ (r : Result A E). value_or a r) same
 
-Err-ne-Ok : {A E : Type 0} (fault : E) (a : A) → ◌≡◌ {A = Result A E} (Err fault) (Ok a) → ⊥
+pub Err-ne-Ok : {A E : Type 0} (fault : E) (a : A) → ◌≡◌ {A = Result A E} (Err fault) (Ok a) → ⊥
 Err-ne-Ok {A} {E} fault a same = false≢true (ap (λ (r : Result A E). is_ok r) same)
 
 pub and_then-ok : {A B E : Type 0} (r : Result A E) (next : A → Result B E) (v : B) → and_then r next ≡ Ok v → (a : A) × (r ≡ Ok a) × (next a ≡ Ok v)
@@ -63,7 +63,7 @@ node_read s t n is =
 comma_read : (s t : List ℕ × ℕ) → comma_at s ≡ Ok t → rest_of s ≡ 44 ∷ rest_of t
 comma_read s t is = (TakesWord-from_word_at (44 ∷ []) s t (or_text-ok s (word_at (44 ∷ []) s) t is)).standing
 
-no_bytes : (xs : List ℕ) → length xs ≡ 0 → xs ≡ []
+pub no_bytes : (xs : List ℕ) → length xs ≡ 0 → xs ≡ []
 no_bytes [] none = refl
 no_bytes (x ∷ xs) none = absurd (omega (arith, none))
 
