@@ -1,4 +1,4 @@
-use Rattle.std.proofs.Common.{◌≡◌, ◌∙◌, Global, MatchOption, None, Option, Some, Vec, subst, sym}
+use Rattle.std.proofs.Common.{◌∙◌, Global, MatchOption, Option, Vec, subst, sym}
 use Rattle.ev_model.specs.Fastest.{IsFastest}
 use Rattle.ev_model.specs.declared.Stop.{Stop}
 use Rattle.level_table.specs.Answer.{HasNoWholePlan, IsFastestWhole}
