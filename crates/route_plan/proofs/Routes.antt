@@ -1,9 +1,9 @@
--- Nodes of which no rule is broken are a route.
-use Rattle.std.proofs.Common.{◌≡◌, ◌≢◌, ◌∙◌, ℕ, ◌+◌, ◌<◌, List, [], ◌∷◌, ◌++◌, length, Option, None, Some, Bool, true, false, nat_eq, nat_le, nat_lt, if◌then◌else◌, refl, sym, ap, subst}
+-- Nodes are a route exactly where no rule of them is broken.
+use Rattle.std.proofs.Common.{◌≡◌, ◌≢◌, ◌∙◌, ℕ, ◌+◌, ◌<◌, ◌≤◌, List, [], ◌∷◌, ◌++◌, length, Option, None, Some, Bool, true, false, nat_eq, nat_le, nat_lt, if◌then◌else◌, refl, sym, ap, subst}
 use Rattle.std.specs.List.{All}
-use Rattle.std.proofs.lemmas.Bool.{and_parts, eq-eqb, eqb-true, ltb-true, false≢true}
+use Rattle.std.proofs.lemmas.Bool.{and_parts, eq-eqb, eqb-true, le-leb, leb-true, lt-ltb, ltb-true, ne_eqb, false≢true}
 use Rattle.std.proofs.lemmas.Option.{none-some}
-use Rattle.std.proofs.lemmas.List.Elements.{All-cons, All-nil}
+use Rattle.std.proofs.lemmas.List.Elements.{All-cons, All-head, All-nil, All-tail}
 use Rattle.ev_model.specs.Network.{Network, node_count}
 use Rattle.ev_model.specs.Route.{IsRoute, Moves}
 use Rattle.route_plan.specs.RouteRules.{after_first, ends_at_depot, first_again, first_inner_depot, first_unknown, has_ends, or_again, or_ends, or_inner_depot, or_later, route_fault}
@@ -88,3 +88,45 @@ is_route g nodes none =
     let inner = no_fault (first_inner_depot 1 (after_first nodes)) (λ at. InnerDepot at) (or_again nodes) ends.1 in
     let again = no_fault (first_again 1 nodes) (λ at. Again at) None inner.1 in
     route_of_ends g nodes ends.0 (all_known count 0 nodes known.0) inner.0 (all_move 1 nodes again.0)
+
+pub is_short : (g : Network) (nodes : List ℕ) → route_fault (node_count g) nodes ≡ None → length nodes ≤ 400
+is_short g nodes none =
+    leb-true (length nodes) 400 (chosen (nat_le (length nodes) 400) (or_later (first_unknown (node_count g) 0 nodes) (λ at. Unknown at) (or_ends nodes)) TooLong none).0
+
+-- and of a route no rule is broken
+
+none_unknown : (count at : ℕ) (nodes : List ℕ) → All (λ node. node < count) nodes → first_unknown count at nodes ≡ None
+none_unknown count at [] known = refl
+none_unknown count at (n ∷ ns) known =
+    let here : nat_lt n count ≡ true = lt-ltb n count (All-head (λ node. node < count) n ns known) in
+    rw here (none_unknown count (at + 1) ns (All-tail (λ node. node < count) n ns known))
+
+none_again : (at : ℕ) (nodes : List ℕ) → Moves nodes → first_again at nodes ≡ None
+none_again at [] moves = refl
+none_again at (n ∷ []) moves = refl
+none_again at (n ∷ m ∷ ns) moves =
+    let here : nat_eq m n ≡ false = ne_eqb m n moves.0 in
+    rw here (none_again (at + 1) (m ∷ ns) moves.1)
+
+ends_behind : (inner : List ℕ) → ends_at_depot (inner ++ 0 ∷ []) ≡ true
+ends_behind [] = refl
+ends_behind (n ∷ []) = refl
+ends_behind (n ∷ m ∷ ns) = ends_behind (m ∷ ns)
+
+none_inside : (at : ℕ) (inner : List ℕ) → All (λ node. node ≢ 0) inner → first_inner_depot at (inner ++ 0 ∷ []) ≡ None
+none_inside at [] others = refl
+none_inside at (n ∷ []) others =
+    let here : nat_eq n 0 ≡ false = ne_eqb n 0 (All-head (λ node. node ≢ 0) n [] others) in
+    rw here refl
+none_inside at (n ∷ m ∷ ns) others =
+    let here : nat_eq n 0 ≡ false = ne_eqb n 0 (All-head (λ node. node ≢ 0) n (m ∷ ns) others) in
+    rw here (none_inside (at + 1) (m ∷ ns) (All-tail (λ node. node ≢ 0) n (m ∷ ns) others))
+
+pub is_unbroken : (g : Network) (nodes : List ℕ) → IsRoute g nodes → length nodes ≤ 400 → route_fault (node_count g) nodes ≡ None
+is_unbroken g nodes (inner, is) short =
+    let few : nat_le (length nodes) 400 ≡ true = le-leb (length nodes) 400 short in
+    let known = none_unknown (node_count g) 0 nodes is.known in
+    let ends : has_ends nodes ≡ true = ap has_ends is.ends ∙ ends_behind inner in
+    let inside : first_inner_depot 1 (after_first nodes) ≡ None = ap (λ xs. first_inner_depot 1 (after_first xs)) is.ends ∙ none_inside 1 inner is.no_depot in
+    let again = none_again 1 nodes is.moves in
+    rw (few, known, ends, inside, again) refl

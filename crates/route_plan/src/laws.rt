@@ -1,6 +1,6 @@
 //! Laws of the word of a route, of the texts of plans and of the walk along a plan. Each is the contract of an empty function.
 
-ghost use Rattle.std.specs.Prelude.{◌≡◌, ◌↔◌, List, ℕ, None, Ok, Option};
+ghost use Rattle.std.specs.Prelude.{◌≡◌, ◌↔◌, ◌≤◌, List, ℕ, None, Ok, Option, length};
 ghost use Rattle.ev_model.specs.Feasible.{IsFeasible};
 ghost use Rattle.ev_model.specs.Network.{Network, node_count};
 ghost use Rattle.ev_model.specs.Route.{IsRoute};
@@ -25,9 +25,9 @@ pub fn texts_spell_plans()
     ensures fleet { (bytes : List ℕ) (plan : Option FleetPlan) → (fleet_plan_in bytes ≡ Ok plan) ↔ SpellsFleetPlan bytes plan }
 {}
 
-/// Nodes of which no rule is broken are a route of the network.
+/// Nodes break no rule exactly where they are a route of the network, of at most 400 nodes.
 pub fn unbroken_nodes_are_routes()
-    ensures { (g : Network) (nodes : List ℕ) → route_fault (node_count g) nodes ≡ None → IsRoute g nodes }
+    ensures { (g : Network) (nodes : List ℕ) → (route_fault (node_count g) nodes ≡ None) ↔ (IsRoute g nodes × (length nodes ≤ 400)) }
 {}
 
 /// A whole plan is walked to its end exactly where it is feasible, and the walk tells its time and its last level.
