@@ -35,8 +35,19 @@ pub record IsMended (Language : List ℕ → Type 0) (s : List ℕ × ℕ) (faul
 abbrev pub behind : List ℕ → (List ℕ → Type 0) → List ℕ → Type 0
 behind text Language more = Language (text ++ more)
 
+-- each text of the one language is one of the other
+pub mended-map : (Language Other : List ℕ → Type 0) (s : List ℕ × ℕ) (fault : TextFault) → ((text : List ℕ) → Language text → Other text) → IsMended Language s fault → IsMended Other s fault
+mended-map Language Other s fault each mended = record {
+  front = mended.front;
+  back = mended.back;
+  parts = mended.parts;
+  place = mended.place;
+  before = (mended.before.0, each (mended.front ++ mended.before.0) mended.before.1);
+  ended = λ end. let whole = mended.ended end in (whole.0, each (rest_of s ++ whole.0) whole.1);
+}
+
 module _ (Language : List ℕ → Type 0) (s : List ℕ × ℕ) (fault : TextFault) where
-  mended-here : (more : List ℕ) → Language more → place_of fault ≡ s.1 → ((IsNoEnd fault → ⊥) → Begins Language (rest_of s)) → IsMended Language s fault
+  pub mended-here : (more : List ℕ) → Language more → place_of fault ≡ s.1 → ((IsNoEnd fault → ⊥) → Begins Language (rest_of s)) → IsMended Language s fault
   mended-here more whole place ended = record { front = []; back = rest_of s; parts = refl; place = omega (arith, place); before = (more, whole); ended = ended }
 
   pub mended-behind : (text : List ℕ) (t : List ℕ × ℕ) → rest_of s ≡ text ++ rest_of t → t.1 ≡ s.1 + length text → IsMended (behind text Language) t fault → IsMended Language s fault
@@ -78,7 +89,7 @@ module _ (Language : List ℕ → Type 0) (s : List ℕ × ℕ) (fault : TextFau
       by (Ok (n, t)) found e = at_zero n t (nat_eq n 0) e
 
 -- which of two readers a fault comes from
-pub fault_of_two : {A B : Type 0} (answer : Result A TextFault) (next : A → Result B TextFault) (fault : TextFault) → and_then answer next ≡ Err fault
+pub fault_of_two : {A B E : Type 0} (answer : Result A E) (next : A → Result B E) (fault : E) → and_then answer next ≡ Err fault
     → (answer ≡ Err fault) ⊎ ((found : A) × (answer ≡ Ok found) × (next found ≡ Err fault))
 fault_of_two (Ok found) next fault is = inr (found, refl, is)
 fault_of_two (Err other) next fault is = inl (let same : other ≡ fault = cc in ap (λ f. Err f) same)

@@ -25,3 +25,4 @@ pub mod FirstFaultPlans
 pub mod FirstFaultFileGrown
 pub mod FirstFaultFileMended
 pub mod FirstFaultFiles
+pub mod FirstFaultWords

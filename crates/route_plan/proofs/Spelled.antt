@@ -20,7 +20,7 @@ abbrev pub behind_commas : List ℕ → List ℕ
 behind_commas [] = []
 behind_commas (n ∷ ns) = 44 ∷ decimal n ++ behind_commas ns
 
-route_text-cons : (n : ℕ) (ns : List ℕ) → route_text (n ∷ ns) ≡ decimal n ++ behind_commas ns
+pub route_text-cons : (n : ℕ) (ns : List ℕ) → route_text (n ∷ ns) ≡ decimal n ++ behind_commas ns
 route_text-cons n [] = sym (append-nil (decimal n))
 route_text-cons n (m ∷ ns) = ap (λ xs. decimal n ++ 44 ∷ xs) (route_text-cons m ns)
 
@@ -39,7 +39,7 @@ pub and_then-ok : {A B E : Type 0} (r : Result A E) (next : A → Result B E) (v
 and_then-ok (Ok a) next v is = (a, refl, is)
 and_then-ok (Err fault) next v is = absurd (Err-ne-Ok fault v is)
 
-or_text-ok : {A : Type 0} (s : List ℕ × ℕ) (r : Result A TextFault) (v : A) → or_text s r ≡ Ok v → r ≡ Ok v
+pub or_text-ok : {A : Type 0} (s : List ℕ × ℕ) (r : Result A TextFault) (v : A) → or_text s r ≡ Ok v → r ≡ Ok v
 or_text-ok s (Ok a) v is = ap (λ x. Ok x) (Ok-injective a v is)
 or_text-ok {A} s (Err fault) v is = absurd (Err-ne-Ok {A = A} (Text s.1) v is)
 
@@ -113,7 +113,7 @@ spells_what_is_read word nodes is =
       text = first.1 ∙ ap (λ xs. decimal n ++ xs) more.text ∙ sym (route_text-cons n rest.0);
     })
 
-begins_without_digit : (ns : List ℕ) → BeginsWithoutDigit (behind_commas ns)
+pub begins_without_digit : (ns : List ℕ) → BeginsWithoutDigit (behind_commas ns)
 begins_without_digit [] = tt
 begins_without_digit (n ∷ ns) = refl
 

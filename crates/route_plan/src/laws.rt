@@ -1,22 +1,34 @@
 //! Laws of the word of a route, of the texts of plans and of the walk along a plan. Each is the contract of an empty function.
 
-ghost use Rattle.std.specs.Prelude.{◌≡◌, ◌↔◌, ◌≤◌, List, ℕ, None, Ok, Option, length};
+ghost use Rattle.std.specs.Prelude.{◌≡◌, ◌↔◌, ◌<◌, ◌≤◌, List, ℕ, Err, None, Ok, Option, length, take};
 ghost use Rattle.ev_model.specs.Feasible.{IsFeasible};
 ghost use Rattle.ev_model.specs.Network.{Network, node_count};
 ghost use Rattle.ev_model.specs.Route.{IsRoute};
 ghost use Rattle.ev_model.specs.Time.{time_of};
 ghost use Rattle.ev_model.specs.declared.Stop.{Stop};
+ghost use Rattle.route_plan.specs.FirstFault.{BeginsRouteWord};
 ghost use Rattle.route_plan.specs.PlanReading.{fleet_plan_in, plan_in};
 ghost use Rattle.route_plan.specs.PlanTexts.{SpellsFleetPlan, SpellsPlan};
 ghost use Rattle.route_plan.specs.RouteRules.{route_fault};
 ghost use Rattle.route_plan.specs.RouteWords.{nodes_in, SpellsRoute};
 ghost use Rattle.route_plan.specs.Walking.{end_level, walked};
 ghost use Rattle.route_plan.specs.declared.plan.FleetPlan.{FleetPlan};
+ghost use Rattle.route_plan.specs.declared.route.RouteFault.{RouteFault};
+ghost use Rattle.route_plan.specs.declared.route.RouteFault.TheVariants.{Text};
 ghost use Rattle.route_plan.specs.declared.walks.Walk.{Walk};
 
 /// A word is read as nodes exactly where it spells them: decimal numbers joined by single commas.
 pub fn words_spell_routes()
     ensures { (word nodes : List ℕ) → (nodes_in word ≡ Ok nodes) ↔ SpellsRoute word nodes }
+{}
+
+/// The fault of the text of a route's word is the first from the left: what stands before its place can be continued to
+/// a route's word, and, unless the place is the end of the word, what follows cannot mend it. Reading the nodes of a
+/// word has no other fault.
+pub fn route_word_faults_are_first()
+    ensures first { (word : List ℕ) (at : ℕ) → nodes_in word ≡ Err (Text at)
+        → (at ≤ length word) × BeginsRouteWord (take at word) × (at < length word → BeginsRouteWord word → ⊥) }
+    ensures only { (word : List ℕ) (fault : RouteFault) → nodes_in word ≡ Err fault → (at : ℕ) × (fault ≡ Text at) }
 {}
 
 /// Bytes are read as a plan exactly where they spell it, and the same of fleet plans.

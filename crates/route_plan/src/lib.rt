@@ -15,7 +15,8 @@ pub use ev_model::Stop;
 pub use fault_laws::{fleet_plan_faults_are_first, plan_faults_are_first};
 pub use judge::walk;
 pub use laws::{
-    feasible_plans_are_walked, texts_spell_plans, unbroken_nodes_are_routes, words_spell_routes,
+    feasible_plans_are_walked, route_word_faults_are_first, texts_spell_plans,
+    unbroken_nodes_are_routes, words_spell_routes,
 };
 pub use plan::{FleetPlan, FracPlan, RoutePlan};
 pub use plan_reading::{read_fleet_plan, read_plan};
