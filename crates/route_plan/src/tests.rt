@@ -3,6 +3,7 @@ use crate::{
 };
 use ev_text::TextFault;
 use instance_reader::read_instance;
+use std::alloc::Global;
 
 /// A depot, a customer and a station.
 const ONE_STATION: &str =
@@ -38,6 +39,28 @@ fn the_first_broken_rule_of_a_route_is_named(rt: HostRuntime) {
     }
     let route = read_route(alloc, "0,2,1,0", &inst).expect(&rt, "a route");
     assert_eq!(rt; route.as_slice(), [0, 2, 1, 0].as_slice());
+}
+
+/// The depot, then the customer and the station, 199 times in turn, and `end` behind them: a word of a route.
+fn long_word(alloc: Global, end: &str) -> Option<String> {
+    let mut word = String::from_str(alloc, "0").ok()?;
+    for _ in 0..199 {
+        word.push_str(",1,2").ok()?;
+    }
+    word.push_str(end).ok()?;
+    Some(word)
+}
+
+#[test]
+fn a_route_has_at_most_400_nodes(rt: HostRuntime) {
+    let alloc = rt.alloc();
+    let inst = read_instance(alloc, ONE_STATION.as_bytes()).expect(&rt, "an instance");
+    let longest = long_word(alloc, ",0").expect(&rt, "a word");
+    let route = read_route(alloc, longest.as_str(), &inst).expect(&rt, "a route");
+    assert_eq!(rt; route.len(), 400);
+    let word = long_word(alloc, ",1,0").expect(&rt, "a word");
+    let found = read_route(alloc, word.as_str(), &inst).err();
+    assert_eq!(rt; found, Some(RouteFault::TooLong));
 }
 
 /// A stop that was not inserted and charges nothing.
