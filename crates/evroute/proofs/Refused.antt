@@ -1,5 +1,5 @@
 -- The line of a refusal as an answer of `check`.
-use Rattle.std.proofs.Common.{◌≡◌, ℕ, List, Option, None, Some, IfSome, subst, sym}
+use Rattle.std.proofs.Common.{◌≡◌, ℕ, List, Option, Result, Ok, Err, IfOk, subst, sym}
 use Rattle.evroute.specs.CheckAnswer.{CheckAnswers, IsCheckRefused}
 use Rattle.evroute.specs.Ended.{IsCheckEnded}
 use Rattle.evroute.specs.declared.answer.Answer.{Answer}
@@ -10,11 +10,11 @@ use Rattle.evroute.specs.declared.status.Status.TheVariants as status
 use Rattle.plan_writer.specs.RefusalText.{refusal_text}
 use Rattle.plan_writer.specs.declared.refusal.Refusal.{Refusal}
 
-pub refused_answers : (limit : Option ℕ) (file plan_bytes : List ℕ) (ended : Ended) (refusal : Refusal) (made : Option Answer) →
+pub refused_answers : {E : Type 0} (limit : Option ℕ) (file plan_bytes : List ℕ) (ended : Ended) (refusal : Refusal) (made : Result Answer E) →
     ended ≡ Refused refusal → IsCheckEnded limit file plan_bytes ended
-    → IfSome made (λ a. a.status ≡ status.Refused) → IfSome made (λ a. a.text.items ≡ refusal_text refusal)
-    → IfSome made (λ a. CheckAnswers limit file plan_bytes a.status a.text.items)
-refused_answers limit file plan_bytes ended refusal None is refused answered text = tt
-refused_answers limit file plan_bytes ended refusal (Some a) is refused answered text =
+    → IfOk made (λ a. a.status ≡ status.Refused) → IfOk made (λ a. a.text.items ≡ refusal_text refusal)
+    → IfOk made (λ a. CheckAnswers limit file plan_bytes a.status a.text.items)
+refused_answers limit file plan_bytes ended refusal (Err none) is refused answered text = tt
+refused_answers limit file plan_bytes ended refusal (Ok a) is refused answered text =
     let first : IsCheckRefused limit file plan_bytes refusal = subst (λ (e : Ended). IsCheckEnded limit file plan_bytes e) is refused in
     subst (λ (s : Status). CheckAnswers limit file plan_bytes s a.text.items) (sym answered) (record { refusal = refusal; refused = first; text_is = text })

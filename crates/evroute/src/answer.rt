@@ -1,11 +1,11 @@
 //! What a job puts, and why one of its steps may be the last.
 
-ghost use Rattle.std.specs.Prelude.{◌≡◌, IfSome};
+ghost use Rattle.std.specs.Prelude.{◌≡◌, IfOk};
 ghost use Rattle.plan_writer.specs.RefusalText.{refusal_text};
 
 use crate::status::Status;
 use plan_writer::{Refusal, push_refusal};
-use std::alloc::Global;
+use std::alloc::{AllocError, Global};
 
 /// What is put, and the status that goes with it.
 #[derive(Drop)]
@@ -23,17 +23,15 @@ pub enum Ended {
     Memory,
 }
 
-/// The line of a refusal. `None` comes only for want of memory.
-pub fn refused(alloc: Global, refusal: Refusal) -> Option<Answer>
-    ensures status { IfSome result (λ a. a.status ≡ Status.Refused) }
-    ensures text { IfSome result (λ a. a.text.items ≡ refusal_text refusal) }
+/// The line of a refusal.
+pub fn refused(alloc: Global, refusal: Refusal) -> Result<Answer, AllocError>
+    ensures status { IfOk result (λ a. a.status ≡ Status.Refused) }
+    ensures text { IfOk result (λ a. a.text.items ≡ refusal_text refusal) }
 {
     let mut text = Vec::new(alloc);
-    match push_refusal(alloc, &mut text, &refusal) {
-        Ok(()) => Some(Answer {
-            status: Status::Refused,
-            text,
-        }),
-        Err(_) => None,
-    }
+    push_refusal(alloc, &mut text, &refusal)?;
+    Ok(Answer {
+        status: Status::Refused,
+        text,
+    })
 }

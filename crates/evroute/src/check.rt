@@ -1,6 +1,6 @@
 //! The answer of `check`: a plan file is judged on an instance.
 
-ghost use Rattle.std.specs.Prelude.{◌≡◌, ◌≤◌, IfErr, IfOk, IfSome, List, Ok, Option, option_map, ℕ};
+ghost use Rattle.std.specs.Prelude.{◌≡◌, ◌≤◌, IfErr, IfOk, List, Ok, Option, option_map, ℕ};
 ghost use Rattle.ev_model.specs.Network.{Network};
 ghost use Rattle.evroute.specs.CheckAnswer.{CheckAnswers, HasFleetNetwork, customer_count, most_customers};
 ghost use Rattle.evroute.specs.Ended.{IsCheckEnded};
@@ -16,7 +16,7 @@ use instance_reader::Instance;
 use plan_check::{PlanFault, check_fleet};
 use plan_writer::{Judgement, Refusal, push_check_report};
 use route_plan::{FleetPlan, PlanText, read_fleet_plan};
-use std::alloc::Global;
+use std::alloc::{AllocError, Global};
 
 /// The most customers of a fleet.
 const MOST_CUSTOMERS: usize = 128;
@@ -34,17 +34,16 @@ pub fn fleet_instance(alloc: Global, bytes: &[u8], limit: Option<u64>) -> Result
     Ok(inst)
 }
 
-/// The answer to the bytes of a plan file, on an instance without too many customers. `None` comes only for want
-/// of memory.
-pub fn judged(alloc: Global, inst: &Instance, bytes: &[u8]) -> Option<Answer>
+/// The answer to the bytes of a plan file, on an instance without too many customers.
+pub fn judged(alloc: Global, inst: &Instance, bytes: &[u8]) -> Result<Answer, AllocError>
     requires { customer_count inst.now ≤ most_customers }
-    ensures answers { (limit : Option ℕ) (file : List ℕ) → HasFleetNetwork limit file inst.now → IfSome result (λ a. CheckAnswers limit file bytes.now a.status a.text.items) }
-    ensures answered { IfSome result (λ a. IsAnswered a.status) }
+    ensures answers { (limit : Option ℕ) (file : List ℕ) → HasFleetNetwork limit file inst.now → IfOk result (λ a. CheckAnswers limit file bytes.now a.status a.text.items) }
+    ensures answered { IfOk result (λ a. IsAnswered a.status) }
 {
     match plan_of(alloc, bytes) {
         Ok(plan) => reported(alloc, inst, plan.as_ref()),
         Err(Ended::Refused(refusal)) => refused(alloc, refusal),
-        Err(Ended::Memory) => None,
+        Err(Ended::Memory) => Err(AllocError),
     }
 }
 
@@ -61,10 +60,10 @@ fn plan_of(alloc: Global, bytes: &[u8]) -> Result<Option<FleetPlan>, Ended>
 }
 
 /// The report on a fleet plan, or on none.
-fn reported(alloc: Global, inst: &Instance, plan: Option<&FleetPlan>) -> Option<Answer>
+fn reported(alloc: Global, inst: &Instance, plan: Option<&FleetPlan>) -> Result<Answer, AllocError>
     requires { customer_count inst.now ≤ most_customers }
-    ensures answered { IfSome result (λ a. IsAnswered a.status) }
-    ensures answers { (limit : Option ℕ) (file plan_bytes : List ℕ) → HasFleetNetwork limit file inst.now → fleet_plan_in plan_bytes ≡ Ok (option_map (λ p. p.now) plan.entry) → IfSome result (λ a. CheckAnswers limit file plan_bytes a.status a.text.items) }
+    ensures answered { IfOk result (λ a. IsAnswered a.status) }
+    ensures answers { (limit : Option ℕ) (file plan_bytes : List ℕ) → HasFleetNetwork limit file inst.now → fleet_plan_in plan_bytes ≡ Ok (option_map (λ p. p.now) plan.entry) → IfOk result (λ a. CheckAnswers limit file plan_bytes a.status a.text.items) }
 {
     let Some(plan) = plan else {
         return accepted(alloc, inst, None);
@@ -76,31 +75,27 @@ fn reported(alloc: Global, inst: &Instance, plan: Option<&FleetPlan>) -> Option<
 }
 
 /// The report on a fleet plan of this scaled cost, or on none.
-fn accepted(alloc: Global, inst: &Instance, cost: Option<u128>) -> Option<Answer>
-    ensures status { IfSome result (λ a. a.status ≡ Status.Done) }
-    ensures text { IfSome result (λ a. a.text.items ≡ check_text inst.now.denominator (judgement.Accepted cost)) }
+fn accepted(alloc: Global, inst: &Instance, cost: Option<u128>) -> Result<Answer, AllocError>
+    ensures status { IfOk result (λ a. a.status ≡ Status.Done) }
+    ensures text { IfOk result (λ a. a.text.items ≡ check_text inst.now.denominator (judgement.Accepted cost)) }
 {
     let mut text = Vec::new(alloc);
-    match push_check_report(alloc, &mut text, inst, &Judgement::Accepted { cost }) {
-        Ok(()) => Some(Answer {
-            status: Status::Done,
-            text,
-        }),
-        Err(_) => None,
-    }
+    push_check_report(alloc, &mut text, inst, &Judgement::Accepted { cost })?;
+    Ok(Answer {
+        status: Status::Done,
+        text,
+    })
 }
 
 /// The report on plans that break a rule.
-fn rejected(alloc: Global, inst: &Instance, fault: PlanFault) -> Option<Answer>
-    ensures status { IfSome result (λ a. a.status ≡ Status.Negative) }
-    ensures text { IfSome result (λ a. a.text.items ≡ check_text inst.now.denominator (judgement.Plan fault)) }
+fn rejected(alloc: Global, inst: &Instance, fault: PlanFault) -> Result<Answer, AllocError>
+    ensures status { IfOk result (λ a. a.status ≡ Status.Negative) }
+    ensures text { IfOk result (λ a. a.text.items ≡ check_text inst.now.denominator (judgement.Plan fault)) }
 {
     let mut text = Vec::new(alloc);
-    match push_check_report(alloc, &mut text, inst, &Judgement::Plan(fault)) {
-        Ok(()) => Some(Answer {
-            status: Status::Negative,
-            text,
-        }),
-        Err(_) => None,
-    }
+    push_check_report(alloc, &mut text, inst, &Judgement::Plan(fault))?;
+    Ok(Answer {
+        status: Status::Negative,
+        text,
+    })
 }

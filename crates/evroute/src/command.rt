@@ -17,7 +17,7 @@ use command_line::{Job, Options, job_words};
 use ev_outside::{Shelf, ShelfFault, Sink};
 use instance_reader::Instance;
 use plan_writer::Refusal;
-use std::alloc::Global;
+use std::alloc::{AllocError, Global};
 
 /// The program: its words after its name, the files and the output.
 ///
@@ -69,8 +69,8 @@ fn fixed<S: Shelf, K: Sink>(
         Err(ShelfFault::Memory) => return Status::Memory,
     };
     match answer_to(alloc, bytes.as_slice(), route, options) {
-        Some(answer) => put_answer(&answer, out),
-        None => Status::Memory,
+        Ok(answer) => put_answer(&answer, out),
+        Err(AllocError) => Status::Memory,
     }
 }
 
@@ -128,8 +128,8 @@ fn check_plan<S: Shelf, K: Sink>(
         Err(ShelfFault::Memory) => return Status::Memory,
     };
     match judged(alloc, inst, bytes.as_slice()) {
-        Some(answer) => put_answer(&answer, out),
-        None => Status::Memory,
+        Ok(answer) => put_answer(&answer, out),
+        Err(AllocError) => Status::Memory,
     }
 }
 
@@ -142,7 +142,7 @@ fn put_refusal<K: Sink>(alloc: Global, refusal: Refusal, out: &mut K) -> Status
     ensures stopped { result ≡ Status.Stopped → ⊥ }
 {
     match refused(alloc, refusal) {
-        Some(answer) => put_answer(&answer, out),
-        None => Status::Memory,
+        Ok(answer) => put_answer(&answer, out),
+        Err(AllocError) => Status::Memory,
     }
 }

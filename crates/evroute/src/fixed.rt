@@ -1,6 +1,6 @@
 //! The answer of `fixed`: one route of an instance is charged.
 
-ghost use Rattle.std.specs.Prelude.{◌≡◌, ◌≤◌, IfErr, IfOk, IfSome, List, None, Ok, Some, ℕ};
+ghost use Rattle.std.specs.Prelude.{◌≡◌, ◌≤◌, IfErr, IfOk, List, None, Ok, Some, ℕ};
 ghost use Rattle.command_line.specs.declared.Options.{Options};
 ghost use Rattle.ev_model.specs.Feasible.{IsFeasible};
 ghost use Rattle.ev_model.specs.Network.{node_count};
@@ -20,16 +20,21 @@ use instance_reader::Instance;
 use level_table::{LevelFault, solve_levels};
 use plan_writer::{Refusal, push_fixed};
 use route_plan::{RouteFault, RoutePlan, read_route, walk};
-use std::alloc::Global;
+use std::alloc::{AllocError, Global};
 
-/// The answer to the bytes of a file and the word of a route. `None` comes only for want of memory.
-pub fn answer_to(alloc: Global, bytes: &[u8], word: &str, options: Options) -> Option<Answer>
-    ensures { IfSome result (λ a. Answers options word.now bytes.now a.status a.text.items) }
+/// The answer to the bytes of a file and the word of a route.
+pub fn answer_to(
+    alloc: Global,
+    bytes: &[u8],
+    word: &str,
+    options: Options,
+) -> Result<Answer, AllocError>
+    ensures { IfOk result (λ a. Answers options word.now bytes.now a.status a.text.items) }
 {
     match charged(alloc, bytes, word, options) {
-        Ok(answer) => Some(answer),
+        Ok(answer) => Ok(answer),
         Err(Ended::Refused(refusal)) => refused(alloc, refusal),
-        Err(Ended::Memory) => None,
+        Err(Ended::Memory) => Err(AllocError),
     }
 }
 
