@@ -31,12 +31,6 @@ pub fn route_word_faults_are_first()
     ensures only { (word : List ℕ) (fault : RouteFault) → nodes_in word ≡ Err fault → (at : ℕ) × (fault ≡ Text at) }
 {}
 
-/// Bytes are read as a plan exactly where they spell it, and the same of fleet plans.
-pub fn texts_spell_plans()
-    ensures plan { (bytes : List ℕ) (stops : List Stop) → (plan_in bytes ≡ Ok stops) ↔ SpellsPlan bytes stops }
-    ensures fleet { (bytes : List ℕ) (plan : Option FleetPlan) → (fleet_plan_in bytes ≡ Ok plan) ↔ SpellsFleetPlan bytes plan }
-{}
-
 /// Nodes break no rule exactly where they are a route of the network, of at most 400 nodes.
 pub fn unbroken_nodes_are_routes()
     ensures { (g : Network) (nodes : List ℕ) → (route_fault (node_count g) nodes ≡ None) ↔ (IsRoute g nodes × (length nodes ≤ 400)) }
