@@ -1,32 +1,19 @@
 -- Common multiples of slopes, one segment after another.
-use Rattle.std.proofs.Common.{◌≡◌, ◌∙◌, ◌↔◌, ℕ, zero, suc, ◌+◌, ◌-◌, ◌*◌, ◌/◌, ◌<◌, ◌≤◌, List, [], ◌∷◌, length, length-drop, get_or, drop, sym, ap, subst, arith}
+use Rattle.std.proofs.Common.{◌≡◌, ◌∙◌, ◌↔◌, ℕ, zero, suc, ◌+◌, ◌-◌, ◌/◌, ◌<◌, ◌≤◌, List, [], ◌∷◌, length, length-drop, get_or, drop, sym, ap, subst, arith}
 use Rattle.std.specs.Int.{◌∣◌, IsGcd}
-use Rattle.std.proofs.Math.Nat.{div-mul_cancel, dvd-mul_right, dvd_trans, mul-div_right, div-eq_of_eq-mul_right, pos_of_dvd_of_pos}
+use Rattle.std.proofs.Math.Nat.{dvd_trans}
 use Rattle.std.proofs.Math.Seq.{drop-cons}
-use Rattle.std.proofs.lemmas.Nat.Gcd.{le_of_dvd, same_from_IsGcd}
+use Rattle.std.proofs.lemmas.Nat.Gcd.{le_of_dvd}
 use Rattle.ev_model.specs.Curve.{IsMultipleOfSlope, IsMultipleOfSlopes, Rises}
 use Rattle.ev_units.specs.Units.{IsLcm, IsLcmPast}
+use Rattle.ev_units.proofs.Divisors.{pos_cofactor, whole_iff_reduced_divides}
 
-same_factor : (g m n : ℕ) → 0 < g → m * g ≡ n * g → m ≡ n
-same_factor g m n some e =
-    let left : m * g ≡ g * m = omega arith in
-    let right : n * g ≡ g * n = omega arith in
-    sym (mul-div_right m some) ∙ div-eq_of_eq-mul_right some (sym left ∙ e ∙ right)
-
--- the quotient by the greatest common divisor is the reduced denominator
+-- the gap of charges over the greatest common divisor of both gaps is the denominator of the slope in lowest terms
 pub reduced_is : (p q : ℕ × ℕ) (g : ℕ) → p.1 < q.1 → IsGcd (q.0 - p.0) (q.1 - p.1) g → (0 < (q.1 - p.1) / g) × ((e : ℕ) → (((q.1 - p.1) / g) ∣ e) ↔ IsMultipleOfSlope p q e)
 reduced_is p q g less gcd =
-    let gap = q.1 - p.1 in
-    let r = gap / g in
-    let some : 0 < gap = omega (arith, less) in
-    let whole : r * g ≡ gap = div-mul_cancel g gcd.1 in
-    let some_g : 0 < g = pos_of_dvd_of_pos gcd.1 some in
-    let some_r : 0 < r = pos_of_dvd_of_pos (subst (λ x. r ∣ x) whole (dvd-mul_right r g)) some in
-    let one_way : (e : ℕ) → (r ∣ e) → IsMultipleOfSlope p q e = λ e divides other reduced.
-    let same : reduced.0 ≡ g = same_from_IsGcd (q.0 - p.0) gap reduced.0 g reduced.1 gcd in
-    let again : other * g ≡ gap = ap (λ x. other * x) (sym same) ∙ reduced.2 in
-    subst (λ x. x ∣ e) (same_factor g r other some_g (whole ∙ sym again)) divides in
-    (some_r, λ e. (one_way e, λ multiple. multiple r (g, gcd, whole)))
+    let some : 0 < q.1 - p.1 = omega (arith, less) in
+    let is : (e : ℕ) → IsMultipleOfSlope p q e ↔ (((q.1 - p.1) / g) ∣ e) = λ e. whole_iff_reduced_divides (q.0 - p.0) (q.1 - p.1) g e some gcd in
+    (pos_cofactor g (q.1 - p.1) some gcd.1, λ e. ((is e).1, (is e).0))
 
 -- one more slope: d is the least common multiple with its reduced denominator
 pub with_slope_is : (p q : ℕ × ℕ) (base r d : ℕ) → ((e : ℕ) → (r ∣ e) ↔ IsMultipleOfSlope p q e) → IsLcm base r d → (e : ℕ) → (d ∣ e) ↔ ((base ∣ e) × IsMultipleOfSlope p q e)

@@ -10,7 +10,7 @@ use Rattle.charge_curve.specs.CutCurve.{CutCurve, points_of}
 use Rattle.ev_model.specs.Curve.{IsCurve, IsDenominator, IsMultipleOfSlopes}
 use Rattle.ev_model.specs.Network.{Network}
 use Rattle.serde_json.specs.Data.{Data}
-use Rattle.instance_reader.proofs.CheckedLemmas.{neither, shaped_contents, small_contents}
+use Rattle.instance_reader.proofs.CheckedLemmas.{levels_within, neither, shaped_contents, small_contents}
 use Rattle.instance_reader.proofs.PartsLemmas.{All-unmap}
 use Rattle.instance_reader.specs.Checked.{HasShape, HasSmallNumbers}
 use Rattle.instance_reader.specs.Contents.{Contents, contents_of}
@@ -18,6 +18,7 @@ use Rattle.instance_reader.specs.Curves.{all_points, cut_curve}
 use Rattle.instance_reader.specs.Faults.{AreGood, IsFirstFault, IsFirstFaultIn, IsFirstFaultOf, IsMeantBy, first_fault_in, longest, size_fault}
 use Rattle.instance_reader.specs.Instance.{TellsChargeTime}
 use Rattle.instance_reader.specs.Kinds.{first_wrong_kind}
+use Rattle.instance_reader.specs.Levels.{first_level_past_full}
 use Rattle.instance_reader.specs.Limits.{IsDenominatorOf, past_horizon}
 use Rattle.instance_reader.specs.Meaning.{AreCurveNumbers, given_limit, network_of}
 use Rattle.instance_reader.specs.Parts.{AreParts}
@@ -49,6 +50,7 @@ first_in c (fault.TypeName place) of h = h
 first_in c (fault.BadCurve index curve) of h = h
 first_in c fault.Denominator of h = h
 first_in c (fault.Horizon limit) of h = h
+first_in c (fault.Level place) of h = h
 first_in c fault.Memory of h = tt
 
 -- the rules on sizes and shapes are the first
@@ -131,16 +133,26 @@ horizon_fault c curves d e h is small past = first_in c e (past_horizon_is d (gi
     let test : nat_lt (10 ^ 9) d ≡ false = grind (arith, nat_tests, small) in
     rw (h.sizes, h.stations, h.good, same, test, past) refl)
 
+-- the rule on levels is the first that is broken
+pub level_fault : (c : Contents) (curves : List CutCurve) (d : ℕ) (place : Place) → AreGood c curves →
+    IsDenominator c.capacity (all_points c.curves) d → d ≤ 10 ^ 9 → past_horizon d (given_limit c) ≡ None →
+    first_level_past_full c ≡ Some place → IsFirstFaultIn c (fault.Level place)
+level_fault c curves d place h is small within past = λ other is_other.
+    let same : other ≡ d = same_denominator c.capacity (all_points c.curves) other d (is_other (all_curves c curves h)) is in
+    let test : nat_lt (10 ^ 9) d ≡ false = grind (arith, nat_tests, small) in
+    rw (h.sizes, h.stations, h.good, same, test, within, past) refl
+
 pub parts_of : (c : Contents) (curves : List CutCurve) (scaled : List StationCurve) (numbers : List (Option ℕ)) (d limit : ℕ) → AreGood c curves →
     map (λ s. s.curve) scaled ≡ curves → All (λ s. TellsChargeTime s.curve.full d s.curve.points s.scaled) scaled → AreCurveNumbers c numbers →
-    IsDenominator c.capacity (all_points c.curves) d → d ≤ 10 ^ 9 → d * limit ≤ 10 ^ 18 → AreParts c scaled numbers d limit
-parts_of c curves scaled numbers d limit h same tells by_node is small within =
+    IsDenominator c.capacity (all_points c.curves) d → d ≤ 10 ^ 9 → d * limit ≤ 10 ^ 18 → first_level_past_full c ≡ None → AreParts c scaled numbers d limit
+parts_of c curves scaled numbers d limit h same tells by_node is small within levels =
     let sizes = sizes_hold c h.sizes in
     let full : All (λ k. k.full ≡ c.capacity) (map (λ s. s.curve) scaled) = rw same (all_full c curves h) in
     let each = All-unmap (λ k. k.full ≡ c.capacity) (λ s. s.curve) scaled full in
     record {
       small = sizes.0;
       shape = sizes.1;
+      levels = levels_within c levels;
       given = same ∙ h.given;
       good = all_curves c curves h;
       tells = λ k e inside. subst (λ n. TellsChargeTime n d (get_or scaled k e).curve.points (get_or scaled k e).scaled) (each k e inside) (tells k e inside);
@@ -151,12 +163,12 @@ parts_of c curves scaled numbers d limit h same tells by_node is small within =
     }
 
 pub meant_by : (c : Contents) (curves : List CutCurve) (d limit : ℕ) (g : Network) → AreGood c curves →
-    IsDenominator c.capacity (all_points c.curves) d → d ≤ 10 ^ 9 → past_horizon d (given_limit c) ≡ None →
+    IsDenominator c.capacity (all_points c.curves) d → d ≤ 10 ^ 9 → past_horizon d (given_limit c) ≡ None → first_level_past_full c ≡ None →
     limit ≡ unwrap_or (given_limit c) (10 ^ 18 / d) → g ≡ record (network_of d c) { limit = limit } → IsMeantBy c g
 unfolding network_of
-meant_by c curves d limit g h is small within is_limit made =
+meant_by c curves d limit g h is small within levels is_limit made =
     let test : nat_lt (10 ^ 9) d ≡ false = grind (arith, nat_tests, small) in
-    let accepted : first_fault_in d c ≡ None = rw (h.sizes, h.stations, h.good, test, within) refl in
+    let accepted : first_fault_in d c ≡ None = rw (h.sizes, h.stations, h.good, test, within, levels) refl in
     rw (made, is_limit) (record { denominator = is; accepted = accepted; network = refl })
 
 -- ---- the value and the bytes
@@ -174,6 +186,7 @@ fault_of_value top (fault.TypeName place) keys kinds h = λ d is. rw (keys, kind
 fault_of_value top (fault.BadCurve index curve) keys kinds h = λ d is. rw (keys, kinds, h d is) refl
 fault_of_value top fault.Denominator keys kinds h = λ d is. rw (keys, kinds, h d is) refl
 fault_of_value top (fault.Horizon limit) keys kinds h = λ d is. rw (keys, kinds, h d is) refl
+fault_of_value top (fault.Level place) keys kinds h = λ d is. rw (keys, kinds, h d is) refl
 fault_of_value top fault.Memory keys kinds h = tt
 
 pub result_of_value : (top : Data) (r : Result Network ReadFault) → first_missing top ≡ None → first_wrong_kind top ≡ None →
@@ -194,6 +207,7 @@ fault_of_bytes bytes top (fault.TypeName place) short value h = (short, (top, va
 fault_of_bytes bytes top (fault.BadCurve index curve) short value h = (short, (top, value, h))
 fault_of_bytes bytes top fault.Denominator short value h = (short, (top, value, h))
 fault_of_bytes bytes top (fault.Horizon limit) short value h = (short, (top, value, h))
+fault_of_bytes bytes top (fault.Level place) short value h = (short, (top, value, h))
 fault_of_bytes bytes top fault.Memory short value h = tt
 
 pub result_of_bytes : (bytes : List ℕ) (top : Data) (r : Result Network ReadFault) → length bytes ≤ longest → IsValueOf bytes top →

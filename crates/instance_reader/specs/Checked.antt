@@ -1,4 +1,4 @@
--- What the rules on sizes and on shapes ensure of the contents of a file.
+-- What the rules on sizes, on shapes and on levels ensure of the contents of a file.
 use Rattle.std.specs.Prelude.{◌≡◌, ◌≤◌, ◌^◌, All, length}
 use Rattle.charge_curve.specs.CutCurve.{IsSmall}
 use Rattle.instance_reader.specs.Contents.{Contents, nodes_of, points_of}
@@ -7,6 +7,7 @@ use Rattle.instance_reader.specs.Contents.{Contents, nodes_of, points_of}
 pub record HasSmallNumbers (c : Contents) : Type 0 where
   pub capacity : c.capacity ≤ 10 ^ 9
   pub curves : All (λ curve. IsSmall (points_of curve) c.capacity) c.curves
+  pub plug_times : All (λ curve. curve.plug_time ≤ 10 ^ 9) c.curves
   pub process_times : All (λ time. time ≤ 10 ^ 9) c.process_times
   pub energies : All (All (λ energy. energy ≤ 10 ^ 9)) c.energies
   pub times : All (All (λ time. time ≤ 10 ^ 9)) c.times
@@ -19,3 +20,8 @@ pub record HasShape (c : Contents) : Type 0 where
   pub energy_rows : All (λ row. length row ≡ nodes_of c) c.energies
   pub time_count : length c.times ≡ nodes_of c
   pub time_rows : All (λ row. length row ≡ nodes_of c) c.times
+
+-- no level is past a full battery
+pub record HasLevels (c : Contents) : Type 0 where
+  pub reserve : c.reserve ≤ c.capacity
+  pub home_level : c.home_level ≤ c.capacity

@@ -7,6 +7,7 @@ use Rattle.serde_json.specs.Data.{Data}
 use Rattle.instance_reader.specs.Contents.{Contents, contents_of}
 use Rattle.instance_reader.specs.Curves.{all_points, bad_curve_in, cut_curve}
 use Rattle.instance_reader.specs.Kinds.{first_wrong_kind}
+use Rattle.instance_reader.specs.Levels.{first_level_past_full}
 use Rattle.instance_reader.specs.Limits.{IsDenominatorOf, large_denominator, past_horizon}
 use Rattle.instance_reader.specs.Meaning.{given_limit, network_of}
 use Rattle.instance_reader.specs.Nodes.{first_wrong_node}
@@ -47,6 +48,7 @@ first_fault_in d c = first
     ∷ station_fault c
     ∷ bad_curve_in c.capacity c.curves
     ∷ limit_fault d c
+    ∷ option_map fault.Level (first_level_past_full c)
     ∷ [])
 
 -- the first broken rule of a value, where d is the denominator of its curves

@@ -1,7 +1,7 @@
 -- The parts of an instance.
 use Rattle.std.specs.Prelude.{◌≡◌, ℕ, ◌*◌, ◌≤◌, ◌^◌, List, Option, All, map}
 use Rattle.ev_model.specs.Curve.{IsCurve, IsDenominator}
-use Rattle.instance_reader.specs.Checked.{HasShape, HasSmallNumbers}
+use Rattle.instance_reader.specs.Checked.{HasLevels, HasShape, HasSmallNumbers}
 use Rattle.instance_reader.specs.Contents.{Contents}
 use Rattle.instance_reader.specs.Curves.{all_points, cut_curve}
 use Rattle.instance_reader.specs.Instance.{TellsChargeTime}
@@ -12,6 +12,7 @@ use Rattle.instance_reader.specs.declared.curves.StationCurve.{StationCurve}
 pub record AreParts (c : Contents) (curves : List StationCurve) (numbers : List (Option ℕ)) (d limit : ℕ) : Type 0 where
   pub small : HasSmallNumbers c
   pub shape : HasShape c
+  pub levels : HasLevels c
   pub given : map (λ s. s.curve) curves ≡ map (cut_curve c.capacity) c.curves
   pub good : All (IsCurve c.capacity) (all_points c.curves)
   pub tells : All (λ s. TellsChargeTime c.capacity d s.curve.points s.scaled) curves

@@ -5,7 +5,7 @@ use Rattle.instance_reader.specs.Contents.{Contents, CurveOfType}
 use Rattle.instance_reader.specs.Places.{at_key, part_of}
 use Rattle.instance_reader.specs.Search.{first, look_along}
 use Rattle.instance_reader.specs.declared.places.Place.{Place}
-use Rattle.instance_reader.specs.declared.places.Key.TheVariants.{MaxQ, Breaks, Service, Energy, Time}
+use Rattle.instance_reader.specs.declared.places.Key.TheVariants.{MaxQ, Breaks, Service, Energy, Time, MinQ, HomeQ}
 use Rattle.instance_reader.specs.declared.places.Part.TheVariants as part
 
 abbrev pub large : Place → ℕ → Option Place
@@ -21,6 +21,7 @@ abbrev pub large_in_curve : Place → CurveOfType → Option Place
 large_in_curve place curve = first
     (large_in (part_of place part.Time) curve.times
     ∷ large_in (part_of place part.Charge) curve.charges
+    ∷ large (part_of place part.Plug) curve.plug_time
     ∷ [])
 
 -- the first place where a number is past 10^9
@@ -31,4 +32,6 @@ first_large c = first
     ∷ large_in (at_key Service) c.process_times
     ∷ large_in_rows (at_key Energy) c.energies
     ∷ large_in_rows (at_key Time) c.times
+    ∷ large (at_key MinQ) c.reserve
+    ∷ large (at_key HomeQ) c.home_level
     ∷ [])

@@ -3,7 +3,7 @@
 //! [`read_instance`] answers the instance that the bytes mean, or the first rule that they break.
 //! The rules stand one to a module, in the order in which they are tried: `required_keys`, `kinds`
 //! (which also takes the fields out of the value), `sizes`, `shapes`, `nodes`, `types`, `curves`,
-//! `limits`. Each has its definition, the first broken place in the list of its places, in the file
+//! `limits`, `levels`. Each has its definition, the first broken place in the list of its places, in the file
 //! of `specs/` with its name.
 #![tactic(auto)]
 
@@ -14,6 +14,7 @@ mod faults;
 mod fields;
 mod instance;
 mod kinds;
+mod levels;
 mod limits;
 mod nodes;
 mod places;

@@ -12,6 +12,7 @@ use crate::faults::{PlaceFault, ReadFault};
 use crate::fields::Fields;
 use crate::instance::Instance;
 use crate::kinds::fields;
+use crate::levels::first_level_past_full;
 use crate::limits::{checked_limit, smaller};
 use crate::required_keys::first_missing;
 use crate::shapes::first_wrong_shape;
@@ -31,11 +32,12 @@ const MOST_DENOMINATOR: u64 = 1_000_000_000;
 ///
 /// The top value is an object with the keys `max_q` (the charge of a full battery), `css` (the
 /// stations, each with a `node_id` and a type), `breakpoints_by_type` (the charging curves, each
-/// with a type and its breakpoints as `time` and `charge`), `process_times` (by node, missing ones
-/// are 0), `energy_matrix` and `time_matrix` (by the node left and the node reached), and maybe
-/// `t_max` and `max_t` (limits on the time of a route, of which the smaller holds). A type stands
-/// under `cs_type`, or under `type` where that is absent. Other keys are passed over. All numbers
-/// are whole.
+/// with a type, its breakpoints as `time` and `charge`, and maybe the time to plug in as
+/// `plug_time`), `process_times` (by node, missing ones are 0), `energy_matrix` and `time_matrix` (by
+/// the node left and the node reached), and maybe `t_max` and `max_t` (limits on the time of a route,
+/// of which the smaller holds), `min_q` (the reserve) and `home_q` (the least level on arriving at
+/// the end of a route). A type stands under `cs_type`, or under `type` where that is absent. Other
+/// keys are passed over. All numbers are whole.
 ///
 /// The answer is the instance that the bytes mean, or the first broken rule, as [`ReadFault`] lists
 /// them.
@@ -122,6 +124,9 @@ fn read_fields(alloc: Global, fields: Fields) -> Result<Instance, ReadFault>
         return Err(ReadFault::Denominator);
     };
     let limit = checked_limit(denominator, smaller(fields.t_max, fields.max_t))?;
+    if let Some(place) = first_level_past_full(&fields) {
+        return Err(ReadFault::Level { place });
+    }
     let Ok(curves) = scaled(alloc, curves, denominator) else {
         return Err(ReadFault::Memory);
     };
