@@ -117,4 +117,3 @@ keeps-word {B} b bs more s next next_later within nexts =
     (λ t inside moved some. keeps-from more s t (next t) (next_later (grown more t)) (ap (λ (u : List ℕ × ℕ). u.0) moved) (λ none. absurd (some none)) (nexts t inside))
     (λ later short. (λ none no_end. no_end, λ no_end. absurd no_end))
     (λ some. (λ none no_end. some none, λ no_end. refl))
-

@@ -84,7 +84,6 @@ module _ {A : Type 0} (read : Reader A) (more : Reader (List A)) (text : A → L
         before_front [] rest fit before = absurd fit
         before_front (a ∷ all) rest fit before = before_others a all rest fit.0 fit.1 before
 
-
 -- so many items, one behind the other
 module _ {A : Type 0} (read : Reader A) (text : A → List ℕ) (Fits : A → Type 0) (Before : A → List ℕ → Type 0) (reader : IsReader read text Fits Before)
     (before_any : (value : A) (rest : List ℕ) → Fits value → Before value rest) where

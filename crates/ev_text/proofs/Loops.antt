@@ -47,8 +47,7 @@ module _ {A : Type 0} (b e : ℕ) (es : List ℕ) (read : Reader A) (text : A �
   each-goes_on all s t u items more item (most, le, is) mark found more_is =
       let after = next most s t le mark in
       let fewer = after.0 in
-      let step : few_behind (b ∷ []) (e ∷ es) read most s ≡ in_front (item ∷ []) (few_behind (b ∷ []) (e ∷ es) read fewer u) = after.2 ∙ ap (λ r. and_then r (λ item. in_front (item.0 ∷ []) (few_behind (b ∷ []) (e ∷ es) read fewer item.1))) found in
-      (
+      let step : few_behind (b ∷ []) (e ∷ es) read most s ≡ in_front (item ∷ []) (few_behind (b ∷ []) (e ∷ es) read fewer u) = after.2 ∙ ap (λ r. and_then r (λ item. in_front (item.0 ∷ []) (few_behind (b ∷ []) (e ∷ es) read fewer item.1))) found in (
         fewer,
         omega (arith, le, after.1, each-shorter s t u item mark found),
         ap (λ xs. in_front xs (few_behind (b ∷ []) (e ∷ es) read fewer u)) more_is ∙ sym (in_front-twice items item (few_behind (b ∷ []) (e ∷ es) read fewer u)) ∙ ap (λ r. in_front items r) (sym step) ∙ is,

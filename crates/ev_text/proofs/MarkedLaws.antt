@@ -109,20 +109,25 @@ module _ {A : Type 0} (b e : ℕ) (es : List ℕ) (read : Reader A) (text : A �
       ]
     where
       one_more : (item : A) → Fits item → (front : List ℕ) → Begins (IsTextOf (ended_text b e es text) (All Fits)) front → Begins (behind (text item) (behind (b ∷ []) (IsTextOf (ended_text b e es text) (All Fits)))) front
-      one_more item fit front begins = (begins.0, (
-        item ∷ begins.1.0,
-        All-cons Fits item begins.1.0 fit begins.1.1,
-        sym (append-nil ((ended_text b e es text) (item ∷ begins.1.0))) ∙ ended_text-cons item begins.1.0 [] ∙ ap (λ xs. (b ∷ []) ++ (text item ++ xs)) (append-nil ((ended_text b e es text) begins.1.0) ∙ begins.1.2),
-      ))
+      one_more item fit front begins = (
+        begins.0,
+        (
+          item ∷ begins.1.0,
+          All-cons Fits item begins.1.0 fit begins.1.1,
+          sym (append-nil ((ended_text b e es text) (item ∷ begins.1.0))) ∙ ended_text-cons item begins.1.0 [] ∙ ap (λ xs. (b ∷ []) ++ (text item ++ xs)) (append-nil ((ended_text b e es text) begins.1.0) ∙ begins.1.2),
+        ),
+      )
 
       alone : (front : List ℕ) → Begins (IsTextOf text Fits) front → Begins (behind (b ∷ []) (IsTextOf (ended_text b e es text) (All Fits))) front
       alone front begins =
-          let item = begins.1.0 in
-          (begins.0 ++ (e ∷ es), (
-            item ∷ [],
-            All-cons Fits item [] begins.1.1 (All-nil Fits),
-            ap (λ xs. (b ∷ []) ++ xs) (ap (λ xs. xs ++ (e ∷ es)) (append-nil (text item) ∙ begins.1.2) ∙ append_assoc front begins.0 (e ∷ es)),
-          ))
+          let item = begins.1.0 in (
+            begins.0 ++ (e ∷ es),
+            (
+              item ∷ [],
+              All-cons Fits item [] begins.1.1 (All-nil Fits),
+              ap (λ xs. (b ∷ []) ++ xs) (ap (λ xs. xs ++ (e ∷ es)) (append-nil (text item) ∙ begins.1.2) ∙ append_assoc front begins.0 (e ∷ es)),
+            ),
+          )
 
       by : (marked : Bool) (t : List ℕ × ℕ) → optional_at (b ∷ []) s ≡ Ok (marked, t) → by_mark most (marked, t) ≡ Err fault
           → ((u : List ℕ × ℕ) → Within u → length (rest_of u) ≤ most → few_behind (b ∷ []) (e ∷ es) read most u ≡ Err fault → IsMended (IsTextOf (ended_text b e es text) (All Fits)) u fault)

@@ -97,7 +97,7 @@ module _ {A B : Type 0} (read : Reader A) (next : A → Reader B) (text : A → 
         let back = (readers value front.0).standing u t whole parts.2 in (
           back.0.0,
           front.1 ∙ ap (λ xs. text value ++ xs) back.1 ∙ sym (append_assoc (text value) (rest_text value whole) (rest_of t))
-          ∙ ap (λ v. (text v ++ rest_text v whole) ++ rest_of t) (sym back.0.1),
+              ∙ ap (λ v. (text v ++ rest_text v whole) ++ rest_of t) (sym back.0.1),
         )
 
     then_taken : (whole : B) (rest : List ℕ) (s : List ℕ × ℕ) → Others whole → Behind whole rest → rest_of s ≡ both_text whole ++ rest → Takes (and_then (read s) step) whole rest

@@ -48,8 +48,8 @@ abbrev pub few_behind : {A : Type 0} → List ℕ → List ℕ → Reader A → 
 few_behind mark end read zero s = Err (End s.1)
 few_behind mark end read (suc most) s =
     and_then (optional_at mark s) (λ marked.
-        if marked.0 then and_then (read marked.1) (λ item. and_then (few_behind mark end read most item.1) (λ items. Ok (item.0 ∷ items.0, items.1)))
-        else and_then (word_at end marked.1) (λ t. Ok ([], t)))
+    if marked.0 then and_then (read marked.1) (λ item. and_then (few_behind mark end read most item.1) (λ items. Ok (item.0 ∷ items.0, items.1)))
+    else and_then (word_at end marked.1) (λ t. Ok ([], t)))
 
 -- items, each behind a mark, up to the word that ends them; no text has more of them than bytes
 abbrev pub each_behind : {A : Type 0} → List ℕ → List ℕ → Reader A → Reader (List A)

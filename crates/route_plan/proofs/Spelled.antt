@@ -8,6 +8,7 @@ use Rattle.ev_text.specs.Numerals.{BeginsWithoutDigit}
 use Rattle.ev_text.specs.Scans.{and_then, past, rest_of, whole_at, word_at}
 use Rattle.ev_text.specs.declared.TextFault.{TextFault}
 use Rattle.ev_text.proofs.Readings.{TakesNumber-from_whole_at, TakesWord-from_word_at, number_read, word_read}
+use Rattle.ev_text.proofs.Results.{Err-ne-Ok, Ok-injective, and_then-ok, no_bytes}
 use Rattle.route_plan.specs.RouteWords.{SpellsRoute, comma_at, more_nodes, next_at, node_at, nodes_in, or_text, route_text, with_nodes}
 use Rattle.route_plan.specs.declared.route.RouteFault.{RouteFault}
 use Rattle.route_plan.specs.declared.route.RouteFault.TheVariants.{Text}
@@ -24,21 +25,6 @@ pub route_text-cons : (n : ℕ) (ns : List ℕ) → route_text (n ∷ ns) ≡ de
 route_text-cons n [] = sym (append-nil (decimal n))
 route_text-cons n (m ∷ ns) = ap (λ xs. decimal n ++ 44 ∷ xs) (route_text-cons m ns)
 
-value_or : {A E : Type 0} → A → Result A E → A
-value_or d (Ok a) = a
-value_or d (Err fault) = d
-
-pub Ok-injective : {A E : Type 0} (a b : A) → ◌≡◌ {A = Result A E} (Ok a) (Ok b) → a ≡ b
-unfolding value_or
-Ok-injective {A} {E} a b same = ap (λ (r : Result A E). value_or a r) same
-
-pub Err-ne-Ok : {A E : Type 0} (fault : E) (a : A) → ◌≡◌ {A = Result A E} (Err fault) (Ok a) → ⊥
-Err-ne-Ok {A} {E} fault a same = false≢true (ap (λ (r : Result A E). is_ok r) same)
-
-pub and_then-ok : {A B E : Type 0} (r : Result A E) (next : A → Result B E) (v : B) → and_then r next ≡ Ok v → (a : A) × (r ≡ Ok a) × (next a ≡ Ok v)
-and_then-ok (Ok a) next v is = (a, refl, is)
-and_then-ok (Err fault) next v is = absurd (Err-ne-Ok fault v is)
-
 pub or_text-ok : {A : Type 0} (s : List ℕ × ℕ) (r : Result A TextFault) (v : A) → or_text s r ≡ Ok v → r ≡ Ok v
 or_text-ok s (Ok a) v is = ap (λ x. Ok x) (Ok-injective a v is)
 or_text-ok {A} s (Err fault) v is = absurd (Err-ne-Ok {A = A} (Text s.1) v is)
@@ -47,7 +33,7 @@ with_nodes-ok : (n : ℕ) (rest : Result (List ℕ) RouteFault) (ns : List ℕ) 
 with_nodes-ok n (Ok ms) ns is = (ms, refl, sym (Ok-injective (n ∷ ms) ns is))
 with_nodes-ok n (Err fault) ns is = absurd (Err-ne-Ok {A = List ℕ} fault ns is)
 
-small_limit : 10 ^ 9 < 10 ^ 64
+pub small_limit : 10 ^ 9 < 10 ^ 64
 small_limit = omega arith
 
 -- what was read of the nodes that follow is what stands there
@@ -62,10 +48,6 @@ node_read s t n is =
 
 comma_read : (s t : List ℕ × ℕ) → comma_at s ≡ Ok t → rest_of s ≡ 44 ∷ rest_of t
 comma_read s t is = (TakesWord-from_word_at (44 ∷ []) s t (or_text-ok s (word_at (44 ∷ []) s) t is)).standing
-
-pub no_bytes : (xs : List ℕ) → length xs ≡ 0 → xs ≡ []
-no_bytes [] none = refl
-no_bytes (x ∷ xs) none = absurd (omega (arith, none))
 
 followed_end : (s : List ℕ × ℕ) (ns : List ℕ) → rest_of s ≡ [] → [] ≡ ns → IsFollowed s ns
 followed_end s ns none same = subst (λ (xs : List ℕ). IsFollowed s xs) same (record { text = none; small = All-nil IsSmall })

@@ -1,15 +1,14 @@
 //! Plans of one vehicle and of a fleet, and the routes that they follow.
 #![tactic(auto)]
 
-mod judge;
 mod laws;
 mod plan;
 mod route;
 mod text;
+mod walking;
 mod walks;
 
 pub use ev_model::Stop;
-pub use judge::walk;
 pub use laws::{
     feasible_plans_are_walked, route_word_faults_are_first, unbroken_nodes_are_routes,
     words_spell_routes,
@@ -20,6 +19,7 @@ pub use text::{
     PlanText, fleet_plan_faults_are_first, plan_faults_are_first, push_fleet_plan, push_plan,
     read_fleet_plan, read_plan, texts_spell_plans,
 };
+pub use walking::walk;
 pub use walks::{Walk, WalkFault};
 
 #[cfg(test)]

@@ -2,7 +2,7 @@ use Rattle.std.proofs.Common.{◌∙◌, ◌&&◌, ◌-◌, ap, false, get_or, l
 use Rattle.ev_model.specs.declared.Stop.{Stop}
 use Rattle.route_plan.specs.Walking.{is_end}
 use Rattle.route_plan.proofs.Ends.{has_both_ends-two}
-use Rattle.route_plan.proofs.judge.both_ends.Goals as goal
+use Rattle.route_plan.proofs.walking.both_ends.Goals as goal
 
 pub returns-then-is_end : goal.returns-then-is_end
 returns-then-is_end c =

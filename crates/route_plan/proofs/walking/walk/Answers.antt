@@ -1,7 +1,7 @@
 use Rattle.std.proofs.Common.{Err, sym}
 use Rattle.route_plan.specs.declared.walks.WalkFault.TheVariants.{Ends}
 use Rattle.route_plan.proofs.Feasibly.{Tells, past_ends, tells, without_ends}
-use Rattle.route_plan.proofs.judge.walk.Goals as goal
+use Rattle.route_plan.proofs.walking.walk.Goals as goal
 
 pub returns-then-not-both_ends-clause-infeasible : goal.returns-then-not-both_ends-clause-infeasible
 returns-then-not-both_ends-clause-infeasible c =

@@ -1,7 +1,7 @@
 use Rattle.std.proofs.Common.{◌≡◌, ◌<◌, ◌≤◌, drop}
 use Rattle.ev_model.specs.Network.{node_count}
 use Rattle.route_plan.specs.Walking.{after_start, walked_from}
-use Rattle.route_plan.proofs.judge.walk_on.Given as goal
+use Rattle.route_plan.proofs.walking.walk_on.Given as goal
 
 -- what is left gives the answer for all
 abbrev pub invariant-loop-at : goal.invariant-loop-at

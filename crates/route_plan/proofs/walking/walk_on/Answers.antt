@@ -1,6 +1,6 @@
 use Rattle.std.proofs.Common.{arith}
 use Rattle.route_plan.proofs.Ends.{begins_at_depot}
-use Rattle.route_plan.proofs.judge.walk_on.Goals as goal
+use Rattle.route_plan.proofs.walking.walk_on.Goals as goal
 
 pub loop-at-init : goal.loop-at-init
 loop-at-init c = record {

@@ -1,10 +1,10 @@
 //! The walk along a plan, which judges it.
 
-ghost use Rattle.std.specs.Prelude.{◌≡◌, ◌<◌, ◌≤◌, IfErr, IfOk, true};
+ghost use Rattle.std.specs.Prelude.{◌≡◌, ◌<◌, ◌≤◌, ◌^◌, IfErr, IfOk, true};
 ghost use Rattle.ev_model.specs.Feasible.{IsFeasible};
 ghost use Rattle.ev_model.specs.Network.{curve_at, node_count, scaled_limit};
 ghost use Rattle.ev_model.specs.Time.{time_of};
-ghost use Rattle.route_plan.specs.Walking.{after_start, charging, end_level, has_both_ends, has_station, is_end, stepped, walked, walked_from};
+ghost use Rattle.route_plan.specs.Walking.{after_start, charging, driving_time, end_level, has_both_ends, is_end, least_level, stepped, walked};
 
 use crate::walks::{Walk, WalkFault};
 use ev_model::Stop;
@@ -43,7 +43,8 @@ fn walk_on(inst: &Instance, start: u64, stops: &[Stop]) -> Result<Walk, WalkFaul
         if stop.node >= count {
             return Err(WalkFault::Unknown { at });
         }
-        reached = step(inst, from, reached, at, stop)?;
+        let is_last = at + 1 == stops.len();
+        reached = step(inst, is_last, from, reached, at, stop)?;
         from = stop.node;
     }
     Ok(reached)
@@ -69,6 +70,7 @@ fn is_end(stop: Stop) -> bool
 /// The level and the time on leaving a stop at a node of the instance, or the first rule that the stop breaks.
 fn step(
     inst: &Instance,
+    is_last: bool,
     from: usize,
     before: Walk,
     at: usize,
@@ -76,13 +78,13 @@ fn step(
 ) -> Result<Walk, WalkFault>
     requires from { from < node_count inst.now }
     requires known { stop.node < node_count inst.now }
-    ensures { result ≡ stepped inst.now from before.last before.time at stop }
+    ensures { result ≡ stepped inst.now is_last from before.last before.time at stop }
 {
     if stop.node == from {
         return Err(WalkFault::Again { at });
     }
     let needed = inst.energy(from, stop.node);
-    if before.last < needed {
+    if before.last < needed + least_level(inst, is_last) {
         return Err(WalkFault::Empty { at });
     }
     if inst.curve_at(stop.node).is_none() && (stop.via || stop.added > 0) {
@@ -93,7 +95,7 @@ fn step(
         return Err(WalkFault::Full { at });
     }
     let last = arriving + stop.added;
-    let driving = inst.denominator() * (inst.time(from, stop.node) + inst.service(stop.node));
+    let driving = driving_time(inst, from, stop);
     let charging = charging_time(inst, stop.node, arriving, last);
     let time = before.time as u128 + driving as u128 + charging as u128;
     if time > (inst.denominator() * inst.limit()) as u128 {
@@ -103,6 +105,34 @@ fn step(
         time: time as u64,
         last,
     })
+}
+
+/// The least level on arriving at a stop: the reserve, and at the last stop the level at home too.
+fn least_level(inst: &Instance, is_last: bool) -> u64
+    ensures value { result ≡ least_level inst.now is_last }
+    ensures small { result ≤ 10 ^ 9 }
+{
+    if is_last {
+        inst.min_q().max(inst.home_q())
+    } else {
+        inst.min_q()
+    }
+}
+
+/// The scaled time of an arc and of the visit at its end, without charging: plugging in takes time where something is
+/// charged, not where the vehicle passes through.
+fn driving_time(inst: &Instance, from: usize, stop: Stop) -> u64
+    requires from { from < node_count inst.now }
+    requires known { stop.node < node_count inst.now }
+    ensures { result ≡ driving_time inst.now from stop }
+{
+    let driving = inst.time(from, stop.node) + inst.service(stop.node);
+    let plugging = if stop.added > 0 {
+        inst.plug_at(stop.node)
+    } else {
+        0
+    };
+    inst.denominator() * (driving + plugging)
 }
 
 /// The scaled time of charging at a node between two levels.
