@@ -2,7 +2,7 @@
 use Rattle.std.proofs.Common.{◌≡◌, ◌≢◌, ◌∙◌, ℕ, Bool, true, false, List, [], ◌∷◌, ◌++◌, Result, Ok, Err, nat_eq, refl, sym, ap, subst, append-nil, arith}
 use Rattle.std.proofs.lemmas.Bool.{eqb-false, eqb-true}
 use Rattle.ev_text.specs.Readers.{choice_at, if_taken, optional_at, unless_cut}
-use Rattle.ev_text.specs.Scans.{past, rest_of, word_at, BeginsWith, IsProperPrefix}
+use Rattle.ev_text.specs.Scans.{past, rest_of, word_at, IsPrefixOf, IsProperPrefix}
 use Rattle.ev_text.specs.Texts.{IsTextOf, optional_text}
 use Rattle.ev_text.specs.declared.TextFault.{TextFault}
 use Rattle.ev_text.specs.declared.TextFault.TheVariants.{End, NotWhole, TooLarge, Word}
@@ -108,7 +108,7 @@ reader-optional b = record {
 -- a word in whose place another may stand
 abbrev pub BeforeChoice : List ℕ → Bool → List ℕ → Type 0
 BeforeChoice word true rest = Unit {0}
-BeforeChoice word false rest = ¬ (BeginsWith rest word) × ¬ (IsProperPrefix rest word)
+BeforeChoice word false rest = ¬ (IsPrefixOf word rest) × ¬ (IsProperPrefix rest word)
 
 -- a text that begins with another byte than the word
 pub other_word : (b c : ℕ) (word rest : List ℕ) → c ≢ b → BeforeChoice (b ∷ word) false (c ∷ rest)

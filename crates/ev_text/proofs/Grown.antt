@@ -2,7 +2,7 @@
 use Rattle.std.proofs.Common.{◌≡◌, ◌≢◌, ◌∙◌, ◌⊎◌, inl, inr, ℕ, ◌≤◌, Bool, true, false, List, [], ◌∷◌, ◌++◌, length, length-append, length-drop, Result, Ok, Err, nat_eq, refl, sym, ap, subst, append_assoc, append-nil, arith}
 use Rattle.std.proofs.lemmas.Bool.{eqb-true, eqb-false}
 use Rattle.std.proofs.lemmas.List.{drop-append-le}
-use Rattle.ev_text.specs.Scans.{and_then, past, rest_of, word_at, BeginsWith, IsProperPrefix}
+use Rattle.ev_text.specs.Scans.{and_then, past, rest_of, word_at, IsPrefixOf, IsProperPrefix}
 use Rattle.ev_text.specs.Texts.{IsNoEnd}
 use Rattle.ev_text.specs.declared.TextFault.{TextFault}
 use Rattle.ev_text.specs.declared.TextFault.TheVariants.{End, Word}
@@ -60,7 +60,7 @@ pub no_list_is_shorter : (b : ℕ) (bs rest : List ℕ) → (b ∷ bs) ++ rest �
 no_list_is_shorter b bs rest same = cc
 
 -- two texts that begin alike: one is the beginning of the other
-shared_front : (xs ys zs ws : List ℕ) → xs ++ ys ≡ zs ++ ws → BeginsWith xs zs ⊎ BeginsWith zs xs
+shared_front : (xs ys zs ws : List ℕ) → xs ++ ys ≡ zs ++ ws → IsPrefixOf zs xs ⊎ IsPrefixOf xs zs
 shared_front [] ys zs ws e = inr (zs, refl)
 shared_front (x ∷ xs) ys [] ws e = inl (x ∷ xs, refl)
 shared_front (x ∷ xs) ys (z ∷ zs) ws e =
@@ -69,7 +69,7 @@ shared_front (x ∷ xs) ys (z ∷ zs) ws e =
     elim (shared_front xs ys zs ws others) [ inl h ↦ inl (h.0, λ i. first i ∷ h.1 i) | inr h ↦ inr (h.0, λ i. (sym first) i ∷ h.1 i) ]
 
 -- a text that differs from a word differs from it however it goes on
-still_differs : (word rest more : List ℕ) → ¬ (BeginsWith rest word) → ¬ (IsProperPrefix rest word) → ¬ (BeginsWith (rest ++ more) word)
+still_differs : (word rest more : List ℕ) → ¬ (IsPrefixOf word rest) → ¬ (IsProperPrefix rest word) → ¬ (IsPrefixOf word (rest ++ more))
 still_differs word rest more other uncut (r, e) = elim (shared_front rest more word r e) [ inl h ↦ other h | inr h ↦ by h.0 h.1 ]
   where
     by : (c : List ℕ) → word ≡ rest ++ c → ⊥

@@ -2,7 +2,7 @@
 use Rattle.std.proofs.Common.{◌≡◌, ◌≢◌, ◌∙◌, inl, inr, ℕ, zero, suc, ◌+◌, ◌<◌, ◌≤◌, Bool, true, false, List, [], ◌∷◌, ◌++◌, length, length-append, length-drop, Result, Ok, Err, refl, sym, ap, subst, append_assoc, append-nil, arith, if◌then◌else◌}
 use Rattle.std.specs.List.{All}
 use Rattle.std.proofs.lemmas.List.Elements.{All-cons, All-head, All-nil, All-tail}
-use Rattle.ev_text.specs.Readers.{Reader, each_behind, few_behind, given, optional_at, parted_at, so_many, then_reads}
+use Rattle.ev_text.specs.Readers.{Reader, each_behind, few_behind, answer, optional_at, list_at, so_many, then_reads}
 use Rattle.ev_text.specs.Scans.{and_then, past, rest_of, word_at}
 use Rattle.ev_text.specs.Texts.{Begins, IsTextOf, fault_place, joined_texts, marked_texts, parted_texts}
 use Rattle.ev_text.specs.declared.TextFault.{TextFault}
@@ -11,7 +11,7 @@ use Rattle.ev_text.proofs.ChoiceLaws.{BeginsOtherwise, keeps-optional, optional_
 use Rattle.ev_text.proofs.Grown.{Keeps, Within, grown, keeps-ok, keeps-then, keeps-word, past_within}
 use Rattle.ev_text.proofs.Mended.{IsMended, behind, mended-behind, mended-here, mended-map, mended-word}
 use Rattle.ev_text.proofs.MarkedLaws.{ended_text, reader-each}
-use Rattle.ev_text.proofs.ReaderLaws.{IsReader, SameTexts, Takes, reader-as, reader-given, reader-moves, reader-then}
+use Rattle.ev_text.proofs.ReaderLaws.{IsReader, SameTexts, Takes, reader-as, reader-answer, reader-moves, reader-then}
 use Rattle.ev_text.proofs.Readings.{TakesWord-from_word_at, word_at-at_end, word_read}
 use Rattle.ev_text.proofs.Results.{Err-ne-Ok, Ok-injective, and_then-ok, fault_of_two, no_bytes}
 
@@ -41,13 +41,13 @@ module _ {A : Type 0} (read : Reader A) (more : Reader (List A)) (text : A → L
   abbrev OwnFits : A → List A → Type 0
   OwnFits a all = (ConsFits Fits MoreFit) all × ((front_or reader.example.0) all ≡ a)
 
-  behind_first : (a : A) → Fits a → IsReader (then_reads more (λ rest. given (a ∷ rest))) (λ all. more_text (back all)) (λ all. (ConsFits Fits MoreFit) all × ((front_or reader.example.0) all ≡ a)) (ConsBefore MoreBefore)
+  behind_first : (a : A) → Fits a → IsReader (then_reads more (λ rest. answer (a ∷ rest))) (λ all. more_text (back all)) (λ all. (ConsFits Fits MoreFit) all × ((front_or reader.example.0) all ≡ a)) (ConsBefore MoreBefore)
   behind_first a fits =
-      reader-as (then_reads more (λ rest. given (a ∷ rest))) (λ all. more_text (back all) ++ []) (λ all. more_text (back all)) (OwnFits a) (OwnFits a) (ConsBefore MoreBefore) (ConsBefore MoreBefore)
+      reader-as (then_reads more (λ rest. answer (a ∷ rest))) (λ all. more_text (back all) ++ []) (λ all. more_text (back all)) (OwnFits a) (OwnFits a) (ConsBefore MoreBefore) (ConsBefore MoreBefore)
       (record { texts = λ all is. append-nil (more_text (back all)); to = λ all is. is; from = λ all is. is; before = λ all rest is before. before })
-      (reader-then more (λ rest. given (a ∷ rest)) more_text (λ rest all. []) MoreFit (OwnFits a) MoreBefore (ConsBefore MoreBefore) back others
-      (λ rest fit. reader-as (given (a ∷ rest)) (λ all. []) (λ all. []) (λ all. all ≡ a ∷ rest) (λ all. OwnFits a all × (back all ≡ rest)) (λ all left. Unit {0}) (ConsBefore MoreBefore)
-      (record { texts = λ all is. refl; to = λ all is. made all rest fit is; from = λ all is. parts all rest is.0 is.1; before = λ all left is before. tt }) (reader-given (a ∷ rest)))
+      (reader-then more (λ rest. answer (a ∷ rest)) more_text (λ rest all. []) MoreFit (OwnFits a) MoreBefore (ConsBefore MoreBefore) back others
+      (λ rest fit. reader-as (answer (a ∷ rest)) (λ all. []) (λ all. []) (λ all. all ≡ a ∷ rest) (λ all. OwnFits a all × (back all ≡ rest)) (λ all left. Unit {0}) (ConsBefore MoreBefore)
+      (record { texts = λ all is. refl; to = λ all is. made all rest fit is; from = λ all is. parts all rest is.0 is.1; before = λ all left is before. tt }) (reader-answer (a ∷ rest)))
       fit_behind before_behind)
     where
       made : (all rest : List A) → MoreFit rest → all ≡ a ∷ rest → OwnFits a all × (back all ≡ rest)
@@ -66,11 +66,11 @@ module _ {A : Type 0} (read : Reader A) (more : Reader (List A)) (text : A → L
       before_behind (x ∷ xs) rest own before = before
 
   module _ (before_others : (a : A) (all : List A) (rest : List ℕ) → Fits a → MoreFit all → MoreBefore all rest → Before a (more_text all ++ rest)) where
-    pub reader-cons : IsReader (then_reads read (λ first. then_reads more (λ rest. given (first ∷ rest)))) (cons_text text more_text) (ConsFits Fits MoreFit) (ConsBefore MoreBefore)
+    pub reader-cons : IsReader (then_reads read (λ first. then_reads more (λ rest. answer (first ∷ rest)))) (cons_text text more_text) (ConsFits Fits MoreFit) (ConsBefore MoreBefore)
     reader-cons =
-        reader-as (then_reads read (λ first. then_reads more (λ rest. given (first ∷ rest)))) (λ all. text ((front_or reader.example.0) all) ++ more_text (back all)) (cons_text text more_text) (ConsFits Fits MoreFit) (ConsFits Fits MoreFit) (ConsBefore MoreBefore) (ConsBefore MoreBefore)
+        reader-as (then_reads read (λ first. then_reads more (λ rest. answer (first ∷ rest)))) (λ all. text ((front_or reader.example.0) all) ++ more_text (back all)) (cons_text text more_text) (ConsFits Fits MoreFit) (ConsFits Fits MoreFit) (ConsBefore MoreBefore) (ConsBefore MoreBefore)
         (record { texts = texts; to = λ all is. is; from = λ all is. is; before = λ all rest is before. before })
-        (reader-then read (λ first. then_reads more (λ rest. given (first ∷ rest))) text (λ first all. more_text (back all)) Fits (ConsFits Fits MoreFit) Before (ConsBefore MoreBefore) (front_or reader.example.0) reader behind_first fit_front before_front)
+        (reader-then read (λ first. then_reads more (λ rest. answer (first ∷ rest))) text (λ first all. more_text (back all)) Fits (ConsFits Fits MoreFit) Before (ConsBefore MoreBefore) (front_or reader.example.0) reader behind_first fit_front before_front)
       where
         texts : (all : List A) → (ConsFits Fits MoreFit) all → text ((front_or reader.example.0) all) ++ more_text (back all) ≡ (cons_text text more_text) all
         texts [] fit = absurd fit
@@ -95,9 +95,9 @@ module _ {A : Type 0} (read : Reader A) (text : A → List ℕ) (Fits : A → Ty
 
   pub reader-many : (count : ℕ) → IsReader (so_many count read) (joined_texts text) (AreSoMany count) AnyBefore
   reader-many zero =
-      reader-as (given []) (λ items. []) (joined_texts text) (λ items. items ≡ []) (AreSoMany 0) AnyBefore AnyBefore
+      reader-as (answer []) (λ items. []) (joined_texts text) (λ items. items ≡ []) (AreSoMany 0) AnyBefore AnyBefore
       (record { texts = λ items none. ap (joined_texts text) (sym none); to = λ items none. subst (AreSoMany 0) (sym none) (All-nil Fits, refl); from = λ items are. nothing items are.1; before = λ items rest are before. tt })
-      (reader-given [])
+      (reader-answer [])
     where
       nothing : (items : List A) → length items ≡ 0 → items ≡ []
       nothing [] none = refl
@@ -138,9 +138,9 @@ module _ {A : Type 0} (b e : ℕ) (es : List ℕ) (read : Reader A) (text : A �
   abbrev ended : List A → List ℕ
   ended = ended_text b e es text
 
-  pub reader-parted : IsReader (parted_at (b ∷ []) (e ∷ es) read) (λ items. parted_texts (b ∷ []) text items ++ (e ∷ es)) AreParted Anything
+  pub reader-parted : IsReader (list_at (b ∷ []) (e ∷ es) read) (λ items. parted_texts (b ∷ []) text items ++ (e ∷ es)) AreParted Anything
   reader-parted =
-      reader-as (parted_at (b ∷ []) (e ∷ es) read) (cons_text text ended) all_ended (ConsFits Fits (All Fits)) AreParted (ConsBefore Anything) Anything
+      reader-as (list_at (b ∷ []) (e ∷ es) read) (cons_text text ended) all_ended (ConsFits Fits (All Fits)) AreParted (ConsBefore Anything) Anything
       (record { texts = texts; to = to; from = from; before = before })
       (reader-cons read (each_behind (b ∷ []) (e ∷ es) read) text ended Fits (All Fits) Before Anything reader (reader-each b e es read text Fits Before reader other before_mark before_end)
       (λ item items rest fits fit any. before_others item items rest fits))

@@ -2,7 +2,7 @@
 use Rattle.std.proofs.Common.{◌≡◌, ◌≢◌, ◌∙◌, inl, inr, ℕ, zero, suc, ◌+◌, ◌<◌, ◌≤◌, Bool, true, false, List, [], ◌∷◌, ◌++◌, length, length-append, length-drop, Result, Ok, Err, refl, sym, ap, subst, append_assoc, append-nil, arith, if◌then◌else◌}
 use Rattle.std.specs.List.{All}
 use Rattle.std.proofs.lemmas.List.Elements.{All-cons, All-head, All-nil, All-tail}
-use Rattle.ev_text.specs.Readers.{Reader, each_behind, few_behind, given, optional_at, then_reads}
+use Rattle.ev_text.specs.Readers.{Reader, each_behind, few_behind, answer, optional_at, then_reads}
 use Rattle.ev_text.specs.Scans.{and_then, past, rest_of, word_at}
 use Rattle.ev_text.specs.Texts.{Begins, IsTextOf, fault_place, marked_texts}
 use Rattle.ev_text.specs.declared.TextFault.{TextFault}

@@ -2,7 +2,7 @@
 use Rattle.std.proofs.Common.{◌≡◌, ◌≢◌, ◌∙◌, inl, inr, ℕ, ◌+◌, ◌^◌, ◌<◌, ◌≤◌, Bool, true, false, List, [], ◌∷◌, ◌++◌, decimal, length, length-append, length-drop, Result, Ok, Err, nat_eq, refl, sym, ap, subst, append_assoc, append-nil, arith, if◌then◌else◌}
 use Rattle.std.proofs.lemmas.Bool.{eqb-false, ne_eqb}
 use Rattle.ev_text.specs.Numerals.{BeginsWithoutDigit}
-use Rattle.ev_text.specs.Readers.{Reader, behind_word, choice_at, given, if_taken, optional_at, positive_at, then_reads, unless_cut}
+use Rattle.ev_text.specs.Readers.{Reader, behind_word, choice_at, answer, if_taken, optional_at, positive_at, then_reads, unless_cut}
 use Rattle.ev_text.specs.Scans.{and_then, past, rest_of, whole_at, word_at}
 use Rattle.ev_text.specs.Texts.{Begins, IsNoEnd, IsTextOf}
 use Rattle.ev_text.specs.declared.TextFault.{TextFault}
@@ -64,8 +64,8 @@ reader-as {A} read text other Fits Others Before Behind same reader = record {
 }
 
 -- a value that nothing is read for
-pub reader-given : {A : Type 0} (own : A) → IsReader (given own) (λ value. []) (λ value. value ≡ own) (λ value rest. Unit {0})
-reader-given {A} own = record {
+pub reader-answer : {A : Type 0} (own : A) → IsReader (answer own) (λ value. []) (λ value. value ≡ own) (λ value rest. Unit {0})
+reader-answer {A} own = record {
   example = (own, refl);
   standing = λ s t value is. let same = Ok-injective (own, s) (value, t) is in (ap (λ (p : A × (List ℕ × ℕ)). p.0) (sym same), ap (λ (p : A × (List ℕ × ℕ)). rest_of p.1) same);
   taken = λ value rest s fits before e. record { after = s; is = ap (λ (v : A). Ok (v, s)) (sym fits); left = e };

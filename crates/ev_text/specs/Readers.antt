@@ -9,8 +9,8 @@ abbrev pub Reader : Type 0 → Type 0
 Reader A = List ℕ × ℕ → Result (A × (List ℕ × ℕ)) TextFault
 
 -- a value that nothing is read for
-abbrev pub given : {A : Type 0} → A → Reader A
-given value s = Ok (value, s)
+abbrev pub answer : {A : Type 0} → A → Reader A
+answer value s = Ok (value, s)
 
 -- what stands behind a value depends on it
 abbrev pub then_reads : {A B : Type 0} → Reader A → (A → Reader B) → Reader B
@@ -56,13 +56,13 @@ abbrev pub each_behind : {A : Type 0} → List ℕ → List ℕ → Reader A →
 each_behind mark end read s = few_behind mark end read (length s.0) s
 
 -- one item at least, parted by marks, up to the word that ends them
-abbrev pub parted_at : {A : Type 0} → List ℕ → List ℕ → Reader A → Reader (List A)
-parted_at mark end read = then_reads read (λ first. then_reads (each_behind mark end read) (λ others. given (first ∷ others)))
+abbrev pub list_at : {A : Type 0} → List ℕ → List ℕ → Reader A → Reader (List A)
+list_at mark end read = then_reads read (λ first. then_reads (each_behind mark end read) (λ others. answer (first ∷ others)))
 
 -- so many items
 abbrev pub so_many : {A : Type 0} → ℕ → Reader A → Reader (List A)
-so_many zero read = given []
-so_many (suc count) read = then_reads read (λ first. then_reads (so_many count read) (λ others. given (first ∷ others)))
+so_many zero read = answer []
+so_many (suc count) read = then_reads read (λ first. then_reads (so_many count read) (λ others. answer (first ∷ others)))
 
 -- the text ends behind the value
 abbrev pub whole_text : {A : Type 0} → A × (List ℕ × ℕ) → Result A TextFault

@@ -22,10 +22,6 @@ abbrev pub joined_texts : {A : Type 0} → (A → List ℕ) → List A → List 
 joined_texts text [] = []
 joined_texts text (a ∷ others) = text a ++ joined_texts text others
 
--- The whole begins with the front.
-abbrev pub IsPrefixOf : List ℕ → List ℕ → Type 0
-IsPrefixOf front whole = (rest : List ℕ) × (whole ≡ front ++ rest)
-
 -- the bytes are the text of a value that fits
 abbrev pub IsTextOf : {A : Type 0} → (A → List ℕ) → (A → Type 0) → List ℕ → Type 0
 IsTextOf {A} text Fits bytes = (value : A) × Fits value × (text value ≡ bytes)

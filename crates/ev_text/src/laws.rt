@@ -5,7 +5,7 @@ ghost use Rattle.std.specs.Prelude.{◌≡◌, ◌≢◌, ◌<◌, ◌≤◌, �
 ghost use Rattle.std.specs.Fmt.{signed_decimal};
 ghost use Rattle.ev_text.specs.declared.TextFault.TheVariants.{End, NotWhole, TooLarge, Word};
 ghost use Rattle.ev_text.specs.Numerals.{BeginsWithNumber, IsSpelling, StandsInFront};
-ghost use Rattle.ev_text.specs.Scans.{BeginsWith, IsProperPrefix, TakesNumber, TakesWord, past, rest_of, whole_at, word_at};
+ghost use Rattle.ev_text.specs.Scans.{IsPrefixOf, IsProperPrefix, TakesNumber, TakesWord, past, rest_of, whole_at, word_at};
 
 /// A number has one spelling, and it is read back.
 ///
@@ -34,5 +34,5 @@ pub fn whole_answers(limit: u128)
 pub fn word_answers()
     ensures taken { (word : List ℕ) (scan after : List ℕ × ℕ) → (word_at word scan ≡ Ok after) ↔ TakesWord word scan after }
     ensures end { (word : List ℕ) (scan : List ℕ × ℕ) → (word_at word scan ≡ Err (End scan.1)) ↔ IsProperPrefix (rest_of scan) word }
-    ensures differs { (word : List ℕ) (scan : List ℕ × ℕ) → (word_at word scan ≡ Err (Word scan.1)) ↔ (¬ (BeginsWith (rest_of scan) word) × ¬ (IsProperPrefix (rest_of scan) word)) }
+    ensures differs { (word : List ℕ) (scan : List ℕ × ℕ) → (word_at word scan ≡ Err (Word scan.1)) ↔ (¬ (IsPrefixOf word (rest_of scan)) × ¬ (IsProperPrefix (rest_of scan) word)) }
 {}

@@ -1,7 +1,7 @@
 ghost use Rattle.ev_text.specs.declared.TextFault.TheVariants.{Word};
 ghost use Rattle.std.specs.Prelude.{◌≡◌, ◌≢◌, ◌<◌, ◌≤◌, ◌↔◌, [], Ok, Err, IfErr, IfNone, IfOk, IfSome, IsTrue, OnErr, OnOk, length};
 ghost use Rattle.std.specs.Str.Parse.{AllDigits, digits_value};
-ghost use Rattle.ev_text.specs.Numerals.{digits_in_front, is_canonical};
+ghost use Rattle.ev_text.specs.Numerals.{leading_digits, is_canonical};
 ghost use Rattle.ev_text.specs.Readers.{choice_at, optional_at, positive_at};
 ghost use Rattle.ev_text.specs.Scans.{TakesNumber, TakesWord, rest_of, whole_at, word_at};
 
@@ -10,7 +10,7 @@ use std::marker::Model;
 
 /// How many digits stand in front of a text.
 fn digit_count(text: &[u8]) -> usize
-    ensures { result ≡ length (digits_in_front text.now) }
+    ensures { result ≡ length (leading_digits text.now) }
 {
     text.iter().take_while(|byte| byte.is_ascii_digit()).count()
 }
@@ -27,7 +27,7 @@ fn is_canonical(digits: &[u8]) -> bool
 }
 
 /// The number that the digits write, where it is at most `limit`.
-fn number_of(digits: &[u8], limit: u128) -> Option<u128>
+fn value_within(digits: &[u8], limit: u128) -> Option<u128>
     requires { AllDigits 10 digits.now }
     ensures some { IfSome result (λ n. (n ≡ digits_value 10 digits.now) × (n ≤ limit)) }
     ensures none { IfNone result (limit < digits_value 10 digits.now) }
@@ -64,7 +64,7 @@ fn whole_from(bytes: &[u8], at: usize, limit: u128) -> Result<(u128, usize), Tex
     if !is_canonical(digits) {
         return Err(TextFault::NotWhole { at });
     }
-    match number_of(digits, limit) {
+    match value_within(digits, limit) {
         Some(number) => Ok((number, at + count)),
         None => Err(TextFault::TooLarge { at }),
     }

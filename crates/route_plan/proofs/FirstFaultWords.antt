@@ -10,7 +10,7 @@ use Rattle.ev_text.specs.declared.TextFault.{TextFault}
 use Rattle.ev_text.specs.declared.TextFault.TheVariants.{NotWhole, TooLarge, Word}
 use Rattle.ev_text.proofs.Readings.{TakesNumber-from_whole_at, TakesWord-from_word_at, number_read, same_number, whole_at-cases, word_at-word}
 use Rattle.ev_text.specs.Texts.{Begins, IsNoEnd, fault_place}
-use Rattle.route_plan.specs.RouteWords.{BeginsRouteWord, SpellsRoute, comma_at, more_nodes, next_at, node_at, nodes_in, or_text, with_nodes}
+use Rattle.route_plan.specs.RouteWords.{BeginsRouteWord, SpellsRoute, read_comma, more_nodes, read_next, read_node, nodes_in, or_text, with_nodes}
 use Rattle.route_plan.specs.declared.route.RouteFault.{RouteFault}
 use Rattle.route_plan.specs.declared.route.RouteFault.TheVariants.{Text}
 use Rattle.ev_text.proofs.Grown.{Keeps, Within, grown, past_within, rest_of-grown}
@@ -84,7 +84,7 @@ module _ (s : List ℕ × ℕ) (within : Within s) where
       let refused = keeps.1 (no_end other less is) in
       Err-ne-Ok other (m, (s.0 ++ more, s.1 + length (decimal m))) (sym refused ∙ later.0)
 
-  no_number : (fault : RouteFault) → node_at s ≡ Err fault → IsFirst s fault
+  no_number : (fault : RouteFault) → read_node s ≡ Err fault → IsFirst s fault
   no_number fault is =
       let none = missing s (whole_at (10 ^ 9) s) fault is in
       record {
@@ -103,7 +103,7 @@ module _ (s u : List ℕ × ℕ) (n : ℕ) (takes : TakesNumber (10 ^ 9) n s u) 
   goes_on : (more : List ℕ) → IsRouteWord (rest_of s ++ more) → IsRouteWord (decimal n ++ (rest_of u ++ more))
   goes_on more = subst IsRouteWord (ap (λ xs. xs ++ more) takes.number.spelled ∙ append_assoc (decimal n) (rest_of u) more)
 
-  no_comma : rest_of u ≢ [] → comma_at u ≡ Err fault → IsFirst s fault
+  no_comma : rest_of u ≢ [] → read_comma u ≡ Err fault → IsFirst s fault
   no_comma some is =
       let none = missing u (word_at (44 ∷ []) u) fault is in
       record {
@@ -146,7 +146,7 @@ with_nodes-err first (Err other) fault is = is
 more_within : (s t : List ℕ × ℕ) (word : List ℕ) → Within s → TakesWord word s t → Within t
 more_within s t word within takes = subst Within (sym takes.moved) (past_within word (rest_of t) s within takes.standing)
 
-first_of_more : (most : ℕ) (s u : List ℕ × ℕ) (n : ℕ) (fault : RouteFault) → Within s → node_at s ≡ Ok (n, u) → more_nodes most u ≡ Err fault → IsFirst s fault
+first_of_more : (most : ℕ) (s u : List ℕ × ℕ) (n : ℕ) (fault : RouteFault) → Within s → read_node s ≡ Ok (n, u) → more_nodes most u ≡ Err fault → IsFirst s fault
 first_of_more zero s u n fault within found is = absurd (Err-ne-Ok fault [] (sym is))
 first_of_more (suc most) s u n fault within found is = elim (cases_eq (length (rest_of u)) 0) [
   | inl none ↦ let at_end : (length (rest_of u) == 0) ≡ true = eq-eqb (length (rest_of u)) 0 none in absurd (Err-ne-Ok fault [] (sym (rw at_end at is)))
@@ -164,24 +164,24 @@ first_of_more (suc most) s u n fault within found is = elim (cases_eq (length (r
     others : ℕ × (List ℕ × ℕ) → Result (List ℕ) RouteFault
     others found = with_nodes (found.0 ∷ []) (more_nodes most found.1)
 
-    comma : (t : List ℕ × ℕ) → comma_at u ≡ Ok t → TakesWord (44 ∷ []) u t
+    comma : (t : List ℕ × ℕ) → read_comma u ≡ Ok t → TakesWord (44 ∷ []) u t
     comma t is = TakesWord-from_word_at (44 ∷ []) u t (or_text-ok u (word_at (44 ∷ []) u) t is)
 
-    next : rest_of u ≢ [] → and_then (next_at u) others ≡ Err fault
-        → ((t v : List ℕ × ℕ) (m : ℕ) (fault : RouteFault) → Within t → node_at t ≡ Ok (m, v) → more_nodes most v ≡ Err fault → IsFirst t fault) → IsFirst s fault
-    next some refused later = elim (fault_of_two (next_at u) others fault refused) [
-      | inl none ↦ elim (fault_of_two (comma_at u) node_at fault none) [
+    next : rest_of u ≢ [] → and_then (read_next u) others ≡ Err fault
+        → ((t v : List ℕ × ℕ) (m : ℕ) (fault : RouteFault) → Within t → read_node t ≡ Ok (m, v) → more_nodes most v ≡ Err fault → IsFirst t fault) → IsFirst s fault
+    next some refused later = elim (fault_of_two (read_next u) others fault refused) [
+      | inl none ↦ elim (fault_of_two (read_comma u) read_node fault none) [
         | inl none ↦ no_comma s u n takes fault some none
         | inr h ↦ behind_comma s u n takes fault h.0 (comma h.0 h.1) (no_number h.0 (more_within u h.0 (44 ∷ []) inside (comma h.0 h.1)) fault h.2)
       ]
       | inr h ↦
-          let t = and_then-ok (comma_at u) node_at h.0 h.1 in
+          let t = and_then-ok (read_comma u) read_node h.0 h.1 in
           behind_comma s u n takes fault t.0 (comma t.0 t.1)
           (later t.0 h.0.1 h.0.0 fault (more_within u t.0 (44 ∷ []) inside (comma t.0 t.1)) t.2 (with_nodes-err (h.0.0 ∷ []) (more_nodes most h.0.1) fault h.2))
     ]
 
 first_of_word : (word : List ℕ) (fault : RouteFault) → nodes_in word ≡ Err fault → IsFirst (word, 0) fault
-first_of_word word fault is = elim (fault_of_two (node_at (word, 0)) others fault is) [
+first_of_word word fault is = elim (fault_of_two (read_node (word, 0)) others fault is) [
   | inl none ↦ no_number (word, 0) (omega arith) fault none
   | inr h ↦ first_of_more (length word) (word, 0) h.0.1 h.0.0 fault (omega arith) h.1 (with_nodes-err (h.0.0 ∷ []) (more_nodes (length word) h.0.1) fault h.2)
 ]

@@ -5,12 +5,12 @@ use Rattle.std.specs.Char.{is_ascii_digit}
 use Rattle.std.proofs.lemmas.Bool.{false≢true, lt-ltb, ltb-true}
 use Rattle.ev_model.specs.declared.Stop.{Stop}
 use Rattle.ev_text.specs.Numerals.{BeginsWithoutDigit}
-use Rattle.ev_text.specs.Readers.{Reader, behind_word, choice_at, given, optional_at, parted_at, positive_at, so_many, then_reads}
+use Rattle.ev_text.specs.Readers.{Reader, behind_word, choice_at, answer, optional_at, list_at, positive_at, so_many, then_reads}
 use Rattle.ev_text.specs.Scans.{whole_at}
 use Rattle.ev_text.specs.Texts.{joined_texts, optional_text, parted_texts}
 use Rattle.ev_text.proofs.ChoiceLaws.{BeforeChoice, BeforeOptional, BeginsOtherwise, other_word, reader-choice, reader-optional}
 use Rattle.ev_text.proofs.ListLaws.{AreParted, AreSoMany, reader-many, reader-parted}
-use Rattle.ev_text.proofs.ReaderLaws.{IsReader, reader-as, reader-behind, reader-given, reader-number, reader-positive, reader-then}
+use Rattle.ev_text.proofs.ReaderLaws.{IsReader, reader-as, reader-behind, reader-answer, reader-number, reader-positive, reader-then}
 use Rattle.ev_text.proofs.Readings.{first_digit}
 use Rattle.route_plan.specs.Limits.{greatest_number, most_routes}
 use Rattle.route_plan.specs.PlanReading.{amount_at, amount_behind, file_at, plan_at, plans_behind, route_at, routes_at, stop_at}
@@ -38,9 +38,9 @@ reader-amount_behind true any =
     (record { texts = λ n is. refl; to = λ n is. (is.1, lt-ltb 0 n is.0); from = λ n is. (ltb-true 0 n is.1, is.0); before = λ n rest is before. before.0 })
     (reader-positive greatest_number (omega arith) (omega arith))
 reader-amount_behind false any =
-    reader-as (given 0) (λ n. []) (digits_behind false) (λ n. n ≡ 0) (IsAmount false) (λ n rest. Unit {0}) BeforeAmount
+    reader-as (answer 0) (λ n. []) (digits_behind false) (λ n. n ≡ 0) (IsAmount false) (λ n rest. Unit {0}) BeforeAmount
     (record { texts = λ n is. refl; to = λ n is. subst (IsAmount false) (sym is) (omega arith, refl); from = λ n is. nothing n is.1; before = λ n rest is before. tt })
-    (reader-given 0)
+    (reader-answer 0)
   where
     nothing : (n : ℕ) → nat_lt 0 n ≡ false → n ≡ 0
     nothing zero is = refl
@@ -77,24 +77,24 @@ HasAmount via node added s = HasNode via node s × (s.added ≡ added)
 made : Bool → ℕ → ℕ → Stop
 made via node added = record { node = node; added = added; via = via }
 
-reader-made : (via : Bool) (node added : ℕ) → IsSmall node → IsSmall added → IsReader (given (made via node added)) (λ s. []) (HasAmount via node added) BeforeStop
+reader-made : (via : Bool) (node added : ℕ) → IsSmall node → IsSmall added → IsReader (answer (made via node added)) (λ s. []) (HasAmount via node added) BeforeStop
 unfolding made
 reader-made via node added small_node small_added =
-    reader-as (given (made via node added)) (λ s. []) (λ s. []) (λ s. s ≡ made via node added) (HasAmount via node added) (λ s rest. Unit {0}) BeforeStop
+    reader-as (answer (made via node added)) (λ s. []) (λ s. []) (λ s. s ≡ made via node added) (HasAmount via node added) (λ s rest. Unit {0}) BeforeStop
     (record {
       texts = λ s is. refl;
       to = λ s is. subst (HasAmount via node added) (sym is) (((record { node = small_node; added = small_added }, refl), refl), refl);
       from = λ s is. λ i. record { node = is.0.1 i; added = is.1 i; via = is.0.0.1 i };
       before = λ s rest is before. tt;
     })
-    (reader-given (made via node added))
+    (reader-answer (made via node added))
 
-reader-behind_node : (via : Bool) (node : ℕ) → IsSmall node → IsReader (then_reads amount_at (λ added. given (record { node = node; added = added; via = via }))) (λ s. amount_text s.added) (HasNode via node) BeforeStop
+reader-behind_node : (via : Bool) (node : ℕ) → IsSmall node → IsReader (then_reads amount_at (λ added. answer (record { node = node; added = added; via = via }))) (λ s. amount_text s.added) (HasNode via node) BeforeStop
 unfolding made
 reader-behind_node via node small =
-    reader-as (then_reads amount_at (λ added. given (made via node added))) (λ s. amount_text s.added ++ []) (λ s. amount_text s.added) (HasNode via node) (HasNode via node) BeforeStop BeforeStop
+    reader-as (then_reads amount_at (λ added. answer (made via node added))) (λ s. amount_text s.added ++ []) (λ s. amount_text s.added) (HasNode via node) (HasNode via node) BeforeStop BeforeStop
     (record { texts = λ s is. append-nil (amount_text s.added); to = λ s is. is; from = λ s is. is; before = λ s rest is before. before })
-    (reader-then amount_at (λ added. given (made via node added)) amount_text (λ added s. []) IsSmall (HasNode via node) BeforeAmount BeforeStop (λ s. s.added)
+    (reader-then amount_at (λ added. answer (made via node added)) amount_text (λ added s. []) IsSmall (HasNode via node) BeforeAmount BeforeStop (λ s. s.added)
     reader-amount (λ added little. reader-made via node added small little) (λ s is. is.0.0.added) (λ s rest is before. before))
 
 no_digit_behind : (n : ℕ) (rest : List ℕ) → BeginsWithoutDigit rest → BeginsWithoutDigit (amount_text n ++ rest)
@@ -105,11 +105,11 @@ no_digit_behind n rest before = by (nat_lt 0 n)
     by false = before
 
 abbrev behind_mark : Bool → Reader Stop
-behind_mark via = then_reads (whole_at greatest_number) (λ node. then_reads amount_at (λ added. given (record { node = node; added = added; via = via })))
+behind_mark via = then_reads (whole_at greatest_number) (λ node. then_reads amount_at (λ added. answer (record { node = node; added = added; via = via })))
 
 reader-behind_mark : (via : Bool) → Unit {0} → IsReader (behind_mark via) (λ s. decimal s.node ++ amount_text s.added) (HasMark via) BeforeStop
 reader-behind_mark via any =
-    reader-then (whole_at greatest_number) (λ node. then_reads amount_at (λ added. given (record { node = node; added = added; via = via }))) (λ n. decimal n) (λ node s. amount_text s.added)
+    reader-then (whole_at greatest_number) (λ node. then_reads amount_at (λ added. answer (record { node = node; added = added; via = via }))) (λ n. decimal n) (λ node s. amount_text s.added)
     IsSmall (HasMark via) (λ n rest. BeginsWithoutDigit rest) BeforeStop (λ s. s.node) (reader-number greatest_number (omega arith)) (reader-behind_node via)
     (λ s is. is.0.node) (λ s rest is before. no_digit_behind s.added rest before.0)
 
@@ -142,7 +142,7 @@ reader-plan =
       from = λ stops is. (is.some, is.small);
       before = λ stops rest is before. tt;
     })
-    (reader-behind 114 (codes "oute ") (parted_at (codes " ") (10 ∷ []) stop_at) (λ stops. parted_texts (codes " ") stop_text stops ++ (10 ∷ [])) Parted AnyBehind
+    (reader-behind 114 (codes "oute ") (list_at (codes " ") (10 ∷ []) stop_at) (λ stops. parted_texts (codes " ") stop_text stops ++ (10 ∷ [])) Parted AnyBehind
     (reader-parted 32 10 [] stop_at stop_text IsSmallStop BeforeStop reader-stop ten_differs before_space before_feed))
   where
     ten_differs : ◌≢◌ {A = ℕ} 10 32
@@ -168,15 +168,15 @@ pub reader-route : IsReader route_at route_text RouteFits AnyBehind
 reader-route =
     reader-as route_at (λ p. plan_text p.stops ++ []) route_text RouteFits RouteFits AnyBehind AnyBehind
     (record { texts = λ p is. append-nil (plan_text p.stops); to = λ p is. is; from = λ p is. is; before = λ p rest is before. tt })
-    (reader-then plan_at (λ stops. given (record { stops = stops })) plan_text (λ stops p. []) FitsText RouteFits AnyBehind AnyBehind (λ p. p.stops) reader-plan
-    (λ stops fits. reader-as (given (record { stops = stops })) (λ p. []) (λ p. []) (λ p. p ≡ record { stops = stops }) (λ p. RouteFits p × (p.stops ≡ stops)) AnyBehind AnyBehind
+    (reader-then plan_at (λ stops. answer (record { stops = stops })) plan_text (λ stops p. []) FitsText RouteFits AnyBehind AnyBehind (λ p. p.stops) reader-plan
+    (λ stops fits. reader-as (answer (record { stops = stops })) (λ p. []) (λ p. []) (λ p. p ≡ record { stops = stops }) (λ p. RouteFits p × (p.stops ≡ stops)) AnyBehind AnyBehind
     (record {
       texts = λ p is. refl;
       to = λ p is. subst (λ (q : RoutePlan). RouteFits q × (q.stops ≡ stops)) (sym is) (fits, refl);
       from = λ p is. λ i. record { stops = is.1 i };
       before = λ p rest is before. tt;
     })
-    (reader-given (record { stops = stops })))
+    (reader-answer (record { stops = stops })))
     (λ p fits. fits) (λ p rest fits before. tt))
 
 -- the lines of so many plans
@@ -206,22 +206,22 @@ abbrev HasCount : ℕ → Option FleetPlan → Type 0
 HasCount count plan = IsListed plan × (length (listed_routes plan) ≡ count)
 
 abbrev lines_behind : ℕ → Reader (Option FleetPlan)
-lines_behind count = then_reads (so_many count route_at) (λ routes. given (Some (record { routes = routes })))
+lines_behind count = then_reads (so_many count route_at) (λ routes. answer (Some (record { routes = routes })))
 
 reader-lines : (count : ℕ) → count ≤ most_routes → IsReader (lines_behind count) (λ plan. joined_texts route_text (listed_routes plan)) (HasCount count) AnyBehind
 reader-lines count few =
     reader-as (lines_behind count) (λ plan. joined_texts route_text (listed_routes plan) ++ []) (λ plan. joined_texts route_text (listed_routes plan)) (HasCount count) (HasCount count) AnyBehind AnyBehind
     (record { texts = λ plan is. append-nil (joined_texts route_text (listed_routes plan)); to = λ plan is. is; from = λ plan is. is; before = λ plan rest is before. tt })
-    (reader-then (so_many count route_at) (λ routes. given (Some (record { routes = routes }))) (joined_texts route_text) (λ routes plan. []) (AreRoutes count) (HasCount count) AnyBehind AnyBehind listed_routes
+    (reader-then (so_many count route_at) (λ routes. answer (Some (record { routes = routes }))) (joined_texts route_text) (λ routes plan. []) (AreRoutes count) (HasCount count) AnyBehind AnyBehind listed_routes
     (reader-routes count)
-    (λ routes are. reader-as (given (Some (record { routes = routes }))) (λ plan. []) (λ plan. []) (λ plan. plan ≡ Some (record { routes = routes })) (λ plan. HasCount count plan × (listed_routes plan ≡ routes)) AnyBehind AnyBehind
+    (λ routes are. reader-as (answer (Some (record { routes = routes }))) (λ plan. []) (λ plan. []) (λ plan. plan ≡ Some (record { routes = routes })) (λ plan. HasCount count plan × (listed_routes plan ≡ routes)) AnyBehind AnyBehind
     (record {
       texts = λ plan is. refl;
       to = λ plan is. subst (λ (p : Option FleetPlan). HasCount count p × (listed_routes p ≡ routes)) (sym is) (((few_and routes are, refl), are.1), refl);
       from = λ plan is. from routes plan is.0.0.1 is.1;
       before = λ plan rest is before. tt;
     })
-    (reader-given (Some (record { routes = routes }))))
+    (reader-answer (Some (record { routes = routes }))))
     parts (λ plan rest is before. tt))
   where
     few_and : (routes : List RoutePlan) → AreRoutes count routes → (length routes ≤ most_routes) × All RouteFits routes
@@ -251,14 +251,14 @@ reader-listed =
 
 reader-second : (none : Bool) → Unit {0} → IsReader (plans_behind none) (second_text none) (λ plan. FitsFile plan × (says_none plan ≡ none)) AnyBehind
 reader-second true any =
-    reader-as (given None) (λ plan. []) (second_text true) (λ plan. plan ≡ None) (λ plan. FitsFile plan × (says_none plan ≡ true)) AnyBehind AnyBehind
+    reader-as (answer None) (λ plan. []) (second_text true) (λ plan. plan ≡ None) (λ plan. FitsFile plan × (says_none plan ≡ true)) AnyBehind AnyBehind
     (record {
       texts = λ plan is. refl;
       to = λ plan is. subst (λ (p : Option FleetPlan). FitsFile p × (says_none p ≡ true)) (sym is) (tt, refl);
       from = λ plan is. none plan is.1;
       before = λ plan rest is before. tt;
     })
-    (reader-given None)
+    (reader-answer None)
   where
     none : (plan : Option FleetPlan) → says_none plan ≡ true → plan ≡ None
     none None is = refl

@@ -9,7 +9,7 @@ use Rattle.ev_text.specs.Scans.{and_then, past, rest_of, whole_at, word_at}
 use Rattle.ev_text.specs.declared.TextFault.{TextFault}
 use Rattle.ev_text.proofs.Readings.{TakesNumber-from_whole_at, TakesWord-from_word_at, number_read, word_read}
 use Rattle.ev_text.proofs.Results.{Err-ne-Ok, Ok-injective, and_then-ok, no_bytes}
-use Rattle.route_plan.specs.RouteWords.{SpellsRoute, comma_at, more_nodes, next_at, node_at, nodes_in, or_text, route_text, with_nodes}
+use Rattle.route_plan.specs.RouteWords.{SpellsRoute, read_comma, more_nodes, read_next, read_node, nodes_in, or_text, route_text, with_nodes}
 use Rattle.route_plan.specs.declared.route.RouteFault.{RouteFault}
 use Rattle.route_plan.specs.declared.route.RouteFault.TheVariants.{Text}
 
@@ -41,12 +41,12 @@ record IsFollowed (s : List ℕ × ℕ) (ns : List ℕ) : Type 0 where
   pub text : rest_of s ≡ behind_commas ns
   pub small : All IsSmall ns
 
-node_read : (s t : List ℕ × ℕ) (n : ℕ) → node_at s ≡ Ok (n, t) → (n ≤ 10 ^ 9) × (rest_of s ≡ decimal n ++ rest_of t)
+node_read : (s t : List ℕ × ℕ) (n : ℕ) → read_node s ≡ Ok (n, t) → (n ≤ 10 ^ 9) × (rest_of s ≡ decimal n ++ rest_of t)
 node_read s t n is =
     let takes = TakesNumber-from_whole_at (10 ^ 9) s n t small_limit (or_text-ok s (whole_at (10 ^ 9) s) (n, t) is) in
     (takes.within, takes.number.spelled)
 
-comma_read : (s t : List ℕ × ℕ) → comma_at s ≡ Ok t → rest_of s ≡ 44 ∷ rest_of t
+comma_read : (s t : List ℕ × ℕ) → read_comma s ≡ Ok t → rest_of s ≡ 44 ∷ rest_of t
 comma_read s t is = (TakesWord-from_word_at (44 ∷ []) s t (or_text-ok s (word_at (44 ∷ []) s) t is)).standing
 
 followed_end : (s : List ℕ × ℕ) (ns : List ℕ) → rest_of s ≡ [] → [] ≡ ns → IsFollowed s ns
@@ -60,9 +60,9 @@ more_are_followed (suc most) s ns le is = elim (cases_eq (length (rest_of s)) 0)
       followed_end s ns (no_bytes (rest_of s) none) (Ok-injective [] ns (rw at_end at is))
   | inr some ↦
       let more : (length (rest_of s) == 0) ≡ false = ne_eqb (length (rest_of s)) 0 some in
-      let read : and_then (next_at s) (λ found. with_nodes (found.0 ∷ []) (more_nodes most found.1)) ≡ Ok ns = rw more at is in
-      let step = and_then-ok (next_at s) (λ (found : ℕ × (List ℕ × ℕ)). with_nodes (found.0 ∷ []) (more_nodes most found.1)) ns read in
-      let parts = and_then-ok (comma_at s) node_at step.0 step.1 in
+      let read : and_then (read_next s) (λ found. with_nodes (found.0 ∷ []) (more_nodes most found.1)) ≡ Ok ns = rw more at is in
+      let step = and_then-ok (read_next s) (λ (found : ℕ × (List ℕ × ℕ)). with_nodes (found.0 ∷ []) (more_nodes most found.1)) ns read in
+      let parts = and_then-ok (read_comma s) read_node step.0 step.1 in
       let rest = with_nodes-ok step.0.0 (more_nodes most step.0.1) ns step.2 in
       followed_on most s parts.0 step.0.1 step.0.0 rest.0 ns le (comma_read s parts.0 parts.1) (node_read parts.0 step.0.1 step.0.0 parts.2) rest.2
       (λ fewer. more_are_followed most step.0.1 rest.0 fewer rest.1)
@@ -82,7 +82,7 @@ more_are_followed (suc most) s ns le is = elim (cases_eq (length (rest_of s)) 0)
 -- what was read is what the word spells
 pub spells_what_is_read : (word nodes : List ℕ) → nodes_in word ≡ Ok nodes → SpellsRoute word nodes
 spells_what_is_read word nodes is =
-    let step = and_then-ok (node_at (word, 0)) (λ (found : ℕ × (List ℕ × ℕ)). with_nodes (found.0 ∷ []) (more_nodes (length word) found.1)) nodes is in
+    let step = and_then-ok (read_node (word, 0)) (λ (found : ℕ × (List ℕ × ℕ)). with_nodes (found.0 ∷ []) (more_nodes (length word) found.1)) nodes is in
     let n = step.0.0 in
     let t = step.0.1 in
     let first = node_read (word, 0) t n step.1 in

@@ -1,4 +1,5 @@
 pub mod Limits
+pub mod FirstPlaces
 pub mod RouteWords
 pub mod RouteRules
 pub mod Walking

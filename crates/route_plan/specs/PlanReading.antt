@@ -1,7 +1,7 @@
 -- How the text of a plan is read from left to right: the value, or the first place where the text is none of a plan.
 use Rattle.std.specs.Prelude.{ℕ, Bool, true, false, List, [], ◌∷◌, ◌++◌, Option, None, Some, Result, Ok, Err, codes, length, nat_lt, if◌then◌else◌}
 use Rattle.ev_model.specs.declared.Stop.{Stop}
-use Rattle.ev_text.specs.Readers.{Reader, behind_word, choice_at, given, optional_at, parted_at, positive_at, so_many, then_reads, whole_with}
+use Rattle.ev_text.specs.Readers.{Reader, behind_word, choice_at, answer, optional_at, list_at, positive_at, so_many, then_reads, whole_with}
 use Rattle.ev_text.specs.Scans.{whole_at}
 use Rattle.ev_text.specs.declared.TextFault.{TextFault}
 use Rattle.route_plan.specs.Limits.{greatest_number, most_bytes, most_routes}
@@ -13,7 +13,7 @@ use Rattle.route_plan.specs.declared.text.plan_text.PlanText.TheVariants.{Bad, T
 -- the amount behind a `+`, which is above 0, and 0 where there is no `+`
 abbrev pub amount_behind : Bool → Reader ℕ
 amount_behind true = positive_at greatest_number
-amount_behind false = given 0
+amount_behind false = answer 0
 
 abbrev pub amount_at : Reader ℕ
 amount_at = then_reads (optional_at (codes "+")) amount_behind
@@ -24,14 +24,14 @@ stop_at =
     then_reads (optional_at (codes "v")) (λ via.
     then_reads (whole_at greatest_number) (λ node.
     then_reads amount_at (λ added.
-    given (record { node = node; added = added; via = via }))))
+    answer (record { node = node; added = added; via = via }))))
 
 -- the line of a plan: its word, a stop at least, and the line feed
 abbrev pub plan_at : Reader (List Stop)
-plan_at = behind_word (codes "route ") (parted_at (codes " ") (10 ∷ []) stop_at)
+plan_at = behind_word (codes "route ") (list_at (codes " ") (10 ∷ []) stop_at)
 
 abbrev pub route_at : Reader RoutePlan
-route_at = then_reads plan_at (λ stops. given (record { stops = stops }))
+route_at = then_reads plan_at (λ stops. answer (record { stops = stops }))
 
 -- the number of plans, the line feed behind it, and their lines
 abbrev pub routes_at : Reader (Option FleetPlan)
@@ -39,11 +39,11 @@ routes_at =
     then_reads (whole_at most_routes) (λ count.
     behind_word (10 ∷ [])
     (then_reads (so_many count route_at) (λ routes.
-    given (Some (record { routes = routes })))))
+    answer (Some (record { routes = routes })))))
 
 -- the second line: `none`, or how many plans follow
 abbrev pub plans_behind : Bool → Reader (Option FleetPlan)
-plans_behind true = given None
+plans_behind true = answer None
 plans_behind false = behind_word (codes "routes ") routes_at
 
 abbrev pub file_at : Reader (Option FleetPlan)

@@ -6,6 +6,7 @@ use Rattle.ev_model.specs.Network.{Network, curve_at, energy, node_count, proces
 use Rattle.ev_model.specs.Time.{plugging_time}
 use Rattle.ev_model.specs.declared.Stop.{Stop}
 use Rattle.ev_text.specs.Scans.{and_then}
+use Rattle.route_plan.specs.FirstPlaces.{ends_pass}
 use Rattle.route_plan.specs.declared.walks.Walk.{Walk}
 use Rattle.route_plan.specs.declared.walks.WalkFault.{WalkFault}
 use Rattle.route_plan.specs.declared.walks.WalkFault.TheVariants.{Ends, Unknown, Again, Empty, NotStation, Full, Late}
@@ -14,20 +15,10 @@ use Rattle.route_plan.specs.declared.walks.WalkFault.TheVariants.{Ends, Unknown,
 abbrev pub is_end : Stop → Bool
 is_end s = nat_eq s.node 0 && not s.via && nat_eq s.added 0
 
-abbrev pub ends_well : List Stop → Bool
-ends_well [] = false
-ends_well (s ∷ []) = is_end s
-ends_well (s ∷ t ∷ ss) = ends_well (t ∷ ss)
-
--- there are at least two stops, and the first and the last are ends
-abbrev pub has_both_ends : List Stop → Bool
-has_both_ends [] = false
-has_both_ends (s ∷ ss) = is_end s && ends_well ss
-
 -- the scaled time of charging between two whole levels
-abbrev pub charging : ℕ → Option (List (ℕ × ℕ)) → ℕ → ℕ → ℕ
-charging d None before after = 0
-charging d (Some points) before after = charge_time d points after - charge_time d points before
+abbrev pub charge_between : ℕ → Option (List (ℕ × ℕ)) → ℕ → ℕ → ℕ
+charge_between d None before after = 0
+charge_between d (Some points) before after = charge_time d points after - charge_time d points before
 
 -- the scaled time of an arc and of the visit at its end, without charging
 abbrev pub driving_time : Network → ℕ → Stop → ℕ
@@ -37,7 +28,7 @@ driving_time g from s = g.denominator * (travel_time g from s.node + process_tim
 abbrev pub time_after : Network → ℕ → ℕ → ℕ → Stop → ℕ
 time_after g from level time s =
     time + driving_time g from s
-    + charging g.denominator (curve_at g s.node) (level - energy g from s.node) (level - energy g from s.node + s.added)
+    + charge_between g.denominator (curve_at g s.node) (level - energy g from s.node) (level - energy g from s.node + s.added)
 
 -- a stop is at a station where it was inserted or charges
 abbrev pub has_station : Network → Stop → Bool
@@ -54,8 +45,8 @@ is_last [] = true
 is_last (s ∷ ss) = false
 
 -- the level and the time on leaving a stop, which is the last one or not, or the first rule that the stop breaks
-abbrev pub stepped : Network → Bool → ℕ → ℕ → ℕ → ℕ → Stop → Result Walk WalkFault
-stepped g last from level time at s =
+abbrev pub step_at : Network → Bool → ℕ → ℕ → ℕ → ℕ → Stop → Result Walk WalkFault
+step_at g last from level time at s =
     if not (nat_lt s.node (node_count g)) then Err (Unknown at)
     else if nat_eq s.node from then Err (Again at)
     else if nat_lt level (energy g from s.node + least_level g last) then Err (Empty at)
@@ -66,18 +57,18 @@ stepped g last from level time at s =
 
 -- the stops from here on: `from` is the node before them, left with this level at this time, and `at` is the position of the
 -- next stop
-abbrev pub walked_from : Network → ℕ → ℕ → ℕ → ℕ → List Stop → Result Walk WalkFault
-walked_from g from level time at [] = Ok (record { time = time; last = level })
-walked_from g from level time at (s ∷ ss) =
-    and_then (stepped g (is_last ss) from level time at s) (λ next. walked_from g s.node next.last next.time (at + 1) ss)
+abbrev pub walk_behind : Network → ℕ → ℕ → ℕ → ℕ → List Stop → Result Walk WalkFault
+walk_behind g from level time at [] = Ok (record { time = time; last = level })
+walk_behind g from level time at (s ∷ ss) =
+    and_then (step_at g (is_last ss) from level time at s) (λ next. walk_behind g s.node next.last next.time (at + 1) ss)
 
-abbrev pub after_start : Network → ℕ → List Stop → Result Walk WalkFault
-after_start g start [] = Err Ends
-after_start g start (s ∷ ss) = walked_from g s.node start 0 1 ss
+abbrev pub walk_on : Network → ℕ → List Stop → Result Walk WalkFault
+walk_on g start [] = Err Ends
+walk_on g start (s ∷ ss) = walk_behind g s.node start 0 1 ss
 
 -- the whole plan: the ends first, and then stop by stop
-abbrev pub walked : Network → ℕ → List Stop → Result Walk WalkFault
-walked g start stops = if has_both_ends stops then after_start g start stops else Err Ends
+abbrev pub walk_along : Network → ℕ → List Stop → Result Walk WalkFault
+walk_along g start stops = if ends_pass is_end stops then walk_on g start stops else Err Ends
 
 -- the level at the end of a whole plan
 abbrev pub end_level : Network → ℕ → List Stop → ℕ

@@ -6,9 +6,10 @@ ghost use Rattle.ev_model.specs.Network.{Network, node_count};
 ghost use Rattle.ev_model.specs.Route.{IsRoute};
 ghost use Rattle.ev_model.specs.Time.{time_of};
 ghost use Rattle.ev_model.specs.declared.Stop.{Stop};
+ghost use Rattle.route_plan.specs.Limits.{most_route_nodes};
 ghost use Rattle.route_plan.specs.RouteRules.{route_fault};
 ghost use Rattle.route_plan.specs.RouteWords.{BeginsRouteWord, SpellsRoute, nodes_in};
-ghost use Rattle.route_plan.specs.Walking.{end_level, walked};
+ghost use Rattle.route_plan.specs.Walking.{end_level, walk_along};
 ghost use Rattle.route_plan.specs.declared.route.RouteFault.{RouteFault};
 ghost use Rattle.route_plan.specs.declared.route.RouteFault.TheVariants.{Text};
 ghost use Rattle.route_plan.specs.declared.walks.Walk.{Walk};
@@ -29,11 +30,11 @@ pub fn route_word_faults_are_first()
 
 /// Nodes break no rule exactly where they are a route of the network, of at most 400 nodes.
 pub fn unbroken_nodes_are_routes()
-    ensures { (g : Network) (nodes : List ℕ) → (route_fault (node_count g) nodes ≡ None) ↔ (IsRoute g nodes × (length nodes ≤ 400)) }
+    ensures { (g : Network) (nodes : List ℕ) → (route_fault (node_count g) nodes ≡ None) ↔ (IsRoute g nodes × (length nodes ≤ most_route_nodes)) }
 {}
 
 /// A whole plan is walked to its end exactly where it is feasible, and the walk tells its time and its last level.
 pub fn feasible_plans_are_walked()
-    ensures { (g : Network) (start : ℕ) (stops : List Stop) (w : Walk) → (walked g start stops ≡ Ok w)
+    ensures { (g : Network) (start : ℕ) (stops : List Stop) (w : Walk) → (walk_along g start stops ≡ Ok w)
         ↔ (IsFeasible g 1 start stops × (w.time ≡ time_of g 1 start stops) × (w.last ≡ end_level g start stops)) }
 {}

@@ -4,7 +4,8 @@ ghost use Rattle.std.specs.Prelude.{◌≡◌, ◌<◌, ◌≤◌, ◌^◌, IfEr
 ghost use Rattle.ev_model.specs.Feasible.{IsFeasible};
 ghost use Rattle.ev_model.specs.Network.{curve_at, node_count, scaled_limit};
 ghost use Rattle.ev_model.specs.Time.{time_of};
-ghost use Rattle.route_plan.specs.Walking.{after_start, charging, driving_time, end_level, has_both_ends, is_end, least_level, stepped, walked};
+ghost use Rattle.route_plan.specs.FirstPlaces.{ends_pass};
+ghost use Rattle.route_plan.specs.Walking.{charge_between, driving_time, end_level, is_end, least_level, step_at, walk_along, walk_on};
 
 use crate::walks::{Walk, WalkFault};
 use ev_model::Stop;
@@ -15,7 +16,7 @@ use instance_reader::Instance;
 /// The rule on the ends is tried first, over the whole plan; then the stops are taken in order, and at each
 /// the other rules in the order of [`WalkFault`]. So the walk comes to its end exactly where the plan is feasible.
 pub fn walk(inst: &Instance, start: u64, stops: &[Stop]) -> Result<Walk, WalkFault>
-    ensures exact { result ≡ walked inst.now start stops.now }
+    ensures exact { result ≡ walk_along inst.now start stops.now }
     ensures feasible { IfOk result (λ w. IsFeasible inst.now 1 start stops.now) }
     ensures time { IfOk result (λ w. w.time ≡ time_of inst.now 1 start stops.now) }
     ensures last { IfOk result (λ w. w.last ≡ end_level inst.now start stops.now) }
@@ -29,8 +30,8 @@ pub fn walk(inst: &Instance, start: u64, stops: &[Stop]) -> Result<Walk, WalkFau
 
 /// Walks along the stops of a plan whose ends are at the depot.
 fn walk_on(inst: &Instance, start: u64, stops: &[Stop]) -> Result<Walk, WalkFault>
-    requires { has_both_ends stops.now ≡ true }
-    ensures { result ≡ after_start inst.now start stops.now }
+    requires { ends_pass is_end stops.now ≡ true }
+    ensures { result ≡ walk_on inst.now start stops.now }
 {
     let count = inst.nodes();
     let mut from = 0;
@@ -52,7 +53,7 @@ fn walk_on(inst: &Instance, start: u64, stops: &[Stop]) -> Result<Walk, WalkFaul
 
 /// Whether the first and the last of at least two stops are ends.
 fn both_ends(stops: &[Stop]) -> bool
-    ensures { result ≡ has_both_ends stops.now }
+    ensures { result ≡ ends_pass is_end stops.now }
 {
     if stops.len() < 2 {
         return false;
@@ -78,7 +79,7 @@ fn step(
 ) -> Result<Walk, WalkFault>
     requires from { from < node_count inst.now }
     requires known { stop.node < node_count inst.now }
-    ensures { result ≡ stepped inst.now is_last from before.last before.time at stop }
+    ensures { result ≡ step_at inst.now is_last from before.last before.time at stop }
 {
     if stop.node == from {
         return Err(WalkFault::Again { at });
@@ -140,7 +141,7 @@ fn charging_time(inst: &Instance, node: usize, before: u64, after: u64) -> u64
     requires node { node < node_count inst.now }
     requires order { before ≤ after }
     requires full { after ≤ inst.now.capacity }
-    ensures { result ≡ charging inst.now.denominator (curve_at inst.now node) before after }
+    ensures { result ≡ charge_between inst.now.denominator (curve_at inst.now node) before after }
 {
     match inst.curve_at(node) {
         Some(curve) => curve.time_to(after).saturating_sub(curve.time_to(before)),

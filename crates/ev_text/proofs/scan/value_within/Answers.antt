@@ -1,6 +1,6 @@
 use Rattle.std.proofs.Common.{arith}
 use Rattle.ev_text.proofs.DigitRuns.{past_by_a_digit, digits_value_after-drop, digit_code}
-use Rattle.ev_text.proofs.scan.number_of.Goals as goal
+use Rattle.ev_text.proofs.scan.value_within.Goals as goal
 
 pub overflow_sub-digit : goal.overflow_sub-digit
 overflow_sub-digit c = (digit_code c.args.digits.now c.loop-digit.digit-index c.requires (omega arith)).0
