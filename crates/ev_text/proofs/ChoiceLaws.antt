@@ -1,5 +1,5 @@
 -- What readers of words that may be missing owe.
-use Rattle.std.proofs.Common.{◌≡◌, ◌≢◌, ◌∙◌, ℕ, Bool, true, false, List, [], ◌∷◌, ◌++◌, Result, Ok, Err, nat_eq, refl, sym, ap, subst, append-nil, arith}
+use Rattle.std.proofs.Common.{◌≡◌, ◌≢◌, ◌∙◌, ℕ, Bool, true, false, List, [], ◌∷◌, ◌++◌, Result, Ok, Err, nat_eq, refl, sym, ap, subst, append-nil}
 use Rattle.std.proofs.lemmas.Bool.{eqb-false, eqb-true}
 use Rattle.ev_text.specs.Readers.{choice_at, if_taken, optional_at, unless_cut}
 use Rattle.ev_text.specs.Scans.{past, rest_of, word_at, IsPrefixOf, IsProperPrefix}

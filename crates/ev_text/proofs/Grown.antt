@@ -1,12 +1,11 @@
 -- A text that goes on is read as before, up to where it ended.
-use Rattle.std.proofs.Common.{◌≡◌, ◌≢◌, ◌∙◌, ◌⊎◌, inl, inr, ℕ, ◌≤◌, Bool, true, false, List, [], ◌∷◌, ◌++◌, length, length-append, length-drop, Result, Ok, Err, nat_eq, refl, sym, ap, subst, append_assoc, append-nil, arith}
-use Rattle.std.proofs.lemmas.Bool.{eqb-true, eqb-false}
+use Rattle.std.proofs.Common.{◌≡◌, ◌≢◌, ◌∙◌, ◌⊎◌, inl, inr, ℕ, ◌≤◌, List, [], ◌∷◌, ◌++◌, length, length-append, length-drop, Result, Ok, Err, refl, sym, ap, subst, append_assoc, append-nil, arith}
 use Rattle.std.proofs.lemmas.List.{drop-append-le}
 use Rattle.ev_text.specs.Scans.{and_then, past, rest_of, word_at, IsPrefixOf, IsProperPrefix}
 use Rattle.ev_text.specs.Texts.{IsNoEnd}
 use Rattle.ev_text.specs.declared.TextFault.{TextFault}
 use Rattle.ev_text.specs.declared.TextFault.TheVariants.{End, Word}
-use Rattle.ev_text.proofs.Readings.{word_at-at_end, word_at-cases, word_at-differs, word_at-word}
+use Rattle.ev_text.proofs.Readings.{word_at-cases, word_at-differs, word_at-word}
 
 -- the same place in a text that goes on
 abbrev pub grown : List ℕ → List ℕ × ℕ → List ℕ × ℕ

@@ -1,19 +1,11 @@
 -- What readers of lists owe: items parted by a mark up to a word that ends them, and so many items.
-use Rattle.std.proofs.Common.{◌≡◌, ◌≢◌, ◌∙◌, inl, inr, ℕ, zero, suc, ◌+◌, ◌<◌, ◌≤◌, Bool, true, false, List, [], ◌∷◌, ◌++◌, length, length-append, length-drop, Result, Ok, Err, refl, sym, ap, subst, append_assoc, append-nil, arith, if◌then◌else◌}
+use Rattle.std.proofs.Common.{◌≡◌, ◌≢◌, ℕ, zero, suc, List, [], ◌∷◌, ◌++◌, length, refl, sym, ap, subst, append_assoc, append-nil, arith}
 use Rattle.std.specs.List.{All}
 use Rattle.std.proofs.lemmas.List.Elements.{All-cons, All-head, All-nil, All-tail}
-use Rattle.ev_text.specs.Readers.{Reader, each_behind, few_behind, answer, optional_at, list_at, so_many, then_reads}
-use Rattle.ev_text.specs.Scans.{and_then, past, rest_of, word_at}
-use Rattle.ev_text.specs.Texts.{Begins, IsTextOf, fault_place, joined_texts, marked_texts, parted_texts}
-use Rattle.ev_text.specs.declared.TextFault.{TextFault}
-use Rattle.ev_text.specs.declared.TextFault.TheVariants.{End}
-use Rattle.ev_text.proofs.ChoiceLaws.{BeginsOtherwise, keeps-optional, optional_is_left, optional_left, optional_never_fails, optional_stands, optional_taken}
-use Rattle.ev_text.proofs.Grown.{Keeps, Within, grown, keeps-ok, keeps-then, keeps-word, past_within}
-use Rattle.ev_text.proofs.Mended.{IsMended, behind, mended-behind, mended-here, mended-map, mended-word}
+use Rattle.ev_text.specs.Readers.{Reader, each_behind, answer, list_at, so_many, then_reads}
+use Rattle.ev_text.specs.Texts.{joined_texts, marked_texts, parted_texts}
 use Rattle.ev_text.proofs.MarkedLaws.{ended_text, reader-each}
-use Rattle.ev_text.proofs.ReaderLaws.{IsReader, SameTexts, Takes, reader-as, reader-answer, reader-moves, reader-then}
-use Rattle.ev_text.proofs.Readings.{TakesWord-from_word_at, word_at-at_end, word_read}
-use Rattle.ev_text.proofs.Results.{Err-ne-Ok, Ok-injective, and_then-ok, fault_of_two, no_bytes}
+use Rattle.ev_text.proofs.ReaderLaws.{IsReader, reader-as, reader-answer, reader-then}
 
 -- a first item in front of others: their text, and what holds of them
 abbrev pub cons_text : {A : Type 0} → (A → List ℕ) → (List A → List ℕ) → List A → List ℕ

@@ -1,5 +1,5 @@
 -- Invariants of the loops that read lists: the items so far, in front of those that are read from here on, are what is read in all.
-use Rattle.std.proofs.Common.{◌≡◌, ◌∙◌, ℕ, zero, suc, ◌+◌, ◌<◌, ◌≤◌, Bool, true, false, List, [], ◌∷◌, ◌++◌, length, length-append, length-drop, Result, Ok, Err, refl, sym, ap, append_assoc, append-nil, arith, if◌then◌else◌}
+use Rattle.std.proofs.Common.{◌≡◌, ◌∙◌, ℕ, zero, suc, ◌+◌, ◌<◌, ◌≤◌, true, false, List, [], ◌∷◌, ◌++◌, length, length-append, length-drop, Result, Ok, Err, refl, sym, ap, append_assoc, append-nil, arith}
 use Rattle.ev_text.specs.Readers.{Reader, each_behind, few_behind, optional_at, so_many}
 use Rattle.ev_text.specs.Scans.{and_then, rest_of, word_at}
 use Rattle.ev_text.specs.declared.TextFault.{TextFault}

@@ -1,8 +1,8 @@
 -- What a reader of items owes, each behind a mark, up to a word that ends them.
-use Rattle.std.proofs.Common.{◌≡◌, ◌≢◌, ◌∙◌, inl, inr, ℕ, zero, suc, ◌+◌, ◌<◌, ◌≤◌, Bool, true, false, List, [], ◌∷◌, ◌++◌, length, length-append, length-drop, Result, Ok, Err, refl, sym, ap, subst, append_assoc, append-nil, arith, if◌then◌else◌}
+use Rattle.std.proofs.Common.{◌≡◌, ◌≢◌, ◌∙◌, inl, inr, ℕ, zero, suc, ◌<◌, ◌≤◌, Bool, true, false, List, [], ◌∷◌, ◌++◌, length, length-append, length-drop, Result, Ok, Err, refl, sym, ap, subst, append_assoc, append-nil, arith, if◌then◌else◌}
 use Rattle.std.specs.List.{All}
 use Rattle.std.proofs.lemmas.List.Elements.{All-cons, All-head, All-nil, All-tail}
-use Rattle.ev_text.specs.Readers.{Reader, each_behind, few_behind, answer, optional_at, then_reads}
+use Rattle.ev_text.specs.Readers.{Reader, each_behind, few_behind, optional_at}
 use Rattle.ev_text.specs.Scans.{and_then, past, rest_of, word_at}
 use Rattle.ev_text.specs.Texts.{Begins, IsTextOf, fault_place, marked_texts}
 use Rattle.ev_text.specs.declared.TextFault.{TextFault}
@@ -11,7 +11,7 @@ use Rattle.ev_text.proofs.ChoiceLaws.{keeps-optional, optional_is_left, optional
 use Rattle.ev_text.proofs.Grown.{Keeps, Within, grown, keeps-ok, keeps-then, keeps-word, past_within}
 use Rattle.ev_text.proofs.Mended.{IsMended, behind, mended-behind, mended-here, mended-map, mended-word}
 use Rattle.ev_text.proofs.ReaderLaws.{IsReader, Takes, reader-moves}
-use Rattle.ev_text.proofs.Readings.{TakesWord-from_word_at, word_at-at_end, word_read}
+use Rattle.ev_text.proofs.Readings.{TakesWord-from_word_at, word_read}
 use Rattle.ev_text.proofs.Results.{Err-ne-Ok, Ok-injective, and_then-ok, fault_of_two, no_bytes}
 
 -- items, each behind a byte, and the word that ends them

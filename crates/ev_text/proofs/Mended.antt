@@ -1,7 +1,7 @@
 -- What stands before a fault can be continued to a whole text, and so can a text that ends too early.
-use Rattle.std.proofs.Common.{◌≡◌, ◌∙◌, ℕ, ◌+◌, ◌≤◌, Bool, true, false, List, [], ◌∷◌, ◌++◌, length, length-append, Result, Ok, Err, nat_eq, refl, sym, ap, subst, append_assoc, arith, if◌then◌else◌}
+use Rattle.std.proofs.Common.{◌≡◌, ◌∙◌, ℕ, ◌+◌, Bool, true, false, List, [], ◌++◌, length, length-append, Result, Ok, Err, nat_eq, refl, sym, ap, subst, append_assoc, arith, if◌then◌else◌}
 use Rattle.ev_text.specs.Readers.{positive_at}
-use Rattle.ev_text.specs.Scans.{and_then, past, rest_of, whole_at, word_at, TakesWord}
+use Rattle.ev_text.specs.Scans.{and_then, past, rest_of, whole_at, word_at}
 use Rattle.ev_text.specs.Texts.{Begins, IsNoEnd, fault_place}
 use Rattle.ev_text.specs.declared.TextFault.{TextFault}
 use Rattle.ev_text.specs.declared.TextFault.TheVariants.{End, NotWhole, TooLarge, Word}

@@ -1,16 +1,16 @@
 -- What a reader of texts owes, and that each of the few from which readers are put together owes it.
-use Rattle.std.proofs.Common.{◌≡◌, ◌≢◌, ◌∙◌, inl, inr, ℕ, ◌+◌, ◌^◌, ◌<◌, ◌≤◌, Bool, true, false, List, [], ◌∷◌, ◌++◌, decimal, length, length-append, length-drop, Result, Ok, Err, nat_eq, refl, sym, ap, subst, append_assoc, append-nil, arith, if◌then◌else◌}
+use Rattle.std.proofs.Common.{◌≡◌, ◌≢◌, ◌∙◌, inl, inr, ℕ, ◌+◌, ◌^◌, ◌<◌, ◌≤◌, Bool, true, false, List, [], ◌∷◌, ◌++◌, decimal, length, length-append, length-drop, Result, Ok, Err, nat_eq, refl, sym, ap, subst, append_assoc, arith, if◌then◌else◌}
 use Rattle.std.proofs.lemmas.Bool.{eqb-false, ne_eqb}
 use Rattle.ev_text.specs.Numerals.{BeginsWithoutDigit}
-use Rattle.ev_text.specs.Readers.{Reader, behind_word, choice_at, answer, if_taken, optional_at, positive_at, then_reads, unless_cut}
+use Rattle.ev_text.specs.Readers.{Reader, behind_word, answer, positive_at, then_reads}
 use Rattle.ev_text.specs.Scans.{and_then, past, rest_of, whole_at, word_at}
-use Rattle.ev_text.specs.Texts.{Begins, IsNoEnd, IsTextOf}
+use Rattle.ev_text.specs.Texts.{Begins, IsTextOf}
 use Rattle.ev_text.specs.declared.TextFault.{TextFault}
-use Rattle.ev_text.specs.declared.TextFault.TheVariants.{End, NotWhole, TooLarge, Word}
-use Rattle.ev_text.proofs.Grown.{Keeps, Within, grown, keeps-ok, keeps-then, keeps-word, no_list_is_shorter, past_within, rest_of-grown, word_at-grown}
+use Rattle.ev_text.specs.declared.TextFault.TheVariants.{NotWhole}
+use Rattle.ev_text.proofs.Grown.{Keeps, Within, grown, keeps-ok, keeps-then, keeps-word, past_within}
 use Rattle.ev_text.proofs.GrownNumbers.{keeps-positive, keeps-whole, unless_zero}
 use Rattle.ev_text.proofs.Mended.{IsMended, behind, mended-behind, mended-map, mended-positive, mended-whole, mended-word}
-use Rattle.ev_text.proofs.Readings.{TakesNumber-from_whole_at, TakesWord-from_word_at, number_read, word_at-at_end, word_at-other_byte, word_read}
+use Rattle.ev_text.proofs.Readings.{TakesNumber-from_whole_at, TakesWord-from_word_at, number_read, word_read}
 use Rattle.ev_text.proofs.Results.{Err-ne-Ok, Ok-injective, and_then-ok, fault_of_two}
 
 -- a value was taken, and the rest of the text is left

@@ -1,5 +1,5 @@
 -- The whole of a text is read exactly where it is that of a value, and its fault is the first from the left.
-use Rattle.std.proofs.Common.{◌≡◌, ◌≢◌, ◌∙◌, ◌↔◌, inl, inr, ℕ, ◌<◌, ◌≤◌, Bool, true, false, List, [], ◌∷◌, ◌++◌, length, length-append, length-drop, take, Result, Ok, Err, nat_eq, refl, sym, ap, subst, append-nil, arith, if◌then◌else◌}
+use Rattle.std.proofs.Common.{◌≡◌, ◌≢◌, ◌∙◌, ◌↔◌, inl, inr, ℕ, ◌≤◌, Bool, true, false, List, [], ◌∷◌, ◌++◌, length, length-append, take, Result, Ok, Err, nat_eq, refl, sym, ap, subst, append-nil, arith, if◌then◌else◌}
 use Rattle.std.proofs.Math.Seq.{take-append_seam}
 use Rattle.std.proofs.lemmas.Bool.{eqb-true, ne_eqb}
 use Rattle.ev_text.specs.Readers.{Reader, whole_text, whole_with}
@@ -7,7 +7,7 @@ use Rattle.ev_text.specs.Scans.{and_then, rest_of}
 use Rattle.ev_text.specs.Texts.{Begins, IsNoEnd, IsTextOf, fault_place}
 use Rattle.ev_text.specs.declared.TextFault.{TextFault}
 use Rattle.ev_text.specs.declared.TextFault.TheVariants.{End, Word}
-use Rattle.ev_text.proofs.Grown.{Keeps, Within, grown, rest_of-grown}
+use Rattle.ev_text.proofs.Grown.{Keeps, grown, rest_of-grown}
 use Rattle.ev_text.proofs.Mended.{IsMended}
 use Rattle.ev_text.proofs.ReaderLaws.{IsReader, Takes, reader-moves}
 use Rattle.ev_text.proofs.Results.{Err-ne-Ok, Ok-injective, and_then-ok, fault_of_two, no_bytes}

@@ -188,7 +188,8 @@ impl<'a> Scan<'a> {
     /// Refuses a text that goes on behind the place, by `Word`.
     pub fn end(&self) -> Result<(), TextFault>
         ensures ok { OnOk result (rest_of self.now ≡ []) }
-        ensures fault { IfErr result (λ fault. (rest_of self.now ≢ []) × (fault ≡ Word self.now.1)) }
+        ensures fault { IfErr result (λ fault.
+            (rest_of self.now ≢ []) × (fault ≡ Word self.now.1)) }
     {
         if self.is_end() {
             Ok(())
