@@ -1,5 +1,5 @@
 -- Plans and files are read exactly where bytes spell them, and a fault is the first from the left.
-use Rattle.std.proofs.Common.{◌≡◌, ◌∙◌, ◌↔◌, ℕ, ◌<◌, ◌≤◌, Bool, true, false, List, Option, length, take, Result, Ok, Err, nat_lt, refl, sym, ap, subst, arith, if◌then◌else◌}
+use Rattle.std.proofs.Common.{◌≡◌, ◌∙◌, ◌↔◌, ℕ, ◌<◌, ◌≤◌, Bool, true, false, List, Option, length, take, Result, Ok, Err, nat_lt, refl, sym, ap, arith, if◌then◌else◌}
 use Rattle.std.proofs.lemmas.Bool.{le-ltb, lt-ltb, ltb-false, ltb-true}
 use Rattle.ev_model.specs.declared.Stop.{Stop}
 use Rattle.ev_text.specs.Readers.{whole_with}
@@ -12,7 +12,6 @@ use Rattle.route_plan.specs.Limits.{most_bytes}
 use Rattle.route_plan.specs.PlanReading.{file_at, fleet_plan_in, or_bad, plan_at, plan_in, unless_too_long}
 use Rattle.route_plan.specs.PlanTexts.{BeginsFile, BeginsPlan, FitsFile, FitsText, SpellsFleetPlan, SpellsPlan, fleet_plan_text, plan_text}
 use Rattle.route_plan.specs.declared.plan.FleetPlan.{FleetPlan}
-use Rattle.route_plan.specs.declared.text.plan_text.PlanText.{PlanText}
 use Rattle.route_plan.specs.declared.text.plan_text.PlanText.TheVariants.{Bad, TooLong}
 use Rattle.route_plan.proofs.PlanReaders.{AnyBehind, reader-file, reader-plan}
 

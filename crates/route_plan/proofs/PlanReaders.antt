@@ -1,5 +1,5 @@
 -- The readers of stops, plans and files read exactly their texts.
-use Rattle.std.proofs.Common.{◌≡◌, ◌≢◌, ◌∙◌, ℕ, zero, suc, ◌+◌, ◌^◌, ◌<◌, ◌≤◌, Bool, true, false, List, [], ◌∷◌, ◌++◌, decimal, length, Option, None, Some, codes, nat_lt, refl, sym, ap, subst, append_assoc, append-nil, arith, if◌then◌else◌}
+use Rattle.std.proofs.Common.{◌≡◌, ◌≢◌, ◌∙◌, ℕ, zero, suc, ◌<◌, ◌≤◌, Bool, true, false, List, [], ◌∷◌, ◌++◌, decimal, length, Option, None, Some, codes, nat_lt, refl, sym, ap, subst, append_assoc, append-nil, arith, if◌then◌else◌}
 use Rattle.std.specs.List.{All}
 use Rattle.std.specs.Char.{is_ascii_digit}
 use Rattle.std.proofs.lemmas.Bool.{false≢true, lt-ltb, ltb-true}
@@ -9,12 +9,12 @@ use Rattle.ev_text.specs.Readers.{Reader, behind_word, choice_at, answer, option
 use Rattle.ev_text.specs.Scans.{whole_at}
 use Rattle.ev_text.specs.Texts.{joined_texts, optional_text, parted_texts}
 use Rattle.ev_text.proofs.ChoiceLaws.{BeforeChoice, BeforeOptional, BeginsOtherwise, other_word, reader-choice, reader-optional}
-use Rattle.ev_text.proofs.ListLaws.{AreParted, AreSoMany, reader-many, reader-parted}
+use Rattle.ev_text.proofs.ListLaws.{AreParted, reader-many, reader-parted}
 use Rattle.ev_text.proofs.ReaderLaws.{IsReader, reader-as, reader-behind, reader-answer, reader-number, reader-positive, reader-then}
 use Rattle.ev_text.proofs.Readings.{first_digit}
 use Rattle.route_plan.specs.Limits.{greatest_number, most_routes}
 use Rattle.route_plan.specs.PlanReading.{amount_at, amount_behind, file_at, plan_at, plans_behind, route_at, routes_at, stop_at}
-use Rattle.route_plan.specs.PlanTexts.{FitsFile, FitsText, IsSmallStop, amount_text, fleet_plan_text, plan_lines, plan_text, stop_text}
+use Rattle.route_plan.specs.PlanTexts.{FitsFile, FitsText, IsSmallStop, amount_text, fleet_plan_text, plan_text, stop_text}
 use Rattle.route_plan.specs.declared.plan.FleetPlan.{FleetPlan}
 use Rattle.route_plan.specs.declared.plan.RoutePlan.{RoutePlan}
 

@@ -1,8 +1,7 @@
 -- A word is read as the nodes that it spells.
 use Rattle.std.proofs.Common.{◌≡◌, ◌∙◌, ℕ, zero, suc, ◌+◌, ◌^◌, ◌<◌, ◌≤◌, ◌==◌, true, false, inl, inr, List, [], ◌∷◌, ◌++◌, length, length-append, decimal, Result, Ok, Err, refl, sym, ap, subst, append-nil, arith}
 use Rattle.std.specs.List.{All}
-use Rattle.std.specs.Result.{is_ok}
-use Rattle.std.proofs.lemmas.Bool.{cases_eq, eq-eqb, false≢true, ne_eqb}
+use Rattle.std.proofs.lemmas.Bool.{cases_eq, eq-eqb, ne_eqb}
 use Rattle.std.proofs.lemmas.List.Elements.{All-cons, All-head, All-nil, All-tail}
 use Rattle.ev_text.specs.Numerals.{BeginsWithoutDigit}
 use Rattle.ev_text.specs.Scans.{and_then, past, rest_of, whole_at, word_at}

@@ -4,7 +4,7 @@ use Rattle.std.proofs.Math.Nat.{max-le}
 use Rattle.std.proofs.lemmas.Bool.{cases_Bool, cases_lt, le-ltb, lt-ltb, ne_eqb}
 use Rattle.ev_model.specs.Feasible.{IsFeasible}
 use Rattle.ev_model.specs.Levels.{KeepsBatteryFrom, arriving_level, leaving_level, level_after}
-use Rattle.ev_model.specs.Network.{Network, curve_at, energy, node_count, process_time, scaled_limit, travel_time}
+use Rattle.ev_model.specs.Network.{Network, curve_at, energy, node_count, scaled_limit}
 use Rattle.ev_model.specs.Plan.{AreStopsFrom, EndsAtDepot, IsEnd, IsStop}
 use Rattle.ev_model.specs.Time.{charging_time, stop_time, time_from, time_of}
 use Rattle.ev_model.specs.declared.Stop.{Stop}

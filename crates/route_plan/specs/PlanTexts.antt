@@ -1,5 +1,5 @@
 -- The texts of plans and of fleet plans: each value has one spelling, in lines that end with a line feed.
-use Rattle.std.specs.Prelude.{◌≡◌, ◌≢◌, ℕ, ◌^◌, ◌≤◌, List, [], ◌∷◌, ◌++◌, Option, None, Some, codes, decimal, length, nat_lt, if◌then◌else◌}
+use Rattle.std.specs.Prelude.{◌≡◌, ◌≢◌, ℕ, ◌≤◌, List, [], ◌∷◌, ◌++◌, Option, None, Some, codes, decimal, length, nat_lt, if◌then◌else◌}
 use Rattle.std.specs.List.{All}
 use Rattle.ev_model.specs.declared.Stop.{Stop}
 use Rattle.ev_text.specs.Texts.{Begins, IsTextOf, joined_texts, optional_text, parted_texts}

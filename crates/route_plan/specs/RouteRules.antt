@@ -1,5 +1,5 @@
 -- The rules of a route: the first that is broken, each at its first place.
-use Rattle.std.specs.Prelude.{ℕ, ◌+◌, Bool, false, ◌&&◌, List, [], ◌∷◌, length, nat_eq, nat_le, nat_lt, if◌then◌else◌, Option, None, Some, Result, Ok, Err}
+use Rattle.std.specs.Prelude.{ℕ, ◌+◌, Bool, List, [], ◌∷◌, length, nat_eq, nat_le, nat_lt, if◌then◌else◌, Option, None, Some, Result, Ok, Err}
 use Rattle.ev_text.specs.Scans.{and_then}
 use Rattle.route_plan.specs.FirstPlaces.{behind_first, ends_pass, first_before_last, or_later}
 use Rattle.route_plan.specs.Limits.{most_route_nodes}

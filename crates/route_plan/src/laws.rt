@@ -24,17 +24,22 @@ pub fn words_spell_routes()
 /// word has no other fault.
 pub fn route_word_faults_are_first()
     ensures first { (word : List ℕ) (at : ℕ) → nodes_in word ≡ Err (Text at)
-        → (at ≤ length word) × BeginsRouteWord (take at word) × (at < length word → BeginsRouteWord word → ⊥) }
-    ensures only { (word : List ℕ) (fault : RouteFault) → nodes_in word ≡ Err fault → (at : ℕ) × (fault ≡ Text at) }
+        → (at ≤ length word) × BeginsRouteWord (take at word) × (at < length word →
+        BeginsRouteWord word → ⊥) }
+    ensures only { (word : List ℕ) (fault : RouteFault) → nodes_in word ≡ Err fault →
+        (at : ℕ) × (fault ≡ Text at) }
 {}
 
 /// Nodes break no rule exactly where they are a route of the network, of at most 400 nodes.
 pub fn unbroken_nodes_are_routes()
-    ensures { (g : Network) (nodes : List ℕ) → (route_fault (node_count g) nodes ≡ None) ↔ (IsRoute g nodes × (length nodes ≤ most_route_nodes)) }
+    ensures { (g : Network) (nodes : List ℕ) → (route_fault (node_count g) nodes ≡ None) ↔
+        (IsRoute g nodes × (length nodes ≤ most_route_nodes)) }
 {}
 
 /// A whole plan is walked to its end exactly where it is feasible, and the walk tells its time and its last level.
 pub fn feasible_plans_are_walked()
-    ensures { (g : Network) (start : ℕ) (stops : List Stop) (w : Walk) → (walk_along g start stops ≡ Ok w)
-        ↔ (IsFeasible g 1 start stops × (w.time ≡ time_of g 1 start stops) × (w.last ≡ end_level g start stops)) }
+    ensures { (g : Network) (start : ℕ) (stops : List Stop) (w : Walk) →
+        (walk_along g start stops ≡ Ok w)
+        ↔ (IsFeasible g 1 start stops × (w.time ≡ time_of g 1 start stops)
+        × (w.last ≡ end_level g start stops)) }
 {}

@@ -45,7 +45,8 @@ pub fn read_route(alloc: Global, word: &str, inst: &Instance) -> Result<Vec<usiz
     ensures ok { IfOk result (λ nodes. route_in (node_count inst.now) word.now ≡ Ok nodes.items) }
     ensures route { IfOk result (λ nodes. IsRoute inst.now nodes.items) }
     ensures spelled { IfOk result (λ nodes. SpellsRoute word.now nodes.items) }
-    ensures fault { IfErr result (λ fault. fault ≢ RouteFault.Memory → route_in (node_count inst.now) word.now ≡ Err fault) }
+    ensures fault { IfErr result (λ fault. fault ≢ RouteFault.Memory →
+        route_in (node_count inst.now) word.now ≡ Err fault) }
 {
     let nodes = read_nodes(alloc, word.as_bytes())?;
     match first_fault(nodes.as_slice(), inst.nodes()) {
@@ -57,7 +58,8 @@ pub fn read_route(alloc: Global, word: &str, inst: &Instance) -> Result<Vec<usiz
 /// The nodes of a word.
 fn read_nodes(alloc: Global, word: &[u8]) -> Result<Vec<usize>, RouteFault>
     ensures ok { IfOk result (λ nodes. nodes_in word.now ≡ Ok nodes.items) }
-    ensures fault { IfErr result (λ fault. fault ≢ RouteFault.Memory → nodes_in word.now ≡ Err fault) }
+    ensures fault { IfErr result (λ fault. fault ≢ RouteFault.Memory →
+        nodes_in word.now ≡ Err fault) }
 {
     let mut scan = Scan::new(word);
     let mut nodes = Vec::new(alloc);

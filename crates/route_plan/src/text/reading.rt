@@ -51,7 +51,8 @@ impl<T: Drop> From<AllocFailed<T>> for PlanText {
 pub fn read_plan(alloc: Global, bytes: &[u8]) -> Result<RoutePlan, PlanText>
     ensures ok { IfOk result (λ plan. plan_in bytes.now ≡ Ok plan.stops) }
     ensures spelled { IfOk result (λ plan. SpellsPlan bytes.now plan.stops) }
-    ensures fault { IfErr result (λ fault. fault ≢ PlanText.Memory → plan_in bytes.now ≡ Err fault) }
+    ensures fault { IfErr result (λ fault. fault ≢ PlanText.Memory →
+        plan_in bytes.now ≡ Err fault) }
 {
     let len = bytes.len();
     if len > MOST_BYTES {
@@ -73,7 +74,8 @@ pub fn read_plan(alloc: Global, bytes: &[u8]) -> Result<RoutePlan, PlanText>
 pub fn read_fleet_plan(alloc: Global, bytes: &[u8]) -> Result<Option<FleetPlan>, PlanText>
     ensures ok { IfOk result (λ plan. fleet_plan_in bytes.now ≡ Ok plan) }
     ensures spelled { IfOk result (SpellsFleetPlan bytes.now) }
-    ensures fault { IfErr result (λ fault. fault ≢ PlanText.Memory → fleet_plan_in bytes.now ≡ Err fault) }
+    ensures fault { IfErr result (λ fault. fault ≢ PlanText.Memory →
+        fleet_plan_in bytes.now ≡ Err fault) }
 {
     let len = bytes.len();
     if len > MOST_BYTES {
@@ -88,7 +90,8 @@ pub fn read_fleet_plan(alloc: Global, bytes: &[u8]) -> Result<Option<FleetPlan>,
 /// Takes a file: the word of its first line, and then `none` or the plans.
 fn take_file(alloc: Global, scan: &mut Scan<'_>) -> Result<Option<FleetPlan>, PlanText>
     ensures ok { IfOk result (λ plan. file_at scan.old ≡ Ok (plan, scan.new)) }
-    ensures fault { IfErr result (λ fault. fault ≢ PlanText.Memory → or_bad (file_at scan.old) ≡ Err fault) }
+    ensures fault { IfErr result (λ fault. fault ≢ PlanText.Memory →
+        or_bad (file_at scan.old) ≡ Err fault) }
 {
     scan.word(b"evroute plan 1\n")?;
     if scan.choose(b"none\n")? {
@@ -101,7 +104,8 @@ fn take_file(alloc: Global, scan: &mut Scan<'_>) -> Result<Option<FleetPlan>, Pl
 /// Takes the number of routes, the line feed behind it, and their lines.
 fn take_plans(alloc: Global, scan: &mut Scan<'_>) -> Result<Option<FleetPlan>, PlanText>
     ensures ok { IfOk result (λ plan. routes_at scan.old ≡ Ok (plan, scan.new)) }
-    ensures fault { IfErr result (λ fault. fault ≢ PlanText.Memory → or_bad (routes_at scan.old) ≡ Err fault) }
+    ensures fault { IfErr result (λ fault. fault ≢ PlanText.Memory →
+        or_bad (routes_at scan.old) ≡ Err fault) }
 {
     let count = scan.whole(MOST_ROUTES)?;
     scan.word(b"\n")?;
@@ -113,8 +117,10 @@ fn take_plans(alloc: Global, scan: &mut Scan<'_>) -> Result<Option<FleetPlan>, P
 
 /// Takes the lines of `count` routes.
 fn take_routes(alloc: Global, scan: &mut Scan<'_>, count: u128) -> Result<Vec<RoutePlan>, PlanText>
-    ensures ok { IfOk result (λ routes. so_many count route_at scan.old ≡ Ok (routes.items, scan.new)) }
-    ensures fault { IfErr result (λ fault. fault ≢ PlanText.Memory → or_bad (so_many count route_at scan.old) ≡ Err fault) }
+    ensures ok { IfOk result (λ routes. so_many count route_at scan.old
+        ≡ Ok (routes.items, scan.new)) }
+    ensures fault { IfErr result (λ fault. fault ≢ PlanText.Memory →
+        or_bad (so_many count route_at scan.old) ≡ Err fault) }
 {
     let mut routes = Vec::new(alloc);
     for _ in 0..count {
@@ -127,7 +133,8 @@ fn take_routes(alloc: Global, scan: &mut Scan<'_>, count: u128) -> Result<Vec<Ro
 /// Takes the line of a plan: its word, the stops, of which there is one at least, and the line feed.
 fn take_route(alloc: Global, scan: &mut Scan<'_>) -> Result<RoutePlan, PlanText>
     ensures ok { IfOk result (λ plan. plan_at scan.old ≡ Ok (plan.stops, scan.new)) }
-    ensures fault { IfErr result (λ fault. fault ≢ PlanText.Memory → or_bad (plan_at scan.old) ≡ Err fault) }
+    ensures fault { IfErr result (λ fault. fault ≢ PlanText.Memory →
+        or_bad (plan_at scan.old) ≡ Err fault) }
 {
     let mut stops = Vec::new(alloc);
     scan.word(b"route ")?;

@@ -31,7 +31,8 @@ pub fn push_fleet_plan(
     plan: Option<&FleetPlan>,
 ) -> Result<(), AllocError>
     requires { FitsFile (option_map (λ p. p.now) plan) }
-    ensures ok { OnOk result (out.new.items ≡ out.old.items ++ fleet_plan_text (option_map (λ p. p.now) plan.entry)) }
+    ensures ok { OnOk result (out.new.items ≡ out.old.items
+        ++ fleet_plan_text (option_map (λ p. p.now) plan.entry)) }
     ensures err { OnErr result (out.new.items ≡ out.old.items) }
 {
     match plan {
@@ -53,7 +54,8 @@ fn push_routes(alloc: Global, out: &mut Vec<u8>, plan: &FleetPlan) -> Result<(),
 
 /// Appends the line of the format and the line with the number of plans. After an `Err` neither stands there.
 fn write_head(alloc: Global, text: &mut Vec<u8>, count: usize) -> Result<(), AllocError>
-    ensures { OnOk result (text.new.items ≡ text.old.items ++ (codes "evroute plan 1" ++ 10 ∷ codes "routes " ++ decimal count ++ 10 ∷ [])) }
+    ensures { OnOk result (text.new.items ≡ text.old.items ++
+        (codes "evroute plan 1" ++ 10 ∷ codes "routes " ++ decimal count ++ 10 ∷ [])) }
 {
     let lines = format!(in alloc; "evroute plan 1\nroutes {count}\n")?;
     text.extend_from_slice(lines.as_bytes())
@@ -80,7 +82,8 @@ fn write_plan(alloc: Global, text: &mut Vec<u8>, stops: &[Stop]) -> Result<(), A
 
 /// Appends stops parted by single spaces. After an `Err` a part of them may stand there.
 fn write_stops(alloc: Global, text: &mut Vec<u8>, stops: &[Stop]) -> Result<(), AllocError>
-    ensures { OnOk result (text.new.items ≡ text.old.items ++ parted_texts (codes " ") stop_text stops.now) }
+    ensures { OnOk result (text.new.items ≡ text.old.items
+        ++ parted_texts (codes " ") stop_text stops.now) }
 {
     for (at, stop) in stops.iter().enumerate() {
         write_stop_at(alloc, text, at, stop)?;
@@ -96,7 +99,8 @@ fn write_stop_at(
     at: usize,
     stop: &Stop,
 ) -> Result<(), AllocError>
-    ensures { OnOk result (text.new.items ≡ text.old.items ++ (if nat_lt 0 at then codes " " else []) ++ stop_text stop.now) }
+    ensures { OnOk result (text.new.items ≡ text.old.items
+        ++ (if nat_lt 0 at then codes " " else []) ++ stop_text stop.now) }
 {
     if at > 0 {
         text.push(b' ')?;
