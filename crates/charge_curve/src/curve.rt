@@ -40,7 +40,8 @@ impl Curve {
         ensures ok { OnOk result (curve_fault max_q points.now ≡ None) }
         ensures value { IfOk result (λ c. c ≡ record { points = points.now; full = max_q }) }
         ensures accepted { IfOk result IsAccepted }
-        ensures fault { (fault : CurveFault) → fault ≢ Memory → (result ≡ Err fault) ↔ (curve_fault max_q points.now ≡ Some fault) }
+        ensures fault { (fault : CurveFault) → fault ≢ Memory
+            → (result ≡ Err fault) ↔ (curve_fault max_q points.now ≡ Some fault) }
     {
         if let Some(fault) = first_fault(points, max_q) {
             return Err(fault);

@@ -2,8 +2,9 @@
 
 ghost use Rattle.std.specs.Prelude.{◌≡◌, IfOk, IfErr};
 ghost use Rattle.serde_json.specs.View.{view};
-ghost use Rattle.instance_reader.specs.Faults.{AreGood, IsFirstFault, IsFirstFaultIn, IsFirstFaultOf, IsInstanceOf, IsMeantBy, Means, size_fault};
+ghost use Rattle.instance_reader.specs.Faults.{AreGood, IsFirstFault, IsFirstFaultIn, IsFirstFaultOf, IsInstanceOf, IsMeantBy, Means, early_fault, size_fault};
 ghost use Rattle.instance_reader.specs.Meaning.{AreCurveNumbers};
+ghost use Rattle.instance_reader.specs.Refusal.{OnContents, OrMemory, Refuses};
 ghost use Rattle.instance_reader.specs.Views.{contents_view};
 
 use crate::build::build;
@@ -43,7 +44,7 @@ const MOST_DENOMINATOR: u64 = 1_000_000_000;
 /// them.
 pub fn read_instance(alloc: Global, bytes: &[u8]) -> Result<Instance, ReadFault>
     ensures instance { IfOk result (IsInstanceOf bytes.now) }
-    ensures fault { IfErr result (IsFirstFault bytes.now) }
+    ensures fault { IfErr result (OrMemory (IsFirstFault bytes.now)) }
 {
     if bytes.len() > MOST_BYTES {
         return Err(ReadFault::TooLong { len: bytes.len() });
@@ -63,7 +64,7 @@ pub fn read_instance(alloc: Global, bytes: &[u8]) -> Result<Instance, ReadFault>
 /// Reads an instance from the value of a file.
 fn read_value(alloc: Global, top: &Value) -> Result<Instance, ReadFault>
     ensures instance { IfOk result (Means (view top.now)) }
-    ensures fault { IfErr result (IsFirstFaultOf (view top.now)) }
+    ensures fault { IfErr result (OnContents (IsFirstFaultOf (view top.now))) }
 {
     if let Some(key) = first_missing(top) {
         return Err(ReadFault::Missing { key });
@@ -98,7 +99,7 @@ fn good_curves(alloc: Global, fields: &Fields) -> Result<GoodCurves, ReadFault>
     ensures good { IfOk result (λ k. AreGood (contents_view fields.now) k.curves.items) }
     ensures by_node { IfOk result
         (λ k. AreCurveNumbers (contents_view fields.now) k.curve_numbers.items) }
-    ensures fault { IfErr result (IsFirstFaultIn (contents_view fields.now)) }
+    ensures fault { IfErr result (Refuses (early_fault (contents_view fields.now))) }
 {
     if let Some(fault) = size_fault(fields) {
         return Err(fault);
@@ -114,7 +115,7 @@ fn good_curves(alloc: Global, fields: &Fields) -> Result<GoodCurves, ReadFault>
 /// Reads an instance from the fields of a file.
 fn read_fields(alloc: Global, fields: Fields) -> Result<Instance, ReadFault>
     ensures instance { IfOk result (IsMeantBy (contents_view fields)) }
-    ensures fault { IfErr result (IsFirstFaultIn (contents_view fields)) }
+    ensures fault { IfErr result (OnContents (IsFirstFaultIn (contents_view fields))) }
 {
     let GoodCurves {
         curves,

@@ -40,11 +40,6 @@ returns-in-Some-first_level_past_full-clause-fault c =
     level_fault contents c.in_ok-curves.field-0.curves.items c.in-Some.denominator c.in-Some-first_level_past_full.place c.in_ok-curves.ensures.good is
     c.in-Some.ensures.within within past
 
-pub scaled-requires-clause-some : goal.scaled-requires-clause-some
-scaled-requires-clause-some c =
-    let told = rw c.as_slice.ensures.value at c.in-Some.ensures.some in
-    (denominator_is (contents_view c.args.fields) c.in_ok-curves.field-0.curves.items c.in-Some.denominator c.in_ok-curves.ensures.good told).some
-
 pub scaled-requires-clause-multiple : goal.scaled-requires-clause-multiple
 scaled-requires-clause-multiple c =
     let contents = contents_view c.args.fields in
