@@ -1,5 +1,5 @@
 -- Curves with scaled times, cut at a full battery.
-use Rattle.std.specs.Prelude.{◌≡◌, ℕ, ◌*◌, ◌≤◌, ◌^◌, List, [], ◌∷◌, ◌++◌, filter, map, nat_lt}
+use Rattle.std.specs.Prelude.{ℕ, ◌*◌, ◌≤◌, ◌^◌, List, [], ◌∷◌, ◌++◌, filter, map, nat_lt}
 use Rattle.std.specs.List.{All}
 use Rattle.ev_model.specs.Curve.{BeginsEmpty, charge_time}
 use Rattle.charge_curve.specs.Points.{ArePoints, IsSlowing, last_level}

@@ -1,11 +1,9 @@
 -- The rules in their order, and what each step of the reading knows of the contents.
-use Rattle.std.proofs.Common.{◌≡◌, ◌∙◌, ℕ, ◌*◌, ◌/◌, ◌<◌, ◌≤◌, ◌^◌, List, Option, None, Some, Result, Ok, Err, IfErr, Bool, true, false, All, length, map, get_or, nat_lt, option_map, unwrap_or, refl, ap, subst, sym, inl, inr, arith}
+use Rattle.std.proofs.Common.{◌≡◌, ◌≢◌, ◌∙◌, ℕ, ◌*◌, ◌/◌, ◌<◌, ◌≤◌, ◌^◌, List, Option, None, Some, Result, Ok, Err, IfErr, Bool, true, false, All, length, map, get_or, nat_lt, option_map, unwrap_or, refl, ap, subst, sym, inl, inr, arith}
 use Rattle.std.proofs.lemmas.Bool.Decides.{nat_tests}
 use Rattle.std.proofs.lemmas.List.Elements.{All-map}
-use Rattle.std.proofs.lemmas.Nat.Gcd.{dvd_antisymm}
 use Rattle.std.proofs.lemmas.Simd.{map-map}
 use Rattle.std.specs.Bool.{then_some}
-use Rattle.std.specs.Option.{option_or}
 use Rattle.charge_curve.proofs.Curves.{common_exists, is_denominator}
 use Rattle.charge_curve.specs.CutCurve.{CutCurve, points_of}
 use Rattle.charge_curve.specs.Multiples.{IsCommonDenominator}
@@ -24,7 +22,7 @@ use Rattle.instance_reader.specs.Levels.{first_level_past_full}
 use Rattle.instance_reader.specs.Limits.{IsDenominatorOf, past_horizon}
 use Rattle.instance_reader.specs.Meaning.{AreCurveNumbers, given_limit, network_of}
 use Rattle.instance_reader.specs.Parts.{AreParts}
-use Rattle.instance_reader.specs.Refusal.{OnContents, OrMemory, Refuses}
+use Rattle.instance_reader.specs.Refusal.{OnContents, Refuses}
 use Rattle.instance_reader.specs.RequiredKeys.{first_missing}
 use Rattle.instance_reader.specs.Shapes.{first_wrong_shape}
 use Rattle.instance_reader.specs.Sizes.{first_large}
@@ -193,22 +191,22 @@ result_of_value top (Err e) keys kinds h = OnContents-map (IsFirstFaultIn (conte
 
 -- the first broken rule of the value is that of the bytes
 fault_of_bytes : (bytes : List ℕ) (top : Data) (e : ReadFault) → length bytes ≤ longest → IsValueOf bytes top →
-    OnContents (IsFirstFaultOf top) e → OrMemory (IsFirstFault bytes) e
-fault_of_bytes bytes top (fault.TooLong len) short value h = absurd h
-fault_of_bytes bytes top fault.NotJson short value h = absurd h
-fault_of_bytes bytes top (fault.Missing key) short value h = (short, (top, value, h))
-fault_of_bytes bytes top (fault.Kind place) short value h = (short, (top, value, h))
-fault_of_bytes bytes top (fault.TooLarge place) short value h = (short, (top, value, h))
-fault_of_bytes bytes top (fault.Shape place) short value h = (short, (top, value, h))
-fault_of_bytes bytes top (fault.Node place) short value h = (short, (top, value, h))
-fault_of_bytes bytes top (fault.TypeName place) short value h = (short, (top, value, h))
-fault_of_bytes bytes top (fault.BadCurve index curve) short value h = (short, (top, value, h))
-fault_of_bytes bytes top fault.Denominator short value h = (short, (top, value, h))
-fault_of_bytes bytes top (fault.Horizon limit) short value h = (short, (top, value, h))
-fault_of_bytes bytes top (fault.Level place) short value h = (short, (top, value, h))
-fault_of_bytes bytes top fault.Memory short value h = tt
+    OnContents (IsFirstFaultOf top) e → e ≢ fault.Memory → IsFirstFault bytes e
+fault_of_bytes bytes top (fault.TooLong len) short value h other = absurd h
+fault_of_bytes bytes top fault.NotJson short value h other = absurd h
+fault_of_bytes bytes top (fault.Missing key) short value h other = (short, (top, value, h))
+fault_of_bytes bytes top (fault.Kind place) short value h other = (short, (top, value, h))
+fault_of_bytes bytes top (fault.TooLarge place) short value h other = (short, (top, value, h))
+fault_of_bytes bytes top (fault.Shape place) short value h other = (short, (top, value, h))
+fault_of_bytes bytes top (fault.Node place) short value h other = (short, (top, value, h))
+fault_of_bytes bytes top (fault.TypeName place) short value h other = (short, (top, value, h))
+fault_of_bytes bytes top (fault.BadCurve index curve) short value h other = (short, (top, value, h))
+fault_of_bytes bytes top fault.Denominator short value h other = (short, (top, value, h))
+fault_of_bytes bytes top (fault.Horizon limit) short value h other = (short, (top, value, h))
+fault_of_bytes bytes top (fault.Level place) short value h other = (short, (top, value, h))
+fault_of_bytes bytes top fault.Memory short value h other = absurd (other refl)
 
 pub result_of_bytes : (bytes : List ℕ) (top : Data) (r : Result Network ReadFault) → length bytes ≤ longest → IsValueOf bytes top →
-    IfErr r (OnContents (IsFirstFaultOf top)) → IfErr r (OrMemory (IsFirstFault bytes))
+    IfErr r (OnContents (IsFirstFaultOf top)) → IfErr r (λ e. e ≢ fault.Memory → IsFirstFault bytes e)
 result_of_bytes bytes top (Ok g) short value h = tt
 result_of_bytes bytes top (Err e) short value h = fault_of_bytes bytes top e short value h

@@ -11,11 +11,6 @@ abbrev pub RefusesAt : Option Place → PlaceFault → Type 0
 RefusesAt broken (At place) = broken ≡ Some place
 RefusesAt broken Memory = Unit {0}
 
--- want of memory, or a fault of which P holds
-abbrev pub OrMemory : (ReadFault → Type 0) → ReadFault → Type 0
-OrMemory P fault.Memory = Unit {0}
-OrMemory P other = P other
-
 -- want of memory, or a fault of which P holds; none of the faults of the bytes as a whole
 abbrev pub OnContents : (ReadFault → Type 0) → ReadFault → Type 0
 OnContents P fault.Memory = Unit {0}

@@ -14,6 +14,7 @@ mod faults;
 mod fields;
 mod instance;
 mod kinds;
+mod laws;
 mod levels;
 mod limits;
 mod nodes;
@@ -27,6 +28,7 @@ mod types;
 
 pub use faults::{LimitFault, ReadFault};
 pub use instance::Instance;
+pub use laws::bytes_mean_one_thing;
 pub use places::{Key, Part, Place};
 pub use read::read_instance;
 

@@ -1,11 +1,12 @@
 //! Reads an instance: the rules in their order.
 
-ghost use Rattle.std.specs.Prelude.{◌≡◌, IfOk, IfErr};
+ghost use Rattle.std.specs.Prelude.{◌≡◌, ◌≢◌, IfOk, IfErr};
 ghost use Rattle.serde_json.specs.View.{view};
 ghost use Rattle.instance_reader.specs.Faults.{AreGood, IsFirstFault, IsFirstFaultIn, IsFirstFaultOf, IsInstanceOf, IsMeantBy, Means, early_fault, size_fault};
 ghost use Rattle.instance_reader.specs.Meaning.{AreCurveNumbers};
-ghost use Rattle.instance_reader.specs.Refusal.{OnContents, OrMemory, Refuses};
+ghost use Rattle.instance_reader.specs.Refusal.{OnContents, Refuses};
 ghost use Rattle.instance_reader.specs.Views.{contents_view};
+ghost use Rattle.instance_reader.specs.declared.faults.ReadFault.TheVariants.{Memory};
 
 use crate::build::build;
 use crate::curves::{curves, scaled};
@@ -44,7 +45,7 @@ const MOST_DENOMINATOR: u64 = 1_000_000_000;
 /// them.
 pub fn read_instance(alloc: Global, bytes: &[u8]) -> Result<Instance, ReadFault>
     ensures instance { IfOk result (IsInstanceOf bytes.now) }
-    ensures fault { IfErr result (OrMemory (IsFirstFault bytes.now)) }
+    ensures fault { IfErr result (λ fault. fault ≢ Memory → IsFirstFault bytes.now fault) }
 {
     if bytes.len() > MOST_BYTES {
         return Err(ReadFault::TooLong { len: bytes.len() });

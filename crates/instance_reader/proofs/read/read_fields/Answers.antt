@@ -2,7 +2,6 @@ use Rattle.std.proofs.Common.{◌≡◌, ◌∙◌, None, Some, sym}
 use Rattle.std.proofs.lemmas.Result.{err_from_is_err_and}
 use Rattle.instance_reader.proofs.FaultsLemmas.{denominator_fault, denominator_is, horizon_fault, level_fault, meant_by, multiple_of_curves, parts_of}
 use Rattle.instance_reader.specs.Levels.{first_level_past_full}
-use Rattle.instance_reader.specs.Limits.{past_horizon}
 use Rattle.instance_reader.specs.Meaning.{given_limit}
 use Rattle.instance_reader.specs.Views.{contents_view}
 use Rattle.instance_reader.proofs.read.read_fields.Goals as goal
