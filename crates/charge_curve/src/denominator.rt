@@ -9,8 +9,8 @@ use crate::curve::Curve;
 use ev_units::{gcd, lcm_below};
 
 /// The denominator of curves: the least common multiple of the denominators in lowest terms of the
-/// slopes (time over charge) of all segments that begin below the full battery of their curve. It is
-/// 1 where there is no curve.
+/// slopes (time over charge) of all segments that begin below the full battery of their curve. It
+/// is 1 where there is no curve.
 ///
 /// `None` comes exactly where it is past `limit`. It takes no memory.
 pub fn common_denominator(curves: &[Curve], limit: u64) -> Option<u64>
@@ -63,7 +63,8 @@ fn with_slope(from: (u64, u64), to: (u64, u64), denominator: u64, limit: u64) ->
     requires positive { 0 < denominator }
     ensures some { IfSome result (λ d. (0 < d) × (d ≤ limit)
         × AreMultiples (λ e. (denominator ∣ e) × IsMultipleOfSlope from to e) d) }
-    ensures none { IfNone result (IsPast limit (λ e. (denominator ∣ e) × IsMultipleOfSlope from to e)) }
+    ensures none { IfNone result
+        (IsPast limit (λ e. (denominator ∣ e) × IsMultipleOfSlope from to e)) }
 {
     let reduced = reduced_denominator(from, to);
     match lcm_below(denominator as u128, reduced as u128, limit as u128) {

@@ -1,4 +1,5 @@
-//! Laws that say that the definitions mean what they should. Each is the contract of an empty function.
+//! Laws that say that the definitions mean what they should. Each is the contract of an empty
+//! function.
 
 ghost use Rattle.std.specs.Prelude.{◌≡◌, ℕ, List};
 ghost use Rattle.std.specs.List.{All};
@@ -14,7 +15,8 @@ pub fn curves_have_one_denominator()
         → IsCommonDenominator curves d → IsCommonDenominator curves e → d ≡ e }
 {}
 
-/// Where all curves are cut at the same full battery, their denominator is that of their breakpoints.
+/// Where all curves are cut at the same full battery, their denominator is that of their
+/// breakpoints.
 pub fn denominator_is_that_of_the_breakpoints()
     ensures { (curves : List CutCurve) (full d : ℕ) → All (λ c. c.full ≡ full) curves
         → IsCommonDenominator curves d → IsDenominator full (points_of curves) d }

@@ -31,7 +31,8 @@ impl Model for Scaled {
 }
 
 impl Curve {
-    /// The curve with its times multiplied by `d`, which makes the charge time to every whole level whole.
+    /// The curve with its times multiplied by `d`, which makes the charge time to every whole level
+    /// whole.
     pub fn scale(&self, d: u64) -> Result<Scaled, AllocError>
         requires small { d ≤ 10 ^ 9 }
         requires multiple { IsMultipleOfSlopes self.now.full self.now.points d }

@@ -11,10 +11,18 @@ use Rattle.instance_reader.specs.declared.faults.ReadFault.TheVariants.{Denomina
 abbrev pub IsDenominatorOf : Contents → ℕ → Type 0
 IsDenominatorOf c d = IsDenominator c.capacity (all_points c.curves) d
 
-abbrev pub large_denominator : ℕ → Option ReadFault
-large_denominator d = then_some (nat_lt (10 ^ 9) d) Denominator
+-- the greatest denominator
+abbrev pub most_denominator : ℕ
+most_denominator = 10 ^ 9
 
--- a limit that is given is scaled past 10^18
+-- the greatest scaled limit
+abbrev pub horizon : ℕ
+horizon = 10 ^ 18
+
+abbrev pub large_denominator : ℕ → Option ReadFault
+large_denominator d = then_some (nat_lt most_denominator d) Denominator
+
+-- a limit that is given is scaled past the horizon
 abbrev pub past_horizon : ℕ → Option ℕ → Option ReadFault
 past_horizon d None = None
-past_horizon d (Some limit) = then_some (nat_lt (10 ^ 18) (d * limit)) (Horizon limit)
+past_horizon d (Some limit) = then_some (nat_lt horizon (d * limit)) (Horizon limit)

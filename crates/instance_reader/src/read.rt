@@ -35,11 +35,11 @@ const MOST_DENOMINATOR: u64 = 1_000_000_000;
 /// The top value is an object with the keys `max_q` (the charge of a full battery), `css` (the
 /// stations, each with a `node_id` and a type), `breakpoints_by_type` (the charging curves, each
 /// with a type, its breakpoints as `time` and `charge`, and maybe the time to plug in as
-/// `plug_time`), `process_times` (by node, missing ones are 0), `energy_matrix` and `time_matrix` (by
-/// the node left and the node reached), and maybe `t_max` and `max_t` (limits on the time of a route,
-/// of which the smaller holds), `min_q` (the reserve) and `home_q` (the least level on arriving at
-/// the end of a route). A type stands under `cs_type`, or under `type` where that is absent. Other
-/// keys are passed over. All numbers are whole.
+/// `plug_time`), `process_times` (by node, missing ones are 0), `energy_matrix` and `time_matrix`
+/// (by the node left and the node reached), and maybe `t_max` and `max_t` (limits on the time of a
+/// route, of which the smaller holds), `min_q` (the reserve) and `home_q` (the least level on
+/// arriving at the end of a route). A type stands under `cs_type`, or under `type` where that is
+/// absent. Other keys are passed over. All numbers are whole.
 ///
 /// The answer is the instance that the bytes mean, or the first broken rule, as [`ReadFault`] lists
 /// them.
