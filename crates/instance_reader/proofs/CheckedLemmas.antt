@@ -6,13 +6,14 @@ use Rattle.std.proofs.lemmas.List.Elements.{All-cons, All-head, All-nil, All-tai
 use Rattle.std.specs.Bool.{then_some}
 use Rattle.std.specs.Option.{option_or}
 use Rattle.charge_curve.specs.CutCurve.{IsSmall}
+use Rattle.ev_model.specs.Network.{most_nodes}
 use Rattle.instance_reader.specs.Checked.{HasLevels, HasShape, HasSmallNumbers}
 use Rattle.instance_reader.specs.Contents.{Contents, CurveOfType, nodes_of, points_of}
 use Rattle.instance_reader.specs.Levels.{first_level_past_full}
 use Rattle.instance_reader.specs.Places.{at_key, item_of, part_of}
 use Rattle.instance_reader.specs.Search.{first_along, look_along}
-use Rattle.instance_reader.specs.Shapes.{first_wrong_shape, odd_row, odd_row_in, uneven}
-use Rattle.instance_reader.specs.Sizes.{first_large, large, large_in, large_in_curve, large_in_rows}
+use Rattle.instance_reader.specs.Shapes.{first_wrong_shape, most_types, odd_row, odd_row_in, uneven}
+use Rattle.instance_reader.specs.Sizes.{first_large, large, large_in, large_in_curve, large_in_rows, most_number}
 use Rattle.instance_reader.specs.declared.places.Key.TheVariants.{MaxQ, Breaks, Service, Energy, Time, MinQ, HomeQ}
 use Rattle.instance_reader.specs.declared.places.Part.TheVariants as part
 use Rattle.instance_reader.specs.declared.places.Place.{Place}
@@ -36,7 +37,7 @@ nothing_along search_in P each number (x ∷ xs) h =
 
 small_number : (place : Place) (number : ℕ) → large place number ≡ None → number ≤ 10 ^ 9
 small_number place number h =
-    let test = unbroken (nat_lt (10 ^ 9) number) place h in
+    let test = unbroken (nat_lt most_number number) place h in
     grind (arith, nat_tests, test)
 
 small_numbers : (place : Place) (numbers : List ℕ) → large_in place numbers ≡ None → All (λ number. number ≤ 10 ^ 9) numbers
@@ -107,15 +108,15 @@ right_rows nodes place rows h =
 pub shaped_contents : (c : Contents) → first_wrong_shape c ≡ None → HasShape c
 unfolding first_wrong_shape
 shaped_contents c h =
-    let a = neither (then_some (nat_lt 16 (length c.curves)) (at_key Breaks)) _ h in
+    let a = neither (then_some (nat_lt most_types (length c.curves)) (at_key Breaks)) _ h in
     let b = neither (look_along uneven (at_key Breaks) c.curves) _ a.1 in
     let d = neither (then_some (nat_lt (nodes_of c) (length c.process_times)) (at_key Service)) _ b.1 in
-    let e = neither (then_some (nat_eq (nodes_of c) 0 || nat_lt 400 (nodes_of c)) (at_key Energy)) _ d.1 in
+    let e = neither (then_some (nat_eq (nodes_of c) 0 || nat_lt most_nodes (nodes_of c)) (at_key Energy)) _ d.1 in
     let f = neither (odd_row_in (nodes_of c) (at_key Energy) c.energies) _ e.1 in
     let g = neither (then_some (not (nat_eq (length c.times) (nodes_of c))) (at_key Time)) _ f.1 in
     let i = neither (odd_row_in (nodes_of c) (at_key Time) c.times) None g.1 in
     let few_times = unbroken (nat_lt (nodes_of c) (length c.process_times)) (at_key Service) d.0 in
-    let range = or_parts (nat_eq (nodes_of c) 0) (nat_lt 400 (nodes_of c)) (unbroken (nat_eq (nodes_of c) 0 || nat_lt 400 (nodes_of c)) (at_key Energy) e.0) in
+    let range = or_parts (nat_eq (nodes_of c) 0) (nat_lt most_nodes (nodes_of c)) (unbroken (nat_eq (nodes_of c) 0 || nat_lt most_nodes (nodes_of c)) (at_key Energy) e.0) in
     let count = unbroken (not (nat_eq (length c.times) (nodes_of c))) (at_key Time) g.0 in
     record {
       some_node = grind (arith, nat_tests, range);

@@ -1,5 +1,5 @@
 -- The rule on levels: the reserve and the level at home are within a full battery.
-use Rattle.std.specs.Prelude.{ℕ, [], ◌∷◌, Option, nat_lt}
+use Rattle.std.specs.Prelude.{[], ◌∷◌, Option, nat_lt}
 use Rattle.std.specs.Bool.{then_some}
 use Rattle.instance_reader.specs.Contents.{Contents}
 use Rattle.instance_reader.specs.Places.{at_key}

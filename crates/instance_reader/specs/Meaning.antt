@@ -1,8 +1,9 @@
 -- The network that the contents of an instance file mean.
-use Rattle.std.specs.Prelude.{◌≡◌, ℕ, ◌<◌, ◌-◌, ◌/◌, ◌^◌, ◌++◌, List, Option, None, Some, find, length, map, min, option_and_then, option_map, replicate, slice_get, slice_index_or, unwrap_or}
+use Rattle.std.specs.Prelude.{◌≡◌, ℕ, ◌<◌, ◌-◌, ◌/◌, ◌++◌, List, Option, None, Some, find, length, map, min, option_and_then, option_map, replicate, slice_get, slice_index_or, unwrap_or}
 use Rattle.std.specs.List.{range_with_len}
 use Rattle.ev_model.specs.Network.{Network}
 use Rattle.instance_reader.specs.Contents.{Contents, CurveOfType, nodes_of, points_of}
+use Rattle.instance_reader.specs.Limits.{horizon}
 use Rattle.instance_reader.specs.Nodes.{station_at}
 use Rattle.instance_reader.specs.Values.{Name, same_name}
 
@@ -37,9 +38,9 @@ smaller (Some a) (Some b) = Some (min a b)
 abbrev pub given_limit : Contents → Option ℕ
 given_limit c = smaller c.t_max c.max_t
 
--- where no limit is given it is the greatest whose scaled time is at most 10^18
+-- where no limit is given it is the greatest that is not scaled past the horizon
 abbrev pub limit_of : ℕ → Contents → ℕ
-limit_of denominator c = unwrap_or (given_limit c) (10 ^ 18 / denominator)
+limit_of denominator c = unwrap_or (given_limit c) (horizon / denominator)
 
 -- the network, where the denominator of the curves is known; process times that are missing are 0
 unfoldable pub network_of : ℕ → Contents → Network

@@ -116,7 +116,8 @@ impl Instance {
     /// The scaled curve of the station at a node, `None` exactly where the node has no station.
     pub fn curve_at(&self, node: usize) -> Option<&Scaled>
         requires { node < node_count self.now }
-        ensures { MatchOption result (curve_at self.now node ≡ None) (λ s. IsCurveAt self.now node s.now) }
+        ensures { MatchOption result (curve_at self.now node ≡ None)
+            (λ s. IsCurveAt self.now node s.now) }
     {
         match self.curve_numbers[node] {
             Some(number) => Some(&self.curves[number].scaled),

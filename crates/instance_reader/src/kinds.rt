@@ -62,7 +62,8 @@ fn limit(value: Option<&Value>, place: Place) -> Result<Option<u64>, PlaceFault>
 /// The items of an array.
 #[tactic(auto, using(crate::proofs::ValuesLemmas::values_lemmas))]
 fn items(value: Option<&Value>) -> Option<&[Value]>
-    ensures { option_map (λ s. map view s.now) result ≡ option_and_then array_of (data_of value.entry) }
+    ensures { option_map (λ s. map view s.now) result
+        ≡ option_and_then array_of (data_of value.entry) }
 {
     match value.and_then(Value::as_array) {
         Some(items) => Some(items.as_slice()),
@@ -110,7 +111,8 @@ fn row_items(alloc: Global, items: &[Value], place: Place) -> Result<Vec<Vec<u64
     ensures kind { IfOk result
         (λ _. look_along (λ at d. not_wholes at (Some d)) place (map view items.now) ≡ None) }
     ensures value { IfOk result
-        (λ v. map (λ row. row.items) v.items ≡ map (λ d. numbers_in (Some d)) (map view items.now)) }
+        (λ v. map (λ row. row.items) v.items
+        ≡ map (λ d. numbers_in (Some d)) (map view items.now)) }
     ensures err { IfErr result
         (RefusesAt (look_along (λ at d. not_wholes at (Some d)) place (map view items.now))) }
 {

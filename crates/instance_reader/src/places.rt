@@ -45,8 +45,8 @@ pub enum Part {
 
 /// Where a value stands in an instance file: under `key`, there in the item number `i`, of that in
 /// the part `part`, and there in the item number `j`. Items are numbered from 0, and what isn't
-/// there is `None`: the energy of the arc from node 2 to node 3 stands under `energy_matrix` with `i`
-/// 2, no part, and `j` 3.
+/// there is `None`: the energy of the arc from node 2 to node 3 stands under `energy_matrix` with
+/// `i` 2, no part, and `j` 3.
 #[derive(Clone, Copy, Debug, PartialEq, Eq)]
 pub struct Place {
     pub key: Key,

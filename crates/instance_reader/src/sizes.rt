@@ -8,7 +8,7 @@ ghost use Rattle.instance_reader.specs.Views.{contents_view, curve_view};
 use crate::fields::{CurveEntry, Fields};
 use crate::places::{Key, Part, Place};
 
-/// The largest number that a matrix, a curve, a process time, a time to plug in or a level may have.
+/// The largest number that a matrix, a curve, a process time, a time to plug in or a level may be.
 const MOST: u64 = 1_000_000_000;
 
 /// The place of a number that is past the limit.

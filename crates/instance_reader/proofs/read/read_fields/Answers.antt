@@ -2,7 +2,6 @@ use Rattle.std.proofs.Common.{◌≡◌, ◌∙◌, None, Some, sym}
 use Rattle.std.proofs.lemmas.Result.{err_from_is_err_and}
 use Rattle.instance_reader.proofs.FaultsLemmas.{denominator_fault, denominator_is, horizon_fault, level_fault, meant_by, multiple_of_curves, parts_of}
 use Rattle.instance_reader.specs.Levels.{first_level_past_full}
-use Rattle.instance_reader.specs.Limits.{past_horizon}
 use Rattle.instance_reader.specs.Meaning.{given_limit}
 use Rattle.instance_reader.specs.Views.{contents_view}
 use Rattle.instance_reader.proofs.read.read_fields.Goals as goal
@@ -39,11 +38,6 @@ returns-in-Some-first_level_past_full-clause-fault c =
     let past : first_level_past_full contents ≡ Some c.in-Some-first_level_past_full.place = sym c.first_level_past_full.ensures ∙ c.in-Some-first_level_past_full.is in
     level_fault contents c.in_ok-curves.field-0.curves.items c.in-Some.denominator c.in-Some-first_level_past_full.place c.in_ok-curves.ensures.good is
     c.in-Some.ensures.within within past
-
-pub scaled-requires-clause-some : goal.scaled-requires-clause-some
-scaled-requires-clause-some c =
-    let told = rw c.as_slice.ensures.value at c.in-Some.ensures.some in
-    (denominator_is (contents_view c.args.fields) c.in_ok-curves.field-0.curves.items c.in-Some.denominator c.in_ok-curves.ensures.good told).some
 
 pub scaled-requires-clause-multiple : goal.scaled-requires-clause-multiple
 scaled-requires-clause-multiple c =
