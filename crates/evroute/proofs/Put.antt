@@ -46,7 +46,7 @@ pub refusal_answers : (job : CheckJob) (files : Option Files) (bytes given : Lis
 refusal_answers job files bytes given ended refusal read same is refused =
     let plan = some_read files job.plan in
     let first : IsCheckEnded job.limit bytes plan.0 (Refused refusal) = subst (λ (e : Ended). IsCheckEnded job.limit bytes plan.0 e) is (subst (λ (bs : List ℕ). IsCheckEnded job.limit bs plan.0 ended) same (refused plan.0)) in
-    (bytes, read, (plan.0, plan.1, record { refusal = refusal; refused = first; text_is = refl }))
+    (bytes, read, (plan.0, plan.1, record { refusal = refusal; rule = first.0; refused = first.1; text_is = refl }))
 
 -- the network was read for the job, where the files stayed
 pub read_for : (job : CheckJob) (files later : Option Files) (bytes given : List ℕ) (g : Network) →

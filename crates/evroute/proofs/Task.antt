@@ -21,8 +21,8 @@ pub ended_of : (options : Options) (word bytes : List ℕ) (ended : Ended) → I
 ended_of options word bytes Memory is = tt
 ended_of options word bytes (Refused (refusal.Instance fault)) is = is
 ended_of options word bytes (Refused (refusal.Limit limit)) is = is
-ended_of options word bytes (Refused (refusal.Customers count)) is = absurd is
-ended_of options word bytes (Refused (refusal.Charge level)) is = absurd is
-ended_of options word bytes (Refused (refusal.Route fault)) is = absurd is
-ended_of options word bytes (Refused (refusal.Levels cells)) is = absurd is
-ended_of options word bytes (Refused (refusal.Plan fault)) is = absurd is
+ended_of options word bytes (Refused (refusal.Customers count)) is = absurd is.1
+ended_of options word bytes (Refused (refusal.Charge level)) is = absurd is.1
+ended_of options word bytes (Refused (refusal.Route fault)) is = absurd is.1
+ended_of options word bytes (Refused (refusal.Levels cells)) is = absurd is.1
+ended_of options word bytes (Refused (refusal.Plan fault)) is = absurd is.1

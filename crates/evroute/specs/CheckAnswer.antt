@@ -7,7 +7,7 @@ use Rattle.instance_reader.specs.Instance.{customer_nodes}
 use Rattle.plan_check.specs.FleetRules.{IsFirstBroken, stops_of}
 use Rattle.plan_check.specs.declared.fault.PlanFault.{PlanFault}
 use Rattle.plan_writer.specs.CheckText.{check_text}
-use Rattle.plan_writer.specs.RefusalText.{refusal_text}
+use Rattle.plan_writer.specs.RefusalText.{IsRule, refusal_text}
 use Rattle.plan_writer.specs.declared.check.Judgement.TheVariants as judgement
 use Rattle.plan_writer.specs.declared.refusal.Refusal.{Refusal}
 use Rattle.plan_writer.specs.declared.refusal.Refusal.TheVariants as refusal
@@ -67,6 +67,7 @@ pub record PutsRejected (limit : Option ℕ) (bytes plan_bytes text : List ℕ) 
 -- the first broken rule of the instance, the words or the plan's text
 pub record PutsCheckRefusal (limit : Option ℕ) (bytes plan_bytes text : List ℕ) : Type 0 where
   pub refusal : Refusal
+  pub rule : IsRule refusal
   pub refused : IsCheckRefused limit bytes plan_bytes refusal
   pub text_is : text ≡ refusal_text refusal
 

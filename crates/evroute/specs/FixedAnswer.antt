@@ -8,7 +8,7 @@ use Rattle.instance_reader.specs.Faults.{IsFirstFault}
 use Rattle.ev_model.specs.Fastest.{HasNoPlan, IsFastest}
 use Rattle.level_table.specs.Answer.{cell_count}
 use Rattle.plan_writer.specs.FixedText.{fixed_text}
-use Rattle.plan_writer.specs.RefusalText.{refusal_text}
+use Rattle.plan_writer.specs.RefusalText.{IsRule, refusal_text}
 use Rattle.plan_writer.specs.declared.refusal.Refusal.{Refusal}
 use Rattle.plan_writer.specs.declared.refusal.Refusal.TheVariants as refusal
 use Rattle.route_plan.specs.RouteRules.{route_in}
@@ -67,6 +67,7 @@ pub record PutsInfeasible (options : Options) (word bytes text : List ℕ) : Typ
 -- the first broken rule
 pub record PutsRefusal (options : Options) (word bytes text : List ℕ) : Type 0 where
   pub refusal : Refusal
+  pub rule : IsRule refusal
   pub refused : IsRefused options word bytes refusal
   pub text_is : text ≡ refusal_text refusal
 

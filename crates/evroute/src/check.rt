@@ -3,7 +3,7 @@
 ghost use Rattle.std.specs.Prelude.{◌≡◌, ◌≤◌, IfErr, IfOk, List, Ok, Option, option_map, ℕ};
 ghost use Rattle.ev_model.specs.Network.{Network};
 ghost use Rattle.evroute.specs.CheckAnswer.{CheckAnswers, HasFleetNetwork, customer_count, most_customers};
-ghost use Rattle.evroute.specs.Ended.{IsCheckEnded};
+ghost use Rattle.evroute.specs.Ended.{IsCheckEnded, IsRuleOrMemory};
 ghost use Rattle.evroute.specs.Run.{IsAnswered};
 ghost use Rattle.plan_writer.specs.CheckText.{check_text};
 ghost use Rattle.plan_writer.specs.declared.check.Judgement.TheVariants as judgement;
@@ -24,6 +24,7 @@ const MOST_CUSTOMERS: usize = 128;
 /// The instance of the bytes for a fleet: with the limit of the words, and without too many customers.
 pub fn fleet_instance(alloc: Global, bytes: &[u8], limit: Option<u64>) -> Result<Instance, Ended>
     ensures ok { IfOk result (HasFleetNetwork limit bytes.now) }
+    ensures rule { IfErr result IsRuleOrMemory }
     ensures ended { (plan_bytes : List ℕ) → IfErr result (IsCheckEnded limit bytes.now plan_bytes) }
 {
     let inst = limited_instance(alloc, bytes, limit)?;
@@ -50,6 +51,7 @@ pub fn judged(alloc: Global, inst: &Instance, bytes: &[u8]) -> Result<Answer, Al
 /// The fleet plan of a plan file, or none where it says so.
 fn plan_of(alloc: Global, bytes: &[u8]) -> Result<Option<FleetPlan>, Ended>
     ensures ok { IfOk result (λ plan. fleet_plan_in bytes.now ≡ Ok plan) }
+    ensures rule { IfErr result IsRuleOrMemory }
     ensures ended { (limit : Option ℕ) (file : List ℕ) (g : Network) → HasFleetNetwork limit file g → IfErr result (IsCheckEnded limit file bytes.now) }
 {
     match read_fleet_plan(alloc, bytes) {

@@ -6,7 +6,7 @@ ghost use Rattle.ev_outside.specs.Counts.{NeverFalls, Rose};
 ghost use Rattle.ev_outside.specs.Sink.{Adds, AddsPrefix};
 ghost use Rattle.evroute.specs.CheckAnswer.{customer_count, most_customers};
 ghost use Rattle.evroute.specs.Run.{HasFaultCause, IsAnswered, IsReadFor, PutsAnswer, PutsPart};
-ghost use Rattle.plan_writer.specs.RefusalText.{refusal_text};
+ghost use Rattle.plan_writer.specs.RefusalText.{IsRule, refusal_text};
 
 use crate::answer::{Ended, refused};
 use crate::check::{fleet_instance, judged};
@@ -135,6 +135,7 @@ fn check_plan<S: Shelf, K: Sink>(
 
 /// Puts the line of a refusal.
 fn put_refusal<K: Sink>(alloc: Global, refusal: Refusal, out: &mut K) -> Status
+    requires { IsRule refusal }
     ensures answer { IsAnswered result → (result ≡ Status.Refused) × Adds (K.written out.old) (K.written out.new) (refusal_text refusal) }
     ensures part { (K.written out.new ≡ K.written out.old) ⊎ AddsPrefix (K.written out.old) (K.written out.new) (refusal_text refusal) }
     ensures fault { result ≡ Status.Fault → Rose (K.faults out.old) (K.faults out.new) }
