@@ -51,16 +51,15 @@ impl MemorySink {
 }
 
 impl Sink for MemorySink {
-    ghost written = { λ sink. Some sink.bytes };
-
-    ghost faults = { λ sink. sink.faults };
+    ghost state = { λ sink. record { written = Some sink.bytes; faults = sink.faults } };
 
     /// Keeps the bytes. A call that is to fail keeps the first half of them, rounded down.
     fn put(&mut self, bytes: &[u8]) -> Result<(), SinkFault>
         ensures bytes { OnOk result (Adds (Some self.old.bytes) (Some self.new.bytes) bytes.now) }
         ensures prefix { OnErr result (AddsPrefix (Some self.old.bytes) (Some self.new.bytes) bytes.now) }
         ensures failed { IsErrOf result SinkFault.Failed → Rose self.old.faults self.new.faults }
-        ensures counts { self.old.faults ≤ self.new.faults }
+        ensures falls { self.old.faults ≤ self.new.faults }
+        ensures stays { (IsErrOf result SinkFault.Failed → ⊥) → self.new.faults ≡ self.old.faults }
 
         // Exactly what this sink does.
         ensures kept { OnOk result ((IsNextToFail self.old → ⊥) × (self.new ≡ record self.old { bytes = self.old.bytes ++ bytes.now; calls = one_more self.old.calls })) }
