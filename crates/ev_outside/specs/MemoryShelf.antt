@@ -1,5 +1,5 @@
 -- What a shelf in memory holds, and how it counts.
-use Rattle.std.specs.Prelude.{◌≡◌, ◌≢◌, ℕ, Contains, List, [], ◌∷◌, ◌++◌, map, Some, string_bytes}
+use Rattle.std.specs.Prelude.{◌≡◌, ◌≢◌, ℕ, Contains, List, [], ◌∷◌, ◌++◌, map, None, Some, string_bytes}
 use Rattle.std.specs.List.{count_by}
 use Rattle.std.specs.Option.{option_map}
 use Rattle.std.specs.Str.{bytes_eq}
@@ -37,6 +37,10 @@ told_by shelf = record {
   failed_reads = times_in (state_of shelf).failed_reads;
   failed_writes = times_in (state_of shelf).failed_writes;
 }
+
+-- no file and no call yet, where the calls with these numbers are to fail
+abbrev pub empty_with : List ℕ → MemoryState
+empty_with fails = record { files = λ name. None; failed_reads = []; failed_writes = []; calls = 0; fails = fails }
 
 -- one call was counted
 abbrev pub one_call_more : MemoryState → MemoryState

@@ -51,7 +51,8 @@ impl<'a, R: Files> Shelf for FileShelf<'a, R> {
         ensures files { (untold self.new).files ≡ (untold self.old).files }
         ensures failed { IsErrOf result ShelfFault.Failed → Rose self.old self.new }
         ensures falls { CountsNeverFall (untold self.old) (untold self.new) }
-        ensures stays { (IsErrOf result ShelfFault.Failed → ⊥) → CountsStay (untold self.old) (untold self.new) }
+        ensures stays { (IsErrOf result ShelfFault.Failed → ⊥)
+            → CountsStay (untold self.old) (untold self.new) }
 
         // Exactly what this shelf counts.
         ensures counted { IsErrOf result ShelfFault.Failed → self.new ≡ one_more self.old }
@@ -70,10 +71,12 @@ impl<'a, R: Files> Shelf for FileShelf<'a, R> {
     fn write(&mut self, name: &str, bytes: &[u8]) -> Result<(), ShelfFault>
         ensures bytes { OnOk result (HoldsUnder (untold self.new).files name.now bytes.now) }
         ensures others { KeepsOthers name.now (untold self.old).files (untold self.new).files }
-        ensures memory { IsErrOf result ShelfFault.Memory → (untold self.new).files ≡ (untold self.old).files }
+        ensures memory { IsErrOf result ShelfFault.Memory
+            → (untold self.new).files ≡ (untold self.old).files }
         ensures failed { IsErrOf result ShelfFault.Failed → Rose self.old self.new }
         ensures falls { CountsNeverFall (untold self.old) (untold self.new) }
-        ensures stays { (IsErrOf result ShelfFault.Failed → ⊥) → CountsStay (untold self.old) (untold self.new) }
+        ensures stays { (IsErrOf result ShelfFault.Failed → ⊥)
+            → CountsStay (untold self.old) (untold self.new) }
 
         // Exactly what this shelf counts.
         ensures counted { IsErrOf result ShelfFault.Failed → self.new ≡ one_more self.old }

@@ -32,18 +32,23 @@ pub trait Shelf {
         ensures prefix { OnErr result (IsPrefixOf into.old.items into.new.items) }
         ensures files { (state self.new).files ≡ (state self.old).files }
         ensures failed { IsErrOf result ShelfFault.Failed
-            → Rose ((state self.old).failed_reads name.now) ((state self.new).failed_reads name.now) }
+            → Rose ((state self.old).failed_reads name.now)
+            ((state self.new).failed_reads name.now) }
         ensures falls { CountsNeverFall (state self.old) (state self.new) }
-        ensures stays { (IsErrOf result ShelfFault.Failed → ⊥) → CountsStay (state self.old) (state self.new) };
+        ensures stays { (IsErrOf result ShelfFault.Failed → ⊥)
+            → CountsStay (state self.old) (state self.new) };
 
     /// Leaves exactly these bytes under the name. After `Failed` nothing is known of the bytes
     /// under this name. No count rises but where the call answers `Failed`.
     fn write(&mut self, name: &str, bytes: &[u8]) -> Result<(), ShelfFault>
         ensures bytes { OnOk result (HoldsUnder (state self.new).files name.now bytes.now) }
         ensures others { KeepsOthers name.now (state self.old).files (state self.new).files }
-        ensures memory { IsErrOf result ShelfFault.Memory → (state self.new).files ≡ (state self.old).files }
+        ensures memory { IsErrOf result ShelfFault.Memory
+            → (state self.new).files ≡ (state self.old).files }
         ensures failed { IsErrOf result ShelfFault.Failed
-            → Rose ((state self.old).failed_writes name.now) ((state self.new).failed_writes name.now) }
+            → Rose ((state self.old).failed_writes name.now)
+            ((state self.new).failed_writes name.now) }
         ensures falls { CountsNeverFall (state self.old) (state self.new) }
-        ensures stays { (IsErrOf result ShelfFault.Failed → ⊥) → CountsStay (state self.old) (state self.new) };
+        ensures stays { (IsErrOf result ShelfFault.Failed → ⊥)
+            → CountsStay (state self.old) (state self.new) };
 }

@@ -25,9 +25,13 @@ pub trait Sink {
     /// Adds the bytes at the end of what was written. After a refusal a prefix of them was added. The
     /// count doesn't rise but where the call answers `Failed`.
     fn put(&mut self, bytes: &[u8]) -> Result<(), SinkFault>
-        ensures bytes { OnOk result (Adds (state self.old).written (state self.new).written bytes.now) }
-        ensures prefix { OnErr result (AddsPrefix (state self.old).written (state self.new).written bytes.now) }
-        ensures failed { IsErrOf result SinkFault.Failed → Rose (state self.old).faults (state self.new).faults }
+        ensures bytes { OnOk result
+            (Adds (state self.old).written (state self.new).written bytes.now) }
+        ensures prefix { OnErr result
+            (AddsPrefix (state self.old).written (state self.new).written bytes.now) }
+        ensures failed { IsErrOf result SinkFault.Failed
+            → Rose (state self.old).faults (state self.new).faults }
         ensures falls { (state self.old).faults ≤ (state self.new).faults }
-        ensures stays { (IsErrOf result SinkFault.Failed → ⊥) → (state self.new).faults ≡ (state self.old).faults };
+        ensures stays { (IsErrOf result SinkFault.Failed → ⊥)
+            → (state self.new).faults ≡ (state self.old).faults };
 }

@@ -33,7 +33,8 @@ pub fn check<S: Shelf>(
     job: CheckWords<'_>,
     shelf: &mut S,
 ) -> Result<Answer, ShelfFault>
-    ensures { Finds (job_value (Job.Check job.entry)) (S.state shelf.old) (S.state shelf.new) result }
+    ensures { Finds (job_value (Job.Check job.entry))
+        (S.state shelf.old) (S.state shelf.new) result }
 {
     let bytes = match read_file(alloc, job.file, shelf) {
         Ok(bytes) => bytes,
@@ -127,7 +128,8 @@ fn plan_of(alloc: Global, bytes: &[u8]) -> Result<Option<FleetPlan>, Ended>
 fn reported(alloc: Global, inst: &Instance, plan: Option<&FleetPlan>) -> Result<Answer, AllocError>
     requires { customer_count inst.now ≤ most_customers }
     ensures answered { IfOk result (λ a. IsAnswered a.status) }
-    ensures answers { (limit : Option ℕ) (file plan_bytes : List ℕ) → HasFleetNetwork limit file inst.now
+    ensures answers { (limit : Option ℕ) (file plan_bytes : List ℕ)
+        → HasFleetNetwork limit file inst.now
         → SpellsFleetPlan plan_bytes (option_map (λ p. p.now) plan.entry)
         → IfOk result (λ a. CheckAnswers limit file plan_bytes a.status a.text.items) }
 {
@@ -157,7 +159,8 @@ fn accepted(alloc: Global, inst: &Instance, cost: Option<u128>) -> Result<Answer
 /// The report on plans that break a rule.
 fn rejected(alloc: Global, inst: &Instance, fault: PlanFault) -> Result<Answer, AllocError>
     ensures status { IfOk result (λ a. a.status ≡ Status.Negative) }
-    ensures text { IfOk result (λ a. a.text.items ≡ check_text inst.now.denominator (judgement.Plan fault)) }
+    ensures text { IfOk result
+        (λ a. a.text.items ≡ check_text inst.now.denominator (judgement.Plan fault)) }
 {
     let mut text = Vec::new(alloc);
     push_check_report(alloc, &mut text, inst, &Judgement::Plan(fault))?;

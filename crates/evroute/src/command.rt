@@ -30,9 +30,11 @@ pub fn run<S: Shelf, K: Sink>(alloc: Global, words: &[String], shelf: &mut S, ou
     ensures nothing { result ≡ Status.Words
         → NothingDone (S.state shelf.old) (S.state shelf.new) (K.state out.old) (K.state out.new) }
     ensures job { IfSome (job_named words.now) (λ job.
-        Performs job (S.state shelf.old) (S.state shelf.new) (K.state out.old) (K.state out.new) result) }
+        Performs job (S.state shelf.old) (S.state shelf.new)
+        (K.state out.old) (K.state out.new) result) }
     ensures stays { result ≢ Status.Fault
-        → NothingFailed (S.state shelf.old) (S.state shelf.new) (K.state out.old) (K.state out.new) }
+        → NothingFailed (S.state shelf.old) (S.state shelf.new)
+        (K.state out.old) (K.state out.new) }
     ensures falls { CountsNeverFall (S.state shelf.old) (S.state shelf.new) }
 {
     match job_words(words) {
@@ -52,9 +54,11 @@ pub fn exit_code<S: Shelf, K: Sink>(
     ensures nothing { result ≡ code_of Status.Words
         → NothingDone (S.state shelf.old) (S.state shelf.new) (K.state out.old) (K.state out.new) }
     ensures job { IfSome (job_named words.now) (λ job. (ended : Status) × (result ≡ code_of ended)
-        × Performs job (S.state shelf.old) (S.state shelf.new) (K.state out.old) (K.state out.new) ended) }
+        × Performs job (S.state shelf.old) (S.state shelf.new)
+        (K.state out.old) (K.state out.new) ended) }
     ensures stays { result ≢ code_of Status.Fault
-        → NothingFailed (S.state shelf.old) (S.state shelf.new) (K.state out.old) (K.state out.new) }
+        → NothingFailed (S.state shelf.old) (S.state shelf.new)
+        (K.state out.old) (K.state out.new) }
     ensures falls { CountsNeverFall (S.state shelf.old) (S.state shelf.new) }
 {
     run(alloc, words, shelf, out).code()
@@ -63,9 +67,11 @@ pub fn exit_code<S: Shelf, K: Sink>(
 /// A job: its answer is found and put.
 fn perform<S: Shelf, K: Sink>(alloc: Global, job: Job<'_>, shelf: &mut S, out: &mut K) -> Status
     ensures words { result ≢ Status.Words }
-    ensures job { Performs (job_value job.entry) (S.state shelf.old) (S.state shelf.new) (K.state out.old) (K.state out.new) result }
+    ensures job { Performs (job_value job.entry) (S.state shelf.old) (S.state shelf.new)
+        (K.state out.old) (K.state out.new) result }
     ensures stays { result ≢ Status.Fault
-        → NothingFailed (S.state shelf.old) (S.state shelf.new) (K.state out.old) (K.state out.new) }
+        → NothingFailed (S.state shelf.old) (S.state shelf.new)
+        (K.state out.old) (K.state out.new) }
     ensures falls { CountsNeverFall (S.state shelf.old) (S.state shelf.new) }
 {
     match find_answer(alloc, job, shelf) {

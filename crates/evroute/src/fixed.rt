@@ -32,7 +32,8 @@ pub fn fixed<S: Shelf>(
     job: FixedWords<'_>,
     shelf: &mut S,
 ) -> Result<Answer, ShelfFault>
-    ensures { Finds (job_value (Job.Fixed job.entry)) (S.state shelf.old) (S.state shelf.new) result }
+    ensures { Finds (job_value (Job.Fixed job.entry))
+        (S.state shelf.old) (S.state shelf.new) result }
 {
     let bytes = match read_file(alloc, job.file, shelf) {
         Ok(bytes) => bytes,
@@ -52,7 +53,8 @@ fn answer_to(
     options: Options,
 ) -> Result<Answer, AllocError>
     ensures answered { IfOk result (λ a. IsAnswered a.status) }
-    ensures answers { IfOk result (λ a. FixedAnswers options word.now bytes.now a.status a.text.items) }
+    ensures answers { IfOk result
+        (λ a. FixedAnswers options word.now bytes.now a.status a.text.items) }
 {
     match charged(alloc, bytes, word, options) {
         Ok(answer) => Ok(answer),
@@ -129,10 +131,12 @@ fn route(alloc: Global, word: &str, inst: &Instance) -> Result<Vec<usize>, Ended
 fn solved(alloc: Global, inst: &Instance, route: &[usize], start: u64) -> Result<Answer, Ended>
     requires route { IsRoute inst.now route.now }
     requires start { start ≤ inst.now.capacity }
-    ensures ok { (options : Options) (word bytes : List ℕ) → IsTask options word bytes inst.now route.now
+    ensures ok { (options : Options) (word bytes : List ℕ)
+        → IsTask options word bytes inst.now route.now
         → start ≡ start_of inst.now options.charge
         → IfOk result (λ a. FixedAnswers options word bytes a.status a.text.items) }
-    ensures ended { (options : Options) (word bytes : List ℕ) → IsTask options word bytes inst.now route.now
+    ensures ended { (options : Options) (word bytes : List ℕ)
+        → IsTask options word bytes inst.now route.now
         → IfErr result (IsEnded options word bytes) }
     ensures answered { IfOk result (λ a. IsAnswered a.status) }
 {
@@ -153,7 +157,8 @@ fn planned(alloc: Global, inst: &Instance, start: u64, plan: &RoutePlan) -> Resu
     requires feasible { IsFeasible inst.now 1 start plan.now.stops }
     ensures status { IfOk result (λ a. a.status ≡ Status.Done) }
     ensures text { IfOk result (λ a. a.text.items
-        ≡ fixed_text inst.now.denominator (Some (plan.now.stops, time_of inst.now 1 start plan.now.stops))) }
+        ≡ fixed_text inst.now.denominator
+        (Some (plan.now.stops, time_of inst.now 1 start plan.now.stops))) }
     ensures memory { IfErr result (λ e. e ≡ Ended.Memory) }
 {
     // A feasible plan is walked to its end.

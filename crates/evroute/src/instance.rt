@@ -14,7 +14,8 @@ use std::alloc::Global;
 /// Why an instance isn't read. Want of memory is no rule, in a curve either.
 fn unread(fault: ReadFault) -> Ended
     ensures rule { IsRuleOrMemory result }
-    ensures ended { (limit : Option ℕ) (bytes : List ℕ) → IsFirstFault bytes fault → IsNetworkEnded limit bytes result }
+    ensures ended { (limit : Option ℕ) (bytes : List ℕ) → IsFirstFault bytes fault
+        → IsNetworkEnded limit bytes result }
 {
     match fault {
         ReadFault::Memory => Ended::Memory,

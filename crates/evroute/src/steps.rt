@@ -36,7 +36,8 @@ pub fn put_answer<K: Sink>(answer: &Answer, out: &mut K) -> Status
     requires { IsAnswered answer.now.status }
     ensures answer { IsAnswered result → (result ≡ answer.now.status)
         × Adds (K.state out.old).written (K.state out.new).written answer.now.text.items }
-    ensures part { AddsPrefix (K.state out.old).written (K.state out.new).written answer.now.text.items }
+    ensures part { AddsPrefix (K.state out.old).written
+        (K.state out.new).written answer.now.text.items }
     ensures fault { result ≡ Status.Fault → Rose (K.state out.old).faults (K.state out.new).faults }
     ensures stays { result ≢ Status.Fault → (K.state out.new).faults ≡ (K.state out.old).faults }
     ensures words { result ≢ Status.Words }
