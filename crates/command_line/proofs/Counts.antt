@@ -1,5 +1,5 @@
 -- Another number of words behind the command's names no job.
-use Rattle.std.proofs.Common.{◌≡◌, ◌≢◌, List, [], ◌∷◌, length, None, map, refl}
+use Rattle.std.proofs.Common.{◌≡◌, ◌≢◌, List, [], ◌∷◌, length, None, refl}
 use Rattle.std.specs.Borrow.{Bor}
 use Rattle.clap.specs.Walk.{Row, Text, texts}
 use Rattle.command_line.specs.Words.{check_of, convert_of, fixed_of, make_of}

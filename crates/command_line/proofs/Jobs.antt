@@ -18,6 +18,6 @@ no_job_unless (kind ∷ kinds) job some = refl
 pub no_job : (words all : List Text) (answer : Option ArgMatches) → all ≡ named words → answer ≡ None → IsMatched all answer → None ≡ job_of words
 no_job words all answer is none matched =
     let refused : fault_of evroute (named words) ≢ [] =
-      subst (λ (some : List Text). fault_of evroute some ≢ []) is
-      (subst (λ (some : Option ArgMatches). IsMatched all some) none matched) in
+    subst (λ (some : List Text). fault_of evroute some ≢ []) is
+    (subst (λ (some : Option ArgMatches). IsMatched all some) none matched) in
     no_job_unless (fault_of evroute (named words)) (job_in (matches_of evroute (named words))) refused
