@@ -19,7 +19,7 @@ rest_rule = record (new_rule (codes "rest")) {
   range = Some (record { start_inclusive = 0; end_inclusive = 2 ^ 64 - 1 });
 }
 
--- an option with one value, named like its value
+-- an option with one value; its name is also its id
 abbrev pub option_rule : Text → Rule
 option_rule name = record (new_rule name) { long = Some name }
 

@@ -1,5 +1,5 @@
 -- The job that a value of the program stands for.
-use Rattle.std.specs.Prelude.{string_bytes}
+use Rattle.std.specs.Prelude.{◌≡◌, IfOk, Option, Result, option_map, string_bytes}
 use Rattle.command_line.specs.Words.{FixedRoute, CheckPlan, ConvertFile, MakeFile, job_with}
 use Rattle.command_line.specs.Words as words
 use Rattle.command_line.specs.declared.Job.{Job}
@@ -21,3 +21,7 @@ job_value (Make w) = MakeFile (record {
   stations = w.stations;
   outfile = string_bytes w.outfile;
 })
+
+-- the answer stands for the job, unless it is want of memory
+abbrev pub AnswersJob : {E : Type 0} → Result (Option Job) E → Option words.Job → Type 0
+AnswersJob result job = IfOk result (λ found. option_map job_value found ≡ job)

@@ -2,7 +2,7 @@
 
 ghost use Rattle.std.specs.Prelude.{◌≡◌, IfOk, option_map};
 ghost use Rattle.clap.specs.Walk.{texts};
-ghost use Rattle.command_line.specs.JobValue.{job_value};
+ghost use Rattle.command_line.specs.JobValue.{AnswersJob};
 ghost use Rattle.command_line.specs.Matches.{rows_in};
 ghost use Rattle.command_line.specs.Words.{check_of};
 
@@ -18,7 +18,7 @@ pub(crate) fn check_job(
     rest: &[&str],
     matches: &ArgMatches<'_>,
 ) -> Result<Option<Job>, AllocError>
-    ensures { IfOk result (λ job. option_map job_value job ≡ check_of (texts rest.now) (rows_in matches.now)) }
+    ensures { AnswersJob result (check_of (texts rest.now) (rows_in matches.now)) }
 {
     let [file, plan] = rest else {
         return Ok(None);

@@ -10,11 +10,13 @@ mod arguments;
 mod check;
 mod convert;
 mod fixed;
+mod laws;
 mod make;
 mod matches;
 mod words;
 
 use arguments::{matches_of, named};
+pub use laws::{numbers_have_one_spelling, words_are_read_as_they_stand};
 use matches::job_in;
 use std::alloc::{AllocError, Global};
 
@@ -87,7 +89,7 @@ pub enum Job {
 /// leading zeros: at most 10^18 for a limit or a charge, 10^9 for digits, 2^64 - 1 for the seed and 2^32 - 1
 /// for the counts. The names of files are different texts.
 pub fn job_words(alloc: Global, words: &[String]) -> Result<Option<Job>, AllocError>
-    ensures { IfOk result (λ job. option_map job_value job ≡ job_of (map (λ word. string_bytes word) words.now)) }
+    ensures { IfOk result (λ job. option_map job_value job ≡ job_of (map string_bytes words.now)) }
 {
     let named = named(alloc, words)?;
     match matches_of(alloc, named.as_slice()) {

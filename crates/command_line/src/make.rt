@@ -2,7 +2,7 @@
 
 ghost use Rattle.std.specs.Prelude.{◌≡◌, IfOk, option_map};
 ghost use Rattle.clap.specs.Walk.{texts};
-ghost use Rattle.command_line.specs.JobValue.{job_value};
+ghost use Rattle.command_line.specs.JobValue.{AnswersJob};
 ghost use Rattle.command_line.specs.Matches.{rows_in};
 ghost use Rattle.command_line.specs.Words.{make_of, most_nodes, number_of};
 
@@ -26,7 +26,7 @@ pub(crate) fn make_job(
     rest: &[&str],
     matches: &ArgMatches<'_>,
 ) -> Result<Option<Job>, AllocError>
-    ensures { IfOk result (λ job. option_map job_value job ≡ make_of (texts rest.now) (rows_in matches.now)) }
+    ensures { AnswersJob result (make_of (texts rest.now) (rows_in matches.now)) }
 {
     let [seed, customers, stations, outfile] = rest else {
         return Ok(None);

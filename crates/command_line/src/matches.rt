@@ -3,7 +3,7 @@
 ghost use Rattle.std.specs.Prelude.{◌≡◌, IfOk, codes, is_none, option_map};
 ghost use Rattle.clap.specs.Words.{first_of};
 ghost use Rattle.clap.specs.Walk.{texts};
-ghost use Rattle.command_line.specs.JobValue.{job_value};
+ghost use Rattle.command_line.specs.JobValue.{AnswersJob};
 ghost use Rattle.command_line.specs.Matches.{rows_in};
 ghost use Rattle.command_line.specs.Words.{charge_in, digits_in, gives_only, gives_own, job_in, job_of_command, limit_in, rest_in};
 
@@ -70,7 +70,7 @@ pub(crate) fn digits_in(matches: &ArgMatches<'_>, name: &str) -> Option<u32>
 
 /// The job of what the command finds.
 pub(crate) fn job_in(alloc: Global, matches: &ArgMatches<'_>) -> Result<Option<Job>, AllocError>
-    ensures { IfOk result (λ job. option_map job_value job ≡ job_in (rows_in matches.now)) }
+    ensures { AnswersJob result (job_in (rows_in matches.now)) }
 {
     let Some(command) = first_of(matches, "command") else {
         return Ok(None);
@@ -88,7 +88,7 @@ fn job_of_command(
     rest: &[&str],
     matches: &ArgMatches<'_>,
 ) -> Result<Option<Job>, AllocError>
-    ensures { IfOk result (λ job. option_map job_value job ≡ job_of_command command.now (texts rest.now) (rows_in matches.now)) }
+    ensures { AnswersJob result (job_of_command command.now (texts rest.now) (rows_in matches.now)) }
 {
     match command {
         "fixed" => fixed_job(alloc, rest, matches),
