@@ -1,0 +1,9 @@
+pub mod Places
+pub mod Pairs
+pub mod Labels
+pub mod Prices
+pub mod Section
+pub mod Coverage
+pub mod Steps
+pub mod ClosedList
+pub mod Whole

@@ -1,0 +1,9 @@
+//! The definitions behind lower bounds on the cost of a fleet: labels of partial routes, closed lists of them, branching.
+//!
+//! The definitions stand in `specs/`. What stands here are laws that say that they prove what they should, and
+//! worked examples, computed from the definitions.
+#![tactic(auto)]
+
+mod laws;
+
+pub use laws::{a_fleet_costs_the_bound, a_plan_pays_its_prices, no_fleet_keeps_the_pairs};
