@@ -43,16 +43,23 @@ plan_below g k start [] feasible = tt
 plan_below g k start (first ∷ stops) feasible =
     subst (λ (x : Stop). AreStopsFrom g x.node stops → AreBelow (node_count g) (customers_of g (x ∷ stops))) (sym feasible.plan.1) (depot_below g stops) feasible.plan.3
 
-all_below : (g : Network) (k : ℕ) (plans : List (List Stop)) → All (IsFeasible g k g.capacity) plans → AreBelow (node_count g) (all_customers g plans)
+pub all_below : (g : Network) (k : ℕ) (plans : List (List Stop)) → All (IsFeasible g k g.capacity) plans → AreBelow (node_count g) (all_customers g plans)
 all_below g k [] feasible = tt
 all_below g k (p ∷ ps) feasible =
     below_append (customers_of g p) (all_customers g ps) (node_count g)
     (plan_below g k g.capacity p (All-head (IsFeasible g k g.capacity) p ps feasible))
     (all_below g k ps (All-tail (IsFeasible g k g.capacity) p ps feasible))
 
-all_filtered : (g : Network) (plans : List (List Stop)) → AreCustomers g (all_customers g plans)
+pub all_filtered : (g : Network) (plans : List (List Stop)) → AreCustomers g (all_customers g plans)
 all_filtered g [] = tt
 all_filtered g (p ∷ ps) = customers_append g (customers_of g p) (all_customers g ps) (filtered g (route_of p)) (all_filtered g ps)
+
+-- each customer is served at most once
+pub served_once : (g : Network) (k : ℕ) (plans : List (List Stop)) → IsFleetPlan g k plans → (node : ℕ) → is_customer g node ≡ true → times_in (all_customers g plans) node ≤ 1
+served_once g k plans fleet node is = elim (cases_lt node (node_count g)) [
+  | inl less ↦ omega (arith, fleet.once node less is)
+  | inr more ↦ omega (arith, times_above (all_customers g plans) (node_count g) node (all_below g k plans fleet.feasible) more)
+]
 
 summed : (p q : ℤ) (w t u : ℕ) → p ≤ℤ pos (w * t) → q ≤ℤ pos (w * u) → (p +ℤ q) ≤ℤ pos (w * (t + u))
 summed p q w t u first second =
@@ -76,11 +83,7 @@ pub fleet_pays : (g : Network) (s : Section) (plans : List (List Stop)) → IsNe
     → sum_of s.prices ≤ℤ pos (s.weight * cost_of g 1 plans)
 fleet_pays g s plans network of closed fleet keeps =
     let below = all_below g 1 plans fleet.feasible in
-    let most : (node : ℕ) → is_customer g node ≡ true → times_in (all_customers g plans) node ≤ 1 = λ node is. elim (cases_lt node (node_count g)) [
-      | inl less ↦ omega (arith, fleet.once node less is)
-      | inr more ↦ omega (arith, times_above (all_customers g plans) (node_count g) node below more)
-    ] in
-    let paid = routes_pay g s plans network of closed fleet.feasible fleet.only keeps most in
+    let paid = routes_pay g s plans network of closed fleet.feasible fleet.only keeps (served_once g 1 plans fleet) in
     let sum = sum_weighed g s.prices (all_customers g plans) (node_count g) (all_filtered g plans) below ∙ weighed_once g s.prices (all_customers g plans) (node_count g) fleet.once in
     let all : sum_to s.prices (customer_count g) ≡ sum_of s.prices = ap (λ n. sum_to s.prices n) (sym of.one_price) ∙ sum_to_all s.prices in
     let whole : price_sum s.prices (map (customer_number g) (all_customers g plans)) ≡ sum_of s.prices = sum ∙ all in

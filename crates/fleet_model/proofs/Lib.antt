@@ -6,3 +6,8 @@ pub mod Plans
 pub mod Weighed
 pub mod Fleets
 pub mod WholeFleets
+pub mod Neighbours
+pub mod Splits
+pub mod Leaves
+pub mod Covers
+pub mod PricedLabels

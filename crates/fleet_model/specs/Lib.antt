@@ -7,3 +7,6 @@ pub mod Coverage
 pub mod Steps
 pub mod ClosedList
 pub mod Whole
+pub mod Tree
+pub mod Cover
+pub mod PricedLabels

@@ -1,16 +1,23 @@
 //! Laws of closed lists of labels. Each is the contract of an empty function.
 
-ghost use Rattle.std.specs.Prelude.{◌≡◌, ◌*◌, ◌≤◌, ◌≤ℤ◌, List, ℕ, pos, true};
+ghost use Rattle.std.specs.Prelude.{◌≡◌, ◌↔◌, ◌*◌, ◌*ℤ◌, ◌≤◌, ◌≤ℤ◌, List, ℕ, None, pos, Some, true};
+ghost use Rattle.std.specs.List.{All};
+ghost use Rattle.customer_sets.specs.Pairs.{any_pair};
 ghost use Rattle.ev_model.specs.Feasible.{IsFeasible};
 ghost use Rattle.ev_model.specs.Fleet.{cost_of, customers_of, IsFleetPlan, ServesOnly, times_in};
 ghost use Rattle.ev_model.specs.Network.{is_customer, IsNetwork, Network};
 ghost use Rattle.ev_model.specs.Time.{time_of};
 ghost use Rattle.ev_model.specs.declared.Stop.{Stop};
 ghost use Rattle.fleet_model.specs.ClosedList.{IsClosed};
+ghost use Rattle.fleet_model.specs.Cover.{cost_of_shares, CoverKeepsPairs, IsFractionalCover, Share};
+ghost use Rattle.fleet_model.specs.Coverage.{IsCovered};
+ghost use Rattle.fleet_model.specs.Labels.{State};
 ghost use Rattle.fleet_model.specs.Pairs.{FleetKeepsPairs, PlanKeepsPairs};
 ghost use Rattle.fleet_model.specs.Places.{numbers_of};
-ghost use Rattle.fleet_model.specs.Prices.{price_sum};
+ghost use Rattle.fleet_model.specs.PricedLabels.{ArePriced, IsClosedByPrices, IsCoveredByPrices};
+ghost use Rattle.fleet_model.specs.Prices.{price_sum, sum_of};
 ghost use Rattle.fleet_model.specs.Section.{IsAtMostBound, IsSectionOf, Section, ShowsNoPlan};
+ghost use Rattle.fleet_model.specs.Tree.{BranchTree, IsBranchTree, KeepsSomeLeaf, LeavesAreUnder};
 ghost use Rattle.fleet_model.specs.Whole.{NoFractionIsFaster};
 
 /// Along a closed list every feasible whole plan from full that keeps the pairs and serves no customer twice
@@ -43,4 +50,43 @@ pub fn no_fleet_keeps_the_pairs()
     ensures fraction { (g : Network) (s : Section) (k : ℕ) (plans : List (List Stop)) →
         IsNetwork g → NoFractionIsFaster g → IsSectionOf g s → IsClosed g s →
         IsFleetPlan g k plans → FleetKeepsPairs g s.allows plans → ShowsNoPlan s → ⊥ }
+{}
+
+/// Every fleet plan, in any fraction of a unit, keeps all pairs that are forbidden on the way to some leaf of a
+/// tree of splits.
+pub fn a_fleet_keeps_some_leaf()
+    ensures { (g : Network) (t : BranchTree) (k : ℕ) (plans : List (List Stop)) →
+        IsBranchTree g t → IsFleetPlan g k plans → KeepsSomeLeaf g any_pair t plans }
+{}
+
+/// Where each leaf of a tree names a closed section that holds under the leaf, each fleet plan costs at least a
+/// bound that is at most the bounds of all these sections; and where each of these sections shows that there is
+/// no plan, there is none. Both in any fraction of a unit, where no fraction is faster.
+pub fn a_fleet_costs_the_bound_of_a_tree()
+    ensures bound { (g : Network) (sections : List Section) (t : BranchTree) (k bound : ℕ) (plans : List (List Stop)) →
+        IsNetwork g → NoFractionIsFaster g → All (IsSectionOf g) sections → All (IsClosed g) sections →
+        IsBranchTree g t → LeavesAreUnder sections (Some bound) any_pair t →
+        IsFleetPlan g k plans → k * bound ≤ cost_of g k plans }
+    ensures none { (g : Network) (sections : List Section) (t : BranchTree) (k : ℕ) (plans : List (List Stop)) →
+        IsNetwork g → NoFractionIsFaster g → All (IsSectionOf g) sections → All (IsClosed g) sections →
+        IsBranchTree g t → LeavesAreUnder sections None any_pair t →
+        IsFleetPlan g k plans → ⊥ }
+{}
+
+/// No fractional cover that keeps the pairs of a section costs less than the price sum over the section's weight,
+/// in any fraction of a unit, where no fraction is faster: the cost of the cover is the sum of share times time,
+/// over `k` and the weight of the cover.
+pub fn no_cover_costs_less()
+    ensures { (g : Network) (s : Section) (k weight : ℕ) (shares : List Share) →
+        IsNetwork g → NoFractionIsFaster g → IsSectionOf g s → IsClosed g s →
+        IsFractionalCover g k weight shares → CoverKeepsPairs g s.allows shares →
+        (pos (k * weight) *ℤ sum_of s.prices) ≤ℤ pos (s.weight * cost_of_shares g k shares) }
+{}
+
+/// Labels whose paid sums are the price sums of their sets: a state whose paid sum is that of its set is covered
+/// exactly where it is by price sums of sets, and the list is closed exactly where it is by these.
+pub fn paid_sums_may_be_price_sums()
+    ensures covered { (s : Section) (b : State) → ArePriced s → b.paid ≡ price_sum s.prices b.served →
+        IsCovered s b ↔ IsCoveredByPrices s b }
+    ensures closed { (g : Network) (s : Section) → ArePriced s → IsClosed g s ↔ IsClosedByPrices g s }
 {}

@@ -6,4 +6,8 @@
 
 mod laws;
 
-pub use laws::{a_fleet_costs_the_bound, a_plan_pays_its_prices, no_fleet_keeps_the_pairs};
+pub use laws::{
+    a_fleet_costs_the_bound, a_fleet_costs_the_bound_of_a_tree, a_fleet_keeps_some_leaf,
+    a_plan_pays_its_prices, no_cover_costs_less, no_fleet_keeps_the_pairs,
+    paid_sums_may_be_price_sums,
+};
