@@ -11,3 +11,4 @@ pub mod Splits
 pub mod Leaves
 pub mod Covers
 pub mod PricedLabels
+pub mod Test

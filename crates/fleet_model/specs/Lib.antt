@@ -10,3 +10,4 @@ pub mod Whole
 pub mod Tree
 pub mod Cover
 pub mod PricedLabels
+pub mod Examples

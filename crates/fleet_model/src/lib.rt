@@ -4,8 +4,10 @@
 //! worked examples, computed from the definitions.
 #![tactic(auto)]
 
+mod examples;
 mod laws;
 
+pub use examples::one_station_is_closed;
 pub use laws::{
     a_fleet_costs_the_bound, a_fleet_costs_the_bound_of_a_tree, a_fleet_keeps_some_leaf,
     a_plan_pays_its_prices, no_cover_costs_less, no_fleet_keeps_the_pairs,
