@@ -1,11 +1,11 @@
 -- Each whole plan takes as long as its prices ask.
-use Rattle.std.proofs.Common.{◌≡◌, ◌≢◌, ◌∙◌, ℕ, ◌+◌, ◌*◌, ◌≤◌, Bool, true, false, refl, sym, ap, subst, List, [], ◌∷◌, ◌++◌, map, length, arith, inl, inr}
+use Rattle.std.proofs.Common.{◌≡◌, ◌∙◌, ℕ, ◌+◌, ◌*◌, ◌≤◌, true, refl, sym, ap, subst, List, [], ◌∷◌, ◌++◌, length, arith, inl, inr}
 use Rattle.std.specs.Prelude.{filter, pos, ◌≤ℤ◌}
 use Rattle.std.proofs.lemmas.Bool.{cases_Bool, false≢true}
 use Rattle.std.proofs.lemmas.Int.{ints}
 use Rattle.ev_model.specs.Feasible.{IsFeasible}
 use Rattle.ev_model.specs.Fleet.{customers_of, ServesOnly, times_in}
-use Rattle.ev_model.specs.Levels.{KeepsBattery, KeepsBatteryFrom, level_after}
+use Rattle.ev_model.specs.Levels.{KeepsBatteryFrom, level_after}
 use Rattle.ev_model.specs.Network.{Network, IsNetwork, is_customer, scaled_limit}
 use Rattle.ev_model.specs.Plan.{EndsAtDepot}
 use Rattle.ev_model.specs.Route.{route_of}
@@ -17,7 +17,7 @@ use Rattle.fleet_model.specs.Prices.{price_sum}
 use Rattle.fleet_model.specs.Section.{Section, IsSectionOf}
 use Rattle.fleet_model.specs.Steps.{start}
 use Rattle.fleet_model.specs.ClosedList.{IsClosed}
-use Rattle.fleet_model.proofs.Counts.{AreCustomers, AreNew, numbers_once, once_is_new}
+use Rattle.fleet_model.proofs.Counts.{AreCustomers, numbers_once, once_is_new}
 use Rattle.fleet_model.proofs.Sound.{HasNoStray, IsRest, home_stop, pays}
 
 abbrev rest_of : List ℕ → List ℕ

@@ -1,14 +1,13 @@
 -- Where paid sums are the price sums of sets, it is the same by which of them coverage and closed lists are told.
-use Rattle.std.proofs.Common.{◌≡◌, ◌∙◌, ℕ, ◌*◌, ap, sym, subst, refl, List, ◌↔◌, map}
-use Rattle.std.specs.List.{Contains}
-use Rattle.std.specs.Prelude.{pos, ℤ, ◌+ℤ◌, ◌≤ℤ◌}
+use Rattle.std.proofs.Common.{◌≡◌, ℕ, ◌*◌, ap, sym, subst, refl, ◌↔◌}
+use Rattle.std.specs.Prelude.{pos, ◌+ℤ◌, ◌≤ℤ◌}
 use Rattle.ev_model.specs.Network.{Network}
-use Rattle.fleet_model.specs.Labels.{State, Label, IsLevel, state_at}
+use Rattle.fleet_model.specs.Labels.{State, state_at}
 use Rattle.fleet_model.specs.Places.{customer_number}
 use Rattle.fleet_model.specs.Prices.{price_of, price_sum}
 use Rattle.fleet_model.specs.Section.{Section}
 use Rattle.fleet_model.specs.Coverage.{IsAsGood, IsCovered}
-use Rattle.fleet_model.specs.Steps.{start, time_at, at_customer, IsCustomerStep, at_station, IsStationStep, IsHomeStep}
+use Rattle.fleet_model.specs.Steps.{start, time_at, at_customer, at_station}
 use Rattle.fleet_model.specs.ClosedList.{IsClosed}
 use Rattle.fleet_model.specs.PricedLabels.{ArePriced, IsAsGoodByPrices, IsClosedByPrices, IsCoveredByPrices}
 

@@ -1,5 +1,5 @@
 -- Sets as lists.
-use Rattle.std.proofs.Common.{◌≡◌, ℕ, true, false, List, ◌∷◌, arith}
+use Rattle.std.proofs.Common.{◌≡◌, ℕ, false, List, ◌∷◌, arith}
 use Rattle.customer_sets.specs.CustSet.{has, IsWithin}
 
 pub within_more : (c : ℕ) (small large : List ℕ) → IsWithin small large → IsWithin (c ∷ small) (c ∷ large)

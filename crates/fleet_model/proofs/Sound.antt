@@ -1,23 +1,22 @@
 -- Soundness of closed lists: what is left of a plan takes as long as its prices ask.
-use Rattle.std.proofs.Common.{◌≡◌, ◌≢◌, ◌∙◌, ℕ, zero, suc, ◌+◌, ◌-◌, ◌*◌, ◌<◌, ◌≤◌, Bool, true, false, ◌&&◌, refl, sym, ap, subst, List, [], ◌∷◌, ◌++◌, map, length, Option, Some, None, arith, inl, inr}
-use Rattle.std.specs.Prelude.{is_none, not, nat_eq, IsSome, ℤ, pos, ◌+ℤ◌, ◌-ℤ◌, ◌≤ℤ◌, nat_lt, if◌then◌else◌}
+use Rattle.std.proofs.Common.{◌≡◌, ◌≢◌, ◌∙◌, ℕ, zero, suc, ◌+◌, ◌*◌, ◌<◌, ◌≤◌, Bool, true, false, ◌&&◌, refl, sym, subst, List, [], ◌∷◌, ◌++◌, map, Option, Some, None, arith, inl, inr}
+use Rattle.std.specs.Prelude.{is_none, not, nat_eq, IsSome, ℤ, pos, ◌+ℤ◌, ◌≤ℤ◌, nat_lt}
 use Rattle.std.proofs.Math.Nat.{mul-le-mul_left}
 use Rattle.std.proofs.lemmas.Bool.{cases_Bool, cases_eq, lt-ltb, le-ltb}
 use Rattle.std.proofs.lemmas.Int.{ints}
 use Rattle.ev_model.specs.Fleet.{customers_of}
 use Rattle.ev_model.specs.Levels.{arriving_level, leaving_level, KeepsBatteryFrom, level_after}
-use Rattle.ev_model.specs.Network.{Network, IsNetwork, energy, curve_at, plug_time, is_customer, scaled_limit}
+use Rattle.ev_model.specs.Network.{Network, IsNetwork, energy, curve_at, is_customer, scaled_limit}
 use Rattle.ev_model.specs.Plan.{AreStopsFrom, EndsAtDepot, IsEnd}
-use Rattle.ev_model.specs.Route.{route_of}
 use Rattle.ev_model.specs.Time.{charging_time, plugging_time, time_from}
 use Rattle.ev_model.specs.declared.Stop.{Stop}
 use Rattle.fleet_model.specs.Pairs.{KeepsPairs}
-use Rattle.fleet_model.specs.Places.{customer_number, numbers_of, place_of}
+use Rattle.fleet_model.specs.Places.{numbers_of, place_of}
 use Rattle.fleet_model.specs.Labels.{State}
-use Rattle.fleet_model.specs.Prices.{price_of, price_sum}
+use Rattle.fleet_model.specs.Prices.{price_sum}
 use Rattle.fleet_model.specs.Section.{Section, IsSectionOf}
 use Rattle.fleet_model.specs.Coverage.{IsCovered}
-use Rattle.fleet_model.specs.Steps.{level_at, time_at, IsStep, at_customer, IsCustomerStep, at_station, IsStationStep, IsHomeStep}
+use Rattle.fleet_model.specs.Steps.{level_at, time_at, at_customer, IsCustomerStep, at_station, IsStationStep, IsHomeStep}
 use Rattle.fleet_model.specs.ClosedList.{IsClosed}
 use Rattle.fleet_model.proofs.Counts.{AreNew}
 use Rattle.fleet_model.proofs.Steps.{customer_step, station_step, home_step}

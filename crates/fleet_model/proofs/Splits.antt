@@ -1,21 +1,20 @@
 -- The routes of a fleet plan as lists of places: a split on a pair leaves none out.
-use Rattle.std.proofs.Common.{◌≡◌, ◌∙◌, ℕ, zero, suc, ◌+◌, ◌-◌, ◌<◌, ◌≤◌, Bool, true, false, not, ◌&&◌, ◌||◌, arith, refl, sym, ap, subst, List, [], ◌∷◌, ◌++◌, map, ◌⊎◌, inl, inr}
-use Rattle.std.specs.Prelude.{nat_eq, if◌then◌else◌}
-use Rattle.std.proofs.lemmas.Bool.{cases_Bool, cases_eq, cases_lt, eq-eqb, ne_eqb, eqb-true, and_parts, or_cases, false≢true}
+use Rattle.std.proofs.Common.{◌≡◌, ◌∙◌, ℕ, zero, suc, ◌+◌, ◌<◌, ◌≤◌, Bool, true, false, not, ◌&&◌, ◌||◌, arith, refl, sym, ap, subst, List, [], ◌∷◌, ◌++◌, map, ◌⊎◌, inl, inr}
+use Rattle.std.specs.Prelude.{nat_eq}
+use Rattle.std.proofs.lemmas.Bool.{cases_Bool, cases_eq, eq-eqb, ne_eqb, eqb-true, and_parts, or_cases, false≢true}
 use Rattle.std.proofs.lemmas.List.Elements.{All-head, All-tail, All-nil, All-cons}
 use Rattle.customer_sets.specs.Pairs.{any_pair, forbid, require}
 use Rattle.ev_model.specs.Fleet.{all_customers, customers_of, IsFleetPlan, times_in}
-use Rattle.ev_model.specs.Network.{Network, is_customer, node_count}
+use Rattle.ev_model.specs.Network.{Network}
 use Rattle.ev_model.specs.Route.{route_of}
 use Rattle.ev_model.specs.declared.Stop.{Stop}
 use Rattle.fleet_model.specs.Pairs.{FleetKeepsPairs, KeepsPairs, PlanKeepsPairs}
-use Rattle.fleet_model.specs.Places.{customer_count, customer_number, place_of, places_of}
+use Rattle.fleet_model.specs.Places.{customer_number, place_of, places_of}
 use Rattle.fleet_model.specs.Tree.{BranchTree, IsBranchTree, KeepsSomeLeaf, leaf, split}
 use Rattle.fleet_model.proofs.Counts.{AreCustomers, numbers_once, times_append}
 use Rattle.fleet_model.proofs.Fleets.{all_filtered, served_once}
 use Rattle.fleet_model.proofs.Neighbours.{follows, follows_after, follows_before, one_follower, one_leader}
 use Rattle.fleet_model.proofs.Plans.{filtered}
-use Rattle.fleet_model.proofs.Weighed.{times_above}
 
 abbrev all_places : Network → List (List Stop) → List ℕ
 all_places g [] = []

@@ -1,13 +1,13 @@
 -- What covers a state covers the states that its steps lead to.
-use Rattle.std.proofs.Common.{◌≡◌, ◌∙◌, ℕ, ◌+◌, ◌-◌, ◌*◌, ◌<◌, ◌≤◌, zero, suc, refl, subst, List, [], ◌∷◌, Option, Some, None, arith, ◌⊎◌, inl, inr}
+use Rattle.std.proofs.Common.{◌≡◌, ℕ, ◌+◌, ◌*◌, ◌≤◌, zero, suc, refl, subst, List, [], ◌∷◌, Option, Some, None, arith, ◌⊎◌, inl, inr}
 use Rattle.std.specs.List.{All}
-use Rattle.std.specs.Prelude.{IsSome, slice_index_or, nat_lt, if◌then◌else◌, ℤ, pos, ◌+ℤ◌, ◌-ℤ◌, ◌≤ℤ◌}
+use Rattle.std.specs.Prelude.{slice_index_or, nat_lt, if◌then◌else◌, ℤ, pos, ◌+ℤ◌, ◌-ℤ◌, ◌≤ℤ◌}
 use Rattle.std.proofs.Math.Nat.{mul-le-mul_left}
 use Rattle.std.proofs.lemmas.Bool.{cases_lt, lt-ltb, le-ltb}
 use Rattle.std.proofs.lemmas.Int.{ints}
 use Rattle.std.proofs.lemmas.List.Elements.{All-head, All-tail}
 use Rattle.ev_model.specs.Curve.{charge_time}
-use Rattle.ev_model.specs.Network.{Network, IsNetwork, HasFittingCurve, energy, curve_at, plug_time}
+use Rattle.ev_model.specs.Network.{Network, IsNetwork, HasFittingCurve, curve_at, plug_time}
 use Rattle.ev_model.specs.Time.{charging_time}
 use Rattle.ev_model.proofs.ChargeTime.{charge_time-rises, charge_time_in-one}
 use Rattle.fleet_model.specs.Places.{customer_number}

@@ -1,5 +1,5 @@
 -- A test whether a list of labels is closed, level by level.
-use Rattle.std.proofs.Common.{◌≡◌, ◌∙◌, ℕ, zero, suc, ◌+◌, ◌-◌, ◌*◌, ◌<◌, ◌≤◌, Bool, true, false, not, ◌&&◌, ◌||◌, refl, sym, ap, subst, List, [], ◌∷◌, length, Option, Some, None, arith, inl, inr}
+use Rattle.std.proofs.Common.{◌≡◌, ℕ, zero, suc, ◌+◌, ◌-◌, ◌*◌, ◌<◌, ◌≤◌, Bool, true, false, not, ◌&&◌, ◌||◌, refl, sym, ap, subst, List, [], ◌∷◌, length, Option, Some, None, arith, inl, inr}
 use Rattle.std.specs.List.{Contains, list_all, list_any}
 use Rattle.std.specs.Prelude.{int_le, is_none, IsSome, nat_eq, nat_le, slice_index_or, ℤ, pos, ◌-ℤ◌, ◌≤ℤ◌}
 use Rattle.std.proofs.lemmas.Bool.{cases_eq, eqb-true, leb-true, le-leb, ne_eqb, and_parts, and_from, or_cases, false≢true}
@@ -10,7 +10,7 @@ use Rattle.fleet_model.specs.Places.{customer_number, place_of}
 use Rattle.fleet_model.specs.Labels.{IsLevel, Label, State, state_at}
 use Rattle.fleet_model.specs.Section.{Section}
 use Rattle.fleet_model.specs.Coverage.{IsAsGood, IsCovered}
-use Rattle.fleet_model.specs.Steps.{start, level_at, time_at, IsStep, at_customer, IsCustomerStep, at_station, IsStationStep, IsHomeStep}
+use Rattle.fleet_model.specs.Steps.{start, level_at, time_at, IsStep, at_customer, at_station}
 use Rattle.fleet_model.specs.ClosedList.{IsClosed}
 
 abbrev all_to : (ℕ → Bool) → ℕ → Bool

@@ -1,6 +1,6 @@
 -- Labels of partial routes (resource constrained shortest paths: Irnich, Desaulniers 2005), with a battery level on a
 -- curve as a resource (Froger, Mendoza, Jabali, Laporte 2019).
-use Rattle.std.specs.Prelude.{◌≡◌, ℕ, ◌+◌, ◌-◌, ◌<◌, ◌≤◌, List, [], ◌∷◌, length, slice_index, slice_index_or, ℤ, pos, ◌+ℤ◌}
+use Rattle.std.specs.Prelude.{ℕ, ◌+◌, ◌-◌, ◌<◌, ◌≤◌, List, length, slice_index, ℤ}
 
 -- where a vehicle is on leaving a node: the last customer's node or 0, the node, the numbers of the customers that were
 -- served, the sum that is paid for them, the level and the scaled time

@@ -1,7 +1,6 @@
 -- Sections: prices for customers, a weight for time, and labels that show that no route earns more than it takes
 -- (column generation and its dual bound: Desaulniers, Desrosiers, Solomon 2005).
-use Rattle.std.specs.Prelude.{◌≡◌, ℕ, ◌+◌, ◌*◌, ◌<◌, ◌≤◌, Bool, List, [], ◌∷◌, length, slice_index_or, ◌⊎◌, ℤ, pos, ◌+ℤ◌, ◌<ℤ◌}
-use Rattle.std.specs.Prelude.{Option, None, Some}
+use Rattle.std.specs.Prelude.{◌≡◌, ℕ, ◌*◌, ◌≤◌, Bool, List, length, ◌⊎◌, ℤ, pos, ◌+ℤ◌, ◌<ℤ◌}
 use Rattle.std.specs.List.{Contains}
 use Rattle.ev_model.specs.Network.{Network}
 use Rattle.fleet_model.specs.Places.{customer_count}

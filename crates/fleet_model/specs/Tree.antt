@@ -1,6 +1,5 @@
 -- Branching on which customer follows which (Ryan, Foster 1981; for routes: Desaulniers, Desrosiers, Solomon 2005).
 use Rattle.std.specs.Prelude.{◌≡◌, ℕ, ◌<◌, ◌≤◌, Bool, true, List, Option, Some, None, slice_get, ◌⊎◌}
-use Rattle.std.specs.List.{All}
 use Rattle.customer_sets.specs.Pairs.{forbid, require}
 use Rattle.ev_model.specs.Network.{Network}
 use Rattle.ev_model.specs.declared.Stop.{Stop}

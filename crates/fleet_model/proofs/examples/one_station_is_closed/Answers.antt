@@ -1,5 +1,4 @@
 use Rattle.std.proofs.Common.{ℕ, List, [], ◌∷◌, arith, refl, rules}
-use Rattle.std.specs.Prelude.{◌≡◌}
 use Rattle.std.proofs.lemmas.Int.{ints}
 use Rattle.fleet_model.specs.Labels.{state_at}
 use Rattle.fleet_model.specs.Steps.{IsHomeStep}

@@ -1,4 +1,4 @@
-use Rattle.std.proofs.Common.{◌≡◌, ℕ, ◌<◌, ◌≤◌, refl, sym, subst, arith, inl, inr}
+use Rattle.std.proofs.Common.{refl, sym, subst, arith, inl, inr}
 use Rattle.std.proofs.lemmas.Bool.{cases_eq}
 use Rattle.customer_sets.specs.Pairs.{IsDecidedFrom}
 use Rattle.customer_sets.proofs.pairs.Pairs.decided.Goals as goal
