@@ -12,3 +12,6 @@ pub mod Leaves
 pub mod Covers
 pub mod PricedLabels
 pub mod Test
+pub mod Bounds
+pub mod Rules
+pub mod Margins

@@ -1,10 +1,11 @@
 -- Where paid sums are the price sums of sets, it is the same by which of them coverage and closed lists are told.
-use Rattle.std.proofs.Common.{◌≡◌, ℕ, ◌*◌, ap, sym, subst, refl, ◌↔◌}
-use Rattle.std.specs.Prelude.{pos, ◌+ℤ◌, ◌≤ℤ◌}
+use Rattle.std.proofs.Common.{◌≡◌, ℕ, zero, suc, ◌*◌, ◌<◌, List, [], ◌∷◌, length, map, ap, sym, subst, refl, arith, ◌↔◌}
+use Rattle.std.specs.List.{Contains}
+use Rattle.std.specs.Prelude.{slice_index_or, ℤ, pos, ◌+ℤ◌, ◌≤ℤ◌}
 use Rattle.ev_model.specs.Network.{Network}
-use Rattle.fleet_model.specs.Labels.{State, state_at}
+use Rattle.fleet_model.specs.Labels.{Label, State, state_at}
 use Rattle.fleet_model.specs.Places.{customer_number}
-use Rattle.fleet_model.specs.Prices.{price_of, price_sum}
+use Rattle.fleet_model.specs.Prices.{price_of, price_sum, priced}
 use Rattle.fleet_model.specs.Section.{Section}
 use Rattle.fleet_model.specs.Coverage.{IsAsGood, IsCovered}
 use Rattle.fleet_model.specs.Steps.{start, time_at, at_customer, at_station}
@@ -59,3 +60,14 @@ closed_paid g s priced closed = record {
 
 pub closed_by_prices : (g : Network) (s : Section) → ArePriced s → IsClosed g s ↔ IsClosedByPrices g s
 closed_by_prices g s priced = (closed_prices g s priced, closed_paid g s priced)
+
+-- labels that were given their price sums
+sums_given : (prices : List ℤ) (labels : List Label) (l : Label) (k : ℕ) → k < length (map (priced prices) labels) → slice_index_or (map (priced prices) labels) k l ≡ l → l.paid ≡ price_sum prices l.served
+sums_given prices [] l k lt at = absurd (omega (arith, lt))
+sums_given prices (x ∷ xs) l zero lt at = subst (λ (y : Label). y.paid ≡ price_sum prices y.served) at refl
+sums_given prices (x ∷ xs) l (suc k) lt at = sums_given prices xs l k (omega (arith, lt)) at
+
+pub are_priced : (s : Section) (labels : List Label) → s.labels ≡ map (priced s.prices) labels → ArePriced s
+are_priced s labels is l inside =
+    let there : Contains (map (priced s.prices) labels) l = subst (λ xs. Contains xs l) is inside in
+    sums_given s.prices labels l there.0 there.1 there.2

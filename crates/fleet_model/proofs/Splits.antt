@@ -23,7 +23,7 @@ all_places g (p ∷ ps) = places_of g p ++ all_places g ps
 later : (a b x y : ℕ) (ys : List ℕ) → follows a b (y ∷ ys) ≡ true → follows a b (x ∷ y ∷ ys) ≡ true
 later a b x y ys h = grind (arith, h)
 
-keep_all : (allows : ℕ → ℕ → Bool) (xs : List ℕ) → ((a b : ℕ) → follows a b xs ≡ true → allows a b ≡ true) → KeepsPairs allows xs
+pub keep_all : (allows : ℕ → ℕ → Bool) (xs : List ℕ) → ((a b : ℕ) → follows a b xs ≡ true → allows a b ≡ true) → KeepsPairs allows xs
 keep_all allows [] f = tt
 keep_all allows (x ∷ []) f = tt
 keep_all allows (x ∷ y ∷ ys) f =

@@ -17,16 +17,16 @@ abbrev all_to : (ℕ → Bool) → ℕ → Bool
 all_to test zero = true
 all_to test (suc n) = all_to test n && test n
 
-abbrev any_to : (ℕ → Bool) → ℕ → Bool
+abbrev pub any_to : (ℕ → Bool) → ℕ → Bool
 any_to test zero = false
 any_to test (suc n) = any_to test n || test n
 
-abbrev is_as_good : ℕ → State → State → Bool
+abbrev pub is_as_good : ℕ → State → State → Bool
 is_as_good w a b =
     nat_eq a.last b.last && (nat_eq a.node b.node && (list_all (has b.served) a.served && (nat_le b.level a.level && (nat_le a.time b.time
     && int_le (pos (w * a.time) -ℤ a.paid) (pos (w * b.time) -ℤ b.paid)))))
 
-abbrev is_covered : Section → State → Bool
+abbrev pub is_covered : Section → State → Bool
 is_covered s b = list_any (λ l. any_to (λ i. is_as_good s.weight (state_at l (l.first + i)) b) (length l.times)) s.labels
 
 abbrev is_step : Network → State → ℕ → Bool
@@ -116,7 +116,7 @@ good w a b h =
       cost = no_more _ _ p5.1;
     }
 
-covered : (s : Section) (b : State) → is_covered s b ≡ true → IsCovered s b
+pub covered : (s : Section) (b : State) → is_covered s b ≡ true → IsCovered s b
 covered s b h =
     let found = any_holds (λ l. any_to (λ i. is_as_good s.weight (state_at l (l.first + i)) b) (length l.times)) s.labels h in
     let l = found.0 in

@@ -1,6 +1,6 @@
 -- Fractional covers: feasible plans with shares, which cover each customer equally (the linear relaxation of set
 -- partitioning: Desaulniers, Desrosiers, Solomon 2005).
-use Rattle.std.specs.Prelude.{◌≡◌, ◌≢◌, ℕ, ◌+◌, ◌*◌, ◌<◌, ◌≤◌, Bool, true, List, [], ◌∷◌}
+use Rattle.std.specs.Prelude.{◌≡◌, ◌≢◌, ℕ, ◌+◌, ◌*◌, ◌<◌, ◌≤◌, Bool, true, List, [], ◌∷◌, pos, ◌*ℤ◌}
 use Rattle.std.specs.List.{All}
 use Rattle.ev_model.specs.Feasible.{IsFeasible}
 use Rattle.ev_model.specs.Fleet.{customers_of, ServesOnly, times_in}
@@ -8,6 +8,8 @@ use Rattle.ev_model.specs.Network.{Network, node_count, is_customer}
 use Rattle.ev_model.specs.Time.{time_of}
 use Rattle.ev_model.specs.declared.Stop.{Stop}
 use Rattle.fleet_model.specs.Pairs.{PlanKeepsPairs}
+use Rattle.fleet_model.specs.Prices.{sum_of}
+use Rattle.fleet_model.specs.Section.{Section}
 
 -- a plan of a fleet that serves no customer twice
 pub record IsFleetRoute (g : Network) (k : ℕ) (plan : List Stop) : Type 0 where
@@ -39,3 +41,10 @@ pub record IsFractionalCover (g : Network) (k weight : ℕ) (shares : List Share
 
 abbrev pub CoverKeepsPairs : Network → (ℕ → ℕ → Bool) → List Share → Type 0
 CoverKeepsPairs g allows shares = All (λ x. PlanKeepsPairs g allows x.plan) shares
+
+-- the shares show that the bound of a section is the least cost of a fractional cover: they are a cover in whole plans whose
+-- cost is the price sum over the weight
+pub record IsExactRoot (g : Network) (s : Section) (over : ℕ) (shares : List Share) : Type 0 where
+  pub cover : IsFractionalCover g 1 over shares
+  pub some_weight : 1 ≤ s.weight
+  pub cost : pos (cost_of_shares g 1 shares * s.weight) ≡ sum_of s.prices *ℤ pos over

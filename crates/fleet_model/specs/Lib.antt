@@ -11,3 +11,5 @@ pub mod Tree
 pub mod Cover
 pub mod PricedLabels
 pub mod Examples
+pub mod ClosedListRules
+pub mod Margins

@@ -1,6 +1,6 @@
 //! Laws of closed lists of labels. Each is the contract of an empty function.
 
-ghost use Rattle.std.specs.Prelude.{◌≡◌, ◌↔◌, ◌*◌, ◌*ℤ◌, ◌≤◌, ◌≤ℤ◌, List, ℕ, None, pos, Some, true};
+ghost use Rattle.std.specs.Prelude.{◌≡◌, ◌↔◌, ◌*◌, ◌*ℤ◌, ◌<◌, ◌≤◌, ◌≤ℤ◌, List, ℕ, ℤ, map, None, pos, Some, true};
 ghost use Rattle.std.specs.List.{All};
 ghost use Rattle.customer_sets.specs.Pairs.{any_pair};
 ghost use Rattle.ev_model.specs.Feasible.{IsFeasible};
@@ -9,13 +9,15 @@ ghost use Rattle.ev_model.specs.Network.{is_customer, IsNetwork, Network};
 ghost use Rattle.ev_model.specs.Time.{time_of};
 ghost use Rattle.ev_model.specs.declared.Stop.{Stop};
 ghost use Rattle.fleet_model.specs.ClosedList.{IsClosed};
-ghost use Rattle.fleet_model.specs.Cover.{cost_of_shares, CoverKeepsPairs, IsFractionalCover, Share};
-ghost use Rattle.fleet_model.specs.Coverage.{IsCovered};
-ghost use Rattle.fleet_model.specs.Labels.{State};
+ghost use Rattle.fleet_model.specs.ClosedListRules.{ClosedFault, IsFault};
+ghost use Rattle.fleet_model.specs.Cover.{cost_of_shares, CoverKeepsPairs, IsExactRoot, IsFractionalCover, Share};
+ghost use Rattle.fleet_model.specs.Coverage.{IsAsGood, IsCovered};
+ghost use Rattle.fleet_model.specs.Labels.{Label, State};
+ghost use Rattle.fleet_model.specs.Margins.{Covers, CoversBy, HasNoMargin, IsMargin};
 ghost use Rattle.fleet_model.specs.Pairs.{FleetKeepsPairs, PlanKeepsPairs};
 ghost use Rattle.fleet_model.specs.Places.{numbers_of};
 ghost use Rattle.fleet_model.specs.PricedLabels.{ArePriced, IsClosedByPrices, IsCoveredByPrices};
-ghost use Rattle.fleet_model.specs.Prices.{price_sum, sum_of};
+ghost use Rattle.fleet_model.specs.Prices.{price_sum, priced, sum_of};
 ghost use Rattle.fleet_model.specs.Section.{IsAtMostBound, IsSectionOf, Section, ShowsNoPlan};
 ghost use Rattle.fleet_model.specs.Tree.{BranchTree, IsBranchTree, KeepsSomeLeaf, LeavesAreUnder};
 ghost use Rattle.fleet_model.specs.Whole.{NoFractionIsFaster};
@@ -89,4 +91,44 @@ pub fn paid_sums_may_be_price_sums()
     ensures covered { (s : Section) (b : State) → ArePriced s → b.paid ≡ price_sum s.prices b.served →
         IsCovered s b ↔ IsCoveredByPrices s b }
     ensures closed { (g : Network) (s : Section) → ArePriced s → IsClosed g s ↔ IsClosedByPrices g s }
+    ensures priced { (s : Section) (labels : List Label) → s.labels ≡ map (priced s.prices) labels → ArePriced s }
+{}
+
+/// Where the weight of a section is above 0, its bound is the price sum over the weight, rounded up: the least
+/// whole number that, times the weight, is no less than the price sum.
+pub fn the_bound_rounds_up()
+    ensures { (s : Section) (bound : ℕ) → 0 < s.weight →
+        IsAtMostBound s bound ↔ ((z : ℤ) → sum_of s.prices ≤ℤ (z *ℤ pos s.weight) → pos bound ≤ℤ z) }
+{}
+
+/// The shares of an exact root are a fractional cover of least cost, in any fraction of a unit, where no fraction is
+/// faster: among the covers that keep the section's pairs, and among all where no pair is forbidden.
+pub fn an_exact_root_is_the_least_cover()
+    ensures pairs { (g : Network) (s : Section) (over k weight : ℕ) (shares others : List Share) →
+        IsNetwork g → NoFractionIsFaster g → IsSectionOf g s → IsClosed g s → IsExactRoot g s over shares →
+        IsFractionalCover g k weight others → CoverKeepsPairs g s.allows others →
+        cost_of_shares g 1 shares * (k * weight) ≤ cost_of_shares g k others * over }
+    ensures all { (g : Network) (s : Section) (over k weight : ℕ) (shares others : List Share) →
+        IsNetwork g → NoFractionIsFaster g → IsSectionOf g s → IsClosed g s → IsExactRoot g s over shares →
+        ((a b : ℕ) → s.allows a b ≡ true) → IsFractionalCover g k weight others →
+        cost_of_shares g 1 shares * (k * weight) ≤ cost_of_shares g k others * over }
+{}
+
+/// A list of labels is closed exactly where none of the rules is broken, of which the first broken one is told.
+pub fn closed_where_no_rule_is_broken()
+    ensures { (g : Network) (s : Section) →
+        IsClosed g s ↔ ((fault : ClosedFault) → IsFault g s fault → ⊥) }
+{}
+
+/// A label covers a state exactly where it reaches the state's level, or a higher one, at a time that is earlier
+/// by the least margin that makes up for what it has paid less; where none does, it covers no such state.
+pub fn a_label_covers_by_a_margin()
+    ensures margin { (weight margin : ℕ) (l : Label) (b : State) → IsMargin weight l.paid b.paid margin →
+        Covers weight l b ↔ CoversBy margin l b }
+    ensures none { (weight : ℕ) (l : Label) (b : State) → HasNoMargin weight l.paid b.paid → Covers weight l b → ⊥ }
+{}
+
+/// What covers a state covers each state that it is as good as.
+pub fn a_worse_state_is_covered()
+    ensures { (s : Section) (a b : State) → IsCovered s a → IsAsGood s.weight a b → IsCovered s b }
 {}
