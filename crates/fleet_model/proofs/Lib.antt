@@ -15,3 +15,4 @@ pub mod Test
 pub mod Bounds
 pub mod Rules
 pub mod Margins
+pub mod Numbers

@@ -1,11 +1,11 @@
 //! Laws of closed lists of labels. Each is the contract of an empty function.
 
-ghost use Rattle.std.specs.Prelude.{◌≡◌, ◌↔◌, ◌*◌, ◌*ℤ◌, ◌<◌, ◌≤◌, ◌≤ℤ◌, List, ℕ, ℤ, map, None, pos, Some, true};
-ghost use Rattle.std.specs.List.{All};
+ghost use Rattle.std.specs.Prelude.{◌≡◌, ◌↔◌, ◌*◌, ◌*ℤ◌, ◌<◌, ◌≤◌, ◌≤ℤ◌, List, ℕ, ℤ, filter, length, map, slice_get, None, pos, Some, true};
+ghost use Rattle.std.specs.List.{All, range_with_len};
 ghost use Rattle.customer_sets.specs.Pairs.{any_pair};
 ghost use Rattle.ev_model.specs.Feasible.{IsFeasible};
 ghost use Rattle.ev_model.specs.Fleet.{cost_of, customers_of, IsFleetPlan, ServesOnly, times_in};
-ghost use Rattle.ev_model.specs.Network.{is_customer, IsNetwork, Network};
+ghost use Rattle.ev_model.specs.Network.{is_customer, IsNetwork, Network, node_count};
 ghost use Rattle.ev_model.specs.Time.{time_of};
 ghost use Rattle.ev_model.specs.declared.Stop.{Stop};
 ghost use Rattle.fleet_model.specs.ClosedList.{IsClosed};
@@ -15,7 +15,7 @@ ghost use Rattle.fleet_model.specs.Coverage.{IsAsGood, IsCovered};
 ghost use Rattle.fleet_model.specs.Labels.{Label, State};
 ghost use Rattle.fleet_model.specs.Margins.{Covers, CoversBy, HasNoMargin, IsMargin};
 ghost use Rattle.fleet_model.specs.Pairs.{FleetKeepsPairs, PlanKeepsPairs};
-ghost use Rattle.fleet_model.specs.Places.{numbers_of};
+ghost use Rattle.fleet_model.specs.Places.{customer_count, customer_number, numbers_of};
 ghost use Rattle.fleet_model.specs.PricedLabels.{ArePriced, IsClosedByPrices, IsCoveredByPrices};
 ghost use Rattle.fleet_model.specs.Prices.{price_sum, priced, sum_of};
 ghost use Rattle.fleet_model.specs.Section.{IsAtMostBound, IsSectionOf, Section, ShowsNoPlan};
@@ -131,4 +131,13 @@ pub fn a_label_covers_by_a_margin()
 /// What covers a state covers each state that it is as good as.
 pub fn a_worse_state_is_covered()
     ensures { (s : Section) (a b : State) → IsCovered s a → IsAsGood s.weight a b → IsCovered s b }
+{}
+
+/// The customers' nodes in rising order: there are as many as the count says, and the one at a place has that number.
+pub fn customers_are_numbered()
+    ensures count { (g : Network) →
+        length (filter (is_customer g) (range_with_len 0 (node_count g))) ≡ customer_count g }
+    ensures number { (g : Network) (number node : ℕ) →
+        slice_get (filter (is_customer g) (range_with_len 0 (node_count g))) number ≡ Some node →
+        number ≡ customer_number g node }
 {}
