@@ -1,4 +1,5 @@
--- Pairs of places that may follow each other on a route: place 0 is the depot, place c + 1 the customer with number c.
+-- Pairs of places that may follow each other on a route: place 0 is the depot, place c + 1 the customer with
+-- number c.
 use Rattle.std.specs.Prelude.{◌≡◌, ◌≢◌, ℕ, zero, suc, ◌+◌, ◌-◌, ◌<◌, ◌≤◌, Bool, true, false, not, ◌&&◌, ◌||◌, nat_eq, List, [], length, slice_index_or}
 use Rattle.customer_sets.specs.CustSet.{has}
 
@@ -46,7 +47,8 @@ pub record IsPairs (p : ForbiddenPairs) : Type 0 where
 -- requiring that j follows i would forbid a further pair
 abbrev pub IsNarrowedBy : ForbiddenPairs → ℕ → ℕ → Type 0
 IsNarrowedBy p i j =
-    (a b : ℕ) × (a ≤ p.customers) × (b ≤ p.customers) × (allows_of p a b ≡ true) × (require i j (allows_of p) a b ≡ false)
+    (a b : ℕ) × (a ≤ p.customers) × (b ≤ p.customers)
+    × (allows_of p a b ≡ true) × (require i j (allows_of p) a b ≡ false)
 
 -- no customer may follow another where requiring it would forbid a further pair
 abbrev pub IsDecidedFrom : ForbiddenPairs → ℕ → Type 0

@@ -8,8 +8,9 @@ use std::marker::Model;
 
 /// Which places may not follow each other on a route, whatever stations stand between.
 ///
-/// Place 0 is the depot, and place `c + 1` is the customer with the number `c`; there are at most 128 customers.
-/// In a pair (i, j) the place `j` follows the place `i`. Contracts see by `allows_of` which pairs are allowed.
+/// Place 0 is the depot, and place `c + 1` is the customer with the number `c`; there are at most
+/// 128 customers. In a pair (i, j) the place `j` follows the place `i`. Contracts see by
+/// `allows_of` which pairs are allowed.
 #[derive(Clone, Copy, Debug, PartialEq, Eq)]
 pub struct Pairs {
     customers: usize,
@@ -67,8 +68,8 @@ impl Pairs {
         }
     }
 
-    /// Forbids that another place than `j` follows the customer's place `i`, and that `j`, a customer's place too,
-    /// follows another place than `i`. It takes no memory.
+    /// Forbids that another place than `j` follows the customer's place `i`, and that `j`, a
+    /// customer's place too, follows another place than `i`. It takes no memory.
     pub fn require(&mut self, i: usize, j: usize)
         requires first { i ≤ self.now.customers }
         requires second { j ≤ self.now.customers }
@@ -99,7 +100,8 @@ impl Pairs {
         }
     }
 
-    /// Whether the place `j` may follow the place `i`; a place may always follow itself. It takes no memory.
+    /// Whether the place `j` may follow the place `i`; a place may always follow itself. It takes
+    /// no memory.
     pub fn allows(&self, i: usize, j: usize) -> bool
         requires first { i ≤ self.now.customers }
         requires second { j ≤ self.now.customers }
@@ -122,7 +124,8 @@ impl Pairs {
 
     /// Whether each pair that is forbidden here is forbidden there. It takes no memory.
     pub fn within(&self, other: &Pairs) -> bool
-        ensures { IsTrue result ↔ ((a b : ℕ) → allows_of other.now a b ≡ true → allows_of self.now a b ≡ true) }
+        ensures { IsTrue result ↔
+            ((a b : ℕ) → allows_of other.now a b ≡ true → allows_of self.now a b ≡ true) }
     {
         for place in 0..129 {
             if !self.after[place].is_subset(other.after[place]) {
@@ -132,8 +135,9 @@ impl Pairs {
         self.home.is_subset(other.home)
     }
 
-    /// Whether nothing is left to branch on: there are no two different customers, of whom the second may follow the
-    /// first, so that requiring it would forbid a further pair. It takes no memory.
+    /// Whether nothing is left to branch on: there are no two different customers, of whom the
+    /// second may follow the first, so that requiring it would forbid a further pair. It takes no
+    /// memory.
     pub fn decided(&self) -> bool
         ensures { IsTrue result ↔ IsDecided self.now }
     {

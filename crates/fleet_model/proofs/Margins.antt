@@ -1,10 +1,9 @@
 -- Coverage by a margin of time.
-use Rattle.std.proofs.Common.{◌≡◌, ◌∙◌, ℕ, ◌+◌, ◌-◌, ◌*◌, ◌≤◌, arith, ◌↔◌}
+use Rattle.std.proofs.Common.{◌≡◌, ℕ, ◌+◌, ◌-◌, ◌*◌, ◌≤◌, arith, ◌↔◌}
 use Rattle.std.specs.Prelude.{ℤ, pos, ◌+ℤ◌, ◌-ℤ◌, ◌≤ℤ◌}
 use Rattle.std.proofs.Math.Nat.{mul-le-mul_left}
 use Rattle.std.proofs.lemmas.Int.{ints}
 use Rattle.fleet_model.specs.Labels.{Label, State, state_at}
-use Rattle.fleet_model.specs.Coverage.{IsAsGood}
 use Rattle.fleet_model.specs.Margins.{Covers, CoversBy, HasNoMargin, IsMargin}
 
 cheaper : (w t u margin : ℕ) (p q : ℤ) → q ≤ℤ (p +ℤ pos (margin * w)) → t + margin ≤ u → (pos (w * t) -ℤ p) ≤ℤ (pos (w * u) -ℤ q)

@@ -1,17 +1,17 @@
 -- A list is closed exactly where no rule is broken.
-use Rattle.std.proofs.Common.{◌≡◌, ◌∙◌, ℕ, zero, suc, ◌+◌, ◌-◌, ◌*◌, ◌<◌, ◌≤◌, Bool, true, false, ◌&&◌, ◌||◌, refl, sym, ap, subst, List, [], ◌∷◌, length, Option, Some, None, arith, ◌⊎◌, ◌↔◌, inl, inr}
+use Rattle.std.proofs.Common.{◌≡◌, ◌∙◌, ℕ, zero, suc, ◌+◌, ◌-◌, ◌*◌, ◌<◌, Bool, true, refl, sym, ap, subst, List, [], ◌∷◌, length, Option, Some, None, arith, ◌⊎◌, ◌↔◌, inl, inr}
 use Rattle.std.specs.List.{Contains, list_all, list_any}
-use Rattle.std.specs.Prelude.{int_le, nat_eq, nat_le, slice_get, slice_index_or, ℤ, pos, ◌-ℤ◌, ◌≤ℤ◌, ◌<ℤ◌}
+use Rattle.std.specs.Prelude.{int_le, nat_eq, slice_get, slice_index_or, ℤ, pos, ◌≤ℤ◌}
 use Rattle.std.proofs.lemmas.Bool.{cases_Bool, cases_eq, eq-eqb, le-leb, and_from, or_left, or_right, false≢true}
 use Rattle.std.proofs.lemmas.Int.{ints}
 use Rattle.customer_sets.specs.CustSet.{has, IsWithin}
 use Rattle.ev_model.specs.Network.{Network}
-use Rattle.fleet_model.specs.Labels.{IsLevel, Label, State, state_at}
+use Rattle.fleet_model.specs.Labels.{Label, State, state_at}
 use Rattle.fleet_model.specs.Section.{Section}
 use Rattle.fleet_model.specs.Coverage.{IsAsGood, IsCovered}
-use Rattle.fleet_model.specs.Steps.{start, time_at, at_customer, IsCustomerStep, at_station, IsStationStep, IsHomeStep}
+use Rattle.fleet_model.specs.Steps.{start, time_at, at_customer, at_station}
 use Rattle.fleet_model.specs.ClosedList.{IsClosed}
-use Rattle.fleet_model.specs.ClosedListRules.{at_home, at_start, at_step, ClosedFault, EarnsAtHome, IsFault, ReachesUncovered}
+use Rattle.fleet_model.specs.ClosedListRules.{at_home, at_start, at_step, ClosedFault, IsFault}
 use Rattle.fleet_model.proofs.Bounds.{cases_less}
 use Rattle.fleet_model.proofs.Test.{any_to, covered, is_as_good, is_covered}
 

@@ -7,7 +7,8 @@ use Rattle.fleet_model.specs.Coverage.{IsCovered}
 use Rattle.fleet_model.specs.Section.{Section}
 use Rattle.fleet_model.specs.Steps.{start, time_at, at_customer, IsCustomerStep, at_station, IsStationStep, IsHomeStep}
 
--- the start is covered, each step from a label leads to a covered state, and no step home earns more than it takes
+-- the start is covered, each step from a label leads to a covered state, and no step home earns more than it
+-- takes
 pub record IsClosed (g : Network) (s : Section) : Type 0 where
   pub begins : IsCovered s (start g)
   pub customer : (l : Label) (y x : ℕ) → Contains s.labels l → IsLevel l y → IsCustomerStep g s (state_at l y) x

@@ -1,5 +1,5 @@
 -- The rules of a closed list one by one, and which of them is the first that is broken.
-use Rattle.std.specs.Prelude.{◌≡◌, ℕ, ◌*◌, ◌<◌, List, Option, Some, slice_get, ◌⊎◌, pos, ◌<ℤ◌}
+use Rattle.std.specs.Prelude.{◌≡◌, ℕ, ◌*◌, ◌<◌, Some, slice_get, ◌⊎◌, pos, ◌<ℤ◌}
 use Rattle.ev_model.specs.Network.{Network}
 use Rattle.fleet_model.specs.Labels.{IsLevel, Label, state_at}
 use Rattle.fleet_model.specs.Coverage.{IsCovered}
@@ -12,7 +12,8 @@ pub data ClosedFault : Type 0 where
   at_step : ℕ → ℕ → ClosedFault
   at_home : ℕ → ClosedFault
 
--- some state that the step to a customer or a station reaches from some level of the label is covered by no label
+-- some state that the step to a customer or a station reaches from some level of the label is covered by no
+-- label
 abbrev pub ReachesUncovered : Network → Section → Label → ℕ → Type 0
 ReachesUncovered g s l x =
     (y : ℕ) × (IsLevel l y) × (

@@ -1,5 +1,5 @@
--- Fractional covers: feasible plans with shares, which cover each customer equally (the linear relaxation of set
--- partitioning: Desaulniers, Desrosiers, Solomon 2005).
+-- Fractional covers: feasible plans with shares, which cover each customer equally (the linear relaxation of
+-- set partitioning: Desaulniers, Desrosiers, Solomon 2005).
 use Rattle.std.specs.Prelude.{◌≡◌, ◌≢◌, ℕ, ◌+◌, ◌*◌, ◌<◌, ◌≤◌, Bool, true, List, [], ◌∷◌, pos, ◌*ℤ◌}
 use Rattle.std.specs.List.{All}
 use Rattle.ev_model.specs.Feasible.{IsFeasible}
@@ -42,8 +42,8 @@ pub record IsFractionalCover (g : Network) (k weight : ℕ) (shares : List Share
 abbrev pub CoverKeepsPairs : Network → (ℕ → ℕ → Bool) → List Share → Type 0
 CoverKeepsPairs g allows shares = All (λ x. PlanKeepsPairs g allows x.plan) shares
 
--- the shares show that the bound of a section is the least cost of a fractional cover: they are a cover in whole plans whose
--- cost is the price sum over the weight
+-- the shares show that the bound of a section is the least cost of a fractional cover: they are a cover in
+-- whole plans whose cost is the price sum over the weight
 pub record IsExactRoot (g : Network) (s : Section) (over : ℕ) (shares : List Share) : Type 0 where
   pub cover : IsFractionalCover g 1 over shares
   pub some_weight : 1 ≤ s.weight

@@ -5,8 +5,8 @@ use Rattle.customer_sets.specs.CustSet.{IsWithin}
 use Rattle.fleet_model.specs.Labels.{State, IsLevel, Label, state_at}
 use Rattle.fleet_model.specs.Section.{Section}
 
--- the state a is as good as b: at the same node after the same customer, with no customer served that b hasn't, no lower,
--- no later, and at no more cost, which is the weight times the time less the paid sum
+-- the state a is as good as b: at the same node after the same customer, with no customer served that b
+-- hasn't, no lower, no later, and at no more cost, which is the weight times the time less the paid sum
 pub record IsAsGood (weight : ℕ) (a b : State) : Type 0 where
   pub last : a.last ≡ b.last
   pub node : a.node ≡ b.node

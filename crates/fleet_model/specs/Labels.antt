@@ -1,9 +1,9 @@
--- Labels of partial routes (resource constrained shortest paths: Irnich, Desaulniers 2005), with a battery level on a
--- curve as a resource (Froger, Mendoza, Jabali, Laporte 2019).
+-- Labels of partial routes (resource constrained shortest paths: Irnich, Desaulniers 2005), with a battery
+-- level on a curve as a resource (Froger, Mendoza, Jabali, Laporte 2019).
 use Rattle.std.specs.Prelude.{ℕ, ◌+◌, ◌-◌, ◌<◌, ◌≤◌, List, length, slice_index, ℤ}
 
--- where a vehicle is on leaving a node: the last customer's node or 0, the node, the numbers of the customers that were
--- served, the sum that is paid for them, the level and the scaled time
+-- where a vehicle is on leaving a node: the last customer's node or 0, the node, the numbers of the customers
+-- that were served, the sum that is paid for them, the level and the scaled time
 pub record State : Type 0 where
   pub last : ℕ
   pub node : ℕ
@@ -12,7 +12,8 @@ pub record State : Type 0 where
   pub level : ℕ
   pub time : ℕ
 
--- the same with a first level, and a time for each level from there; `paid` may be another sum than the prices of `served`
+-- the same with a first level, and a time for each level from there; `paid` may be another sum than the
+-- prices of `served`
 pub record Label : Type 0 where
   pub last : ℕ
   pub node : ℕ

@@ -17,8 +17,8 @@ HasNoMargin weight own theirs = (other : ℕ) → theirs ≤ℤ (own +ℤ pos (o
 abbrev pub Covers : ℕ → Label → State → Type 0
 Covers weight l b = (y : ℕ) × (IsLevel l y) × IsAsGood weight (state_at l y) b
 
--- a label is at the state's node after the same customer, with no other customer served, and reaches the state's level or a
--- higher one at a time that is earlier by a margin
+-- a label is at the state's node after the same customer, with no other customer served, and reaches the
+-- state's level or a higher one at a time that is earlier by a margin
 pub record CoversBy (margin : ℕ) (l : Label) (b : State) : Type 0 where
   pub last : l.last ≡ b.last
   pub node : l.node ≡ b.node

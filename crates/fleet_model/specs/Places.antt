@@ -1,4 +1,5 @@
--- Customers by number, and the places of a route: the depot and the customers, whatever stations stand between.
+-- Customers by number, and the places of a route: the depot and the customers, whatever stations stand
+-- between.
 use Rattle.std.specs.Prelude.{ℕ, zero, suc, ◌+◌, List, [], ◌∷◌, ◌++◌, map, if◌then◌else◌}
 use Rattle.ev_model.specs.Network.{Network, node_count, is_customer}
 use Rattle.ev_model.specs.Fleet.{customers_of}

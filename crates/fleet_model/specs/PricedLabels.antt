@@ -19,7 +19,8 @@ pub record IsAsGoodByPrices (s : Section) (a b : State) : Type 0 where
   pub served : IsWithin a.served b.served
   pub level : b.level ≤ a.level
   pub time : a.time ≤ b.time
-  pub cost : (pos (s.weight * a.time) -ℤ price_sum s.prices a.served) ≤ℤ (pos (s.weight * b.time) -ℤ price_sum s.prices b.served)
+  pub cost : (pos (s.weight * a.time) -ℤ price_sum s.prices a.served)
+      ≤ℤ (pos (s.weight * b.time) -ℤ price_sum s.prices b.served)
 
 abbrev pub IsCoveredByPrices : Section → State → Type 0
 IsCoveredByPrices s b =

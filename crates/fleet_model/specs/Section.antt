@@ -1,5 +1,5 @@
--- Sections: prices for customers, a weight for time, and labels that show that no route earns more than it takes
--- (column generation and its dual bound: Desaulniers, Desrosiers, Solomon 2005).
+-- Sections: prices for customers, a weight for time, and labels that show that no route earns more than it
+-- takes (column generation and its dual bound: Desaulniers, Desrosiers, Solomon 2005).
 use Rattle.std.specs.Prelude.{◌≡◌, ℕ, ◌*◌, ◌≤◌, Bool, List, length, ◌⊎◌, ℤ, pos, ◌+ℤ◌, ◌<ℤ◌}
 use Rattle.std.specs.List.{Contains}
 use Rattle.ev_model.specs.Network.{Network}
@@ -19,8 +19,9 @@ pub record IsSectionOf (g : Network) (s : Section) : Type 0 where
   pub one_price : length s.prices ≡ customer_count g
   pub levels : (l : Label) (y : ℕ) → Contains s.labels l → IsLevel l y → y ≤ g.capacity
 
--- a number is at most the bound of a section. The bound is the price sum over the weight, rounded up, where the weight is
--- above 0; above every number where the weight is 0 and the price sum is above 0; and 0 where the weight is 0 and it isn't
+-- a number is at most the bound of a section. The bound is the price sum over the weight, rounded up, where
+-- the weight is above 0; above every number where the weight is 0 and the price sum is above 0; and 0 where
+-- the weight is 0 and it isn't
 abbrev pub IsAtMostBound : Section → ℕ → Type 0
 IsAtMostBound s bound =
     (pos (bound * s.weight) <ℤ (sum_of s.prices +ℤ pos s.weight)) ⊎ ((s.weight ≡ 0) × (bound ≡ 0))

@@ -1,4 +1,5 @@
--- Steps of a vehicle from a state: to a customer, to a station where it may charge to any whole level, or home.
+-- Steps of a vehicle from a state: to a customer, to a station where it may charge to any whole level, or
+-- home.
 use Rattle.std.specs.Prelude.{◌≡◌, ◌≢◌, ℕ, ◌+◌, ◌-◌, ◌*◌, ◌<◌, ◌≤◌, true, false, [], ◌∷◌, nat_lt, IsSome, if◌then◌else◌, pos, ◌+ℤ◌}
 use Rattle.customer_sets.specs.CustSet.{has}
 use Rattle.ev_model.specs.Network.{Network, node_count, energy, travel_time, process_time, plug_time, curve_at, is_customer, scaled_limit}

@@ -5,12 +5,21 @@ use Rattle.fleet_model.specs.Labels.{Label}
 use Rattle.fleet_model.specs.Prices.{priced}
 use Rattle.fleet_model.specs.Section.{Section}
 
--- a label that is priced by its set: the last customer, the node, the set, the first level and the times from there
+-- a label that is priced by its set: the last customer, the node, the set, the first level and the times from
+-- there
 abbrev pub label : ℕ → ℕ → ℕ → List ℕ → ℕ → List ℕ → Label
 label price last node served first times =
-    priced (pos price ∷ []) (record { last = last; node = node; served = served; paid = pos 0; first = first; times = times })
+    priced (pos price ∷ []) (record {
+      last = last;
+      node = node;
+      served = served;
+      paid = pos 0;
+      first = first;
+      times = times;
+    })
 
--- the station is left before the customer at these times from level 7 on, and the customer after it from level 5 on
+-- the station is left before the customer at these times from level 7 on, and the customer after it from
+-- level 5 on
 abbrev section : ℕ → List ℕ → List ℕ → Section
 section price charged reached = record {
   weight = 1;
