@@ -1,12 +1,16 @@
 //! Worked examples of closed lists, computed by the checker. Each is the contract of an empty
 //! function.
 
+ghost use Rattle.std.specs.Prelude.{◌∷◌, [], Some};
+ghost use Rattle.customer_sets.specs.Pairs.{any_pair};
 ghost use Rattle.ev_model.specs.Examples.LeastLevels.{with_home_level, with_reserve};
 ghost use Rattle.ev_model.specs.Examples.OneStation.{one_station};
 ghost use Rattle.ev_model.specs.Examples.PluggingIn.{plugging_in};
 ghost use Rattle.fleet_model.specs.ClosedList.{IsClosed};
-ghost use Rattle.fleet_model.specs.Examples.OneStation.{priced_at, priced_with_plug};
+ghost use Rattle.fleet_model.specs.Cover.{IsExactRoot};
+ghost use Rattle.fleet_model.specs.Examples.OneStation.{priced_at, priced_with_plug, shares};
 ghost use Rattle.fleet_model.specs.Section.{IsAtMostBound, IsSectionOf};
+ghost use Rattle.fleet_model.specs.Tree.{IsBranchTree, leaf, LeavesAreUnder};
 
 /// One customer and one station: five labels are closed at the price 43, which is the time of the
 /// fastest plan in halves, and the bound is 43. At 44 they are not closed, since that plan earns
@@ -24,4 +28,13 @@ pub fn one_station_is_closed()
     ensures plug { IsClosed plugging_in (priced_with_plug 45) }
     ensures home { IsClosed (with_home_level 5) (priced_at 60) }
     ensures home_counts { IsClosed (with_home_level 4) (priced_at 60) → ⊥ }
+{}
+
+/// The plan that takes 43 halves, with a share of 1, is an exact root at the price 43; and a tree
+/// of one leaf bears the bound 43, and not 44.
+pub fn one_station_is_an_exact_root()
+    ensures root { IsExactRoot one_station (priced_at 43) 1 shares }
+    ensures tree { IsBranchTree one_station (leaf 0) }
+    ensures bound { LeavesAreUnder (priced_at 43 ∷ []) (Some 43) any_pair (leaf 0) }
+    ensures no_more { LeavesAreUnder (priced_at 43 ∷ []) (Some 44) any_pair (leaf 0) → ⊥ }
 {}

@@ -8,7 +8,7 @@
 mod examples;
 mod laws;
 
-pub use examples::one_station_is_closed;
+pub use examples::{one_station_is_an_exact_root, one_station_is_closed};
 pub use laws::{
     a_fleet_costs_the_bound, a_fleet_costs_the_bound_of_a_tree, a_fleet_keeps_some_leaf,
     a_label_covers_by_a_margin, a_plan_pays_its_prices, a_worse_state_is_covered,

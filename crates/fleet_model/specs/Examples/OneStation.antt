@@ -1,6 +1,8 @@
 -- Closed lists of labels for a depot, one customer and one station.
 use Rattle.std.specs.Prelude.{ℕ, List, [], ◌∷◌, pos}
 use Rattle.customer_sets.specs.Pairs.{any_pair}
+use Rattle.ev_model.specs.Examples.OneStation.{charging_before}
+use Rattle.fleet_model.specs.Cover.{Share}
 use Rattle.fleet_model.specs.Labels.{Label}
 use Rattle.fleet_model.specs.Prices.{priced}
 use Rattle.fleet_model.specs.Section.{Section}
@@ -36,3 +38,7 @@ priced_at price = section price (16 ∷ 17 ∷ 23 ∷ 29 ∷ []) (22 ∷ 23 ∷ 
 
 abbrev pub priced_with_plug : ℕ → Section
 priced_with_plug price = section price (16 ∷ 19 ∷ 25 ∷ 31 ∷ []) (22 ∷ 25 ∷ 31 ∷ 37 ∷ [])
+
+-- one vehicle that charges one unit before the customer, as a fractional cover
+abbrev pub shares : List Share
+shares = record { share = 1; plan = charging_before 1 } ∷ []
