@@ -1,0 +1,4 @@
+pub mod Divisors
+pub mod Equations
+pub mod Basis
+pub mod Wide
