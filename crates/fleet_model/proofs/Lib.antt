@@ -16,3 +16,9 @@ pub mod Bounds
 pub mod Rules
 pub mod Margins
 pub mod Numbers
+pub mod Ring
+pub mod Gcd
+pub mod Lists
+pub mod Totals
+pub mod Signs
+pub mod Unique

@@ -13,3 +13,7 @@ pub mod PricedLabels
 pub mod Examples
 pub mod ClosedListRules
 pub mod Margins
+pub mod Divisors
+pub mod Equations
+pub mod Basis
+pub mod Wide

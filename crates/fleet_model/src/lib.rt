@@ -1,13 +1,15 @@
 //! The definitions behind lower bounds on the cost of a fleet: labels of partial routes, closed
-//! lists of them, branching.
+//! lists of them, branching, and the bases of the master problem.
 //!
 //! The definitions stand in `specs/`. What stands here are laws that say that they prove what they
 //! should, and worked examples, computed from the definitions.
 #![tactic(auto)]
 
+mod basis_laws;
 mod examples;
 mod laws;
 
+pub use basis_laws::{a_basis_has_one_body_equation, a_list_without_a_divisor_pays_least};
 pub use examples::{one_station_is_an_exact_root, one_station_is_closed};
 pub use laws::{
     a_fleet_costs_the_bound, a_fleet_costs_the_bound_of_a_tree, a_fleet_keeps_some_leaf,

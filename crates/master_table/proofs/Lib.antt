@@ -1,0 +1,12 @@
+pub mod Products
+pub mod Sizes
+pub mod Divided
+pub mod Reduced
+pub mod Quotients
+pub mod Spelling
+pub mod Pivots
+pub mod Tableaus
+pub mod Facts
+pub mod TableFacts
+pub mod FreshFacts
+pub mod Added
