@@ -66,6 +66,7 @@ instance_text (instance.TypeName place) = codes "8 " ++ place_text place
 instance_text (instance.BadCurve index fault) = curve_fault_text index fault
 instance_text instance.Denominator = codes "10"
 instance_text (instance.Horizon limit) = codes "11 " ++ decimal limit
+instance_text (instance.Level place) = codes "12 " ++ place_text place
 instance_text instance.Memory = []
 
 abbrev pub route_text : RouteFault → List ℕ
