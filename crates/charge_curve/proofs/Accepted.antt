@@ -3,7 +3,7 @@ use Rattle.std.proofs.Common.{◌≡◌, ℕ, suc, ◌+◌, ◌-◌, ◌*◌, �
 use Rattle.std.proofs.lemmas.Bool.{and_parts, eqb-true, leb-true, ltb-true, false≢true}
 use Rattle.std.proofs.lemmas.Option.{none-some}
 use Rattle.ev_model.specs.Curve.{BeginsEmpty, IsConcave, Rises, last_charge}
-use Rattle.charge_curve.specs.CutCurve.{IsAccepted, IsSmall}
+use Rattle.charge_curve.specs.CutCurve.{IsAccepted, IsSmall, most_breakpoints}
 use Rattle.charge_curve.specs.declared.fault.CurveFault.{CurveFault}
 use Rattle.charge_curve.specs.declared.fault.CurveFault.TheVariants.{Start, Rise, Concave, Short, TooMany}
 use Rattle.charge_curve.specs.Faults.{curve_fault, end_fault, first_fall, first_faster, has_start, is_no_faster, or_concave, or_rise, rises}
@@ -59,11 +59,11 @@ begins_from (p ∷ q ∷ ps) has =
     let charge : p.1 ≡ 0 = eqb-true p.1 0 parts.1 in
     rw (time, charge) refl
 
-end_from : (full : ℕ) (points : List (ℕ × ℕ)) → end_fault full points ≡ None → (full ≤ last_charge points) × (length points ≤ 32)
+end_from : (full : ℕ) (points : List (ℕ × ℕ)) → end_fault full points ≡ None → (full ≤ last_charge points) × (length points ≤ most_breakpoints)
 end_from full points none =
-    let reached = chosen (nat_le full (last_charge points)) (if nat_le (length points) 32 then None else Some TooMany) (Short (last_charge points)) none in
-    let few = chosen (nat_le (length points) 32) None TooMany reached.1 in
-    (leb-true full (last_charge points) reached.0, leb-true (length points) 32 few.0)
+    let reached = chosen (nat_le full (last_charge points)) (if nat_le (length points) most_breakpoints then None else Some TooMany) (Short (last_charge points)) none in
+    let few = chosen (nat_le (length points) most_breakpoints) None TooMany reached.1 in
+    (leb-true full (last_charge points) reached.0, leb-true (length points) most_breakpoints few.0)
 
 -- a curve of which no rule is broken
 pub is_accepted : (full : ℕ) (points : List (ℕ × ℕ)) → IsSmall points full → curve_fault full points ≡ None → IsAccepted (record { points = points; full = full })

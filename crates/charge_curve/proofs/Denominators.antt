@@ -1,44 +1,33 @@
 -- Common multiples of slopes, one segment after another.
-use Rattle.std.proofs.Common.{◌≡◌, ◌∙◌, ◌↔◌, ℕ, zero, suc, ◌+◌, ◌-◌, ◌*◌, ◌/◌, ◌<◌, ◌≤◌, List, [], ◌∷◌, length, length-drop, get_or, drop, sym, ap, subst, arith}
+use Rattle.std.proofs.Common.{◌≡◌, ◌∙◌, ◌↔◌, ℕ, zero, suc, ◌+◌, ◌-◌, ◌*◌, ◌/◌, ◌<◌, ◌≤◌, List, [], ◌∷◌, length, length-drop, get_or, drop, sym, ap, subst, arith, inl, inr}
 use Rattle.std.specs.Int.{◌∣◌, IsGcd}
-use Rattle.std.proofs.Math.Nat.{div-mul_cancel, dvd-mul_right, dvd_trans, mul-div_right, div-eq_of_eq-mul_right, pos_of_dvd_of_pos}
+use Rattle.std.proofs.Math.Nat.{dvd_trans, dvd-mul_left, dvd_of_mul-dvd-mul_left, mul-div_cancel', mul-dvd-mul_left, mul_comm}
+use Rattle.std.proofs.lemmas.Bool.{cases_lt}
 use Rattle.std.proofs.Math.Seq.{drop-cons}
-use Rattle.std.proofs.lemmas.Nat.Gcd.{le_of_dvd, same_from_IsGcd}
+use Rattle.std.proofs.lemmas.Nat.Gcd.{le_of_dvd}
 use Rattle.ev_model.specs.Curve.{IsMultipleOfSlope, IsMultipleOfSlopes, Rises}
 use Rattle.ev_units.specs.Units.{IsLcm, IsLcmPast}
+use Rattle.ev_units.proofs.Divisors.{lcm_exists, pos_cofactor, pos_from_IsLcm, whole_iff_reduced_divides}
+use Rattle.charge_curve.specs.Multiples.{AreMultiples, IsPast}
 
-same_factor : (g m n : ℕ) → 0 < g → m * g ≡ n * g → m ≡ n
-same_factor g m n some e =
-    let left : m * g ≡ g * m = omega arith in
-    let right : n * g ≡ g * n = omega arith in
-    sym (mul-div_right m some) ∙ div-eq_of_eq-mul_right some (sym left ∙ e ∙ right)
-
--- the quotient by the greatest common divisor is the reduced denominator
-pub reduced_is : (p q : ℕ × ℕ) (g : ℕ) → p.1 < q.1 → IsGcd (q.0 - p.0) (q.1 - p.1) g → (0 < (q.1 - p.1) / g) × ((e : ℕ) → (((q.1 - p.1) / g) ∣ e) ↔ IsMultipleOfSlope p q e)
+-- the gap of charges over the greatest common divisor of both gaps is the denominator of the slope in lowest terms
+pub reduced_is : (p q : ℕ × ℕ) (g : ℕ) → p.1 < q.1 → IsGcd (q.0 - p.0) (q.1 - p.1) g → (0 < (q.1 - p.1) / g) × AreMultiples (IsMultipleOfSlope p q) ((q.1 - p.1) / g)
 reduced_is p q g less gcd =
-    let gap = q.1 - p.1 in
-    let r = gap / g in
-    let some : 0 < gap = omega (arith, less) in
-    let whole : r * g ≡ gap = div-mul_cancel g gcd.1 in
-    let some_g : 0 < g = pos_of_dvd_of_pos gcd.1 some in
-    let some_r : 0 < r = pos_of_dvd_of_pos (subst (λ x. r ∣ x) whole (dvd-mul_right r g)) some in
-    let one_way : (e : ℕ) → (r ∣ e) → IsMultipleOfSlope p q e = λ e divides other reduced.
-    let same : reduced.0 ≡ g = same_from_IsGcd (q.0 - p.0) gap reduced.0 g reduced.1 gcd in
-    let again : other * g ≡ gap = ap (λ x. other * x) (sym same) ∙ reduced.2 in
-    subst (λ x. x ∣ e) (same_factor g r other some_g (whole ∙ sym again)) divides in
-    (some_r, λ e. (one_way e, λ multiple. multiple r (g, gcd, whole)))
+    let some : 0 < q.1 - p.1 = omega (arith, less) in
+    let is : (e : ℕ) → IsMultipleOfSlope p q e ↔ (((q.1 - p.1) / g) ∣ e) = λ e. whole_iff_reduced_divides (q.0 - p.0) (q.1 - p.1) g e some gcd in
+    (pos_cofactor g (q.1 - p.1) some gcd.1, λ e. ((is e).1, (is e).0))
 
 -- one more slope: d is the least common multiple with its reduced denominator
-pub with_slope_is : (p q : ℕ × ℕ) (base r d : ℕ) → ((e : ℕ) → (r ∣ e) ↔ IsMultipleOfSlope p q e) → IsLcm base r d → (e : ℕ) → (d ∣ e) ↔ ((base ∣ e) × IsMultipleOfSlope p q e)
+pub with_slope_is : (p q : ℕ × ℕ) (base r d : ℕ) → AreMultiples (IsMultipleOfSlope p q) r → IsLcm base r d → AreMultiples (λ e. (base ∣ e) × IsMultipleOfSlope p q e) d
 with_slope_is p q base r d reduced least e = (
   λ divides. (dvd_trans base least.0 divides, (reduced e).0 (dvd_trans r least.1 divides)),
   λ both. least.2 e both.0 ((reduced e).1 both.1),
 )
 
 -- the least common multiple is past the limit, and so is each common multiple
-pub past_slope : (p q : ℕ × ℕ) (base r limit : ℕ) → ((e : ℕ) → (r ∣ e) ↔ IsMultipleOfSlope p q e) → IsLcmPast limit base r → (e : ℕ) → 0 < e → base ∣ e → IsMultipleOfSlope p q e → limit < e
-past_slope p q base r limit reduced past e some base_divides multiple =
-    let divides : past.0 ∣ e = past.1.2 e base_divides ((reduced e).1 multiple) in
+pub past_slope : (p q : ℕ × ℕ) (base r limit : ℕ) → AreMultiples (IsMultipleOfSlope p q) r → IsLcmPast limit base r → IsPast limit (λ e. (base ∣ e) × IsMultipleOfSlope p q e)
+past_slope p q base r limit reduced past e some both =
+    let divides : past.0 ∣ e = past.1.2 e both.0 ((reduced e).1 both.1) in
     let le : past.0 ≤ e = le_of_dvd some divides in
     omega (arith, le, past.2)
 
@@ -68,7 +57,7 @@ rises_at (p ∷ q ∷ ps) (suc index) d rises less =
 -- a segment that begins below full
 pub leaves_within : (full base common next : ℕ) (points : List (ℕ × ℕ)) (index : ℕ) (d : ℕ × ℕ) → index + 1 < length points →
     (get_or points index d).1 < full →
-    ((e : ℕ) → (next ∣ e) ↔ ((common ∣ e) × IsMultipleOfSlope (get_or points index d) (get_or points (index + 1) d) e)) →
+    AreMultiples (λ e. (common ∣ e) × IsMultipleOfSlope (get_or points index d) (get_or points (index + 1) d) e) next →
     Leaves full points base common (drop index points) → Leaves full points base next (drop (index + 1) points)
 leaves_within full base common next points index d less below is leaves e =
     let p = get_or points index d in
@@ -100,15 +89,15 @@ leaves_above full base common points index d less above leaves e =
 -- no common multiple is within the limit
 pub none_within : (full base common limit : ℕ) (points : List (ℕ × ℕ)) (index : ℕ) (d : ℕ × ℕ) → index + 1 < length points →
     (get_or points index d).1 < full →
-    ((e : ℕ) → 0 < e → common ∣ e → IsMultipleOfSlope (get_or points index d) (get_or points (index + 1) d) e → limit < e) →
-    Leaves full points base common (drop index points) → (e : ℕ) → 0 < e → base ∣ e → IsMultipleOfSlopes full points e → limit < e
-none_within full base common limit points index d less below past leaves e some base_divides multiple =
+    IsPast limit (λ e. (common ∣ e) × IsMultipleOfSlope (get_or points index d) (get_or points (index + 1) d) e) →
+    Leaves full points base common (drop index points) → IsPast limit (λ e. (base ∣ e) × IsMultipleOfSlopes full points e)
+none_within full base common limit points index d less below past leaves e some multiple =
     let two = two_from points index d less in
     let p = get_or points index d in
     let q = get_or points (index + 1) d in
-    let parts = (leaves e).1 (base_divides, multiple) in
+    let parts = (leaves e).1 multiple in
     let slopes : IsMultipleOfSlopes full (p ∷ q ∷ two.0) e = subst (λ (xs : List (ℕ × ℕ)). IsMultipleOfSlopes full xs e) two.1 parts.1 in
-    past e some parts.0 (slopes.0 below)
+    past e some (parts.0, slopes.0 below)
 
 short_is_multiple : (full : ℕ) (points : List (ℕ × ℕ)) (e : ℕ) → length points ≤ 1 → IsMultipleOfSlopes full points e
 short_is_multiple full [] e le = tt
@@ -117,8 +106,56 @@ short_is_multiple full (p ∷ q ∷ ps) e le = absurd (omega (arith, le))
 
 -- no segment is left
 pub leaves_end : (full base common : ℕ) (points : List (ℕ × ℕ)) (index : ℕ) → length points ≤ index + 1 →
-    Leaves full points base common (drop index points) → (e : ℕ) → (common ∣ e) ↔ ((base ∣ e) × IsMultipleOfSlopes full points e)
+    Leaves full points base common (drop index points) → AreMultiples (λ e. (base ∣ e) × IsMultipleOfSlopes full points e) common
 leaves_end full base common points index le leaves e = (
   λ divides. (leaves e).0 (divides, short_is_multiple full (drop index points) e (omega (arith, length-drop index points, le))),
   λ all. ((leaves e).1 all).0,
 )
+
+-- ---- there is a denominator
+
+-- a slope has a denominator in lowest terms: the least common multiple of both gaps over the gap of times
+slope_denominator : (p q : ℕ × ℕ) → p.0 < q.0 → p.1 < q.1 → (r : ℕ) × (0 < r) × AreMultiples (IsMultipleOfSlope p q) r
+slope_denominator p q later higher =
+    let t = q.0 - p.0 in
+    let some_t : 0 < t = omega (arith, later) in
+    let some_c : 0 < q.1 - p.1 = omega (arith, higher) in
+    let found = lcm_exists t (q.1 - p.1) some_t some_c in
+    let m = found.0 in
+    let is : t * (m / t) ≡ m = mul-div_cancel' t found.1.0 in (
+      m / t,
+      pos_cofactor t m (pos_from_IsLcm t (q.1 - p.1) m some_t some_c found.1) found.1.0,
+      λ e. (
+        λ divides. subst (λ x. (q.1 - p.1) ∣ x) (mul_comm t e) (dvd_trans (q.1 - p.1) found.1.1 (subst (λ x. x ∣ (t * e)) is (mul-dvd-mul_left (m / t) t divides))),
+        λ whole. dvd_of_mul-dvd-mul_left (m / t) some_t (subst (λ x. (t * (m / t)) ∣ x) (mul_comm e t) (subst (λ x. x ∣ (e * t)) (sym is) (found.1.2 (e * t) (dvd-mul_left t e) whole))),
+      ),
+    )
+
+-- the numbers that are multiples of a base and make the slopes of breakpoints whole are the multiples of one number
+pub slopes_denominator : (full base : ℕ) (points : List (ℕ × ℕ)) → 0 < base → Rises points →
+    (d : ℕ) × (0 < d) × AreMultiples (λ e. (base ∣ e) × IsMultipleOfSlopes full points e) d
+slopes_denominator full base [] some rises = (base, some, λ e. (λ divides. (divides, tt), λ both. both.0))
+slopes_denominator full base (p ∷ []) some rises = (base, some, λ e. (λ divides. (divides, tt), λ both. both.0))
+slopes_denominator full base (p ∷ q ∷ ps) some rises = elim (cases_lt p.1 full) [
+  | inl below ↦
+      let slope = slope_denominator p q rises.0 rises.1 in
+      let found = lcm_exists base slope.0 some slope.1 in
+      let with = with_slope_is p q base slope.0 found.0 slope.2 found.1 in
+      let rest = slopes_denominator full found.0 (q ∷ ps) (pos_from_IsLcm base slope.0 found.0 some slope.1 found.1) rises.2 in (
+        rest.0,
+        rest.1,
+        λ e. (
+          λ divides. let parts = (rest.2 e).0 divides in let both = (with e).0 parts.0 in (both.0, (λ low. both.1, parts.1)),
+          λ all. (rest.2 e).1 ((with e).1 (all.0, all.1.0 below), all.1.1),
+        ),
+      )
+  | inr above ↦
+      let rest = slopes_denominator full base (q ∷ ps) some rises.2 in (
+        rest.0,
+        rest.1,
+        λ e. (
+          λ divides. let parts = (rest.2 e).0 divides in (parts.0, (λ low. absurd (omega (arith, low, above)), parts.1)),
+          λ all. (rest.2 e).1 (all.0, all.1.1),
+        ),
+      )
+]

@@ -5,7 +5,7 @@ use Rattle.std.proofs.Math.Nat.{mul-le-mul}
 use Rattle.std.proofs.lemmas.Bool.{cases_lt, le-leb, lt-leb}
 use Rattle.std.proofs.lemmas.List.Elements.{All-cons, All-head, All-nil, All-tail}
 use Rattle.ev_model.specs.Curve.{IsConcave, IsCurve, IsMultipleOfSlopes, Rises, charge_time, last_charge}
-use Rattle.ev_model.proofs.ChargeTime.{charge_time-first, charge_time-later, slope_is_whole}
+use Rattle.ev_model.proofs.ChargeTime.{charge_time-first, charge_time-later}
 use Rattle.charge_curve.specs.CutCurve.{CutCurve, IsAccepted}
 use Rattle.charge_curve.specs.Points.{ArePoints, IsSlowing, last_level, slope, time_on}
 use Rattle.charge_curve.specs.Scaled.{IsScaledCurve, breaks_of, scaled}
@@ -53,7 +53,7 @@ past_first d p next rest level past = rw (lt-leb level next.0 past) refl
 
 fine_over : (d full : ℕ) (p q : ℕ × ℕ) (ps : List (ℕ × ℕ)) → d ≤ 10 ^ 9 → IsRest d full p (q ∷ ps) → full ≤ q.1 → IsFine d full p q ps
 fine_over d full p q ps small known over =
-    let divides = slope_is_whole d p q (known.multiple.0 known.below) in
+    let divides = known.multiple.0 known.below in
     let piece = cut_piece d full p q known.rises.0 known.below over divides in
     let end = piece.end in
     let tail = All-tail IsSmallPoint p (q ∷ ps) known.small in
@@ -73,8 +73,8 @@ fine_over d full p q ps small known over =
 
 fine_under : (d full : ℕ) (p q r : ℕ × ℕ) (ps : List (ℕ × ℕ)) → d ≤ 10 ^ 9 → IsRest d full p (q ∷ r ∷ ps) → q.1 < full → IsFine d full q r ps → IsFine d full p q (r ∷ ps)
 fine_under d full p q r ps small known under later =
-    let divides = slope_is_whole d p q (known.multiple.0 known.below) in
-    let divides_next = slope_is_whole d q r (known.multiple.1.0 under) in
+    let divides = known.multiple.0 known.below in
+    let divides_next = known.multiple.1.0 under in
     let piece = whole_piece d full p q known.rises.0 known.rises.1 divides in
     let slow = slower d p q r known.rises.1 known.rises.2.1 divides divides_next known.concave.0 in
     let here = small_time d p small (All-head IsSmallPoint p (q ∷ r ∷ ps) known.small) in

@@ -14,11 +14,15 @@ pub record IsSmall (points : List (ℕ × ℕ)) (capacity : ℕ) : Type 0 where
   pub charges : All (λ p. p.1 ≤ 10 ^ 9) points
   pub full : capacity ≤ 10 ^ 9
 
+-- the most breakpoints of a curve
+abbrev pub most_breakpoints : ℕ
+most_breakpoints = 32
+
 -- what holds of every curve that was accepted
 pub record IsAccepted (c : CutCurve) : Type 0 where
   pub curve : IsCurve c.full c.points
   pub small : IsSmall c.points c.full
-  pub few : length c.points ≤ 32
+  pub few : length c.points ≤ most_breakpoints
 
 -- the breakpoints of curves
 abbrev pub points_of : List CutCurve → List (List (ℕ × ℕ))

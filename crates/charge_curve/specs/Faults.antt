@@ -1,6 +1,7 @@
 -- Why breakpoints are no curve: the first broken of five rules.
 use Rattle.std.specs.Prelude.{ℕ, ◌+◌, ◌-◌, ◌*◌, Bool, false, ◌&&◌, List, [], ◌∷◌, length, Option, None, Some, nat_le, nat_lt, nat_eq, if◌then◌else◌}
 use Rattle.ev_model.specs.Curve.{last_charge}
+use Rattle.charge_curve.specs.CutCurve.{most_breakpoints}
 use Rattle.charge_curve.specs.declared.fault.CurveFault.{CurveFault}
 use Rattle.charge_curve.specs.declared.fault.CurveFault.TheVariants.{Start, Rise, Concave, Short, TooMany}
 
@@ -33,11 +34,11 @@ first_faster index (p ∷ q ∷ []) = None
 first_faster index (p ∷ q ∷ r ∷ ps) =
     if is_no_faster p q r then first_faster (index + 1) (q ∷ r ∷ ps) else Some index
 
--- the last two rules: the curve reaches full, and has at most 32 breakpoints
+-- the last two rules: the curve reaches full, and has no more breakpoints than are allowed
 abbrev pub end_fault : ℕ → List (ℕ × ℕ) → Option CurveFault
 end_fault full points =
     if nat_le full (last_charge points)
-    then (if nat_le (length points) 32 then None else Some TooMany)
+    then (if nat_le (length points) most_breakpoints then None else Some TooMany)
     else Some (Short (last_charge points))
 
 abbrev pub or_concave : Option ℕ → Option CurveFault → Option CurveFault

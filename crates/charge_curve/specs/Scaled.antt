@@ -1,7 +1,7 @@
 -- Curves with scaled times, cut at a full battery.
-use Rattle.std.specs.Prelude.{◌≡◌, ℕ, ◌*◌, ◌≤◌, ◌^◌, List, [], ◌∷◌, ◌++◌, filter, map, nat_lt}
+use Rattle.std.specs.Prelude.{ℕ, ◌*◌, ◌≤◌, ◌^◌, List, [], ◌∷◌, ◌++◌, filter, map, nat_lt}
 use Rattle.std.specs.List.{All}
-use Rattle.ev_model.specs.Curve.{charge_time}
+use Rattle.ev_model.specs.Curve.{BeginsEmpty, charge_time}
 use Rattle.charge_curve.specs.Points.{ArePoints, IsSlowing, last_level}
 
 -- a breakpoint (time, charge) as (level, scaled time)
@@ -15,10 +15,6 @@ below full points = filter (λ p. nat_lt p.1 full) points
 -- the breakpoints below full and full itself, each as (level, scaled time)
 abbrev pub breaks_of : ℕ → ℕ → List (ℕ × ℕ) → List (ℕ × ℕ)
 breaks_of d full points = map (scaled d) (below full points) ++ (full, charge_time d points full) ∷ []
-
-abbrev pub BeginsEmpty : List (ℕ × ℕ) → Type 0
-BeginsEmpty [] = ⊥
-BeginsEmpty (p ∷ ps) = p ≡ (0, 0)
 
 -- what holds of every scaled curve: whole times for each level, from empty at time 0, and no piece faster than the one before
 pub record IsScaledCurve (breaks : List (ℕ × ℕ)) : Type 0 where

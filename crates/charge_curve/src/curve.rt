@@ -12,8 +12,8 @@ use std::marker::Model;
 
 /// A charging curve up to a full battery.
 ///
-/// Contracts see its breakpoints (time from empty, charge reached by then), as they were given, and the
-/// level of a full battery at which the curve is cut.
+/// Contracts see its breakpoints (time from empty, charge reached by then), as they were given, and
+/// the level of a full battery at which the curve is cut.
 #[derive(Drop)]
 pub struct Curve {
     points: Vec<(u64, u64)>,
@@ -31,16 +31,19 @@ impl Model for Curve {
 }
 
 impl Curve {
-    /// The curve through breakpoints (time from empty, charge reached by then), cut at a full battery of `max_q`.
+    /// The curve through breakpoints (time from empty, charge reached by then), cut at a full battery
+    /// of `max_q`.
     ///
     /// The first broken rule is answered: [`CurveFault::Start`], [`CurveFault::Rise`],
-    /// [`CurveFault::Concave`], [`CurveFault::Short`], [`CurveFault::TooMany`]. Equal slopes are accepted.
+    /// [`CurveFault::Concave`], [`CurveFault::Short`], [`CurveFault::TooMany`]. Equal slopes are
+    /// accepted.
     pub fn new(alloc: Global, points: &[(u64, u64)], max_q: u64) -> Result<Curve, CurveFault>
         requires { IsSmall points.now max_q }
         ensures ok { OnOk result (curve_fault max_q points.now ≡ None) }
         ensures value { IfOk result (λ c. c ≡ record { points = points.now; full = max_q }) }
         ensures accepted { IfOk result IsAccepted }
-        ensures fault { (fault : CurveFault) → fault ≢ Memory → (result ≡ Err fault) ↔ (curve_fault max_q points.now ≡ Some fault) }
+        ensures fault { (fault : CurveFault) → fault ≢ Memory
+            → (result ≡ Err fault) ↔ (curve_fault max_q points.now ≡ Some fault) }
     {
         if let Some(fault) = first_fault(points, max_q) {
             return Err(fault);
@@ -62,7 +65,8 @@ impl Curve {
         self.full
     }
 
-    /// The breakpoints (time from empty, charge reached by then), as they were given. It takes no memory.
+    /// The breakpoints (time from empty, charge reached by then), as they were given. It takes no
+    /// memory.
     pub fn points(&self) -> &[(u64, u64)]
         ensures value { result.now ≡ self.now.points }
         ensures accepted { IsAccepted self.now }

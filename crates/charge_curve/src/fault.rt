@@ -102,7 +102,8 @@ fn faster(points: &[(u64, u64)]) -> Option<usize>
     None
 }
 
-/// Whether the segment from `q` to `r` takes at least as long for a unit of charge as that from `p` to `q`.
+/// Whether the segment from `q` to `r` takes at least as long for a unit of charge as that from `p`
+/// to `q`.
 fn no_faster(p: (u64, u64), q: (u64, u64), r: (u64, u64)) -> bool
     requires q_time { q.0 ≤ 10 ^ 9 }
     requires q_charge { q.1 ≤ 10 ^ 9 }

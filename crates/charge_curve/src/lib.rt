@@ -5,11 +5,13 @@
 mod curve;
 mod denominator;
 mod fault;
+mod laws;
 mod scaled;
 
 pub use curve::Curve;
 pub use denominator::common_denominator;
 pub use fault::CurveFault;
+pub use laws::{curves_have_one_denominator, denominator_is_that_of_the_breakpoints};
 pub use scaled::Scaled;
 
 #[cfg(test)]

@@ -31,13 +31,14 @@ impl Model for Scaled {
 }
 
 impl Curve {
-    /// The curve with its times multiplied by `d`, which makes the charge time to every whole level whole.
+    /// The curve with its times multiplied by `d`, which makes the charge time to every whole level
+    /// whole.
     pub fn scale(&self, d: u64) -> Result<Scaled, AllocError>
-        requires some { 1 ≤ d }
         requires small { d ≤ 10 ^ 9 }
         requires multiple { IsMultipleOfSlopes self.now.full self.now.points d }
         ensures breaks { IfOk result (λ s. s ≡ breaks_of d self.now.full self.now.points) }
-        ensures times { IfOk result (λ s. (level : ℕ) → level ≤ self.now.full → time_on s level ≡ charge_time d self.now.points level) }
+        ensures times { IfOk result (λ s. (level : ℕ) → level ≤ self.now.full
+            → time_on s level ≡ charge_time d self.now.points level) }
         ensures full { IfOk result (λ s. last_level s ≡ self.now.full) }
     {
         let breaks = self.scaled_breaks(d)?;
@@ -60,7 +61,8 @@ impl Curve {
     /// The breakpoints below a full battery, as (level, scaled time).
     fn breaks_below_full(&self, d: u64) -> Result<Vec<(u64, u64)>, AllocError>
         requires small { d ≤ 10 ^ 9 }
-        ensures { IfOk result (λ v. v.items ≡ map (scaled d) (below self.now.full self.now.points)) }
+        ensures { IfOk result
+            (λ v. v.items ≡ map (scaled d) (below self.now.full self.now.points)) }
     {
         let points = self.points();
         let full = self.full();

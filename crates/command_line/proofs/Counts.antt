@@ -1,23 +1,31 @@
--- Words of another count name no options, no limit and no job.
-use Rattle.std.proofs.Common.{◌≡◌, ◌≢◌, ℕ, ◌<◌, List, [], ◌∷◌, length, None, map, arith, refl}
-use Rattle.command_line.specs.Words.{job_of, limit_of, options_of}
+-- Another number of words behind the command's names no job.
+use Rattle.std.proofs.Common.{◌≡◌, ◌≢◌, List, [], ◌∷◌, length, None, refl}
+use Rattle.std.specs.Borrow.{Bor}
+use Rattle.clap.specs.Walk.{Row, Text, texts}
+use Rattle.command_line.specs.Words.{check_of, convert_of, fixed_of, make_of}
 
-pub no_options : {X : Type 0} (f : X → List ℕ) (words : List X) → length words ≢ 0 → length words ≢ 2 → length words ≢ 4 → None ≡ options_of (map f words)
-no_options f [] zero two four = absurd (zero refl)
-no_options f (a ∷ []) zero two four = refl
-no_options f (a ∷ b ∷ []) zero two four = absurd (two refl)
-no_options f (a ∷ b ∷ c ∷ []) zero two four = refl
-no_options f (a ∷ b ∷ c ∷ d ∷ []) zero two four = absurd (four refl)
-no_options f (a ∷ b ∷ c ∷ d ∷ e ∷ words) zero two four = refl
+pub no_fixed : (rest : List (Bor Text)) (rows : List Row) → length rest ≢ 2 → None ≡ fixed_of (texts rest) rows
+no_fixed [] rows other = refl
+no_fixed (a ∷ []) rows other = refl
+no_fixed (a ∷ b ∷ []) rows other = absurd (other refl)
+no_fixed (a ∷ b ∷ c ∷ rest) rows other = refl
 
-pub no_limit : {X : Type 0} (f : X → List ℕ) (words : List X) → length words ≢ 0 → length words ≢ 2 → None ≡ limit_of (map f words)
-no_limit f [] zero two = absurd (zero refl)
-no_limit f (a ∷ []) zero two = refl
-no_limit f (a ∷ b ∷ []) zero two = absurd (two refl)
-no_limit f (a ∷ b ∷ c ∷ words) zero two = refl
+pub no_check : (rest : List (Bor Text)) (rows : List Row) → length rest ≢ 2 → None ≡ check_of (texts rest) rows
+no_check [] rows other = refl
+no_check (a ∷ []) rows other = refl
+no_check (a ∷ b ∷ []) rows other = absurd (other refl)
+no_check (a ∷ b ∷ c ∷ rest) rows other = refl
 
-pub no_job : {X : Type 0} (f : X → List ℕ) (words : List X) → length words < 3 → None ≡ job_of (map f words)
-no_job f [] few = refl
-no_job f (a ∷ []) few = refl
-no_job f (a ∷ b ∷ []) few = refl
-no_job f (a ∷ b ∷ c ∷ words) few = absurd (omega arith)
+pub no_convert : (rest : List (Bor Text)) (rows : List Row) → length rest ≢ 2 → None ≡ convert_of (texts rest) rows
+no_convert [] rows other = refl
+no_convert (a ∷ []) rows other = refl
+no_convert (a ∷ b ∷ []) rows other = absurd (other refl)
+no_convert (a ∷ b ∷ c ∷ rest) rows other = refl
+
+pub no_make : (rest : List (Bor Text)) (rows : List Row) → length rest ≢ 4 → None ≡ make_of (texts rest) rows
+no_make [] rows other = refl
+no_make (a ∷ []) rows other = refl
+no_make (a ∷ b ∷ []) rows other = refl
+no_make (a ∷ b ∷ c ∷ []) rows other = refl
+no_make (a ∷ b ∷ c ∷ d ∷ []) rows other = absurd (other refl)
+no_make (a ∷ b ∷ c ∷ d ∷ e ∷ rest) rows other = refl

@@ -1,101 +1,190 @@
--- The job that the words of a command line name: `fixed FILE ROUTE [--limit N] [--charge N]` or `check FILE PLAN [--limit N]`.
-use Rattle.std.specs.Prelude.{ℕ, ◌^◌, ◌&&◌, Bool, true, not, List, [], ◌∷◌, length, Option, None, Some, Result, Ok, Err, is_none, codes, nat_eq, option_map, if◌then◌else◌}
+-- The job that the words of a command line name: a function of what the command finds in them.
+use Rattle.std.specs.Prelude.{ℕ, ◌-◌, ◌^◌, ◌&&◌, ◌||◌, Bool, true, not, List, [], ◌∷◌, Option, None, Some, Result, Ok, Err, is_none, codes, nat_eq, option_and_then, option_map, unwrap_or, if◌then◌else◌, length}
+use Rattle.std.specs.List.{list_any}
 use Rattle.std.specs.Str.{bytes_eq}
+use Rattle.clap.specs.Words.{Kinds, Row, Text, all_of, fault_of, first_of, matches_of}
 use Rattle.ev_text.specs.Scans.{rest_of, whole_at}
 use Rattle.ev_text.specs.declared.TextFault.{TextFault}
+use Rattle.command_line.specs.Command.{evroute}
 use Rattle.command_line.specs.declared.Options.{Options}
 
 -- the job of charging one route: the names of its words, and its options
 pub record FixedJob : Type 0 where
-  pub file : List ℕ
-  pub route : List ℕ
+  pub file : Text
+  pub route : Text
   pub options : Options
 
 -- the job of judging a plan: the names of its files, and the limit where one is given
 pub record CheckJob : Type 0 where
-  pub file : List ℕ
-  pub plan : List ℕ
+  pub file : Text
+  pub plan : Text
   pub limit : Option ℕ
+
+-- the job of making the decimals of a file whole: the names of the files, and how many digits are kept
+pub record ConvertJob : Type 0 where
+  pub file : Text
+  pub outfile : Text
+  pub time_digits : ℕ
+  pub energy_digits : ℕ
+
+-- the job of making an instance: what it is made of, and the name of its file
+pub record MakeJob : Type 0 where
+  pub seed : ℕ
+  pub customers : ℕ
+  pub stations : ℕ
+  pub outfile : Text
 
 -- a job of the program
 pub data Job : Type 0 where
   FixedRoute : FixedJob → Job
   CheckPlan : CheckJob → Job
+  ConvertFile : ConvertJob → Job
+  MakeFile : MakeJob → Job
 
--- a word that may be a name or a route: it does not begin with `-`
-abbrev pub is_plain : List ℕ → Bool
-is_plain [] = true
-is_plain (b ∷ bs) = not (nat_eq b 45)
+-- the greatest limit, level and number of nodes
+abbrev pub most_value : ℕ
+most_value = 10 ^ 18
 
--- the whole word is a number in its one spelling, at most 10^18
+-- the greatest number of digits
+abbrev pub most_digits : ℕ
+most_digits = 10 ^ 9
+
+-- the greatest number of customers or of stations
+abbrev pub most_nodes : ℕ
+most_nodes = 2 ^ 32 - 1
+
+-- the greatest seed
+abbrev pub most_seed : ℕ
+most_seed = 2 ^ 64 - 1
+
+-- the whole word is a number in its one spelling, at most `most`
 abbrev pub all_taken : Result (ℕ × (List ℕ × ℕ)) TextFault → Option ℕ
 all_taken (Ok found) = if nat_eq (length (rest_of found.1)) 0 then Some found.0 else None
 all_taken (Err fault) = None
 
-abbrev pub number_of : List ℕ → Option ℕ
-number_of word = all_taken (whole_at (10 ^ 18) (word, 0))
+abbrev pub number_of : ℕ → Text → Option ℕ
+number_of most word = all_taken (whole_at most (word, 0))
 
-abbrev pub no_options : Options
-no_options = record { limit = None; charge = None }
+-- an option that need not be given: no number where it is not, and else the number of its value
+abbrev pub optional_number : ℕ → Option Text → Option (Option ℕ)
+optional_number most None = Some None
+optional_number most (Some word) = option_map (λ n. Some n) (number_of most word)
 
--- a number is kept where the option was not given before
-abbrev pub with_limit : Options → Option ℕ → Option Options
-with_limit options None = None
-with_limit options (Some n) = if is_none options.limit then Some (record options { limit = Some n }) else None
+-- an option that has to be given
+abbrev pub required_number : ℕ → Option Text → Option ℕ
+required_number most word = option_and_then (number_of most) word
 
-abbrev pub with_charge : Options → Option ℕ → Option Options
-with_charge options None = None
-with_charge options (Some n) = if is_none options.charge then Some (record options { charge = Some n }) else None
+-- the text is one of the names
+abbrev pub is_listed : Text → List Text → Bool
+is_listed text names = list_any (λ name. bytes_eq name text) names
 
--- the options so far and one more, if it may stand
-abbrev pub with_option : Options → List ℕ → List ℕ → Option Options
-with_option options name value =
-    if bytes_eq name (codes "--limit") then with_limit options (number_of value)
-    else (if bytes_eq name (codes "--charge") then with_charge options (number_of value) else None)
+-- the names are pairwise different texts
+abbrev pub are_different : List Text → Bool
+are_different [] = true
+are_different (name ∷ names) = not (is_listed name names) && are_different names
 
-abbrev pub and_more : Option Options → (Options → Option Options) → Option Options
-and_more None more = None
-and_more (Some options) more = more options
+-- the words behind the word of the command
+abbrev pub rest_in : List Row → List Text
+rest_in rows = unwrap_or (all_of (codes "rest") rows) []
 
--- no option, one, or both: a name and its number each, and none a second time
-abbrev pub options_of : List (List ℕ) → Option Options
-options_of [] = Some no_options
-options_of (name ∷ value ∷ []) = with_option no_options name value
-options_of (name ∷ value ∷ other_name ∷ other_value ∷ []) =
-    and_more (with_option no_options name value) (λ options. with_option options other_name other_value)
-options_of other = None
+abbrev pub option_names : List Text
+option_names = codes "limit" ∷ codes "charge" ∷ codes "nodes" ∷ codes "time-digits" ∷ codes "energy-digits" ∷ []
 
--- a limit: its name, and its number
-abbrev pub limit_named : List ℕ → List ℕ → Option (Option ℕ)
-limit_named name value = if bytes_eq name (codes "--limit") then option_map (λ n. Some n) (number_of value) else None
+-- of these options none is given that is not a command's own
+abbrev pub gives_own : List Text → List Row → List Text → Bool
+gives_own own rows [] = true
+gives_own own rows (name ∷ names) = (is_listed name own || is_none (first_of name rows)) && gives_own own rows names
 
--- no option, or a limit
-abbrev pub limit_of : List (List ℕ) → Option (Option ℕ)
-limit_of [] = Some None
-limit_of (name ∷ value ∷ []) = limit_named name value
-limit_of other = None
+-- no option is given but some of these
+abbrev pub gives_only : List Text → List Row → Bool
+gives_only own rows = gives_own own rows option_names
+
+abbrev pub limit_in : List Row → Option (Option ℕ)
+limit_in rows = optional_number most_value (first_of (codes "limit") rows)
+
+abbrev pub charge_in : List Row → Option (Option ℕ)
+charge_in rows = optional_number most_value (first_of (codes "charge") rows)
+
+abbrev pub digits_in : Text → List Row → Option ℕ
+digits_in name rows = required_number most_digits (first_of name rows)
 
 -- the job of these words with these options
-abbrev pub job_with : List ℕ → List ℕ → Options → FixedJob
+abbrev pub job_with : Text → Text → Options → FixedJob
 job_with file route options = record { file = file; route = route; options = options }
 
--- the names of the job `fixed`, and the words behind them
-abbrev pub fixed_of : List ℕ → List ℕ → List (List ℕ) → Option Job
-fixed_of file route words =
-    if is_plain file && is_plain route
-    then option_map (λ options. FixedRoute (job_with file route options)) (options_of words)
+-- `fixed FILE ROUTE [--limit N] [--charge N]`
+abbrev pub fixed_with : Text → Text → Option (Option ℕ) → Option (Option ℕ) → Option Job
+fixed_with file route (Some limit) (Some charge) =
+    Some (FixedRoute (job_with file route (record { limit = limit; charge = charge })))
+fixed_with file route limit charge = None
+
+abbrev pub fixed_of : List Text → List Row → Option Job
+fixed_of (file ∷ route ∷ []) rows =
+    if gives_only (codes "limit" ∷ codes "charge" ∷ []) rows
+    then fixed_with file route (limit_in rows) (charge_in rows)
+    else None
+fixed_of rest rows = None
+
+-- `check FILE PLAN [--limit N]`
+abbrev pub check_with : Text → Text → Option (Option ℕ) → Option Job
+check_with file plan limit =
+    option_map (λ n. CheckPlan (record { file = file; plan = plan; limit = n })) limit
+
+abbrev pub check_of : List Text → List Row → Option Job
+check_of (file ∷ plan ∷ []) rows =
+    if gives_only (codes "limit" ∷ []) rows && are_different (file ∷ plan ∷ [])
+    then check_with file plan (limit_in rows)
+    else None
+check_of rest rows = None
+
+-- `convert FILE OUTFILE --time-digits N --energy-digits N`
+abbrev pub convert_with : Text → Text → Option ℕ → Option ℕ → Option Job
+convert_with file outfile (Some time) (Some energy) =
+    Some (ConvertFile (record { file = file; outfile = outfile; time_digits = time; energy_digits = energy }))
+convert_with file outfile time energy = None
+
+abbrev pub convert_of : List Text → List Row → Option Job
+convert_of (file ∷ outfile ∷ []) rows =
+    if gives_only (codes "time-digits" ∷ codes "energy-digits" ∷ []) rows && are_different (file ∷ outfile ∷ [])
+    then convert_with file outfile (digits_in (codes "time-digits") rows) (digits_in (codes "energy-digits") rows)
+    else None
+convert_of rest rows = None
+
+-- `make SEED CUSTOMERS STATIONS OUTFILE`
+abbrev pub make_with : Option ℕ → Option ℕ → Option ℕ → Text → Option Job
+make_with (Some seed) (Some customers) (Some stations) outfile =
+    Some (MakeFile (record { seed = seed; customers = customers; stations = stations; outfile = outfile }))
+make_with seed customers stations outfile = None
+
+abbrev pub make_of : List Text → List Row → Option Job
+make_of (seed ∷ customers ∷ stations ∷ outfile ∷ []) rows =
+    if gives_only [] rows
+    then make_with (number_of most_seed seed) (number_of most_nodes customers) (number_of most_nodes stations) outfile
+    else None
+make_of rest rows = None
+
+-- the job of a command, of the words behind it and of the options
+abbrev pub job_of_command : Text → List Text → List Row → Option Job
+job_of_command command rest rows =
+    if bytes_eq command (codes "fixed") then fixed_of rest rows
+    else if bytes_eq command (codes "check") then check_of rest rows
+    else if bytes_eq command (codes "convert") then convert_of rest rows
+    else if bytes_eq command (codes "make") then make_of rest rows
     else None
 
--- the names of the job `check`, which are different, and the words behind them
-abbrev pub check_of : List ℕ → List ℕ → List (List ℕ) → Option Job
-check_of file plan words =
-    if is_plain file && is_plain plan && not (bytes_eq file plan)
-    then option_map (λ limit. CheckPlan (record { file = file; plan = plan; limit = limit })) (limit_of words)
-    else None
+-- the job of what the command finds
+abbrev pub job_in : List Row → Option Job
+job_in rows = option_and_then (λ command. job_of_command command (rest_in rows) rows) (first_of (codes "command") rows)
+
+-- the job where the command takes the words: no error of it comes
+abbrev pub job_unless : Kinds → Option Job → Option Job
+job_unless [] job = job
+job_unless (kind ∷ kinds) job = None
+
+-- the words with the name of the program in front of them
+abbrev pub named : List Text → List Text
+named words = codes "evroute" ∷ words
 
 -- the job of the words, if they name one
-abbrev pub job_of : List (List ℕ) → Option Job
-job_of (command ∷ file ∷ name ∷ words) =
-    if bytes_eq command (codes "fixed") then fixed_of file name words
-    else (if bytes_eq command (codes "check") then check_of file name words else None)
-job_of other = None
+abbrev pub job_of : List Text → Option Job
+job_of words = job_unless (fault_of evroute (named words)) (job_in (matches_of evroute (named words)))

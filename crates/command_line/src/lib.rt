@@ -1,16 +1,24 @@
 //! The words of the command line, and the job that they name.
 #![tactic(auto)]
 
-ghost use Rattle.std.specs.Prelude.{◌≡◌, map, option_map, string_bytes};
+ghost use Rattle.std.specs.Prelude.{◌≡◌, IfOk, map, option_map, string_bytes};
 ghost use Rattle.command_line.specs.JobValue.{job_value};
+ghost use Rattle.command_line.specs.Usage.{usage_text};
 ghost use Rattle.command_line.specs.Words.{job_of};
 
+mod arguments;
 mod check;
+mod convert;
 mod fixed;
+mod laws;
+mod make;
+mod matches;
 mod words;
 
-use check::check_job;
-use fixed::fixed_job;
+use arguments::{matches_of, named};
+pub use laws::{numbers_have_one_spelling, words_are_read_as_they_stand};
+use matches::job_in;
+use std::alloc::{AllocError, Global};
 
 /// The options of `fixed`.
 #[derive(Clone, Copy, Debug, Drop, PartialEq, Eq)]
@@ -22,52 +30,84 @@ pub struct Options {
 }
 
 /// The words of the job `fixed`: the file, the word of the route, and the options.
-#[derive(Clone, Copy, Debug, Drop, PartialEq, Eq)]
-pub struct FixedWords<'a> {
-    pub file: &'a str,
-    pub route: &'a str,
+#[derive(Debug, Drop, PartialEq, Eq)]
+pub struct FixedWords {
+    pub file: String,
+    pub route: String,
     pub options: Options,
 }
 
 /// The words of the job `check`: the file of the instance, another one with the plan, and the limit on the
 /// time of each route in place of the instance's, in units of time.
-#[derive(Clone, Copy, Debug, Drop, PartialEq, Eq)]
-pub struct CheckWords<'a> {
-    pub file: &'a str,
-    pub plan: &'a str,
+#[derive(Debug, Drop, PartialEq, Eq)]
+pub struct CheckWords {
+    pub file: String,
+    pub plan: String,
     pub limit: Option<u64>,
 }
 
-/// A job of the program.
-#[derive(Clone, Copy, Debug, Drop, PartialEq, Eq)]
-pub enum Job<'a> {
-    /// A route is charged.
-    Fixed(FixedWords<'a>),
-    /// The plan of a file is judged.
-    Check(CheckWords<'a>),
+/// The words of the job `convert`: the file that is read, another one that is written, and how many decimal
+/// digits of times and of energies become whole.
+#[derive(Debug, Drop, PartialEq, Eq)]
+pub struct ConvertWords {
+    pub file: String,
+    pub outfile: String,
+    pub time_digits: u32,
+    pub energy_digits: u32,
 }
 
-/// The job of the words `fixed FILE ROUTE [--limit N] [--charge N]` or `check FILE PLAN [--limit N]`.
+/// The words of the job `make`: the seed, the counts of customers and of stations, and the file that is
+/// written.
+#[derive(Debug, Drop, PartialEq, Eq)]
+pub struct MakeWords {
+    pub seed: u64,
+    pub customers: u32,
+    pub stations: u32,
+    pub outfile: String,
+}
+
+/// A job of the program.
+#[derive(Debug, Drop, PartialEq, Eq)]
+pub enum Job {
+    /// A route is charged.
+    Fixed(FixedWords),
+    /// The plan of a file is judged.
+    Check(CheckWords),
+    /// The decimals of a file become whole.
+    Convert(ConvertWords),
+    /// An instance is made.
+    Make(MakeWords),
+}
+
+/// The job of the words, which stand behind the program's name, read by one `clap` command:
+/// `fixed FILE ROUTE [--limit N] [--charge N]`, `check FILE PLAN [--limit N]`,
+/// `convert FILE OUTFILE --time-digits N --energy-digits N` or `make SEED CUSTOMERS STATIONS OUTFILE`.
 /// `None` comes exactly where the words are no such job.
 ///
-/// The options stand behind the names, each at most once, a name and its number as two words; the number is
-/// at most 10^18. FILE, ROUTE and PLAN do not begin with `-`. FILE and PLAN are different texts.
-#[tactic(auto, using(crate::proofs::Counts::no_job))]
-pub fn job_words(words: &[String]) -> Option<Job<'_>>
-    ensures { option_map job_value result ≡ job_of (map (λ word. string_bytes word) words.now) }
+/// Options stand anywhere before a word `--`, each at most once; the value is the next word or follows a `=`.
+/// A name that begins with `-` and has more behind it is given after `--`. Numbers are written without
+/// leading zeros: at most 10^18 for a limit or a charge, 10^9 for digits, 2^64 - 1 for the seed and 2^32 - 1
+/// for the counts. The names of files are different texts.
+pub fn job_words(alloc: Global, words: &[String]) -> Result<Option<Job>, AllocError>
+    ensures { IfOk result (λ job. option_map job_value job ≡ job_of (map string_bytes words.now)) }
 {
-    match words {
-        [command, file, name, rest @ ..] => {
-            if command.as_str() == "fixed" {
-                fixed_job(file.as_str(), name.as_str(), rest)
-            } else if command.as_str() == "check" {
-                check_job(file.as_str(), name.as_str(), rest)
-            } else {
-                None
-            }
-        }
-        _ => None,
+    let named = named(alloc, words)?;
+    match matches_of(alloc, named.as_slice()) {
+        Ok(Some(matches)) => job_in(alloc, &matches),
+        Ok(None) => Ok(None),
+        Err(AllocError) => Err(AllocError),
     }
+}
+
+/// The usage text: how the program is called, a line a command.
+pub fn usage() -> &'static str
+    ensures { result.now ≡ usage_text }
+{
+    "evroute fixed FILE ROUTE [--limit N] [--charge N]\n\
+     evroute fleet FILE PLAN CERT [--limit N] [--nodes N]\n\
+     evroute check FILE PLAN CERT [--limit N]\n\
+     evroute convert FILE OUTFILE --time-digits N --energy-digits N\n\
+     evroute make SEED CUSTOMERS STATIONS OUTFILE\n"
 }
 
 #[cfg(test)]

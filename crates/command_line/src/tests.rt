@@ -1,4 +1,4 @@
-use crate::{CheckWords, FixedWords, Job, Options, job_words};
+use crate::{Job, job_words, usage};
 use std::alloc::{AllocError, Global};
 
 /// The words of a line, in which they are parted by single spaces.
@@ -10,73 +10,93 @@ fn words_of(alloc: Global, line: &str) -> Result<Vec<String>, AllocError> {
     Ok(words)
 }
 
-#[test]
-fn the_words_of_a_route_are_read(rt: HostRuntime) {
-    let alloc = rt.alloc();
-    let job = |limit, charge| {
-        Some(Job::Fixed(FixedWords {
-            file: "A",
-            route: "0,1,0",
-            options: Options { limit, charge },
-        }))
-    };
-    let cases = [
-        ("fixed A 0,1,0", job(None, None)),
-        ("fixed A 0,1,0 --limit 21", job(Some(21), None)),
-        ("fixed A 0,1,0 --charge 0", job(None, Some(0))),
-        (
-            "fixed A 0,1,0 --charge 5 --limit 1000000000000000000",
-            job(Some(1_000_000_000_000_000_000), Some(5)),
-        ),
-        ("fixed A 0,1,0 --limit 1000000000000000001", None),
-        ("fixed A 0,1,0 --limit 1 --limit 1", None),
-        ("fixed A 0,1,0 --limit", None),
-        ("fixed A 0,1,0 --limit 01", None),
-        ("fixed A 0,1,0 --limit 1x", None),
-        ("fixed A 0,1,0 --nodes 1", None),
-        ("fixed --limit 1 A 0,1,0", None),
-        ("fixed A", None),
-        ("fixed -A 0,1,0", None),
-        ("fixed A -1", None),
-        ("fixed", None),
-        ("fleet A 0,1,0", None),
-        ("fixed A 0,1,0 B", None),
-    ];
-    for (line, wanted) in cases {
-        let words = words_of(alloc, line).expect(&rt, "memory");
-        assert_eq!(rt; job_words(words.as_slice()), wanted, "{line}");
+/// What the job of a line is, in one line.
+fn job_text(alloc: Global, line: &str) -> Result<String, AllocError> {
+    let words = words_of(alloc, line)?;
+    match job_words(alloc, words.as_slice())? {
+        Some(Job::Fixed(job)) => {
+            let options = job.options;
+            format!(in alloc;
+                "fixed {} {} {:?} {:?}",
+                job.file, job.route, options.limit, options.charge
+            )
+        }
+        Some(Job::Check(job)) => {
+            format!(in alloc; "check {} {} {:?}", job.file, job.plan, job.limit)
+        }
+        Some(Job::Convert(job)) => {
+            format!(in alloc;
+                "convert {} {} {} {}",
+                job.file, job.outfile, job.time_digits, job.energy_digits
+            )
+        }
+        Some(Job::Make(job)) => {
+            format!(in alloc;
+                "make {} {} {} {}",
+                job.seed, job.customers, job.stations, job.outfile
+            )
+        }
+        None => String::from_str(alloc, "none"),
     }
 }
 
 #[test]
-fn the_words_of_a_plan_are_read(rt: HostRuntime) {
+fn words_name_jobs(rt: HostRuntime) {
     let alloc = rt.alloc();
-    let job = |limit| {
-        Some(Job::Check(CheckWords {
-            file: "A",
-            plan: "P",
-            limit,
-        }))
-    };
     let cases = [
-        ("check A P", job(None)),
-        ("check A P --limit 0", job(Some(0))),
-        ("check A P --limit 1000000000000000001", None),
-        ("check A P --limit 1 --limit 1", None),
-        ("check A P --limit", None),
-        ("check A P --limit 1x", None),
-        ("check A P --charge 1", None),
-        ("check --limit 1 A P", None),
-        ("check A", None),
-        ("check A A", None),
-        ("check -A P", None),
-        ("check A -P", None),
-        ("check", None),
-        ("checks A P", None),
-        ("check A P Q", None),
+        ("fixed A 0,1,0", "fixed A 0,1,0 None None"),
+        (
+            "--limit 22 fixed A --charge=0 0,1,0",
+            "fixed A 0,1,0 Some(22) Some(0)",
+        ),
+        (
+            "fixed A --limit=1000000000000000000 0,1,0",
+            "fixed A 0,1,0 Some(1000000000000000000) None",
+        ),
+        ("fixed - -- --limit", "fixed - --limit None None"),
+        ("-- fixed -A -1", "fixed -A -1 None None"),
+        ("fixed A A", "fixed A A None None"),
+        ("fixed A 0,1,0 -- --limit 22", "none"),
+        ("fixed A 0,1,0 --limit 22 --limit 22", "none"),
+        ("fixed A 0,1,0 --limit 022", "none"),
+        ("fixed A 0,1,0 --limit=", "none"),
+        ("fixed A 0,1,0 --limit -1", "none"),
+        ("fixed A 0,1,0 --limit 1000000000000000001", "none"),
+        ("fixed A 0,1,0 --nodes 1", "none"),
+        ("fixed A 0,1,0 --lim 1", "none"),
+        ("fixed -A 0,1,0", "none"),
+        ("fixed A", "none"),
+        ("check A P", "check A P None"),
+        ("check A --limit 3 P", "check A P Some(3)"),
+        ("check A P --charge 3", "none"),
+        ("check A A", "none"),
+        ("check A P Q", "none"),
+        ("fleet A P Q", "none"),
+        (
+            "convert A W --time-digits 2 --energy-digits=1000000000",
+            "convert A W 2 1000000000",
+        ),
+        (
+            "convert A W --time-digits 2 --energy-digits 1000000001",
+            "none",
+        ),
+        ("convert A W --time-digits 2", "none"),
+        ("convert A A --time-digits 2 --energy-digits 0", "none"),
+        (
+            "make 18446744073709551615 4294967295 0 M",
+            "make 18446744073709551615 4294967295 0 M",
+        ),
+        ("make 18446744073709551616 1 0 M", "none"),
+        ("make 1 4294967296 0 M", "none"),
+        ("make 1 1 0 M --limit 1", "none"),
+        ("--help", "none"),
+        ("fixed A 0,1,0 -h", "none"),
+        ("help", "none"),
+        ("", "none"),
     ];
     for (line, wanted) in cases {
-        let words = words_of(alloc, line).expect(&rt, "memory");
-        assert_eq!(rt; job_words(words.as_slice()), wanted, "{line}");
+        let job = job_text(alloc, line).expect(&rt, "memory");
+        assert_eq!(rt; job.as_str(), wanted, "{line}");
     }
+    assert!(rt; usage().starts_with("evroute fixed FILE ROUTE"));
 }

@@ -1,3 +1,4 @@
 pub mod CustSet
 pub mod Members
 pub mod Restored
+pub mod Pairs

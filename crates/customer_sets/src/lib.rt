@@ -5,6 +5,9 @@ ghost use Rattle.std.specs.Prelude.{◌≡◌, ◌↔◌, ◌+◌, ◌<◌, ◌^
 ghost use Rattle.std.specs.List.{sum_by};
 ghost use Rattle.customer_sets.specs.CustSet.{has, IsCustomerSet, IsWithin, with_customer};
 
+mod pairs;
+
+pub use pairs::Pairs;
 use std::marker::Model;
 
 /// A set of customers, by their numbers, which are below 128.

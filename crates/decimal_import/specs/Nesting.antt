@@ -10,11 +10,12 @@ use Rattle.decimal_import.specs.declared.nesting.Open.{Open}
 
 -- the keys under which numbers are times
 abbrev pub time_keys : List (List ℕ)
-time_keys = codes "time_matrix" ∷ codes "process_times" ∷ codes "time" ∷ codes "t_max" ∷ codes "max_t" ∷ []
+time_keys =
+    codes "time_matrix" ∷ codes "process_times" ∷ codes "time" ∷ codes "t_max" ∷ codes "max_t" ∷ codes "plug_time" ∷ []
 
 -- the keys under which numbers are energies
 abbrev pub energy_keys : List (List ℕ)
-energy_keys = codes "energy_matrix" ∷ codes "max_q" ∷ codes "charge" ∷ []
+energy_keys = codes "energy_matrix" ∷ codes "max_q" ∷ codes "charge" ∷ codes "min_q" ∷ codes "home_q" ∷ []
 
 -- whether a key is among these, byte by byte
 abbrev pub is_among : List ℕ → List (List ℕ) → Bool

@@ -153,10 +153,15 @@ fn is_time_key(key: &[u8]) -> bool
         || key == b"time".as_slice()
         || key == b"t_max".as_slice()
         || key == b"max_t".as_slice()
+        || key == b"plug_time".as_slice()
 }
 
 fn is_energy_key(key: &[u8]) -> bool
     ensures { result ≡ is_among key.now energy_keys }
 {
-    key == b"energy_matrix".as_slice() || key == b"max_q".as_slice() || key == b"charge".as_slice()
+    key == b"energy_matrix".as_slice()
+        || key == b"max_q".as_slice()
+        || key == b"charge".as_slice()
+        || key == b"min_q".as_slice()
+        || key == b"home_q".as_slice()
 }

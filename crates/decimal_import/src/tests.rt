@@ -147,9 +147,9 @@ const ROWS: [Row; 88] = [
         wanted: "[\"time\":2,\"other\":1.5]",
     },
     Row {
-        text: "{\"Time\":1.5,\"times\":1.5,\"tim\":1.5,\"time_matrix\":1.5,\"process_times\":1.5,\"t_max\":1.5,\"max_t\":1.5,\"energy_matrix\":1.5,\"max_q\":1.5,\"charge\":1.5}",
+        text: "{\"Time\":1.5,\"times\":1.5,\"tim\":1.5,\"time_matrix\":1.5,\"process_times\":1.5,\"t_max\":1.5,\"max_t\":1.5,\"plug_time\":1.5,\"energy_matrix\":1.5,\"max_q\":1.5,\"charge\":1.5,\"min_q\":1.5,\"home_q\":1.5}",
         digits: (1, 2),
-        wanted: "{\"Time\":1.5,\"times\":1.5,\"tim\":1.5,\"time_matrix\":15,\"process_times\":15,\"t_max\":15,\"max_t\":15,\"energy_matrix\":150,\"max_q\":150,\"charge\":150}",
+        wanted: "{\"Time\":1.5,\"times\":1.5,\"tim\":1.5,\"time_matrix\":15,\"process_times\":15,\"t_max\":15,\"max_t\":15,\"plug_time\":15,\"energy_matrix\":150,\"max_q\":150,\"charge\":150,\"min_q\":150,\"home_q\":150}",
     },
     Row {
         text: "{\"max_q\":-0}",

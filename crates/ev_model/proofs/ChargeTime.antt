@@ -1,36 +1,9 @@
 -- Charge times are linear between breakpoints, and whole at whole levels.
-use Rattle.std.proofs.Common.{◌≡◌, ◌∙◌, ℕ, zero, suc, ◌+◌, ◌-◌, ◌*◌, ◌/◌, ◌%◌, ◌<◌, ◌≤◌, sym, ap, subst, refl, List, [], ◌∷◌, ◌++◌, arith, inl, inr}
-use Rattle.std.specs.Int.{◌∣◌, IsGcd}
-use Rattle.std.proofs.Math.Nat.{div-mul_cancel, div-mul-le_self, mul-div_cancel', dvd-mul_right, mod-lt, div-one, mod-one, mul-le-mul_left}
+use Rattle.std.proofs.Common.{◌≡◌, ◌∙◌, ℕ, ◌+◌, ◌-◌, ◌*◌, ◌/◌, ◌<◌, ◌≤◌, sym, ap, subst, refl, List, [], ◌∷◌, ◌++◌, arith, inl, inr}
+use Rattle.std.specs.Int.{◌∣◌}
+use Rattle.std.proofs.Math.Nat.{div-mul_cancel, div-mul-le_self, div-one, mod-one, mul-le-mul_left}
 use Rattle.std.proofs.lemmas.Bool.{cases_lt, le-leb, lt-leb}
-use Rattle.std.proofs.lemmas.Nat.Gcd.{IsGcd-from_mod, IsGcd-from_zero}
-use Rattle.ev_model.specs.Curve.{IsCurve, IsMultipleOfSlopes, IsReducedDenominator, Rises, charge_time, charge_time_in}
-
--- two numbers have a greatest common divisor
-gcd_exists : (fuel a b : ℕ) → b ≤ fuel → (g : ℕ) × IsGcd a b g
-gcd_exists zero a b le = (a, IsGcd-from_zero a b (omega arith))
-gcd_exists (suc fuel) a zero le = (a, IsGcd-from_zero a 0 refl)
-gcd_exists (suc fuel) a (suc b) le =
-    let below : a % suc b < suc b = mod-lt a (omega arith) in
-    let found = gcd_exists fuel (suc b) (a % suc b) (omega arith) in
-    (found.0, IsGcd-from_mod a (suc b) found.0 found.1)
-
--- a multiple of the reduced denominators makes a slope whole
-pub slope_is_whole : (d : ℕ) (p q : ℕ × ℕ) → ((r : ℕ) → IsReducedDenominator p q r → r ∣ d) → (q.1 - p.1) ∣ (d * (q.0 - p.0))
-slope_is_whole d p q multiple =
-    let t = q.0 - p.0 in
-    let c = q.1 - p.1 in
-    let found = gcd_exists c t c (omega arith) in
-    let g = found.0 in
-    let is : IsGcd t c g = found.1 in
-    let r = c / g in
-    let whole : r * g ≡ c = div-mul_cancel g is.1 in
-    let dr : r ∣ d = multiple r (g, is, whole) in
-    let t_is : g * (t / g) ≡ t = mul-div_cancel' g is.0 in
-    let d_is : r * (d / r) ≡ d = mul-div_cancel' r dr in
-    let product : d * t ≡ c * ((d / r) * (t / g)) =
-    ap (λ x. d * x) (sym t_is) ∙ ap (λ x. x * (g * (t / g))) (sym d_is) ∙ omega arith ∙ ap (λ x. x * ((d / r) * (t / g))) whole in
-    subst (λ x. c ∣ x) (sym product) (dvd-mul_right c ((d / r) * (t / g)))
+use Rattle.ev_model.specs.Curve.{IsCurve, IsMultipleOfSlopes, Rises, charge_time, charge_time_in}
 
 -- on the first segment
 pub charge_time-first : (d : ℕ) (p q : ℕ × ℕ) (ps : List (ℕ × ℕ)) (level : ℕ) → level ≤ q.1 →
@@ -68,7 +41,7 @@ from_second d full p q ps level rises multiple below le = elim (cases_lt q.1 lev
   | inr not_past ↦
       let same : level ≡ q.1 = omega (arith, le, not_past) in
       let at_end : charge_time d (p ∷ q ∷ ps) q.1 ≡ d * q.0 =
-      charge_time-first d p q ps q.1 (omega arith) ∙ segment_end d p q rises.0 (slope_is_whole d p q (multiple.0 below)) in
+      charge_time-first d p q ps q.1 (omega arith) ∙ segment_end d p q rises.0 (multiple.0 below) in
       subst (λ (x : ℕ). charge_time d (p ∷ q ∷ ps) x ≡ charge_time d (q ∷ ps) x) (sym same)
       (at_end ∙ sym (charge_time-start d q ps rises.2))
 ]
@@ -93,7 +66,7 @@ charge_time-within d full (a ∷ b ∷ before) p q after level rises multiple be
 
 -- a breakpoint's slope is whole
 whole_within : (d full : ℕ) (before : List (ℕ × ℕ)) (p q : ℕ × ℕ) (after : List (ℕ × ℕ)) → IsMultipleOfSlopes full (before ++ p ∷ q ∷ after) d → p.1 < full → (q.1 - p.1) ∣ (d * (q.0 - p.0))
-whole_within d full [] p q after multiple below = slope_is_whole d p q (multiple.0 below)
+whole_within d full [] p q after multiple below = multiple.0 below
 whole_within d full (a ∷ []) p q after multiple below = whole_within d full [] p q after multiple.1 below
 whole_within d full (a ∷ b ∷ before) p q after multiple below = whole_within d full (b ∷ before) p q after multiple.1 below
 

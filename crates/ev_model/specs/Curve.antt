@@ -1,7 +1,7 @@
 -- Charging curves and the time to charge: piecewise linear between breakpoints (Montoya, Gueret, Mendoza, Villegas 2017).
 -- A breakpoint is a pair: the time from empty, in units of time, and the charge reached by then, in units of charge.
 use Rattle.std.specs.Prelude.{◌≡◌, ℕ, ◌+◌, ◌-◌, ◌*◌, ◌/◌, ◌%◌, ◌<◌, ◌≤◌, List, [], ◌∷◌, nat_le, if◌then◌else◌}
-use Rattle.std.specs.Int.{◌∣◌, IsGcd}
+use Rattle.std.specs.Int.{◌∣◌}
 use Rattle.std.specs.List.{All}
 
 -- the first breakpoint is empty at time 0
@@ -39,22 +39,18 @@ pub record IsCurve (full : ℕ) (points : List (ℕ × ℕ)) : Type 0 where
   pub concave : IsConcave points
   pub reaches : full ≤ last_charge points
 
--- r is the denominator of the slope (time over charge) from p to q in lowest terms
-abbrev pub IsReducedDenominator : ℕ × ℕ → ℕ × ℕ → ℕ → Type 0
-IsReducedDenominator p q r = (common : ℕ) × IsGcd (q.0 - p.0) (q.1 - p.1) common × (r * common ≡ q.1 - p.1)
-
--- d is a multiple of the slope's reduced denominator
+-- d times the slope (time over charge) from p to q is whole: d is a multiple of the slope's denominator in lowest terms
 abbrev pub IsMultipleOfSlope : ℕ × ℕ → ℕ × ℕ → ℕ → Type 0
-IsMultipleOfSlope p q d = (r : ℕ) → IsReducedDenominator p q r → r ∣ d
+IsMultipleOfSlope p q d = (q.1 - p.1) ∣ (d * (q.0 - p.0))
 
--- d is a multiple of the reduced denominators of all slopes, over the segments that begin below the level full
+-- d times each slope is whole, over the segments that begin below the level full
 abbrev pub IsMultipleOfSlopes : ℕ → List (ℕ × ℕ) → ℕ → Type 0
 IsMultipleOfSlopes full [] d = Unit {0}
 IsMultipleOfSlopes full (p ∷ []) d = Unit {0}
 IsMultipleOfSlopes full (p ∷ q ∷ ps) d =
     (p.1 < full → IsMultipleOfSlope p q d) × IsMultipleOfSlopes full (q ∷ ps) d
 
--- d is the denominator of curves: the least common multiple of the reduced denominators of all their slopes, 1 where there is none
+-- d is the denominator of curves: the least common multiple of the denominators of all their slopes in lowest terms, 1 where there is none
 pub record IsDenominator (full : ℕ) (curves : List (List (ℕ × ℕ))) (d : ℕ) : Type 0 where
   pub some : 1 ≤ d
   pub multiple : All (λ points. IsMultipleOfSlopes full points d) curves

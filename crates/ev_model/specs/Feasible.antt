@@ -6,7 +6,7 @@ use Rattle.ev_model.specs.Levels.{KeepsBattery}
 use Rattle.ev_model.specs.Time.{time_of}
 use Rattle.ev_model.specs.declared.Stop.{Stop}
 
--- a plan in kths that keeps the battery between empty and full and lasts no longer than the limit
+-- a plan in kths that keeps the battery and lasts no longer than the limit
 pub record IsFeasible (g : Network) (k start : ℕ) (stops : List Stop) : Type 0 where
   pub plan : IsPlanIn g k stops
   pub battery : KeepsBattery g k start stops

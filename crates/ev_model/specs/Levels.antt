@@ -32,14 +32,16 @@ abbrev pub level_after : Network → ℕ → ℕ → ℕ → List Stop → ℕ
 level_after g k from level [] = level
 level_after g k from level (s ∷ ss) = level_after g k s.node (leaving_level g k from level s) ss
 
--- no arc takes more than is left, and no stop charges above a full battery
+-- no arc takes more than is left above the reserve, and no stop charges above a full battery
 abbrev pub KeepsBatteryFrom : Network → ℕ → ℕ → ℕ → List Stop → Type 0
 KeepsBatteryFrom g k from level [] = Unit {0}
 KeepsBatteryFrom g k from level (s ∷ ss) =
-    (k * energy g from s.node ≤ level) × (leaving_level g k from level s ≤ k * g.capacity)
+    (k * energy g from s.node + k * g.reserve ≤ level) × (leaving_level g k from level s ≤ k * g.capacity)
     × KeepsBatteryFrom g k s.node (leaving_level g k from level s) ss
 
--- the battery of a plan that begins with a whole level stays between empty and full
+-- the battery of a plan that begins with a whole level: it arrives nowhere below the reserve, leaves no stop above full,
+-- and arrives at the end of the route, where nothing is charged, with the level at home at least
 abbrev pub KeepsBattery : Network → ℕ → ℕ → List Stop → Type 0
 KeepsBattery g k start [] = Unit {0}
-KeepsBattery g k start (first ∷ stops) = KeepsBatteryFrom g k first.node (k * start) stops
+KeepsBattery g k start (first ∷ stops) =
+    KeepsBatteryFrom g k first.node (k * start) stops × (k * g.home_level ≤ level_after g k first.node (k * start) stops)

@@ -7,7 +7,10 @@
 mod examples;
 mod laws;
 
-pub use examples::{infeasible_plans, no_station, one_station, two_customers, two_stations};
+pub use examples::{
+    infeasible_plans, least_levels, no_station, one_station, plugging_in_takes_time, two_customers,
+    two_stations,
+};
 pub use laws::{
     charge_time_in_ones, charge_time_is_linear, charge_time_never_falls, plan_visits_its_route,
     stops_cut_in_two,

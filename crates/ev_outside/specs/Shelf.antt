@@ -1,14 +1,31 @@
 -- What calls on named files do. A shelf that doesn't tell its bytes has `None` in place of its files.
 use Rattle.std.specs.Prelude.{◌≡◌, ◌≢◌, ℕ, ◌+◌, ◌≤◌, List, [], ◌++◌, length, take, Option, Some, None, unwrap_or}
-use Rattle.ev_outside.specs.Counts.{IsPrefixOf}
+use Rattle.ev_outside.specs.Counts.{IsPrefixOf, NeverFalls, Stays}
 
 -- which names hold which bytes: `None` where a name isn't there
 abbrev pub Files : Type 0
 Files = List ℕ → Option (List ℕ)
 
--- what a shelf tells that doesn't tell its files
-abbrev pub untold : Option Files
-untold = None
+-- what holds of a shelf: which names hold which bytes, where it tells it, and how many reads and how
+-- many writes of each name have failed
+pub record ShelfState : Type 0 where
+  pub files : Option Files
+  pub failed_reads : List ℕ → ℕ
+  pub failed_writes : List ℕ → ℕ
+
+-- a shelf that doesn't tell its files, with one count for all reads and writes of all names
+abbrev pub untold : ℕ → ShelfState
+untold faults = record { files = None; failed_reads = λ name. faults; failed_writes = λ name. faults }
+
+-- No count is below what it was.
+pub record CountsNeverFall (before now : ShelfState) : Type 0 where
+  pub reads : NeverFalls before.failed_reads now.failed_reads
+  pub writes : NeverFalls before.failed_writes now.failed_writes
+
+-- Each count is what it was.
+pub record CountsStay (before now : ShelfState) : Type 0 where
+  pub reads : Stays before.failed_reads now.failed_reads
+  pub writes : Stays before.failed_writes now.failed_writes
 
 -- what a read of a name gives: a name that isn't there gives nothing
 abbrev pub bytes_under : Files → List ℕ → List ℕ

@@ -3,6 +3,11 @@ use Rattle.std.specs.Prelude.{◌≡◌, ℕ, List, ◌++◌, Option, Some, None
 use Rattle.std.specs.Io.KnownBytes.{Appends}
 use Rattle.ev_outside.specs.Counts.{IsPrefixOf}
 
+-- what holds of an output: the bytes that were written, where it tells them, and how many calls have failed
+pub record SinkState : Type 0 where
+  pub written : Option (List ℕ)
+  pub faults : ℕ
+
 -- The bytes stand at the end of what was written. Whether a sink tells its bytes doesn't change.
 abbrev pub Adds : Option (List ℕ) → Option (List ℕ) → List ℕ → Type 0
 Adds None new bytes = new ≡ None

@@ -1,7 +1,7 @@
 //! The files of the system.
 ghost use Rattle.std.specs.Prelude.{◌≡◌, ◌≤◌, ℕ, OnOk, OnErr, IsErrOf};
-ghost use Rattle.ev_outside.specs.Counts.{one_more, Rose, NeverFalls, IsPrefixOf};
-ghost use Rattle.ev_outside.specs.Shelf.{untold, AppendsFile, HoldsUnder, KeepsOthers};
+ghost use Rattle.ev_outside.specs.Counts.{one_more, Rose, IsPrefixOf};
+ghost use Rattle.ev_outside.specs.Shelf.{untold, AppendsFile, CountsNeverFall, CountsStay, HoldsUnder, KeepsOthers};
 
 use super::shelf::{Shelf, ShelfFault};
 use super::streams::{read_up_to, write_whole};
@@ -42,19 +42,17 @@ impl<'a, R: Files> FileShelf<'a, R> {
 }
 
 impl<'a, R: Files> Shelf for FileShelf<'a, R> {
-    ghost holds = { λ _. untold };
-
-    ghost failed_reads = { λ shelf _. shelf };
-
-    ghost failed_writes = { λ shelf _. shelf };
+    ghost state = { untold };
 
     fn read(&mut self, name: &str, most: usize, into: &mut Vec<u8>) -> Result<(), ShelfFault>
-        ensures bytes { OnOk result (AppendsFile untold name.now most into.old.items into.new.items) }
+        ensures bytes { OnOk result
+            (AppendsFile (untold self.old).files name.now most into.old.items into.new.items) }
         ensures prefix { OnErr result (IsPrefixOf into.old.items into.new.items) }
-        ensures stays { untold ≡ untold }
+        ensures files { (untold self.new).files ≡ (untold self.old).files }
         ensures failed { IsErrOf result ShelfFault.Failed → Rose self.old self.new }
-        ensures read_counts { NeverFalls (λ _. self.old) (λ _. self.new) }
-        ensures write_counts { NeverFalls (λ _. self.old) (λ _. self.new) }
+        ensures falls { CountsNeverFall (untold self.old) (untold self.new) }
+        ensures stays { (IsErrOf result ShelfFault.Failed → ⊥)
+            → CountsStay (untold self.old) (untold self.new) }
 
         // Exactly what this shelf counts.
         ensures counted { IsErrOf result ShelfFault.Failed → self.new ≡ one_more self.old }
@@ -71,12 +69,14 @@ impl<'a, R: Files> Shelf for FileShelf<'a, R> {
     }
 
     fn write(&mut self, name: &str, bytes: &[u8]) -> Result<(), ShelfFault>
-        ensures bytes { OnOk result (HoldsUnder untold name.now bytes.now) }
-        ensures others { KeepsOthers name.now untold untold }
-        ensures memory { IsErrOf result ShelfFault.Memory → untold ≡ untold }
+        ensures bytes { OnOk result (HoldsUnder (untold self.new).files name.now bytes.now) }
+        ensures others { KeepsOthers name.now (untold self.old).files (untold self.new).files }
+        ensures memory { IsErrOf result ShelfFault.Memory
+            → (untold self.new).files ≡ (untold self.old).files }
         ensures failed { IsErrOf result ShelfFault.Failed → Rose self.old self.new }
-        ensures read_counts { NeverFalls (λ _. self.old) (λ _. self.new) }
-        ensures write_counts { NeverFalls (λ _. self.old) (λ _. self.new) }
+        ensures falls { CountsNeverFall (untold self.old) (untold self.new) }
+        ensures stays { (IsErrOf result ShelfFault.Failed → ⊥)
+            → CountsStay (untold self.old) (untold self.new) }
 
         // Exactly what this shelf counts.
         ensures counted { IsErrOf result ShelfFault.Failed → self.new ≡ one_more self.old }

@@ -1,7 +1,7 @@
 //! Named files in memory, for tests.
 ghost use Rattle.std.specs.Prelude.{◌≡◌, ◌⊎◌, ◌↔◌, ◌++◌, ◌∷◌, [], ℕ, List, Option, Some, None, map, OnOk, OnErr, IfSome, IfOk, IsErrOf, IsNone, IsSome, string_bytes};
-ghost use Rattle.ev_outside.specs.Counts.{one_more, Rose, NeverFalls, IsPrefixOf};
-ghost use Rattle.ev_outside.specs.Shelf.{Files, AppendsFile, HoldsUnder, KeepsOthers};
+ghost use Rattle.ev_outside.specs.Counts.{one_more, Rose, IsPrefixOf};
+ghost use Rattle.ev_outside.specs.Shelf.{Files, AppendsFile, CountsNeverFall, CountsStay, HoldsUnder, KeepsOthers};
 
 use super::shelf::{Shelf, ShelfFault};
 use std::alloc::{AllocError, Global};
@@ -22,11 +22,11 @@ pub struct MemoryShelf {
 }
 
 impl MemoryShelf {
-    ghost use Rattle.ev_outside.specs.MemoryShelf.{state_of, ChangesFile};
+    ghost use Rattle.ev_outside.specs.MemoryShelf.{empty_with, state_of, ChangesFile};
 
     /// An empty shelf whose calls with the numbers in `fails` will fail.
     pub fn new(alloc: Global, fails: Vec<u64>) -> MemoryShelf
-        ensures { state_of result ≡ record { files = λ _. None; failed_reads = []; failed_writes = []; calls = 0; fails = fails.items } }
+        ensures { state_of result ≡ empty_with fails.items }
     {
         MemoryShelf {
             files: BTreeMap::new(alloc),
@@ -39,7 +39,8 @@ impl MemoryShelf {
 
     /// Leaves exactly these bytes under the name. It is no call that is counted or fails.
     pub fn set(&mut self, name: &str, bytes: &[u8]) -> Result<(), AllocError>
-        ensures ok { OnOk result (ChangesFile name.now bytes.now (state_of self.old) (state_of self.new)) }
+        ensures ok { OnOk result
+            (ChangesFile name.now bytes.now (state_of self.old) (state_of self.new)) }
         ensures err { OnErr result (state_of self.new ≡ state_of self.old) }
     {
         let alloc = *self.fails.allocator();
@@ -52,7 +53,8 @@ impl MemoryShelf {
     /// The bytes under the name. None comes exactly where the name isn't there.
     pub fn get(&self, name: &str) -> Option<&[u8]>
         ensures none { IsNone result ↔ IsNone ((state_of self.now).files name.now) }
-        ensures some { IfSome result (λ bytes. (state_of self.now).files name.now ≡ Some bytes.now) }
+        ensures some { IfSome result
+            (λ bytes. (state_of self.now).files name.now ≡ Some bytes.now) }
     {
         match self.files.get(name) {
             Some(bytes) => Some(bytes.as_slice()),
@@ -63,15 +65,21 @@ impl MemoryShelf {
 
 impl MemoryShelf {
     ghost use Rattle.std.specs.Prelude.{◌≡◌, ◌++◌, ◌∷◌, []};
-    ghost use Rattle.ev_outside.specs.Counts.{one_more, Rose};
-    ghost use Rattle.ev_outside.specs.MemoryShelf.{state_of, times_in};
+    ghost use Rattle.ev_outside.specs.Counts.{Rose};
+    ghost use Rattle.ev_outside.specs.Shelf.{CountsStay};
+    ghost use Rattle.ev_outside.specs.MemoryShelf.{read_failed, state_of, told_by, write_failed};
 
     /// Counts a read of this name that fails, and answers why the call is refused.
     fn refuse_read(&mut self, name: &str) -> ShelfFault
-        ensures failed { result ≡ ShelfFault.Failed → state_of self.new ≡ record (state_of self.old) { calls = one_more (state_of self.old).calls; failed_reads = (state_of self.old).failed_reads ++ name.now ∷ [] } }
-        ensures rose { result ≡ ShelfFault.Failed → Rose (times_in (state_of self.old).failed_reads name.now) (times_in (state_of self.new).failed_reads name.now) }
+        ensures failed { result ≡ ShelfFault.Failed
+            → state_of self.new ≡ read_failed name.now (state_of self.old) }
+        ensures rose { result ≡ ShelfFault.Failed
+            → Rose ((told_by self.old).failed_reads name.now)
+            ((told_by self.new).failed_reads name.now) }
         ensures files { (state_of self.new).files ≡ (state_of self.old).files }
         ensures memory { result ≡ ShelfFault.Memory → state_of self.new ≡ state_of self.old }
+        ensures stays { (result ≡ ShelfFault.Failed → ⊥)
+            → CountsStay (told_by self.old) (told_by self.new) }
     {
         match add_name(&mut self.failed_reads, name) {
             Ok(()) => {
@@ -84,10 +92,15 @@ impl MemoryShelf {
 
     /// Counts a write of this name that fails, and answers why the call is refused.
     fn refuse_write(&mut self, name: &str) -> ShelfFault
-        ensures failed { result ≡ ShelfFault.Failed → state_of self.new ≡ record (state_of self.old) { calls = one_more (state_of self.old).calls; failed_writes = (state_of self.old).failed_writes ++ name.now ∷ [] } }
-        ensures rose { result ≡ ShelfFault.Failed → Rose (times_in (state_of self.old).failed_writes name.now) (times_in (state_of self.new).failed_writes name.now) }
+        ensures failed { result ≡ ShelfFault.Failed
+            → state_of self.new ≡ write_failed name.now (state_of self.old) }
+        ensures rose { result ≡ ShelfFault.Failed
+            → Rose ((told_by self.old).failed_writes name.now)
+            ((told_by self.new).failed_writes name.now) }
         ensures files { (state_of self.new).files ≡ (state_of self.old).files }
         ensures memory { result ≡ ShelfFault.Memory → state_of self.new ≡ state_of self.old }
+        ensures stays { (result ≡ ShelfFault.Failed → ⊥)
+            → CountsStay (told_by self.old) (told_by self.new) }
     {
         match add_name(&mut self.failed_writes, name) {
             Ok(()) => {
@@ -101,7 +114,9 @@ impl MemoryShelf {
 
 /// Adds a name to a list of names.
 fn add_name(names: &mut Vec<String>, name: &str) -> Result<(), AllocError>
-    ensures ok { OnOk result (map (λ listed. string_bytes listed) names.new.items ≡ map (λ listed. string_bytes listed) names.old.items ++ name.now ∷ []) }
+    ensures ok { OnOk result
+        (map (λ listed. string_bytes listed) names.new.items
+        ≡ map (λ listed. string_bytes listed) names.old.items ++ name.now ∷ []) }
     ensures err { OnErr result (names.new.items ≡ names.old.items) }
 {
     let copy = String::from_str(*names.allocator(), name)?;
@@ -111,27 +126,31 @@ fn add_name(names: &mut Vec<String>, name: &str) -> Result<(), AllocError>
 
 impl Shelf for MemoryShelf {
     ghost use Rattle.std.specs.Prelude.{◌≡◌, ◌⊎◌, ◌++◌, ◌∷◌, [], Some, OnOk, OnErr, IsErrOf, IsNone, IsSome};
-    ghost use Rattle.ev_outside.specs.Counts.{one_more, Rose, NeverFalls, IsPrefixOf};
-    ghost use Rattle.ev_outside.specs.Shelf.{AppendsFile, HoldsUnder, KeepsOthers};
-    ghost use Rattle.ev_outside.specs.MemoryShelf.{state_of, times_in, IsNextToFail, ChangesFile};
+    ghost use Rattle.ev_outside.specs.Counts.{one_more, Rose, IsPrefixOf};
+    ghost use Rattle.ev_outside.specs.Shelf.{AppendsFile, CountsNeverFall, CountsStay, HoldsUnder, KeepsOthers};
+    ghost use Rattle.ev_outside.specs.MemoryShelf.{one_call_more, read_failed, state_of, told_by, write_failed, IsNextToFail, ChangesFile};
 
-    ghost holds = { λ shelf. Some (state_of shelf).files };
-
-    ghost failed_reads = { λ shelf. times_in (state_of shelf).failed_reads };
-
-    ghost failed_writes = { λ shelf. times_in (state_of shelf).failed_writes };
+    ghost state = { told_by };
 
     fn read(&mut self, name: &str, most: usize, into: &mut Vec<u8>) -> Result<(), ShelfFault>
-        ensures bytes { OnOk result (AppendsFile (Some (state_of self.old).files) name.now most into.old.items into.new.items) }
+        ensures bytes { OnOk result
+            (AppendsFile (told_by self.old).files name.now most into.old.items into.new.items) }
         ensures prefix { OnErr result (IsPrefixOf into.old.items into.new.items) }
-        ensures stays { Some (state_of self.new).files ≡ Some (state_of self.old).files }
-        ensures failed { IsErrOf result ShelfFault.Failed → Rose (times_in (state_of self.old).failed_reads name.now) (times_in (state_of self.new).failed_reads name.now) }
-        ensures read_counts { NeverFalls (times_in (state_of self.old).failed_reads) (times_in (state_of self.new).failed_reads) }
-        ensures write_counts { NeverFalls (times_in (state_of self.old).failed_writes) (times_in (state_of self.new).failed_writes) }
+        ensures files { (told_by self.new).files ≡ (told_by self.old).files }
+        ensures failed { IsErrOf result ShelfFault.Failed
+            → Rose ((told_by self.old).failed_reads name.now)
+            ((told_by self.new).failed_reads name.now) }
+        ensures falls { CountsNeverFall (told_by self.old) (told_by self.new) }
+        ensures stays { (IsErrOf result ShelfFault.Failed → ⊥)
+            → CountsStay (told_by self.old) (told_by self.new) }
 
         // Exactly when this shelf refuses, and what it counts.
-        ensures answered { OnOk result ((IsNextToFail (state_of self.old) → ⊥) × IsSome ((state_of self.old).files name.now) × (state_of self.new ≡ record (state_of self.old) { calls = one_more (state_of self.old).calls })) }
-        ensures refused { IsErrOf result ShelfFault.Failed → (IsNextToFail (state_of self.old) ⊎ IsNone ((state_of self.old).files name.now)) × (state_of self.new ≡ record (state_of self.old) { calls = one_more (state_of self.old).calls; failed_reads = (state_of self.old).failed_reads ++ name.now ∷ [] }) }
+        ensures answered { OnOk result ((IsNextToFail (state_of self.old) → ⊥)
+            × IsSome ((state_of self.old).files name.now)
+            × (state_of self.new ≡ one_call_more (state_of self.old))) }
+        ensures refused { IsErrOf result ShelfFault.Failed
+            → (IsNextToFail (state_of self.old) ⊎ IsNone ((state_of self.old).files name.now))
+            × (state_of self.new ≡ read_failed name.now (state_of self.old)) }
         ensures memory { IsErrOf result ShelfFault.Memory → state_of self.new ≡ state_of self.old }
         ensures unread { OnErr result (into.new.items ≡ into.old.items) }
     {
@@ -151,17 +170,25 @@ impl Shelf for MemoryShelf {
 
     /// Leaves exactly these bytes under the name. A call that is to fail changes no name.
     fn write(&mut self, name: &str, bytes: &[u8]) -> Result<(), ShelfFault>
-        ensures bytes { OnOk result (HoldsUnder (Some (state_of self.new).files) name.now bytes.now) }
-        ensures others { KeepsOthers name.now (Some (state_of self.old).files) (Some (state_of self.new).files) }
-        ensures memory { IsErrOf result ShelfFault.Memory → Some (state_of self.new).files ≡ Some (state_of self.old).files }
-        ensures failed { IsErrOf result ShelfFault.Failed → Rose (times_in (state_of self.old).failed_writes name.now) (times_in (state_of self.new).failed_writes name.now) }
-        ensures read_counts { NeverFalls (times_in (state_of self.old).failed_reads) (times_in (state_of self.new).failed_reads) }
-        ensures write_counts { NeverFalls (times_in (state_of self.old).failed_writes) (times_in (state_of self.new).failed_writes) }
+        ensures bytes { OnOk result (HoldsUnder (told_by self.new).files name.now bytes.now) }
+        ensures others { KeepsOthers name.now (told_by self.old).files (told_by self.new).files }
+        ensures memory { IsErrOf result ShelfFault.Memory
+            → (told_by self.new).files ≡ (told_by self.old).files }
+        ensures failed { IsErrOf result ShelfFault.Failed
+            → Rose ((told_by self.old).failed_writes name.now)
+            ((told_by self.new).failed_writes name.now) }
+        ensures falls { CountsNeverFall (told_by self.old) (told_by self.new) }
+        ensures stays { (IsErrOf result ShelfFault.Failed → ⊥)
+            → CountsStay (told_by self.old) (told_by self.new) }
 
         // Exactly when this shelf refuses, and what it counts.
-        ensures answered { OnOk result ((IsNextToFail (state_of self.old) → ⊥) × ChangesFile name.now bytes.now (record (state_of self.old) { calls = one_more (state_of self.old).calls }) (state_of self.new)) }
-        ensures refused { IsErrOf result ShelfFault.Failed → IsNextToFail (state_of self.old) × (state_of self.new ≡ record (state_of self.old) { calls = one_more (state_of self.old).calls; failed_writes = (state_of self.old).failed_writes ++ name.now ∷ [] }) }
-        ensures unchanged { IsErrOf result ShelfFault.Memory → state_of self.new ≡ state_of self.old }
+        ensures answered { OnOk result ((IsNextToFail (state_of self.old) → ⊥)
+            × ChangesFile name.now bytes.now (one_call_more (state_of self.old))
+            (state_of self.new)) }
+        ensures refused { IsErrOf result ShelfFault.Failed → IsNextToFail (state_of self.old)
+            × (state_of self.new ≡ write_failed name.now (state_of self.old)) }
+        ensures unchanged { IsErrOf result ShelfFault.Memory
+            → state_of self.new ≡ state_of self.old }
     {
         if self.fails.contains(&self.calls) {
             return Err(self.refuse_write(name));

@@ -1,8 +1,8 @@
 //! An output in memory, for tests.
-ghost use Rattle.std.specs.Prelude.{◌≡◌, ◌≤◌, ◌+◌, ◌/◌, ◌++◌, ℕ, List, [], Option, Some, take, length, OnOk, OnErr, IsErrOf};
-ghost use Rattle.ev_outside.specs.Counts.{one_more, Rose};
+ghost use Rattle.std.specs.Prelude.{◌≡◌, ◌≤◌, ℕ, List, [], Option, Some, OnOk, OnErr, IsErrOf};
+ghost use Rattle.ev_outside.specs.Counts.{Rose};
 ghost use Rattle.ev_outside.specs.Sink.{Adds, AddsPrefix};
-ghost use Rattle.ev_outside.specs.MemorySink.{MemoryOutput, IsNextToFail};
+ghost use Rattle.ev_outside.specs.MemorySink.{MemoryOutput, IsNextToFail, after_fault, after_put};
 
 use super::sink::{Sink, SinkFault};
 use std::alloc::Global;
@@ -26,7 +26,8 @@ impl Model for MemorySink {
 
     ghost Value = { MemoryOutput };
 
-    ghost view = { λ sink. record { bytes = sink.bytes.items; calls = sink.calls; faults = sink.faults; fails = sink.fails.items } };
+    ghost view = { λ sink.
+        record { bytes = sink.bytes.items; calls = sink.calls; faults = sink.faults; fails = sink.fails.items } };
 }
 
 impl MemorySink {
@@ -51,20 +52,22 @@ impl MemorySink {
 }
 
 impl Sink for MemorySink {
-    ghost written = { λ sink. Some sink.bytes };
-
-    ghost faults = { λ sink. sink.faults };
+    ghost state = { λ sink. record { written = Some sink.bytes; faults = sink.faults } };
 
     /// Keeps the bytes. A call that is to fail keeps the first half of them, rounded down.
     fn put(&mut self, bytes: &[u8]) -> Result<(), SinkFault>
         ensures bytes { OnOk result (Adds (Some self.old.bytes) (Some self.new.bytes) bytes.now) }
-        ensures prefix { OnErr result (AddsPrefix (Some self.old.bytes) (Some self.new.bytes) bytes.now) }
+        ensures prefix { OnErr result
+            (AddsPrefix (Some self.old.bytes) (Some self.new.bytes) bytes.now) }
         ensures failed { IsErrOf result SinkFault.Failed → Rose self.old.faults self.new.faults }
-        ensures counts { self.old.faults ≤ self.new.faults }
+        ensures falls { self.old.faults ≤ self.new.faults }
+        ensures stays { (IsErrOf result SinkFault.Failed → ⊥) → self.new.faults ≡ self.old.faults }
 
         // Exactly what this sink does.
-        ensures kept { OnOk result ((IsNextToFail self.old → ⊥) × (self.new ≡ record self.old { bytes = self.old.bytes ++ bytes.now; calls = one_more self.old.calls })) }
-        ensures halved { IsErrOf result SinkFault.Failed → IsNextToFail self.old × (self.new ≡ record self.old { bytes = self.old.bytes ++ take (length bytes.now / 2) bytes.now; calls = one_more self.old.calls; faults = one_more self.old.faults }) }
+        ensures kept { OnOk result
+            ((IsNextToFail self.old → ⊥) × (self.new ≡ after_put bytes.now self.old)) }
+        ensures halved { IsErrOf result SinkFault.Failed
+            → IsNextToFail self.old × (self.new ≡ after_fault bytes.now self.old) }
         ensures memory { IsErrOf result SinkFault.Memory → self.new ≡ self.old }
     {
         let fails = self.fails.contains(&self.calls);

@@ -32,20 +32,18 @@ impl<'a, R: Print> OutSink<'a, R> {
 }
 
 impl<'a, R: Print> Sink for OutSink<'a, R> {
-    ghost written = { λ _. None };
-
-    ghost faults = { λ sink. sink };
+    ghost state = { λ sink. record { written = None; faults = sink } };
 
     fn put(&mut self, bytes: &[u8]) -> Result<(), SinkFault>
         ensures bytes { OnOk result (Adds None None bytes.now) }
         ensures prefix { OnErr result (AddsPrefix None None bytes.now) }
         ensures failed { IsErrOf result SinkFault.Failed → Rose self.old self.new }
-        ensures counts { self.old ≤ self.new }
+        ensures falls { self.old ≤ self.new }
+        ensures stays { (IsErrOf result SinkFault.Failed → ⊥) → self.new ≡ self.old }
 
         // Exactly what this sink counts.
         ensures counted { IsErrOf result SinkFault.Failed → self.new ≡ one_more self.old }
         ensures never_memory { IsErrOf result SinkFault.Memory → ⊥ }
-        ensures uncounted { (IsErrOf result SinkFault.Failed → ⊥) → self.new ≡ self.old }
     {
         let mut writer = io::writer(self.rt);
         if write_whole(&mut writer, bytes) {

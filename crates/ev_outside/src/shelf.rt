@@ -1,7 +1,7 @@
 //! Named files.
-ghost use Rattle.std.specs.Prelude.{◌≡◌, ℕ, List, Option, OnOk, OnErr, IsErrOf};
-ghost use Rattle.ev_outside.specs.Counts.{Rose, NeverFalls, IsPrefixOf};
-ghost use Rattle.ev_outside.specs.Shelf.{Files, AppendsFile, HoldsUnder, KeepsOthers};
+ghost use Rattle.std.specs.Prelude.{◌≡◌, OnOk, OnErr, IsErrOf};
+ghost use Rattle.ev_outside.specs.Counts.{Rose, IsPrefixOf};
+ghost use Rattle.ev_outside.specs.Shelf.{ShelfState, AppendsFile, CountsNeverFall, CountsStay, HoldsUnder, KeepsOthers};
 
 use thiserror::Error;
 
@@ -19,32 +19,36 @@ pub enum ShelfFault {
 
 /// Named files. Names and contents are bytes.
 pub trait Shelf {
-    // Which names hold which bytes, where the shelf tells it.
-    ghost holds: { Self → Option Files };
-
-    // How many reads of a name have failed.
-    ghost failed_reads: { Self → List ℕ → ℕ };
-
-    // How many writes of a name have failed.
-    ghost failed_writes: { Self → List ℕ → ℕ };
+    // Which names hold which bytes, where the shelf tells it, and how many reads and writes of each
+    // name have failed.
+    ghost state: { Self → ShelfState };
 
     /// Appends the bytes of the file to `into`, or its first `most` bytes where it is longer. A
-    /// name that isn't there has no bytes. After a refusal a part of them may have been appended.
+    /// name that isn't there has no bytes. After a refusal a part of them may have been appended. No
+    /// count rises but where the call answers `Failed`.
     fn read(&mut self, name: &str, most: usize, into: &mut Vec<u8>) -> Result<(), ShelfFault>
-        ensures bytes { OnOk result (AppendsFile (holds self.old) name.now most into.old.items into.new.items) }
+        ensures bytes { OnOk result
+            (AppendsFile (state self.old).files name.now most into.old.items into.new.items) }
         ensures prefix { OnErr result (IsPrefixOf into.old.items into.new.items) }
-        ensures stays { holds self.new ≡ holds self.old }
-        ensures failed { IsErrOf result ShelfFault.Failed → Rose (failed_reads self.old name.now) (failed_reads self.new name.now) }
-        ensures read_counts { NeverFalls (failed_reads self.old) (failed_reads self.new) }
-        ensures write_counts { NeverFalls (failed_writes self.old) (failed_writes self.new) };
+        ensures files { (state self.new).files ≡ (state self.old).files }
+        ensures failed { IsErrOf result ShelfFault.Failed
+            → Rose ((state self.old).failed_reads name.now)
+            ((state self.new).failed_reads name.now) }
+        ensures falls { CountsNeverFall (state self.old) (state self.new) }
+        ensures stays { (IsErrOf result ShelfFault.Failed → ⊥)
+            → CountsStay (state self.old) (state self.new) };
 
     /// Leaves exactly these bytes under the name. After `Failed` nothing is known of the bytes
-    /// under this name.
+    /// under this name. No count rises but where the call answers `Failed`.
     fn write(&mut self, name: &str, bytes: &[u8]) -> Result<(), ShelfFault>
-        ensures bytes { OnOk result (HoldsUnder (holds self.new) name.now bytes.now) }
-        ensures others { KeepsOthers name.now (holds self.old) (holds self.new) }
-        ensures memory { IsErrOf result ShelfFault.Memory → holds self.new ≡ holds self.old }
-        ensures failed { IsErrOf result ShelfFault.Failed → Rose (failed_writes self.old name.now) (failed_writes self.new name.now) }
-        ensures read_counts { NeverFalls (failed_reads self.old) (failed_reads self.new) }
-        ensures write_counts { NeverFalls (failed_writes self.old) (failed_writes self.new) };
+        ensures bytes { OnOk result (HoldsUnder (state self.new).files name.now bytes.now) }
+        ensures others { KeepsOthers name.now (state self.old).files (state self.new).files }
+        ensures memory { IsErrOf result ShelfFault.Memory
+            → (state self.new).files ≡ (state self.old).files }
+        ensures failed { IsErrOf result ShelfFault.Failed
+            → Rose ((state self.old).failed_writes name.now)
+            ((state self.new).failed_writes name.now) }
+        ensures falls { CountsNeverFall (state self.old) (state self.new) }
+        ensures stays { (IsErrOf result ShelfFault.Failed → ⊥)
+            → CountsStay (state self.old) (state self.new) };
 }

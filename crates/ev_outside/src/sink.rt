@@ -1,7 +1,7 @@
 //! The output.
-ghost use Rattle.std.specs.Prelude.{◌≤◌, ℕ, List, Option, OnOk, OnErr, IsErrOf};
+ghost use Rattle.std.specs.Prelude.{◌≡◌, ◌≤◌, OnOk, OnErr, IsErrOf};
 ghost use Rattle.ev_outside.specs.Counts.{Rose};
-ghost use Rattle.ev_outside.specs.Sink.{Adds, AddsPrefix};
+ghost use Rattle.ev_outside.specs.Sink.{SinkState, Adds, AddsPrefix};
 
 use thiserror::Error;
 
@@ -19,16 +19,19 @@ pub enum SinkFault {
 
 /// The output of a program.
 pub trait Sink {
-    // The bytes that were written, where the sink tells them.
-    ghost written: { Self → Option (List ℕ) };
+    // The bytes that were written, where the sink tells them, and how many calls have failed.
+    ghost state: { Self → SinkState };
 
-    // How many calls have failed.
-    ghost faults: { Self → ℕ };
-
-    /// Adds the bytes at the end of what was written. After a refusal a prefix of them was added.
+    /// Adds the bytes at the end of what was written. After a refusal a prefix of them was added. The
+    /// count doesn't rise but where the call answers `Failed`.
     fn put(&mut self, bytes: &[u8]) -> Result<(), SinkFault>
-        ensures bytes { OnOk result (Adds (written self.old) (written self.new) bytes.now) }
-        ensures prefix { OnErr result (AddsPrefix (written self.old) (written self.new) bytes.now) }
-        ensures failed { IsErrOf result SinkFault.Failed → Rose (faults self.old) (faults self.new) }
-        ensures counts { faults self.old ≤ faults self.new };
+        ensures bytes { OnOk result
+            (Adds (state self.old).written (state self.new).written bytes.now) }
+        ensures prefix { OnErr result
+            (AddsPrefix (state self.old).written (state self.new).written bytes.now) }
+        ensures failed { IsErrOf result SinkFault.Failed
+            → Rose (state self.old).faults (state self.new).faults }
+        ensures falls { (state self.old).faults ≤ (state self.new).faults }
+        ensures stays { (IsErrOf result SinkFault.Failed → ⊥)
+            → (state self.new).faults ≡ (state self.old).faults };
 }

@@ -16,7 +16,9 @@ pub(crate) fn read_up_to<F: Read>(
     most: usize,
     into: &mut Vec<u8>,
 ) -> Result<(), ShelfFault>
-    ensures bytes { OnOk result (IfSome (F.remaining source.old) (λ rest. into.new.items ≡ into.old.items ++ take most rest)) }
+    ensures bytes { OnOk result
+        (IfSome (F.remaining source.old)
+        (λ rest. into.new.items ≡ into.old.items ++ take most rest)) }
     ensures prefix { IsPrefixOf into.old.items into.new.items }
     ensures most { length into.new.items ≤ length into.old.items + most }
 {
@@ -41,7 +43,8 @@ pub(crate) fn read_up_to<F: Read>(
 /// Writes the bytes, and tells whether all were taken. A writer that takes nothing of what is left
 /// has failed.
 pub(crate) fn write_whole<W: Write>(writer: &mut W, bytes: &[u8]) -> bool
-    ensures { MatchBool result (Appends (W.contents writer.old) (W.contents writer.new) bytes.now) (AppendsPrefix (W.contents writer.old) (W.contents writer.new) bytes.now) }
+    ensures { MatchBool result (Appends (W.contents writer.old) (W.contents writer.new) bytes.now)
+        (AppendsPrefix (W.contents writer.old) (W.contents writer.new) bytes.now) }
 {
     let mut at = 0;
     while at < bytes.len() {

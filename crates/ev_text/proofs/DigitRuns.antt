@@ -7,7 +7,7 @@ use Rattle.std.proofs.lemmas.List.Sums.{take_while-cons}
 use Rattle.std.proofs.lemmas.List.Folds.{length-prefix_len}
 use Rattle.std.proofs.lemmas.Str.Parse.{digit_from_value, digit_at}
 use Rattle.std.proofs.lemmas.Str.{digit_value_digit}
-use Rattle.ev_text.specs.Numerals.{digits_in_front, BeginsWithoutDigit}
+use Rattle.ev_text.specs.Numerals.{leading_digits, BeginsWithoutDigit}
 
 -- the test of one byte, and its value in base ten
 pub digit_from_test : (b : ℕ) → is_ascii_digit b ≡ true → digit_value b < 10
@@ -16,58 +16,58 @@ digit_from_test b h = grind (arith, nat_tests)
 pub test_from_digit : (b : ℕ) → digit_value b < 10 → is_ascii_digit b ≡ true
 test_from_digit b h = let range = digit_from_value b h in grind (arith, nat_tests)
 
-pub digits_in_front-cons : (b : ℕ) (bs : List ℕ) → digits_in_front (b ∷ bs) ≡ cond (is_ascii_digit b) (b ∷ digits_in_front bs) []
-digits_in_front-cons b bs = take_while-cons is_ascii_digit b bs
+pub leading_digits-cons : (b : ℕ) (bs : List ℕ) → leading_digits (b ∷ bs) ≡ cond (is_ascii_digit b) (b ∷ leading_digits bs) []
+leading_digits-cons b bs = take_while-cons is_ascii_digit b bs
 
 -- the front of a text whose first byte is a digit, and of one whose first byte is none
-front_more : (b : ℕ) (bs : List ℕ) → is_ascii_digit b ≡ true → digits_in_front (b ∷ bs) ≡ b ∷ digits_in_front bs
-front_more b bs is = digits_in_front-cons b bs ∙ ap (λ (t : Bool). cond t (b ∷ digits_in_front bs) []) is
+front_more : (b : ℕ) (bs : List ℕ) → is_ascii_digit b ≡ true → leading_digits (b ∷ bs) ≡ b ∷ leading_digits bs
+front_more b bs is = leading_digits-cons b bs ∙ ap (λ (t : Bool). cond t (b ∷ leading_digits bs) []) is
 
-front_none : (b : ℕ) (bs : List ℕ) → is_ascii_digit b ≡ false → digits_in_front (b ∷ bs) ≡ []
-front_none b bs is = digits_in_front-cons b bs ∙ ap (λ (t : Bool). cond t (b ∷ digits_in_front bs) []) is
+front_none : (b : ℕ) (bs : List ℕ) → is_ascii_digit b ≡ false → leading_digits (b ∷ bs) ≡ []
+front_none b bs is = leading_digits-cons b bs ∙ ap (λ (t : Bool). cond t (b ∷ leading_digits bs) []) is
 
 -- the bytes of the run are digits
-pub AllDigits-digits_in_front : (text : List ℕ) → AllDigits 10 (digits_in_front text)
-AllDigits-digits_in_front [] = tt
-AllDigits-digits_in_front (b ∷ bs) = by (is_ascii_digit b) refl (AllDigits-digits_in_front bs)
+pub AllDigits-leading_digits : (text : List ℕ) → AllDigits 10 (leading_digits text)
+AllDigits-leading_digits [] = tt
+AllDigits-leading_digits (b ∷ bs) = by (is_ascii_digit b) refl (AllDigits-leading_digits bs)
   where
-    by : (t : Bool) → is_ascii_digit b ≡ t → AllDigits 10 (digits_in_front bs) → AllDigits 10 (digits_in_front (b ∷ bs))
+    by : (t : Bool) → is_ascii_digit b ≡ t → AllDigits 10 (leading_digits bs) → AllDigits 10 (leading_digits (b ∷ bs))
     by true is more = subst (AllDigits 10) (sym (front_more b bs is)) (digit_from_test b is, more)
     by false is more = subst (AllDigits 10) (sym (front_none b bs is)) tt
 
 -- what follows the run begins with no digit
-pub run_has_ended : (text : List ℕ) → BeginsWithoutDigit (drop (length (digits_in_front text)) text)
+pub run_has_ended : (text : List ℕ) → BeginsWithoutDigit (drop (length (leading_digits text)) text)
 run_has_ended [] = tt
 run_has_ended (b ∷ bs) = by (is_ascii_digit b) refl (run_has_ended bs)
   where
-    by : (t : Bool) → is_ascii_digit b ≡ t → BeginsWithoutDigit (drop (length (digits_in_front bs)) bs) → BeginsWithoutDigit (drop (length (digits_in_front (b ∷ bs))) (b ∷ bs))
+    by : (t : Bool) → is_ascii_digit b ≡ t → BeginsWithoutDigit (drop (length (leading_digits bs)) bs) → BeginsWithoutDigit (drop (length (leading_digits (b ∷ bs))) (b ∷ bs))
     by true is more = subst (λ ds. BeginsWithoutDigit (drop (length ds) (b ∷ bs))) (sym (front_more b bs is)) more
     by false is more = subst (λ ds. BeginsWithoutDigit (drop (length ds) (b ∷ bs))) (sym (front_none b bs is)) is
 
 -- a text is its run of digits and what follows
-pub run_and_rest : (text : List ℕ) → text ≡ digits_in_front text ++ drop (length (digits_in_front text)) text
+pub run_and_rest : (text : List ℕ) → text ≡ leading_digits text ++ drop (length (leading_digits text)) text
 run_and_rest [] = refl
 run_and_rest (b ∷ bs) = by (is_ascii_digit b) refl (run_and_rest bs)
   where
     Is : List ℕ → Type 0
     Is ds = b ∷ bs ≡ ds ++ drop (length ds) (b ∷ bs)
 
-    by : (t : Bool) → is_ascii_digit b ≡ t → bs ≡ digits_in_front bs ++ drop (length (digits_in_front bs)) bs → Is (digits_in_front (b ∷ bs))
+    by : (t : Bool) → is_ascii_digit b ≡ t → bs ≡ leading_digits bs ++ drop (length (leading_digits bs)) bs → Is (leading_digits (b ∷ bs))
     by true is more = subst Is (sym (front_more b bs is)) (ap (λ x. b ∷ x) more)
     by false is more = subst Is (sym (front_none b bs is)) refl
 
 -- digits, and then no digit, are the run and what follows
-pub digits_in_front-append : (ds rest : List ℕ) → AllDigits 10 ds → BeginsWithoutDigit rest → digits_in_front (ds ++ rest) ≡ ds
-digits_in_front-append [] [] all ended = refl
-digits_in_front-append [] (b ∷ bs) all ended = front_none b bs ended
-digits_in_front-append (d ∷ ds) rest all ended = front_more d (ds ++ rest) (test_from_digit d all.0) ∙ ap (λ x. d ∷ x) (digits_in_front-append ds rest all.1 ended)
+pub leading_digits-append : (ds rest : List ℕ) → AllDigits 10 ds → BeginsWithoutDigit rest → leading_digits (ds ++ rest) ≡ ds
+leading_digits-append [] [] all ended = refl
+leading_digits-append [] (b ∷ bs) all ended = front_none b bs ended
+leading_digits-append (d ∷ ds) rest all ended = front_more d (ds ++ rest) (test_from_digit d all.0) ∙ ap (λ x. d ∷ x) (leading_digits-append ds rest all.1 ended)
 
 -- the first bytes, as many as the run has, are the run
-pub take-length-digits_in_front : (text : List ℕ) → take (length (digits_in_front text)) text ≡ digits_in_front text
-take-length-digits_in_front text = ap (λ n. take n text) (length-prefix_len is_ascii_digit text)
+pub take-length-leading_digits : (text : List ℕ) → take (length (leading_digits text)) text ≡ leading_digits text
+take-length-leading_digits text = ap (λ n. take n text) (length-prefix_len is_ascii_digit text)
 
-pub AllDigits-take : (text : List ℕ) (n : ℕ) → n ≡ length (digits_in_front text) → AllDigits 10 (take n text)
-AllDigits-take text n e = subst (AllDigits 10) (sym (take-length-digits_in_front text) ∙ ap (λ k. take k text) (sym e)) (AllDigits-digits_in_front text)
+pub AllDigits-take : (text : List ℕ) (n : ℕ) → n ≡ length (leading_digits text) → AllDigits 10 (take n text)
+AllDigits-take text n e = subst (AllDigits 10) (sym (take-length-leading_digits text) ∙ ap (λ k. take k text) (sym e)) (AllDigits-leading_digits text)
 
 -- further digits make no smaller number
 pub le_digits_value_after : (n : ℕ) (ds : List ℕ) → n ≤ digits_value_after 10 n ds

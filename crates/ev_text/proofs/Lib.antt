@@ -1,3 +1,13 @@
 pub mod DigitRuns
 pub mod Spelling
 pub mod Readings
+pub mod Results
+pub mod Grown
+pub mod GrownNumbers
+pub mod Mended
+pub mod ReaderLaws
+pub mod ChoiceLaws
+pub mod WholeLaws
+pub mod ListLaws
+pub mod MarkedLaws
+pub mod Loops

@@ -11,9 +11,9 @@ use Rattle.std.proofs.lemmas.List.{drop-drop, append-nil, append_cancel_left, le
 use Rattle.std.proofs.lemmas.Slice.Eq.{starts_is}
 use Rattle.ev_text.specs.declared.TextFault.{TextFault}
 use Rattle.ev_text.specs.declared.TextFault.TheVariants.{NotWhole, TooLarge, Word, End}
-use Rattle.ev_text.specs.Numerals.{digits_in_front, is_canonical, BeginsWithoutDigit, BeginsWithNumber, StandsInFront}
-use Rattle.ev_text.specs.Scans.{rest_of, past, whole_at, word_at, BeginsWith, IsProperPrefix, TakesNumber, TakesWord}
-use Rattle.ev_text.proofs.DigitRuns.{test_from_digit, AllDigits-digits_in_front, run_has_ended, run_and_rest, digits_in_front-append}
+use Rattle.ev_text.specs.Numerals.{leading_digits, is_canonical, BeginsWithoutDigit, BeginsWithNumber, StandsInFront}
+use Rattle.ev_text.specs.Scans.{rest_of, past, whole_at, word_at, IsPrefixOf, IsProperPrefix, TakesNumber, TakesWord}
+use Rattle.ev_text.proofs.DigitRuns.{test_from_digit, AllDigits-leading_digits, run_has_ended, run_and_rest, leading_digits-append}
 use Rattle.ev_text.proofs.Spelling.{is_canonical-decimal, decimal-digits_value, decimal_injective}
 
 -- the place behind a word that stands in front leaves what follows the word
@@ -27,12 +27,12 @@ past-append front back s =
     ap (λ (n : ℕ). let t : List ℕ × ℕ = (s.0, n) in t) same
 
 -- the run of digits before a number's end is its spelling
-pub digits_of_number : (text : List ℕ) (n : ℕ) (rest : List ℕ) → n < 10 ^ 64 → BeginsWithNumber text n rest → digits_in_front text ≡ decimal n
-digits_of_number text n rest small h = ap digits_in_front h.spelled ∙ digits_in_front-append (decimal n) rest (decimal_is_IsNumeral_wide n small).0.1 h.ended
+pub digits_of_number : (text : List ℕ) (n : ℕ) (rest : List ℕ) → n < 10 ^ 64 → BeginsWithNumber text n rest → leading_digits text ≡ decimal n
+digits_of_number text n rest small h = ap leading_digits h.spelled ∙ leading_digits-append (decimal n) rest (decimal_is_IsNumeral_wide n small).0.1 h.ended
 
 -- a canonical run is the spelling of its value
-pub number_of_digits : (text : List ℕ) → is_canonical (digits_in_front text) ≡ true → digits_value 10 (digits_in_front text) < 10 ^ 64 → decimal (digits_value 10 (digits_in_front text)) ≡ digits_in_front text
-number_of_digits text canonical small = decimal-digits_value (digits_in_front text) (AllDigits-digits_in_front text) canonical small
+pub number_of_digits : (text : List ℕ) → is_canonical (leading_digits text) ≡ true → digits_value 10 (leading_digits text) < 10 ^ 64 → decimal (digits_value 10 (leading_digits text)) ≡ leading_digits text
+number_of_digits text canonical small = decimal-digits_value (leading_digits text) (AllDigits-leading_digits text) canonical small
 
 -- a text begins with at most one number, and one rest follows it
 pub same_number : (text : List ℕ) (m n : ℕ) (rest more : List ℕ) → m < 10 ^ 64 → n < 10 ^ 64 → BeginsWithNumber text m rest → BeginsWithNumber text n more → (m ≡ n) × (rest ≡ more)
@@ -41,18 +41,18 @@ same_number text m n rest more small_m small_n p q =
     (decimal_injective m n small_m small_n numerals, append_cancel_left (decimal n) rest more (ap (λ x. x ++ rest) (sym numerals) ∙ sym p.spelled ∙ q.spelled))
 
 -- the number that stands in front is that of the run of digits, which is canonical
-pub run_of_number : (n : ℕ) (text : List ℕ) → StandsInFront n text → (is_canonical (digits_in_front text) ≡ true) × (digits_value 10 (digits_in_front text) ≡ n)
+pub run_of_number : (n : ℕ) (text : List ℕ) → StandsInFront n text → (is_canonical (leading_digits text) ≡ true) × (digits_value 10 (leading_digits text) ≡ n)
 run_of_number n text h =
-    let run : digits_in_front text ≡ h.numeral = ap digits_in_front h.parts ∙ digits_in_front-append h.numeral h.rest h.spelling.digits.1 h.ended in
+    let run : leading_digits text ≡ h.numeral = ap leading_digits h.parts ∙ leading_digits-append h.numeral h.rest h.spelling.digits.1 h.ended in
     (ap is_canonical run ∙ h.spelling.canonical, ap (digits_value 10) run ∙ h.spelling.value)
 
 -- and a canonical run is a number that stands in front
-pub StandsInFront-run : (text : List ℕ) → is_canonical (digits_in_front text) ≡ true → StandsInFront (digits_value 10 (digits_in_front text)) text
+pub StandsInFront-run : (text : List ℕ) → is_canonical (leading_digits text) ≡ true → StandsInFront (digits_value 10 (leading_digits text)) text
 StandsInFront-run text canonical = record {
-  numeral = digits_in_front text;
-  rest = drop (length (digits_in_front text)) text;
+  numeral = leading_digits text;
+  rest = drop (length (leading_digits text)) text;
   parts = run_and_rest text;
-  spelling = record { digits = (some (digits_in_front text) canonical, AllDigits-digits_in_front text); canonical = canonical; value = refl };
+  spelling = record { digits = (some (leading_digits text) canonical, AllDigits-leading_digits text); canonical = canonical; value = refl };
   ended = run_has_ended text;
 }
   where
@@ -61,20 +61,20 @@ StandsInFront-run text canonical = record {
     some (d ∷ ds) e = omega arith
 
 -- `whole_at` by its three tests
-whole_at_by : (limit : ℕ) (s : List ℕ × ℕ) (none spoiled large : Bool) → (length (rest_of s) == 0) ≡ none → not (is_canonical (digits_in_front (rest_of s))) ≡ spoiled
-    → nat_lt limit (digits_value 10 (digits_in_front (rest_of s))) ≡ large
-    → whole_at limit s ≡ (if none then Err (End s.1) else if spoiled then Err (NotWhole s.1) else if large then Err (TooLarge s.1) else Ok (digits_value 10 (digits_in_front (rest_of s)), past (digits_in_front (rest_of s)) s))
+whole_at_by : (limit : ℕ) (s : List ℕ × ℕ) (none spoiled large : Bool) → (length (rest_of s) == 0) ≡ none → not (is_canonical (leading_digits (rest_of s))) ≡ spoiled
+    → nat_lt limit (digits_value 10 (leading_digits (rest_of s))) ≡ large
+    → whole_at limit s ≡ (if none then Err (End s.1) else if spoiled then Err (NotWhole s.1) else if large then Err (TooLarge s.1) else Ok (digits_value 10 (leading_digits (rest_of s)), past (leading_digits (rest_of s)) s))
 whole_at_by limit s none spoiled large e f g = λ i.
-    if e i then Err (End s.1) else if f i then Err (NotWhole s.1) else if g i then Err (TooLarge s.1) else Ok (digits_value 10 (digits_in_front (rest_of s)), past (digits_in_front (rest_of s)) s)
+    if e i then Err (End s.1) else if f i then Err (NotWhole s.1) else if g i then Err (TooLarge s.1) else Ok (digits_value 10 (leading_digits (rest_of s)), past (leading_digits (rest_of s)) s)
 
 -- the four answers of `whole_at`, each with what it says of the text
 pub whole_at-cases : (limit : ℕ) (s : List ℕ × ℕ) (P : Result (ℕ × (List ℕ × ℕ)) TextFault → Type 0)
     → (rest_of s ≡ [] → P (Err (End s.1)))
-    → (rest_of s ≢ [] → is_canonical (digits_in_front (rest_of s)) ≡ false → P (Err (NotWhole s.1)))
-    → (is_canonical (digits_in_front (rest_of s)) ≡ true → limit < digits_value 10 (digits_in_front (rest_of s)) → P (Err (TooLarge s.1)))
-    → (is_canonical (digits_in_front (rest_of s)) ≡ true → digits_value 10 (digits_in_front (rest_of s)) ≤ limit → P (Ok (digits_value 10 (digits_in_front (rest_of s)), past (digits_in_front (rest_of s)) s)))
+    → (rest_of s ≢ [] → is_canonical (leading_digits (rest_of s)) ≡ false → P (Err (NotWhole s.1)))
+    → (is_canonical (leading_digits (rest_of s)) ≡ true → limit < digits_value 10 (leading_digits (rest_of s)) → P (Err (TooLarge s.1)))
+    → (is_canonical (leading_digits (rest_of s)) ≡ true → digits_value 10 (leading_digits (rest_of s)) ≤ limit → P (Ok (digits_value 10 (leading_digits (rest_of s)), past (leading_digits (rest_of s)) s)))
     → P (whole_at limit s)
-whole_at-cases limit s P ended spoiled large number = by (length (rest_of s) == 0) (not (is_canonical (digits_in_front (rest_of s)))) (nat_lt limit (digits_value 10 (digits_in_front (rest_of s)))) refl refl refl
+whole_at-cases limit s P ended spoiled large number = by (length (rest_of s) == 0) (not (is_canonical (leading_digits (rest_of s)))) (nat_lt limit (digits_value 10 (leading_digits (rest_of s)))) refl refl refl
   where
     empty : (xs : List ℕ) → (length xs == 0) ≡ true → xs ≡ []
     empty [] e = refl
@@ -92,17 +92,17 @@ whole_at-cases limit s P ended spoiled large number = by (length (rest_of s) == 
     not_canonical true e = absurd (cc)
     not_canonical false e = refl
 
-    by : (a b c : Bool) → (length (rest_of s) == 0) ≡ a → not (is_canonical (digits_in_front (rest_of s))) ≡ b → nat_lt limit (digits_value 10 (digits_in_front (rest_of s))) ≡ c → P (whole_at limit s)
+    by : (a b c : Bool) → (length (rest_of s) == 0) ≡ a → not (is_canonical (leading_digits (rest_of s))) ≡ b → nat_lt limit (digits_value 10 (leading_digits (rest_of s))) ≡ c → P (whole_at limit s)
     by true b c e f g = subst P (sym (whole_at_by limit s true b c e f g)) (ended (empty _ e))
     by false true c e f g = subst P (sym (whole_at_by limit s false true c e f g)) (spoiled (filled _ e) (not_canonical _ f))
     by false false true e f g = subst P (sym (whole_at_by limit s false false true e f g)) (large (canonical _ f) (grind (arith, nat_tests)))
     by false false false e f g = subst P (sym (whole_at_by limit s false false false e f g)) (number (canonical _ f) (grind (arith, nat_tests)))
 
 -- the number of a canonical run is taken
-own_number : (limit : ℕ) (s : List ℕ × ℕ) → limit < 10 ^ 64 → is_canonical (digits_in_front (rest_of s)) ≡ true → digits_value 10 (digits_in_front (rest_of s)) ≤ limit
-    → TakesNumber limit (digits_value 10 (digits_in_front (rest_of s))) s (past (digits_in_front (rest_of s)) s)
+own_number : (limit : ℕ) (s : List ℕ × ℕ) → limit < 10 ^ 64 → is_canonical (leading_digits (rest_of s)) ≡ true → digits_value 10 (leading_digits (rest_of s)) ≤ limit
+    → TakesNumber limit (digits_value 10 (leading_digits (rest_of s))) s (past (leading_digits (rest_of s)) s)
 own_number limit s small canonical fits =
-    let digits = digits_in_front (rest_of s) in
+    let digits = leading_digits (rest_of s) in
     let is : decimal (digits_value 10 digits) ≡ digits = number_of_digits (rest_of s) canonical (omega arith) in
     let after : rest_of (past digits s) ≡ drop (length digits) (rest_of s) = rest_of-past digits _ s (run_and_rest (rest_of s)) in
     record {
@@ -124,22 +124,22 @@ TakesNumber-from_whole_at limit s n t small = whole_at-cases limit s (λ r. r �
     (λ some spoiled e. absurd (cc))
     (λ canonical large e. absurd (cc))
     (λ canonical fits e.
-    let same = ok_injective (digits_value 10 (digits_in_front (rest_of s)), past (digits_in_front (rest_of s)) s) (n, t) e in
-    let value : digits_value 10 (digits_in_front (rest_of s)) ≡ n = ap (λ p. p.0) same in
-    let place : past (digits_in_front (rest_of s)) s ≡ t = ap (λ p. p.1) same in
-    subst (λ (m : ℕ). TakesNumber limit m s t) value (subst (λ (u : List ℕ × ℕ). TakesNumber limit (digits_value 10 (digits_in_front (rest_of s))) s u) place (own_number limit s small canonical fits)))
+    let same = ok_injective (digits_value 10 (leading_digits (rest_of s)), past (leading_digits (rest_of s)) s) (n, t) e in
+    let value : digits_value 10 (leading_digits (rest_of s)) ≡ n = ap (λ p. p.0) same in
+    let place : past (leading_digits (rest_of s)) s ≡ t = ap (λ p. p.1) same in
+    subst (λ (m : ℕ). TakesNumber limit m s t) value (subst (λ (u : List ℕ × ℕ). TakesNumber limit (digits_value 10 (leading_digits (rest_of s))) s u) place (own_number limit s small canonical fits)))
 
 -- an empty text has no canonical run
-no_run : (xs : List ℕ) → xs ≡ [] → is_canonical (digits_in_front xs) ≡ true → ⊥
+no_run : (xs : List ℕ) → xs ≡ [] → is_canonical (leading_digits xs) ≡ true → ⊥
 no_run [] e canonical = cc
 no_run (x ∷ xs) e canonical = cc
 
 -- a number within the limit that stands there is taken, up to the end of its spelling
 pub whole_at-number : (limit : ℕ) (s : List ℕ × ℕ) (n : ℕ) (rest : List ℕ) → n < 10 ^ 64 → n ≤ limit → BeginsWithNumber (rest_of s) n rest → whole_at limit s ≡ Ok (n, past (decimal n) s)
 whole_at-number limit s n rest small fits h =
-    let run : digits_in_front (rest_of s) ≡ decimal n = digits_of_number (rest_of s) n rest small h in
-    let canonical : is_canonical (digits_in_front (rest_of s)) ≡ true = ap is_canonical run ∙ is_canonical-decimal n small in
-    let value : digits_value 10 (digits_in_front (rest_of s)) ≡ n = ap (digits_value 10) run ∙ (decimal_is_IsNumeral_wide n small).1 in
+    let run : leading_digits (rest_of s) ≡ decimal n = digits_of_number (rest_of s) n rest small h in
+    let canonical : is_canonical (leading_digits (rest_of s)) ≡ true = ap is_canonical run ∙ is_canonical-decimal n small in
+    let value : digits_value 10 (leading_digits (rest_of s)) ≡ n = ap (digits_value 10) run ∙ (decimal_is_IsNumeral_wide n small).1 in
     whole_at-cases limit s (λ r. r ≡ Ok (n, past (decimal n) s))
     (λ none. absurd (no_run _ none canonical))
     (λ some spoiled. absurd (cc))
@@ -152,14 +152,14 @@ word_at_by : (word : List ℕ) (s : List ℕ × ℕ) (stands cut : Bool) → sta
 word_at_by word s stands cut e f = λ i. if e i then Ok (past word s) else if f i then Err (End s.1) else Err (Word s.1)
 
 -- the test of a prefix
-prefix_from_test : (text word : List ℕ) → starts_with nat_eq text word ≡ true → BeginsWith text word
+prefix_from_test : (text word : List ℕ) → starts_with nat_eq text word ≡ true → IsPrefixOf word text
 prefix_from_test text word e = (drop (length word) text, (starts_is Decides-eqb text word (starts_with nat_eq text word) refl).0 e)
 
-test_from_prefix : (text word : List ℕ) → BeginsWith text word → starts_with nat_eq text word ≡ true
+test_from_prefix : (text word : List ℕ) → IsPrefixOf word text → starts_with nat_eq text word ≡ true
 test_from_prefix text word h = (starts_is Decides-eqb text word (starts_with nat_eq text word) refl).1 h.0 h.1
 
 -- a text that is the word cut off does not begin with the word
-proper_prefix_is_shorter : (text word : List ℕ) → IsProperPrefix text word → BeginsWith text word → ⊥
+proper_prefix_is_shorter : (text word : List ℕ) → IsProperPrefix text word → IsPrefixOf word text → ⊥
 proper_prefix_is_shorter text word cut stands = by cut.0 cut.1 cut.2
   where
     by : (more : List ℕ) → word ≡ text ++ more → more ≢ [] → ⊥
@@ -167,7 +167,7 @@ proper_prefix_is_shorter text word cut stands = by cut.0 cut.1 cut.2
     by (x ∷ xs) e some = omega (arith, ap length e, ap length stands.1, length-append text (x ∷ xs), length-append word stands.0)
 
 -- a word that begins with the text, and does not stand in it, is cut off
-proper_prefix_from_tests : (text word : List ℕ) → starts_with nat_eq text word ≡ false → BeginsWith word text → IsProperPrefix text word
+proper_prefix_from_tests : (text word : List ℕ) → starts_with nat_eq text word ≡ false → IsPrefixOf text word → IsProperPrefix text word
 proper_prefix_from_tests text word e h = (h.0, h.1, λ none. same (h.1 ∙ ap (λ x. text ++ x) none ∙ append-nil text))
   where
     same : word ≡ text → ⊥
@@ -175,9 +175,9 @@ proper_prefix_from_tests text word e h = (h.0, h.1, λ none. same (h.1 ∙ ap (�
 
 -- the three answers of `word_at`, each with what it says of the text
 pub word_at-cases : (word : List ℕ) (s : List ℕ × ℕ) (P : Result (List ℕ × ℕ) TextFault → Type 0)
-    → (BeginsWith (rest_of s) word → P (Ok (past word s)))
+    → (IsPrefixOf word (rest_of s) → P (Ok (past word s)))
     → (IsProperPrefix (rest_of s) word → P (Err (End s.1)))
-    → (¬ (BeginsWith (rest_of s) word) → ¬ (IsProperPrefix (rest_of s) word) → P (Err (Word s.1)))
+    → (¬ (IsPrefixOf word (rest_of s)) → ¬ (IsProperPrefix (rest_of s) word) → P (Err (Word s.1)))
     → P (word_at word s)
 word_at-cases word s P stands cut differs = by (starts_with nat_eq (rest_of s) word) (starts_with nat_eq word (rest_of s)) refl refl
   where
@@ -243,8 +243,8 @@ word_at-end word s = word_at-cases word s (λ r. (r ≡ Err (End s.1)) ↔ IsPro
     (λ cut. (λ e. cut, λ _. refl))
     (λ other uncut. (λ e. absurd (cc), λ cut. absurd (uncut cut)))
 
-pub word_at-differs : (word : List ℕ) (s : List ℕ × ℕ) → (word_at word s ≡ Err (Word s.1)) ↔ (¬ (BeginsWith (rest_of s) word) × ¬ (IsProperPrefix (rest_of s) word))
-word_at-differs word s = word_at-cases word s (λ r. (r ≡ Err (Word s.1)) ↔ (¬ (BeginsWith (rest_of s) word) × ¬ (IsProperPrefix (rest_of s) word)))
+pub word_at-differs : (word : List ℕ) (s : List ℕ × ℕ) → (word_at word s ≡ Err (Word s.1)) ↔ (¬ (IsPrefixOf word (rest_of s)) × ¬ (IsProperPrefix (rest_of s) word))
+word_at-differs word s = word_at-cases word s (λ r. (r ≡ Err (Word s.1)) ↔ (¬ (IsPrefixOf word (rest_of s)) × ¬ (IsProperPrefix (rest_of s) word)))
     (λ stands. (λ e. absurd (cc), λ h. absurd (h.0 stands)))
     (λ cut. (λ e. absurd (cc), λ h. absurd (h.1 cut)))
     (λ other uncut. (λ e. (other, uncut), λ _. refl))

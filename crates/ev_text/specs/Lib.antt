@@ -1,2 +1,4 @@
 pub mod Numerals
 pub mod Scans
+pub mod Texts
+pub mod Readers

@@ -5,8 +5,8 @@ use Rattle.std.specs.List.{take_while}
 use Rattle.std.specs.Str.Parse.{IsNumeral, digits_value}
 
 -- the longest run of digits in front of a text
-abbrev pub digits_in_front : List ℕ → List ℕ
-digits_in_front text = take_while is_ascii_digit text
+abbrev pub leading_digits : List ℕ → List ℕ
+leading_digits text = take_while is_ascii_digit text
 
 -- no digit stands in front of the text: it is empty, or its first byte is none
 abbrev pub BeginsWithoutDigit : List ℕ → Type 0

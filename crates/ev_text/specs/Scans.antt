@@ -4,7 +4,7 @@ use Rattle.std.specs.List.{starts_with}
 use Rattle.std.specs.Str.Parse.{digits_value}
 use Rattle.ev_text.specs.declared.TextFault.{TextFault}
 use Rattle.ev_text.specs.declared.TextFault.TheVariants.{NotWhole, TooLarge, Word, End}
-use Rattle.ev_text.specs.Numerals.{digits_in_front, is_canonical, BeginsWithNumber}
+use Rattle.ev_text.specs.Numerals.{leading_digits, is_canonical, BeginsWithNumber}
 
 -- the text from the place on
 abbrev pub rest_of : List ℕ × ℕ → List ℕ
@@ -18,7 +18,7 @@ past word s = (s.0, s.1 + length word)
 -- canonical numeral, and their number is at most limit
 abbrev pub whole_at : ℕ → List ℕ × ℕ → Result (ℕ × (List ℕ × ℕ)) TextFault
 whole_at limit s =
-    let digits = digits_in_front (rest_of s) in
+    let digits = leading_digits (rest_of s) in
     if length (rest_of s) == 0 then Err (End s.1)
     else if not (is_canonical digits) then Err (NotWhole s.1)
     else if nat_lt limit (digits_value 10 digits) then Err (TooLarge s.1)
@@ -48,9 +48,9 @@ pub record TakesWord (word : List ℕ) (s t : List ℕ × ℕ) : Type 0 where
   pub standing : rest_of s ≡ word ++ rest_of t
   pub moved : t ≡ past word s
 
--- the text goes on with the word
-abbrev pub BeginsWith : List ℕ → List ℕ → Type 0
-BeginsWith text word = (rest : List ℕ) × (text ≡ word ++ rest)
+-- the whole begins with the front
+abbrev pub IsPrefixOf : List ℕ → List ℕ → Type 0
+IsPrefixOf front whole = (rest : List ℕ) × (whole ≡ front ++ rest)
 
 -- the text is the word cut off before its end
 abbrev pub IsProperPrefix : List ℕ → List ℕ → Type 0

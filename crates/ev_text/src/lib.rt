@@ -21,7 +21,7 @@ pub enum TextFault {
     /// No digit stands here, or a `0` with another digit behind it.
     #[error("no whole number at byte {at}")]
     NotWhole { at: usize },
-    /// The number is greater than the limit that was given.
+    /// The number is greater than the limit that was answer.
     #[error("the number at byte {at} is too large")]
     TooLarge { at: usize },
     /// The text goes on otherwise than with the word.

@@ -1,6 +1,8 @@
-ghost use Rattle.std.specs.Prelude.{◌≡◌, ◌<◌, ◌≤◌, ◌↔◌, [], Ok, Err, IfErr, IfNone, IfOk, IfSome, IsTrue, OnErr, OnOk, length};
+ghost use Rattle.ev_text.specs.declared.TextFault.TheVariants.{Word};
+ghost use Rattle.std.specs.Prelude.{◌≡◌, ◌≢◌, ◌<◌, ◌≤◌, ◌↔◌, [], Ok, Err, IfErr, IfNone, IfOk, IfSome, IsTrue, OnErr, OnOk, length};
 ghost use Rattle.std.specs.Str.Parse.{AllDigits, digits_value};
-ghost use Rattle.ev_text.specs.Numerals.{digits_in_front, is_canonical};
+ghost use Rattle.ev_text.specs.Numerals.{leading_digits, is_canonical};
+ghost use Rattle.ev_text.specs.Readers.{choice_at, optional_at, positive_at};
 ghost use Rattle.ev_text.specs.Scans.{TakesNumber, TakesWord, rest_of, whole_at, word_at};
 
 use crate::TextFault;
@@ -8,7 +10,7 @@ use std::marker::Model;
 
 /// How many digits stand in front of a text.
 fn digit_count(text: &[u8]) -> usize
-    ensures { result ≡ length (digits_in_front text.now) }
+    ensures { result ≡ length (leading_digits text.now) }
 {
     text.iter().take_while(|byte| byte.is_ascii_digit()).count()
 }
@@ -25,7 +27,7 @@ fn is_canonical(digits: &[u8]) -> bool
 }
 
 /// The number that the digits write, where it is at most `limit`.
-fn number_of(digits: &[u8], limit: u128) -> Option<u128>
+fn value_within(digits: &[u8], limit: u128) -> Option<u128>
     requires { AllDigits 10 digits.now }
     ensures some { IfSome result (λ n. (n ≡ digits_value 10 digits.now) × (n ≤ limit)) }
     ensures none { IfNone result (limit < digits_value 10 digits.now) }
@@ -62,7 +64,7 @@ fn whole_from(bytes: &[u8], at: usize, limit: u128) -> Result<(u128, usize), Tex
     if !is_canonical(digits) {
         return Err(TextFault::NotWhole { at });
     }
-    match number_of(digits, limit) {
+    match value_within(digits, limit) {
         Some(number) => Ok((number, at + count)),
         None => Err(TextFault::TooLarge { at }),
     }
@@ -143,6 +145,57 @@ impl<'a> Scan<'a> {
     {
         self.at = word_from(self.bytes, self.at, w)?;
         Ok(())
+    }
+
+    /// Takes a word that may be missing, and answers whether it stands at the place, which else stays.
+    pub fn take_if(&mut self, w: &[u8]) -> bool
+        ensures { optional_at w.now self.old ≡ Ok (result, self.new) }
+    {
+        self.word(w).is_ok()
+    }
+
+    /// Takes a word in whose place another may stand, and answers whether it stands at the place, which else stays.
+    ///
+    /// Refusal: `End` where the text ends within the word, so that neither can stand there.
+    pub fn choose(&mut self, w: &[u8]) -> Result<bool, TextFault>
+        ensures ok { IfOk result (λ stands. choice_at w.now self.old ≡ Ok (stands, self.new)) }
+        ensures fault { IfErr result (λ fault. choice_at w.now self.old ≡ Err fault) }
+        ensures err { OnErr result (self.new ≡ self.old) }
+    {
+        match self.word(w) {
+            Ok(()) => Ok(true),
+            Err(TextFault::End { at }) => Err(TextFault::End { at }),
+            Err(_) => Ok(false),
+        }
+    }
+
+    /// Takes a number from 1 to `limit`.
+    ///
+    /// Refusals: those of `whole`, and `NotWhole` where the number is 0. The place stays after a refusal.
+    pub fn positive(&mut self, limit: u128) -> Result<u128, TextFault>
+        ensures ok { IfOk result (λ n. positive_at limit self.old ≡ Ok (n, self.new)) }
+        ensures fault { IfErr result (λ fault. positive_at limit self.old ≡ Err fault) }
+        ensures err { OnErr result (self.new ≡ self.old) }
+    {
+        let (number, after) = whole_from(self.bytes, self.at, limit)?;
+        if number == 0 {
+            return Err(TextFault::NotWhole { at: self.at });
+        }
+        self.at = after;
+        Ok(number)
+    }
+
+    /// Refuses a text that goes on behind the place, by `Word`.
+    pub fn end(&self) -> Result<(), TextFault>
+        ensures ok { OnOk result (rest_of self.now ≡ []) }
+        ensures fault { IfErr result (λ fault.
+            (rest_of self.now ≢ []) × (fault ≡ Word self.now.1)) }
+    {
+        if self.is_end() {
+            Ok(())
+        } else {
+            Err(TextFault::Word { at: self.at })
+        }
     }
 
     /// The place: how many bytes have been read.

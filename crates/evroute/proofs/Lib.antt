@@ -1,3 +1,6 @@
 pub mod Task
-pub mod Put
+pub mod Instances
+pub mod OneStatus
 pub mod Refused
+pub mod Finding
+pub mod Performed

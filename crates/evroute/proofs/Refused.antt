@@ -7,7 +7,7 @@ use Rattle.evroute.specs.declared.answer.Ended.{Ended}
 use Rattle.evroute.specs.declared.answer.Ended.TheVariants.{Refused}
 use Rattle.evroute.specs.declared.status.Status.{Status}
 use Rattle.evroute.specs.declared.status.Status.TheVariants as status
-use Rattle.plan_writer.specs.RefusalText.{refusal_text}
+use Rattle.plan_writer.specs.RefusalText.{IsRule, refusal_text}
 use Rattle.plan_writer.specs.declared.refusal.Refusal.{Refusal}
 
 pub refused_answers : {E : Type 0} (limit : Option ℕ) (file plan_bytes : List ℕ) (ended : Ended) (refusal : Refusal) (made : Result Answer E) →
@@ -16,5 +16,5 @@ pub refused_answers : {E : Type 0} (limit : Option ℕ) (file plan_bytes : List 
     → IfOk made (λ a. CheckAnswers limit file plan_bytes a.status a.text.items)
 refused_answers limit file plan_bytes ended refusal (Err none) is refused answered text = tt
 refused_answers limit file plan_bytes ended refusal (Ok a) is refused answered text =
-    let first : IsCheckRefused limit file plan_bytes refusal = subst (λ (e : Ended). IsCheckEnded limit file plan_bytes e) is refused in
-    subst (λ (s : Status). CheckAnswers limit file plan_bytes s a.text.items) (sym answered) (record { refusal = refusal; refused = first; text_is = text })
+    let first : IsRule refusal × IsCheckRefused limit file plan_bytes refusal = subst (λ (e : Ended). IsCheckEnded limit file plan_bytes e) is refused in
+    subst (λ (s : Status). CheckAnswers limit file plan_bytes s a.text.items) (sym answered) (record { refusal = refusal; rule = first.0; refused = first.1; text_is = text })

@@ -1,5 +1,5 @@
 -- What `check` answers to the bytes of its instance and of its plan file.
-use Rattle.std.specs.Prelude.{◌≡◌, ℕ, ◌<◌, ◌≤◌, List, Option, None, Some, Ok, Err, length}
+use Rattle.std.specs.Prelude.{◌≡◌, ℕ, ◌<◌, ◌≤◌, List, Option, None, Some, Err, length}
 use Rattle.ev_model.specs.Fleet.{cost_of, IsFleetPlan}
 use Rattle.ev_model.specs.Network.{Network}
 use Rattle.instance_reader.specs.Faults.{IsFirstFault}
@@ -7,11 +7,12 @@ use Rattle.instance_reader.specs.Instance.{customer_nodes}
 use Rattle.plan_check.specs.FleetRules.{IsFirstBroken, stops_of}
 use Rattle.plan_check.specs.declared.fault.PlanFault.{PlanFault}
 use Rattle.plan_writer.specs.CheckText.{check_text}
-use Rattle.plan_writer.specs.RefusalText.{refusal_text}
+use Rattle.plan_writer.specs.RefusalText.{IsRule, refusal_text}
 use Rattle.plan_writer.specs.declared.check.Judgement.TheVariants as judgement
 use Rattle.plan_writer.specs.declared.refusal.Refusal.{Refusal}
 use Rattle.plan_writer.specs.declared.refusal.Refusal.TheVariants as refusal
 use Rattle.route_plan.specs.PlanReading.{fleet_plan_in}
+use Rattle.route_plan.specs.PlanTexts.{SpellsFleetPlan}
 use Rattle.route_plan.specs.declared.plan.FleetPlan.{FleetPlan}
 use Rattle.evroute.specs.LimitedNetwork.{HasNetwork, IsPastLimit}
 use Rattle.evroute.specs.declared.status.Status.{Status}
@@ -49,7 +50,7 @@ pub record PutsAccepted (limit : Option ℕ) (bytes plan_bytes text : List ℕ) 
   pub network : Network
   pub fleet : HasFleetNetwork limit bytes network
   pub plan : Option FleetPlan
-  pub read : fleet_plan_in plan_bytes ≡ Ok plan
+  pub spelled : SpellsFleetPlan plan_bytes plan
   pub cost : Option ℕ
   pub valid : IsValid network plan cost
   pub text_is : text ≡ check_text network.denominator (judgement.Accepted cost)
@@ -59,7 +60,7 @@ pub record PutsRejected (limit : Option ℕ) (bytes plan_bytes text : List ℕ) 
   pub network : Network
   pub fleet : HasFleetNetwork limit bytes network
   pub plan : FleetPlan
-  pub read : fleet_plan_in plan_bytes ≡ Ok (Some plan)
+  pub spelled : SpellsFleetPlan plan_bytes (Some plan)
   pub fault : PlanFault
   pub broken : IsFirstBroken network plan.routes fault
   pub text_is : text ≡ check_text network.denominator (judgement.Plan fault)
@@ -67,6 +68,7 @@ pub record PutsRejected (limit : Option ℕ) (bytes plan_bytes text : List ℕ) 
 -- the first broken rule of the instance, the words or the plan's text
 pub record PutsCheckRefusal (limit : Option ℕ) (bytes plan_bytes text : List ℕ) : Type 0 where
   pub refusal : Refusal
+  pub rule : IsRule refusal
   pub refused : IsCheckRefused limit bytes plan_bytes refusal
   pub text_is : text ≡ refusal_text refusal
 

@@ -4,20 +4,26 @@ use Rattle.command_line.specs.declared.Options.{Options}
 use Rattle.evroute.specs.CheckAnswer.{IsCheckRefused}
 use Rattle.evroute.specs.FixedAnswer.{IsRefused}
 use Rattle.evroute.specs.LimitedNetwork.{IsNetworkRefused}
+use Rattle.plan_writer.specs.RefusalText.{IsRule}
 use Rattle.evroute.specs.declared.answer.Ended.{Ended}
 use Rattle.evroute.specs.declared.answer.Ended.TheVariants.{Refused, Memory}
 
+-- a step that is the last by a refusal names a rule
+abbrev pub IsRuleOrMemory : Ended → Type 0
+IsRuleOrMemory (Refused refusal) = IsRule refusal
+IsRuleOrMemory Memory = Unit {0}
+
 -- of the steps that each job has
 abbrev pub IsNetworkEnded : Option ℕ → List ℕ → Ended → Type 0
-IsNetworkEnded limit bytes (Refused refusal) = IsNetworkRefused limit bytes refusal
+IsNetworkEnded limit bytes (Refused refusal) = IsRule refusal × IsNetworkRefused limit bytes refusal
 IsNetworkEnded limit bytes Memory = Unit {0}
 
 -- of `fixed`
 abbrev pub IsEnded : Options → List ℕ → List ℕ → Ended → Type 0
-IsEnded options word bytes (Refused refusal) = IsRefused options word bytes refusal
+IsEnded options word bytes (Refused refusal) = IsRule refusal × IsRefused options word bytes refusal
 IsEnded options word bytes Memory = Unit {0}
 
 -- of `check`
 abbrev pub IsCheckEnded : Option ℕ → List ℕ → List ℕ → Ended → Type 0
-IsCheckEnded limit bytes plan_bytes (Refused refusal) = IsCheckRefused limit bytes plan_bytes refusal
+IsCheckEnded limit bytes plan_bytes (Refused refusal) = IsRule refusal × IsCheckRefused limit bytes plan_bytes refusal
 IsCheckEnded limit bytes plan_bytes Memory = Unit {0}

@@ -1,5 +1,5 @@
 -- What `fixed` answers to the bytes of its file.
-use Rattle.std.specs.Prelude.{◌≡◌, ℕ, ◌*◌, ◌^◌, ◌<◌, ◌≤◌, List, Option, None, Some, Ok, Err}
+use Rattle.std.specs.Prelude.{◌≡◌, ℕ, ◌*◌, ◌^◌, ◌<◌, ◌≤◌, List, length, Option, None, Some, Err}
 use Rattle.ev_model.specs.Network.{Network, node_count}
 use Rattle.ev_model.specs.Time.{time_of}
 use Rattle.ev_model.specs.declared.Stop.{Stop}
@@ -8,10 +8,12 @@ use Rattle.instance_reader.specs.Faults.{IsFirstFault}
 use Rattle.ev_model.specs.Fastest.{HasNoPlan, IsFastest}
 use Rattle.level_table.specs.Answer.{cell_count}
 use Rattle.plan_writer.specs.FixedText.{fixed_text}
-use Rattle.plan_writer.specs.RefusalText.{refusal_text}
+use Rattle.plan_writer.specs.RefusalText.{IsRule, refusal_text}
 use Rattle.plan_writer.specs.declared.refusal.Refusal.{Refusal}
 use Rattle.plan_writer.specs.declared.refusal.Refusal.TheVariants as refusal
+use Rattle.ev_model.specs.Route.{IsRoute}
 use Rattle.route_plan.specs.RouteRules.{route_in}
+use Rattle.route_plan.specs.RouteWords.{SpellsRoute}
 use Rattle.evroute.specs.LimitedNetwork.{HasNetwork, IsPastLimit}
 use Rattle.evroute.specs.declared.status.Status.{Status}
 use Rattle.evroute.specs.declared.status.Status.TheVariants as status
@@ -26,14 +28,25 @@ pub record HasStart (options : Options) (bytes : List ℕ) (g : Network) : Type 
   pub network : HasNetwork options.limit bytes g
   pub within : start_of g options.charge ≤ g.capacity
 
+-- the most nodes of a route
+abbrev pub most_nodes : ℕ
+most_nodes = 400
+
 -- besides, the word spells this route
 pub record IsTask (options : Options) (word bytes : List ℕ) (g : Network) (route : List ℕ) : Type 0 where
   pub start : HasStart options bytes g
-  pub spelled : route_in (node_count g) word ≡ Ok route
+  pub spelled : SpellsRoute word route
+  pub is_route : IsRoute g route
+  pub short : length route ≤ most_nodes
 
 -- the most cells of a table
 abbrev pub most_cells : ℕ
 most_cells = 2 * 10 ^ 7
+
+-- besides, its table is not too large
+pub record IsSmallTask (options : Options) (word bytes : List ℕ) (g : Network) (route : List ℕ) : Type 0 where
+  pub task : IsTask options word bytes g route
+  pub small : cell_count g route ≤ most_cells
 
 -- the first broken rule: of the instance, the limit, the charge, the route, the size of the table
 abbrev pub IsRefused : Options → List ℕ → List ℕ → Refusal → Type 0
@@ -51,7 +64,7 @@ IsRefused options word bytes other = ⊥
 pub record PutsPlan (options : Options) (word bytes text : List ℕ) : Type 0 where
   pub network : Network
   pub route : List ℕ
-  pub task : IsTask options word bytes network route
+  pub task : IsSmallTask options word bytes network route
   pub stops : List Stop
   pub fastest : IsFastest network route (start_of network options.charge) stops
   pub text_is : text ≡ fixed_text network.denominator (Some (stops, time_of network 1 (start_of network options.charge) stops))
@@ -60,19 +73,20 @@ pub record PutsPlan (options : Options) (word bytes text : List ℕ) : Type 0 wh
 pub record PutsInfeasible (options : Options) (word bytes text : List ℕ) : Type 0 where
   pub network : Network
   pub route : List ℕ
-  pub task : IsTask options word bytes network route
+  pub task : IsSmallTask options word bytes network route
   pub none : HasNoPlan network route (start_of network options.charge)
   pub text_is : text ≡ fixed_text network.denominator None
 
 -- the first broken rule
 pub record PutsRefusal (options : Options) (word bytes text : List ℕ) : Type 0 where
   pub refusal : Refusal
+  pub rule : IsRule refusal
   pub refused : IsRefused options word bytes refusal
   pub text_is : text ≡ refusal_text refusal
 
 -- the text that belongs to a status
-abbrev pub Answers : Options → List ℕ → List ℕ → Status → List ℕ → Type 0
-Answers options word bytes status.Done text = PutsPlan options word bytes text
-Answers options word bytes status.Negative text = PutsInfeasible options word bytes text
-Answers options word bytes status.Refused text = PutsRefusal options word bytes text
-Answers options word bytes other text = ⊥
+abbrev pub FixedAnswers : Options → List ℕ → List ℕ → Status → List ℕ → Type 0
+FixedAnswers options word bytes status.Done text = PutsPlan options word bytes text
+FixedAnswers options word bytes status.Negative text = PutsInfeasible options word bytes text
+FixedAnswers options word bytes status.Refused text = PutsRefusal options word bytes text
+FixedAnswers options word bytes other text = ⊥

@@ -4,3 +4,4 @@ pub mod FixedAnswer
 pub mod CheckAnswer
 pub mod Ended
 pub mod Run
+pub mod Found

@@ -1,14 +1,19 @@
--- What the program does with files and output.
-use Rattle.std.specs.Prelude.{◌≡◌, ℕ, ◌+◌, ◌^◌, ◌≤◌, ◌⊎◌, List, length, take, Option, None, Some}
-use Rattle.command_line.specs.Words.{CheckJob, CheckPlan, FixedRoute, Job}
+-- What the program owes for the job that its words name.
+use Rattle.std.specs.Prelude.{◌≡◌, ℕ, ◌+◌, ◌^◌, ◌≤◌, ◌⊎◌, List, length, map, take, Option, None, Some, String, string_bytes}
+use Rattle.std.specs.declared.alloc.Global.{Global}
+use Rattle.command_line.specs.Words.{CheckJob, CheckPlan, FixedRoute, Job, job_of}
 use Rattle.ev_model.specs.Network.{Network}
 use Rattle.ev_outside.specs.Counts.{Rose}
-use Rattle.ev_outside.specs.Shelf.{Files, bytes_under}
-use Rattle.ev_outside.specs.Sink.{Adds, AddsPrefix}
+use Rattle.ev_outside.specs.Shelf.{CountsStay, Files, ShelfState, bytes_under}
+use Rattle.ev_outside.specs.Sink.{Adds, AddsPrefix, SinkState}
 use Rattle.evroute.specs.CheckAnswer.{CheckAnswers, HasFleetNetwork}
-use Rattle.evroute.specs.FixedAnswer.{Answers}
+use Rattle.evroute.specs.FixedAnswer.{FixedAnswers}
 use Rattle.evroute.specs.declared.status.Status.{Status}
 use Rattle.evroute.specs.declared.status.Status.TheVariants as status
+
+-- the job that the words name, if they name one
+abbrev pub job_named : List (String Global) → Option Job
+job_named words = job_of (map (λ word. string_bytes word) words)
 
 -- one byte more than the longest file is asked for
 abbrev pub most_bytes : ℕ
@@ -19,13 +24,29 @@ abbrev pub AreRead : Option Files → List ℕ → List ℕ → Type 0
 AreRead None name bytes = length bytes ≤ most_bytes
 AreRead (Some files) name bytes = bytes ≡ take most_bytes (bytes_under files name)
 
--- the text and the status that a job answers to the bytes of its files
+-- the status and the text that a job answers to the bytes of its files
 abbrev pub JobAnswers : Job → Option Files → Status → List ℕ → Type 0
 JobAnswers (FixedRoute job) files answered text =
-    (bytes : List ℕ) × AreRead files job.file bytes × Answers job.options job.route bytes answered text
+    (bytes : List ℕ) × AreRead files job.file bytes × FixedAnswers job.options job.route bytes answered text
 JobAnswers (CheckPlan job) files answered text =
     (bytes : List ℕ) × AreRead files job.file bytes
     × ((plan_bytes : List ℕ) × AreRead files job.plan plan_bytes × CheckAnswers job.limit bytes plan_bytes answered text)
+
+-- the cause of a status holds of the job's files: some text is its answer to them
+abbrev pub HasCause : Job → Option Files → Status → Type 0
+HasCause job files answered = (text : List ℕ) × JobAnswers job files answered text
+
+-- the shelf tells its files
+abbrev pub IsTold : Option Files → Type 0
+IsTold None = ⊥
+IsTold (Some files) = Unit {0}
+
+-- the job did what it was asked for, or refused it
+abbrev pub IsAnswered : Status → Type 0
+IsAnswered status.Done = Unit {0}
+IsAnswered status.Negative = Unit {0}
+IsAnswered status.Refused = Unit {0}
+IsAnswered other = ⊥
 
 -- the text of the status was put
 pub record PutsAnswer (job : Job) (files : Option Files) (old new : Option (List ℕ)) (answered : Status) : Type 0 where
@@ -38,29 +59,56 @@ abbrev pub PutsPart : Job → Option Files → Option (List ℕ) → Option (Lis
 PutsPart job files old new =
     (new ≡ old) ⊎ ((answered : Status) × ((text : List ℕ) × JobAnswers job files answered text × AddsPrefix old new text))
 
--- the network was read for the job, whose plan stands under this name
-pub record IsReadFor (job : CheckJob) (files : Option Files) (name bytes : List ℕ) (g : Network) : Type 0 where
-  pub name_is : name ≡ job.plan
-  pub read : AreRead files job.file bytes
-  pub fleet : HasFleetNetwork job.limit bytes g
+-- a read of the name failed
+abbrev pub HasFailedRead : ShelfState → ShelfState → List ℕ → Type 0
+HasFailedRead before after name = Rose (before.failed_reads name) (after.failed_reads name)
 
 -- `check` comes to its plan file: no rule of a step before it is broken
 abbrev pub ComesToPlan : CheckJob → Option Files → Type 0
 ComesToPlan job files =
     (bytes : List ℕ) × AreRead files job.file bytes × ((g : Network) × HasFleetNetwork job.limit bytes g)
 
--- a read of one of the job's files failed when its step came, or the output did
-abbrev pub HasFaultCause : Job → Option Files → (List ℕ → ℕ) → (List ℕ → ℕ) → ℕ → ℕ → Type 0
-HasFaultCause (FixedRoute job) files reads reads_now faults faults_now =
-    Rose (reads job.file) (reads_now job.file) ⊎ Rose faults faults_now
-HasFaultCause (CheckPlan job) files reads reads_now faults faults_now =
-    Rose (reads job.file) (reads_now job.file)
-    ⊎ (Rose (reads job.plan) (reads_now job.plan) × ComesToPlan job files)
-    ⊎ Rose faults faults_now
+-- a read of one of the job's files failed when its step came
+abbrev pub HasFileFault : Job → ShelfState → ShelfState → Type 0
+HasFileFault (FixedRoute job) before after = HasFailedRead before after job.file
+HasFileFault (CheckPlan job) before after =
+    HasFailedRead before after job.file ⊎ (HasFailedRead before after job.plan × ComesToPlan job before.files)
 
--- the program did what it was asked for, or refused it
-abbrev pub IsAnswered : Status → Type 0
-IsAnswered status.Done = Unit {0}
-IsAnswered status.Negative = Unit {0}
-IsAnswered status.Refused = Unit {0}
-IsAnswered other = ⊥
+-- one of the job's files failed, or the output did
+abbrev pub HasFaultCause : Job → ShelfState → ShelfState → SinkState → SinkState → Type 0
+HasFaultCause job before after old new = HasFileFault job before after ⊎ Rose old.faults new.faults
+
+-- the job ends with this status, unless a file or the output failed or memory was refused
+abbrev pub EndsUnlessHindered : Status → Status → Type 0
+EndsUnlessHindered wanted ended = (ended ≡ wanted) ⊎ (ended ≡ status.Fault) ⊎ (ended ≡ status.Memory)
+
+-- the job's files break no rule
+pub record BreakNoRule (job : Job) (files : Option Files) : Type 0 where
+  pub told : IsTold files
+  pub unbroken : HasCause job files status.Refused → ⊥
+
+-- what the program owes for a job: from the shelf before to the shelf after, from the old output to the new one
+pub record Performs (job : Job) (before after : ShelfState) (old new : SinkState) (ended : Status) : Type 0 where
+  -- what the status says is true of the job's files, and its text was put
+  pub answer : IsAnswered ended → PutsAnswer job before.files old.written new.written ended
+  -- however the job ends, nothing else is put than a text that it may put, or a prefix of one
+  pub part : PutsPart job before.files old.written new.written
+  -- a status comes exactly where its cause holds
+  pub exact : IsTold before.files → (wanted : Status) → HasCause job before.files wanted → EndsUnlessHindered wanted ended
+  -- a fault comes only where one of the job's files failed in its turn, or the output did
+  pub fault : ended ≡ status.Fault → HasFaultCause job before after old new
+  -- where no rule is broken and nothing failed, the job is done, or its answer is negative, or memory was refused
+  pub complete : BreakNoRule job before.files → (HasFaultCause job before after old new → ⊥)
+      → (ended ≡ status.Done) ⊎ (ended ≡ status.Negative) ⊎ (ended ≡ status.Memory)
+  -- files are read alone
+  pub files : after.files ≡ before.files
+
+-- no count of failed calls is what it was not before
+pub record NothingFailed (before after : ShelfState) (old new : SinkState) : Type 0 where
+  pub shelf : CountsStay before after
+  pub sink : new.faults ≡ old.faults
+
+-- nothing was put, and no file changed
+pub record NothingDone (before after : ShelfState) (old new : SinkState) : Type 0 where
+  pub files : after.files ≡ before.files
+  pub put : new.written ≡ old.written

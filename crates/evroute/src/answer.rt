@@ -1,7 +1,7 @@
 //! What a job puts, and why one of its steps may be the last.
 
 ghost use Rattle.std.specs.Prelude.{◌≡◌, IfOk};
-ghost use Rattle.plan_writer.specs.RefusalText.{refusal_text};
+ghost use Rattle.plan_writer.specs.RefusalText.{IsRule, refusal_text};
 
 use crate::status::Status;
 use plan_writer::{Refusal, push_refusal};
@@ -25,6 +25,7 @@ pub enum Ended {
 
 /// The line of a refusal.
 pub fn refused(alloc: Global, refusal: Refusal) -> Result<Answer, AllocError>
+    requires { IsRule refusal }
     ensures status { IfOk result (λ a. a.status ≡ Status.Refused) }
     ensures text { IfOk result (λ a. a.text.items ≡ refusal_text refusal) }
 {

@@ -1,17 +1,23 @@
 //! The answer of `check`: a plan file is judged on an instance.
 
-ghost use Rattle.std.specs.Prelude.{◌≡◌, ◌≤◌, IfErr, IfOk, List, Ok, Option, option_map, ℕ};
+ghost use Rattle.std.specs.Prelude.{◌≡◌, ◌≤◌, IfErr, IfOk, List, Option, option_map, ℕ};
+ghost use Rattle.command_line.specs.JobValue.{job_value};
 ghost use Rattle.ev_model.specs.Network.{Network};
 ghost use Rattle.evroute.specs.CheckAnswer.{CheckAnswers, HasFleetNetwork, customer_count, most_customers};
-ghost use Rattle.evroute.specs.Ended.{IsCheckEnded};
-ghost use Rattle.evroute.specs.Run.{IsAnswered};
+ghost use Rattle.evroute.specs.Ended.{IsCheckEnded, IsRuleOrMemory};
+ghost use Rattle.evroute.specs.Found.{Finds};
+ghost use Rattle.evroute.specs.Run.{AreRead, IsAnswered};
 ghost use Rattle.plan_writer.specs.CheckText.{check_text};
 ghost use Rattle.plan_writer.specs.declared.check.Judgement.TheVariants as judgement;
-ghost use Rattle.route_plan.specs.PlanReading.{fleet_plan_in};
+ghost use Rattle.plan_writer.specs.RefusalText.{IsRule, refusal_text};
+ghost use Rattle.route_plan.specs.PlanTexts.{SpellsFleetPlan};
 
 use crate::answer::{Answer, Ended, refused};
 use crate::instance::limited_instance;
 use crate::status::Status;
+use crate::steps::read_file;
+use command_line::{CheckWords, Job};
+use ev_outside::{Shelf, ShelfFault};
 use instance_reader::Instance;
 use plan_check::{PlanFault, check_fleet};
 use plan_writer::{Judgement, Refusal, push_check_report};
@@ -21,9 +27,65 @@ use std::alloc::{AllocError, Global};
 /// The most customers of a fleet.
 const MOST_CUSTOMERS: usize = 128;
 
+/// The answer of `check`: the instance is read, then the plan, which is judged on it.
+pub fn check<S: Shelf>(
+    alloc: Global,
+    job: CheckWords<'_>,
+    shelf: &mut S,
+) -> Result<Answer, ShelfFault>
+    ensures { Finds (job_value (Job.Check job.entry))
+        (S.state shelf.old) (S.state shelf.new) result }
+{
+    let bytes = match read_file(alloc, job.file, shelf) {
+        Ok(bytes) => bytes,
+        Err(fault) => return Err(fault),
+    };
+    match fleet_instance(alloc, bytes.as_slice(), job.limit) {
+        Ok(inst) => check_on(alloc, &inst, job, shelf),
+        Err(Ended::Refused(refusal)) => refused_job(alloc, refusal),
+        Err(Ended::Memory) => Err(ShelfFault::Memory),
+    }
+}
+
+/// The line of a refusal as the answer to a job.
+fn refused_job(alloc: Global, refusal: Refusal) -> Result<Answer, ShelfFault>
+    requires { IsRule refusal }
+    ensures status { IfOk result (λ a. a.status ≡ Status.Refused) }
+    ensures text { IfOk result (λ a. a.text.items ≡ refusal_text refusal) }
+    ensures memory { IfErr result (λ fault. fault ≡ ShelfFault.Memory) }
+{
+    match refused(alloc, refusal) {
+        Ok(answer) => Ok(answer),
+        Err(AllocError) => Err(ShelfFault::Memory),
+    }
+}
+
+/// The answer of `check` on the instance of its file: the plan is read and judged.
+fn check_on<S: Shelf>(
+    alloc: Global,
+    inst: &Instance,
+    job: CheckWords<'_>,
+    shelf: &mut S,
+) -> Result<Answer, ShelfFault>
+    requires { customer_count inst.now ≤ most_customers }
+    ensures { (bytes : List ℕ) → AreRead (S.state shelf.old).files job.entry.file.now bytes
+        → HasFleetNetwork job.entry.limit bytes inst.now
+        → Finds (job_value (Job.Check job.entry)) (S.state shelf.old) (S.state shelf.new) result }
+{
+    let bytes = match read_file(alloc, job.plan, shelf) {
+        Ok(bytes) => bytes,
+        Err(fault) => return Err(fault),
+    };
+    match judged(alloc, inst, bytes.as_slice()) {
+        Ok(answer) => Ok(answer),
+        Err(AllocError) => Err(ShelfFault::Memory),
+    }
+}
+
 /// The instance of the bytes for a fleet: with the limit of the words, and without too many customers.
-pub fn fleet_instance(alloc: Global, bytes: &[u8], limit: Option<u64>) -> Result<Instance, Ended>
+fn fleet_instance(alloc: Global, bytes: &[u8], limit: Option<u64>) -> Result<Instance, Ended>
     ensures ok { IfOk result (HasFleetNetwork limit bytes.now) }
+    ensures rule { IfErr result IsRuleOrMemory }
     ensures ended { (plan_bytes : List ℕ) → IfErr result (IsCheckEnded limit bytes.now plan_bytes) }
 {
     let inst = limited_instance(alloc, bytes, limit)?;
@@ -35,9 +97,10 @@ pub fn fleet_instance(alloc: Global, bytes: &[u8], limit: Option<u64>) -> Result
 }
 
 /// The answer to the bytes of a plan file, on an instance without too many customers.
-pub fn judged(alloc: Global, inst: &Instance, bytes: &[u8]) -> Result<Answer, AllocError>
+fn judged(alloc: Global, inst: &Instance, bytes: &[u8]) -> Result<Answer, AllocError>
     requires { customer_count inst.now ≤ most_customers }
-    ensures answers { (limit : Option ℕ) (file : List ℕ) → HasFleetNetwork limit file inst.now → IfOk result (λ a. CheckAnswers limit file bytes.now a.status a.text.items) }
+    ensures answers { (limit : Option ℕ) (file : List ℕ) → HasFleetNetwork limit file inst.now
+        → IfOk result (λ a. CheckAnswers limit file bytes.now a.status a.text.items) }
     ensures answered { IfOk result (λ a. IsAnswered a.status) }
 {
     match plan_of(alloc, bytes) {
@@ -49,8 +112,10 @@ pub fn judged(alloc: Global, inst: &Instance, bytes: &[u8]) -> Result<Answer, Al
 
 /// The fleet plan of a plan file, or none where it says so.
 fn plan_of(alloc: Global, bytes: &[u8]) -> Result<Option<FleetPlan>, Ended>
-    ensures ok { IfOk result (λ plan. fleet_plan_in bytes.now ≡ Ok plan) }
-    ensures ended { (limit : Option ℕ) (file : List ℕ) (g : Network) → HasFleetNetwork limit file g → IfErr result (IsCheckEnded limit file bytes.now) }
+    ensures ok { IfOk result (SpellsFleetPlan bytes.now) }
+    ensures rule { IfErr result IsRuleOrMemory }
+    ensures ended { (limit : Option ℕ) (file : List ℕ) (g : Network) → HasFleetNetwork limit file g
+        → IfErr result (IsCheckEnded limit file bytes.now) }
 {
     match read_fleet_plan(alloc, bytes) {
         Ok(plan) => Ok(plan),
@@ -63,7 +128,10 @@ fn plan_of(alloc: Global, bytes: &[u8]) -> Result<Option<FleetPlan>, Ended>
 fn reported(alloc: Global, inst: &Instance, plan: Option<&FleetPlan>) -> Result<Answer, AllocError>
     requires { customer_count inst.now ≤ most_customers }
     ensures answered { IfOk result (λ a. IsAnswered a.status) }
-    ensures answers { (limit : Option ℕ) (file plan_bytes : List ℕ) → HasFleetNetwork limit file inst.now → fleet_plan_in plan_bytes ≡ Ok (option_map (λ p. p.now) plan.entry) → IfOk result (λ a. CheckAnswers limit file plan_bytes a.status a.text.items) }
+    ensures answers { (limit : Option ℕ) (file plan_bytes : List ℕ)
+        → HasFleetNetwork limit file inst.now
+        → SpellsFleetPlan plan_bytes (option_map (λ p. p.now) plan.entry)
+        → IfOk result (λ a. CheckAnswers limit file plan_bytes a.status a.text.items) }
 {
     let Some(plan) = plan else {
         return accepted(alloc, inst, None);
@@ -77,7 +145,8 @@ fn reported(alloc: Global, inst: &Instance, plan: Option<&FleetPlan>) -> Result<
 /// The report on a fleet plan of this scaled cost, or on none.
 fn accepted(alloc: Global, inst: &Instance, cost: Option<u128>) -> Result<Answer, AllocError>
     ensures status { IfOk result (λ a. a.status ≡ Status.Done) }
-    ensures text { IfOk result (λ a. a.text.items ≡ check_text inst.now.denominator (judgement.Accepted cost)) }
+    ensures text { IfOk result (λ a. a.text.items
+        ≡ check_text inst.now.denominator (judgement.Accepted cost)) }
 {
     let mut text = Vec::new(alloc);
     push_check_report(alloc, &mut text, inst, &Judgement::Accepted { cost })?;
@@ -90,7 +159,8 @@ fn accepted(alloc: Global, inst: &Instance, cost: Option<u128>) -> Result<Answer
 /// The report on plans that break a rule.
 fn rejected(alloc: Global, inst: &Instance, fault: PlanFault) -> Result<Answer, AllocError>
     ensures status { IfOk result (λ a. a.status ≡ Status.Negative) }
-    ensures text { IfOk result (λ a. a.text.items ≡ check_text inst.now.denominator (judgement.Plan fault)) }
+    ensures text { IfOk result
+        (λ a. a.text.items ≡ check_text inst.now.denominator (judgement.Plan fault)) }
 {
     let mut text = Vec::new(alloc);
     push_check_report(alloc, &mut text, inst, &Judgement::Plan(fault))?;

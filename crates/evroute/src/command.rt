@@ -1,23 +1,21 @@
 //! The program over any files and any output.
 
-ghost use Rattle.std.specs.Prelude.{◌≡◌, ◌↔◌, ◌≤◌, ◌⊎◌, IfSome, IsNone, List, ℕ, map, string_bytes};
-ghost use Rattle.command_line.specs.Words.{CheckJob, CheckPlan, FixedRoute, job_of};
-ghost use Rattle.ev_outside.specs.Counts.{NeverFalls, Rose};
-ghost use Rattle.ev_outside.specs.Sink.{Adds, AddsPrefix};
-ghost use Rattle.evroute.specs.CheckAnswer.{customer_count, most_customers};
-ghost use Rattle.evroute.specs.Run.{HasFaultCause, IsAnswered, IsReadFor, PutsAnswer, PutsPart};
-ghost use Rattle.plan_writer.specs.RefusalText.{refusal_text};
+ghost use Rattle.std.specs.Prelude.{◌≡◌, ◌≢◌, ◌↔◌, ◌≤◌, IfSome, IsNone};
+ghost use Rattle.command_line.specs.JobValue.{job_value};
+ghost use Rattle.ev_outside.specs.Shelf.{CountsNeverFall};
+ghost use Rattle.evroute.specs.Codes.{code_of};
+ghost use Rattle.evroute.specs.Found.{Finds};
+ghost use Rattle.evroute.specs.Run.{NothingDone, NothingFailed, Performs, job_named};
+ghost use Rattle.evroute.specs.declared.status.Status.{Status};
 
-use crate::answer::{Ended, refused};
-use crate::check::{fleet_instance, judged};
-use crate::fixed::answer_to;
+use crate::answer::Answer;
+use crate::check::check;
+use crate::fixed::fixed;
 use crate::status::Status;
-use crate::steps::{put_answer, read_file};
-use command_line::{Job, Options, job_words};
+use crate::steps::put_answer;
+use command_line::{Job, job_words};
 use ev_outside::{Shelf, ShelfFault, Sink};
-use instance_reader::Instance;
-use plan_writer::Refusal;
-use std::alloc::{AllocError, Global};
+use std::alloc::Global;
 
 /// The program: its words after its name, the files and the output.
 ///
@@ -28,121 +26,67 @@ use std::alloc::{AllocError, Global};
 /// files and words ([`Status::Refused`]). Other words put nothing ([`Status::Words`]). After [`Status::Fault`]
 /// and [`Status::Memory`] a part of such a text may have been put. Files are read alone.
 pub fn run<S: Shelf, K: Sink>(alloc: Global, words: &[String], shelf: &mut S, out: &mut K) -> Status
-    ensures words { (result ≡ Status.Words) ↔ IsNone (job_of (map (λ word. string_bytes word) words.now)) }
-    ensures nothing { result ≡ Status.Words → K.written out.new ≡ K.written out.old }
-    ensures answer { IsAnswered result → IfSome (job_of (map (λ word. string_bytes word) words.now)) (λ job. PutsAnswer job (S.holds shelf.old) (K.written out.old) (K.written out.new) result) }
-    ensures part { IfSome (job_of (map (λ word. string_bytes word) words.now)) (λ job. PutsPart job (S.holds shelf.old) (K.written out.old) (K.written out.new)) }
-    ensures fault { result ≡ Status.Fault → IfSome (job_of (map (λ word. string_bytes word) words.now)) (λ job. HasFaultCause job (S.holds shelf.old) (S.failed_reads shelf.old) (S.failed_reads shelf.new) (K.faults out.old) (K.faults out.new)) }
-    ensures stopped { result ≡ Status.Stopped → ⊥ }
-    ensures files { S.holds shelf.new ≡ S.holds shelf.old }
-    ensures reads { NeverFalls (S.failed_reads shelf.old) (S.failed_reads shelf.new) }
-    ensures writes { NeverFalls (S.failed_writes shelf.old) (S.failed_writes shelf.new) }
+    ensures words { (result ≡ Status.Words) ↔ IsNone (job_named words.now) }
+    ensures nothing { result ≡ Status.Words
+        → NothingDone (S.state shelf.old) (S.state shelf.new) (K.state out.old) (K.state out.new) }
+    ensures job { IfSome (job_named words.now) (λ job.
+        Performs job (S.state shelf.old) (S.state shelf.new)
+        (K.state out.old) (K.state out.new) result) }
+    ensures stays { result ≢ Status.Fault
+        → NothingFailed (S.state shelf.old) (S.state shelf.new)
+        (K.state out.old) (K.state out.new) }
+    ensures falls { CountsNeverFall (S.state shelf.old) (S.state shelf.new) }
 {
     match job_words(words) {
-        Some(Job::Fixed(job)) => fixed(alloc, job.file, job.route, job.options, shelf, out),
-        Some(Job::Check(job)) => check(alloc, job.file, job.plan, job.limit, shelf, out),
+        Some(job) => perform(alloc, job, shelf, out),
         None => Status::Words,
     }
 }
 
-/// One route is charged: the file is read, the answer is put.
-fn fixed<S: Shelf, K: Sink>(
+/// The program as the system sees it: [`run`], and the exit status of its status.
+pub fn exit_code<S: Shelf, K: Sink>(
     alloc: Global,
-    file: &str,
-    route: &str,
-    options: Options,
+    words: &[String],
     shelf: &mut S,
     out: &mut K,
-) -> Status
-    ensures words { result ≡ Status.Words → ⊥ }
-    ensures answer { IsAnswered result → PutsAnswer (FixedRoute (record { file = file.now; route = route.now; options = options })) (S.holds shelf.old) (K.written out.old) (K.written out.new) result }
-    ensures part { PutsPart (FixedRoute (record { file = file.now; route = route.now; options = options })) (S.holds shelf.old) (K.written out.old) (K.written out.new) }
-    ensures fault { result ≡ Status.Fault → HasFaultCause (FixedRoute (record { file = file.now; route = route.now; options = options })) (S.holds shelf.old) (S.failed_reads shelf.old) (S.failed_reads shelf.new) (K.faults out.old) (K.faults out.new) }
-    ensures stopped { result ≡ Status.Stopped → ⊥ }
-    ensures files { S.holds shelf.new ≡ S.holds shelf.old }
-    ensures reads { NeverFalls (S.failed_reads shelf.old) (S.failed_reads shelf.new) }
-    ensures writes { NeverFalls (S.failed_writes shelf.old) (S.failed_writes shelf.new) }
+) -> u8
+    ensures words { (result ≡ code_of Status.Words) ↔ IsNone (job_named words.now) }
+    ensures nothing { result ≡ code_of Status.Words
+        → NothingDone (S.state shelf.old) (S.state shelf.new) (K.state out.old) (K.state out.new) }
+    ensures job { IfSome (job_named words.now) (λ job. (ended : Status) × (result ≡ code_of ended)
+        × Performs job (S.state shelf.old) (S.state shelf.new)
+        (K.state out.old) (K.state out.new) ended) }
+    ensures stays { result ≢ code_of Status.Fault
+        → NothingFailed (S.state shelf.old) (S.state shelf.new)
+        (K.state out.old) (K.state out.new) }
+    ensures falls { CountsNeverFall (S.state shelf.old) (S.state shelf.new) }
 {
-    let bytes = match read_file(alloc, file, shelf) {
-        Ok(bytes) => bytes,
-        Err(ShelfFault::Failed) => return Status::Fault,
-        Err(ShelfFault::Memory) => return Status::Memory,
-    };
-    match answer_to(alloc, bytes.as_slice(), route, options) {
+    run(alloc, words, shelf, out).code()
+}
+
+/// A job: its answer is found and put.
+fn perform<S: Shelf, K: Sink>(alloc: Global, job: Job<'_>, shelf: &mut S, out: &mut K) -> Status
+    ensures words { result ≢ Status.Words }
+    ensures job { Performs (job_value job.entry) (S.state shelf.old) (S.state shelf.new)
+        (K.state out.old) (K.state out.new) result }
+    ensures stays { result ≢ Status.Fault
+        → NothingFailed (S.state shelf.old) (S.state shelf.new)
+        (K.state out.old) (K.state out.new) }
+    ensures falls { CountsNeverFall (S.state shelf.old) (S.state shelf.new) }
+{
+    match find_answer(alloc, job, shelf) {
         Ok(answer) => put_answer(&answer, out),
-        Err(AllocError) => Status::Memory,
+        Err(ShelfFault::Failed) => Status::Fault,
+        Err(ShelfFault::Memory) => Status::Memory,
     }
 }
 
-/// A plan file is judged: the instance is read, then the plan, and the answer is put.
-fn check<S: Shelf, K: Sink>(
-    alloc: Global,
-    file: &str,
-    plan: &str,
-    limit: Option<u64>,
-    shelf: &mut S,
-    out: &mut K,
-) -> Status
-    ensures words { result ≡ Status.Words → ⊥ }
-    ensures answer { IsAnswered result → PutsAnswer (CheckPlan (record { file = file.now; plan = plan.now; limit = limit })) (S.holds shelf.old) (K.written out.old) (K.written out.new) result }
-    ensures part { PutsPart (CheckPlan (record { file = file.now; plan = plan.now; limit = limit })) (S.holds shelf.old) (K.written out.old) (K.written out.new) }
-    ensures fault { result ≡ Status.Fault → HasFaultCause (CheckPlan (record { file = file.now; plan = plan.now; limit = limit })) (S.holds shelf.old) (S.failed_reads shelf.old) (S.failed_reads shelf.new) (K.faults out.old) (K.faults out.new) }
-    ensures stopped { result ≡ Status.Stopped → ⊥ }
-    ensures files { S.holds shelf.new ≡ S.holds shelf.old }
-    ensures reads { NeverFalls (S.failed_reads shelf.old) (S.failed_reads shelf.new) }
-    ensures writes { NeverFalls (S.failed_writes shelf.old) (S.failed_writes shelf.new) }
+/// The answer to a job, or why there is none.
+fn find_answer<S: Shelf>(alloc: Global, job: Job<'_>, shelf: &mut S) -> Result<Answer, ShelfFault>
+    ensures { Finds (job_value job.entry) (S.state shelf.old) (S.state shelf.new) result }
 {
-    let bytes = match read_file(alloc, file, shelf) {
-        Ok(bytes) => bytes,
-        Err(ShelfFault::Failed) => return Status::Fault,
-        Err(ShelfFault::Memory) => return Status::Memory,
-    };
-    match fleet_instance(alloc, bytes.as_slice(), limit) {
-        Ok(inst) => check_plan(alloc, &inst, plan, shelf, out),
-        Err(Ended::Refused(refusal)) => put_refusal(alloc, refusal, out),
-        Err(Ended::Memory) => Status::Memory,
-    }
-}
-
-/// A plan file is judged on an instance.
-fn check_plan<S: Shelf, K: Sink>(
-    alloc: Global,
-    inst: &Instance,
-    plan: &str,
-    shelf: &mut S,
-    out: &mut K,
-) -> Status
-    requires { customer_count inst.now ≤ most_customers }
-    ensures words { result ≡ Status.Words → ⊥ }
-    ensures answer { (job : CheckJob) (bytes : List ℕ) → IsReadFor job (S.holds shelf.old) plan.now bytes inst.now → IsAnswered result → PutsAnswer (CheckPlan job) (S.holds shelf.old) (K.written out.old) (K.written out.new) result }
-    ensures part { (job : CheckJob) (bytes : List ℕ) → IsReadFor job (S.holds shelf.old) plan.now bytes inst.now → PutsPart (CheckPlan job) (S.holds shelf.old) (K.written out.old) (K.written out.new) }
-    ensures fault { result ≡ Status.Fault → Rose (S.failed_reads shelf.old plan.now) (S.failed_reads shelf.new plan.now) ⊎ Rose (K.faults out.old) (K.faults out.new) }
-    ensures stopped { result ≡ Status.Stopped → ⊥ }
-    ensures files { S.holds shelf.new ≡ S.holds shelf.old }
-    ensures reads { NeverFalls (S.failed_reads shelf.old) (S.failed_reads shelf.new) }
-    ensures writes { NeverFalls (S.failed_writes shelf.old) (S.failed_writes shelf.new) }
-{
-    let bytes = match read_file(alloc, plan, shelf) {
-        Ok(bytes) => bytes,
-        Err(ShelfFault::Failed) => return Status::Fault,
-        Err(ShelfFault::Memory) => return Status::Memory,
-    };
-    match judged(alloc, inst, bytes.as_slice()) {
-        Ok(answer) => put_answer(&answer, out),
-        Err(AllocError) => Status::Memory,
-    }
-}
-
-/// Puts the line of a refusal.
-fn put_refusal<K: Sink>(alloc: Global, refusal: Refusal, out: &mut K) -> Status
-    ensures answer { IsAnswered result → (result ≡ Status.Refused) × Adds (K.written out.old) (K.written out.new) (refusal_text refusal) }
-    ensures part { (K.written out.new ≡ K.written out.old) ⊎ AddsPrefix (K.written out.old) (K.written out.new) (refusal_text refusal) }
-    ensures fault { result ≡ Status.Fault → Rose (K.faults out.old) (K.faults out.new) }
-    ensures words { result ≡ Status.Words → ⊥ }
-    ensures stopped { result ≡ Status.Stopped → ⊥ }
-{
-    match refused(alloc, refusal) {
-        Ok(answer) => put_answer(&answer, out),
-        Err(AllocError) => Status::Memory,
+    match job {
+        Job::Fixed(job) => fixed(alloc, job, shelf),
+        Job::Check(job) => check(alloc, job, shelf),
     }
 }

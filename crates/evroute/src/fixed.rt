@@ -1,35 +1,60 @@
 //! The answer of `fixed`: one route of an instance is charged.
 
-ghost use Rattle.std.specs.Prelude.{◌≡◌, ◌≤◌, IfErr, IfOk, List, None, Ok, Some, ℕ};
+ghost use Rattle.std.specs.Prelude.{◌≡◌, ◌≤◌, IfErr, IfOk, List, None, Some, length, ℕ};
+ghost use Rattle.command_line.specs.JobValue.{job_value};
 ghost use Rattle.command_line.specs.declared.Options.{Options};
 ghost use Rattle.ev_model.specs.Feasible.{IsFeasible};
-ghost use Rattle.ev_model.specs.Network.{node_count};
 ghost use Rattle.ev_model.specs.Route.{IsRoute};
 ghost use Rattle.ev_model.specs.Time.{time_of};
 ghost use Rattle.evroute.specs.Ended.{IsEnded};
-ghost use Rattle.evroute.specs.FixedAnswer.{Answers, HasStart, IsTask, start_of};
+ghost use Rattle.evroute.specs.FixedAnswer.{FixedAnswers, HasStart, IsTask, most_nodes, start_of};
+ghost use Rattle.evroute.specs.Found.{Finds};
 ghost use Rattle.evroute.specs.LimitedNetwork.{HasNetwork};
+ghost use Rattle.evroute.specs.Run.{IsAnswered};
 ghost use Rattle.plan_writer.specs.FixedText.{fixed_text};
-ghost use Rattle.route_plan.specs.RouteRules.{route_in};
+ghost use Rattle.route_plan.specs.RouteWords.{SpellsRoute};
 
 use crate::answer::{Answer, Ended, refused};
 use crate::instance::limited_instance;
 use crate::status::Status;
-use command_line::Options;
+use crate::steps::read_file;
+use command_line::{FixedWords, Job, Options};
+use ev_outside::{Shelf, ShelfFault};
 use instance_reader::Instance;
 use level_table::{LevelFault, solve_levels};
 use plan_writer::{Refusal, push_fixed};
 use route_plan::{RouteFault, RoutePlan, read_route, walk};
 use std::alloc::{AllocError, Global};
 
+/// The answer of `fixed`: the file is read as an instance, and its route is charged.
+pub fn fixed<S: Shelf>(
+    alloc: Global,
+    job: FixedWords<'_>,
+    shelf: &mut S,
+) -> Result<Answer, ShelfFault>
+    ensures { Finds (job_value (Job.Fixed job.entry))
+        (S.state shelf.old) (S.state shelf.new) result }
+{
+    let bytes = match read_file(alloc, job.file, shelf) {
+        Ok(bytes) => bytes,
+        Err(fault) => return Err(fault),
+    };
+    match answer_to(alloc, bytes.as_slice(), job.route, job.options) {
+        Ok(answer) => Ok(answer),
+        Err(AllocError) => Err(ShelfFault::Memory),
+    }
+}
+
 /// The answer to the bytes of a file and the word of a route.
-pub fn answer_to(
+fn answer_to(
     alloc: Global,
     bytes: &[u8],
     word: &str,
     options: Options,
 ) -> Result<Answer, AllocError>
-    ensures { IfOk result (λ a. Answers options word.now bytes.now a.status a.text.items) }
+    ensures answered { IfOk result (λ a. IsAnswered a.status) }
+    ensures answers { IfOk result
+        (λ a. FixedAnswers options word.now bytes.now a.status a.text.items) }
 {
     match charged(alloc, bytes, word, options) {
         Ok(answer) => Ok(answer),
@@ -40,7 +65,8 @@ pub fn answer_to(
 
 /// The charged route, or why there is none.
 fn charged(alloc: Global, bytes: &[u8], word: &str, options: Options) -> Result<Answer, Ended>
-    ensures ok { IfOk result (λ a. Answers options word.now bytes.now a.status a.text.items) }
+    ensures ok { IfOk result (λ a. FixedAnswers options word.now bytes.now a.status a.text.items) }
+    ensures answered { IfOk result (λ a. IsAnswered a.status) }
     ensures ended { IfErr result (IsEnded options word.now bytes.now) }
 {
     match limited_instance(alloc, bytes, options.limit) {
@@ -51,8 +77,11 @@ fn charged(alloc: Global, bytes: &[u8], word: &str, options: Options) -> Result<
 
 /// The charged route of an instance whose limit is that of the words.
 fn charged_on(alloc: Global, inst: &Instance, word: &str, options: Options) -> Result<Answer, Ended>
-    ensures ok { (bytes : List ℕ) → HasNetwork options.limit bytes inst.now → IfOk result (λ a. Answers options word.now bytes a.status a.text.items) }
-    ensures ended { (bytes : List ℕ) → HasNetwork options.limit bytes inst.now → IfErr result (IsEnded options word.now bytes) }
+    ensures ok { (bytes : List ℕ) → HasNetwork options.limit bytes inst.now
+        → IfOk result (λ a. FixedAnswers options word.now bytes a.status a.text.items) }
+    ensures ended { (bytes : List ℕ) → HasNetwork options.limit bytes inst.now
+        → IfErr result (IsEnded options word.now bytes) }
+    ensures answered { IfOk result (λ a. IsAnswered a.status) }
 {
     match start(inst, options) {
         Ok(start) => match route(alloc, word, inst) {
@@ -67,7 +96,8 @@ fn charged_on(alloc: Global, inst: &Instance, word: &str, options: Options) -> R
 fn start(inst: &Instance, options: Options) -> Result<u64, Ended>
     ensures ok { IfOk result (λ level. (level ≡ start_of inst.now options.charge)) }
     ensures within { IfOk result (λ level. level ≤ inst.now.capacity) }
-    ensures ended { (word bytes : List ℕ) → HasNetwork options.limit bytes inst.now → IfErr result (IsEnded options word bytes) }
+    ensures ended { (word bytes : List ℕ) → HasNetwork options.limit bytes inst.now
+        → IfErr result (IsEnded options word bytes) }
 {
     let full = inst.max_q();
     match options.charge {
@@ -84,9 +114,11 @@ fn start(inst: &Instance, options: Options) -> Result<u64, Ended>
 
 /// The route of the word.
 fn route(alloc: Global, word: &str, inst: &Instance) -> Result<Vec<usize>, Ended>
-    ensures spelled { IfOk result (λ nodes. route_in (node_count inst.now) word.now ≡ Ok nodes.items) }
+    ensures spelled { IfOk result (λ nodes. SpellsRoute word.now nodes.items) }
     ensures is_route { IfOk result (λ nodes. IsRoute inst.now nodes.items) }
-    ensures ended { (options : Options) (bytes : List ℕ) → HasStart options bytes inst.now → IfErr result (IsEnded options word.now bytes) }
+    ensures short { IfOk result (λ nodes. length nodes.items ≤ most_nodes) }
+    ensures ended { (options : Options) (bytes : List ℕ) → HasStart options bytes inst.now
+        → IfErr result (IsEnded options word.now bytes) }
 {
     match read_route(alloc, word, inst) {
         Ok(nodes) => Ok(nodes),
@@ -99,8 +131,14 @@ fn route(alloc: Global, word: &str, inst: &Instance) -> Result<Vec<usize>, Ended
 fn solved(alloc: Global, inst: &Instance, route: &[usize], start: u64) -> Result<Answer, Ended>
     requires route { IsRoute inst.now route.now }
     requires start { start ≤ inst.now.capacity }
-    ensures ok { (options : Options) (word bytes : List ℕ) → IsTask options word bytes inst.now route.now → start ≡ start_of inst.now options.charge → IfOk result (λ a. Answers options word bytes a.status a.text.items) }
-    ensures ended { (options : Options) (word bytes : List ℕ) → IsTask options word bytes inst.now route.now → IfErr result (IsEnded options word bytes) }
+    ensures ok { (options : Options) (word bytes : List ℕ)
+        → IsTask options word bytes inst.now route.now
+        → start ≡ start_of inst.now options.charge
+        → IfOk result (λ a. FixedAnswers options word bytes a.status a.text.items) }
+    ensures ended { (options : Options) (word bytes : List ℕ)
+        → IsTask options word bytes inst.now route.now
+        → IfErr result (IsEnded options word bytes) }
+    ensures answered { IfOk result (λ a. IsAnswered a.status) }
 {
     let plan = match solve_levels(alloc, inst, route, start) {
         Ok(plan) => plan,
@@ -118,7 +156,9 @@ fn planned(alloc: Global, inst: &Instance, start: u64, plan: &RoutePlan) -> Resu
     requires start { start ≤ inst.now.capacity }
     requires feasible { IsFeasible inst.now 1 start plan.now.stops }
     ensures status { IfOk result (λ a. a.status ≡ Status.Done) }
-    ensures text { IfOk result (λ a. a.text.items ≡ fixed_text inst.now.denominator (Some (plan.now.stops, time_of inst.now 1 start plan.now.stops))) }
+    ensures text { IfOk result (λ a. a.text.items
+        ≡ fixed_text inst.now.denominator
+        (Some (plan.now.stops, time_of inst.now 1 start plan.now.stops))) }
     ensures memory { IfErr result (λ e. e ≡ Ended.Memory) }
 {
     // A feasible plan is walked to its end.

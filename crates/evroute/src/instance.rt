@@ -1,23 +1,41 @@
 //! The first steps of each job that reads an instance.
 
-ghost use Rattle.std.specs.Prelude.{IfErr, IfOk};
-ghost use Rattle.evroute.specs.Ended.{IsNetworkEnded};
+ghost use Rattle.std.specs.Prelude.{ℕ, IfErr, IfOk, List, Option};
+ghost use Rattle.evroute.specs.Ended.{IsNetworkEnded, IsRuleOrMemory};
 ghost use Rattle.evroute.specs.LimitedNetwork.{HasNetwork};
+ghost use Rattle.instance_reader.specs.Faults.{IsFirstFault};
 
 use crate::answer::Ended;
+use charge_curve::CurveFault;
 use instance_reader::{Instance, ReadFault, read_instance};
 use plan_writer::Refusal;
 use std::alloc::Global;
 
+/// Why an instance isn't read. Want of memory is no rule, in a curve either.
+fn unread(fault: ReadFault) -> Ended
+    ensures rule { IsRuleOrMemory result }
+    ensures ended { (limit : Option ℕ) (bytes : List ℕ) → IsFirstFault bytes fault
+        → IsNetworkEnded limit bytes result }
+{
+    match fault {
+        ReadFault::Memory => Ended::Memory,
+        ReadFault::BadCurve {
+            fault: CurveFault::Memory,
+            ..
+        } => Ended::Memory,
+        _ => Ended::Refused(Refusal::Instance(fault)),
+    }
+}
+
 /// The instance of the bytes, with the limit of the words in place of its own where they give one.
 pub fn limited_instance(alloc: Global, bytes: &[u8], limit: Option<u64>) -> Result<Instance, Ended>
     ensures ok { IfOk result (HasNetwork limit bytes.now) }
+    ensures rule { IfErr result IsRuleOrMemory }
     ensures ended { IfErr result (IsNetworkEnded limit bytes.now) }
 {
     let inst = match read_instance(alloc, bytes) {
         Ok(inst) => inst,
-        Err(ReadFault::Memory) => return Err(Ended::Memory),
-        Err(fault) => return Err(Ended::Refused(Refusal::Instance(fault))),
+        Err(fault) => return Err(unread(fault)),
     };
     let Some(limit) = limit else {
         return Ok(inst);

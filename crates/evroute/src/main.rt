@@ -9,32 +9,40 @@ mod instance;
 mod status;
 mod steps;
 
-pub use command::run;
+pub use command::{exit_code, run};
 use ev_outside::{FileShelf, OutSink};
 pub use status::Status;
 use std::env;
-use std::io::ErrorKind;
+use std::io::{Error, ErrorKind};
 use std::process::ExitCode;
+
+/// The exit status where memory for the words is refused, that of [`Status::Memory`].
+const NO_MEMORY: u8 = 5;
+
+/// The exit status where the system gives no words, which no [`Status`] has.
+const NO_WORDS: u8 = 7;
 
 fn main(rt: HostRuntime) -> ExitCode {
     let alloc = rt.alloc();
     let all = match env::args(&rt) {
         Ok(all) => all,
-        Err(error) => {
-            let code = if error.kind() == ErrorKind::OutOfMemory {
-                5
-            } else {
-                7
-            };
-            return ExitCode::from(code);
-        }
+        Err(error) => return ExitCode::from(without_words(&error)),
     };
     let Ok(words) = all.skip(1).collect::<Vec<String>>(alloc) else {
-        return ExitCode::from(5);
+        return ExitCode::from(NO_MEMORY);
     };
     let mut shelf = FileShelf::new(&rt);
     let mut out = OutSink::new(&rt);
-    ExitCode::from(run(alloc, words.as_slice(), &mut shelf, &mut out).code())
+    ExitCode::from(exit_code(alloc, words.as_slice(), &mut shelf, &mut out))
+}
+
+/// The exit status where the words can't be had.
+fn without_words(error: &Error) -> u8 {
+    if error.kind() == ErrorKind::OutOfMemory {
+        NO_MEMORY
+    } else {
+        NO_WORDS
+    }
 }
 
 #[cfg(test)]

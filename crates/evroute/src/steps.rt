@@ -1,9 +1,10 @@
 //! The steps at the edge: reading a file, putting an answer.
 
-ghost use Rattle.std.specs.Prelude.{◌≡◌, IfOk, IsErrOf};
-ghost use Rattle.ev_outside.specs.Counts.{NeverFalls, Rose};
+ghost use Rattle.std.specs.Prelude.{◌≡◌, ◌≢◌, IfOk, IsErrOf};
+ghost use Rattle.ev_outside.specs.Shelf.{CountsNeverFall, CountsStay};
+ghost use Rattle.ev_outside.specs.Counts.{Rose};
 ghost use Rattle.ev_outside.specs.Sink.{Adds, AddsPrefix};
-ghost use Rattle.evroute.specs.Run.{AreRead, IsAnswered};
+ghost use Rattle.evroute.specs.Run.{AreRead, HasFailedRead, IsAnswered};
 
 use crate::answer::Answer;
 use crate::status::Status;
@@ -15,11 +16,13 @@ const MOST_BYTES: usize = (1 << 26) + 1;
 
 /// The bytes of a file, or its first where there are more than the longest file that is read has.
 pub fn read_file<S: Shelf>(alloc: Global, name: &str, shelf: &mut S) -> Result<Vec<u8>, ShelfFault>
-    ensures bytes { IfOk result (λ bytes. AreRead (S.holds shelf.old) name.now bytes.items) }
-    ensures failed { IsErrOf result ShelfFault.Failed → Rose (S.failed_reads shelf.old name.now) (S.failed_reads shelf.new name.now) }
-    ensures files { S.holds shelf.new ≡ S.holds shelf.old }
-    ensures reads { NeverFalls (S.failed_reads shelf.old) (S.failed_reads shelf.new) }
-    ensures writes { NeverFalls (S.failed_writes shelf.old) (S.failed_writes shelf.new) }
+    ensures bytes { IfOk result (λ bytes. AreRead (S.state shelf.old).files name.now bytes.items) }
+    ensures fault { IsErrOf result ShelfFault.Failed
+        → HasFailedRead (S.state shelf.old) (S.state shelf.new) name.now }
+    ensures stays { (IsErrOf result ShelfFault.Failed → ⊥)
+        → CountsStay (S.state shelf.old) (S.state shelf.new) }
+    ensures falls { CountsNeverFall (S.state shelf.old) (S.state shelf.new) }
+    ensures files { (S.state shelf.new).files ≡ (S.state shelf.old).files }
 {
     let mut bytes = Vec::new(alloc);
     match shelf.read(name, MOST_BYTES, &mut bytes) {
@@ -31,11 +34,14 @@ pub fn read_file<S: Shelf>(alloc: Global, name: &str, shelf: &mut S) -> Result<V
 /// Puts the text of an answer. The status is that of the answer, unless the output fails or memory is refused.
 pub fn put_answer<K: Sink>(answer: &Answer, out: &mut K) -> Status
     requires { IsAnswered answer.now.status }
-    ensures answer { IsAnswered result → (result ≡ answer.now.status) × Adds (K.written out.old) (K.written out.new) answer.now.text.items }
-    ensures part { AddsPrefix (K.written out.old) (K.written out.new) answer.now.text.items }
-    ensures fault { result ≡ Status.Fault → Rose (K.faults out.old) (K.faults out.new) }
-    ensures words { result ≡ Status.Words → ⊥ }
-    ensures stopped { result ≡ Status.Stopped → ⊥ }
+    ensures answer { IsAnswered result → (result ≡ answer.now.status)
+        × Adds (K.state out.old).written (K.state out.new).written answer.now.text.items }
+    ensures part { AddsPrefix (K.state out.old).written
+        (K.state out.new).written answer.now.text.items }
+    ensures fault { result ≡ Status.Fault → Rose (K.state out.old).faults (K.state out.new).faults }
+    ensures stays { result ≢ Status.Fault → (K.state out.new).faults ≡ (K.state out.old).faults }
+    ensures words { result ≢ Status.Words }
+    ensures stopped { result ≢ Status.Stopped }
 {
     match out.put(answer.text.as_slice()) {
         Ok(()) => answer.status,

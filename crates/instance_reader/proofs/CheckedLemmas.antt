@@ -6,13 +6,15 @@ use Rattle.std.proofs.lemmas.List.Elements.{All-cons, All-head, All-nil, All-tai
 use Rattle.std.specs.Bool.{then_some}
 use Rattle.std.specs.Option.{option_or}
 use Rattle.charge_curve.specs.CutCurve.{IsSmall}
-use Rattle.instance_reader.specs.Checked.{HasShape, HasSmallNumbers}
+use Rattle.ev_model.specs.Network.{most_nodes}
+use Rattle.instance_reader.specs.Checked.{HasLevels, HasShape, HasSmallNumbers}
 use Rattle.instance_reader.specs.Contents.{Contents, CurveOfType, nodes_of, points_of}
+use Rattle.instance_reader.specs.Levels.{first_level_past_full}
 use Rattle.instance_reader.specs.Places.{at_key, item_of, part_of}
 use Rattle.instance_reader.specs.Search.{first_along, look_along}
-use Rattle.instance_reader.specs.Shapes.{first_wrong_shape, odd_row, odd_row_in, uneven}
-use Rattle.instance_reader.specs.Sizes.{first_large, large, large_in, large_in_curve, large_in_rows}
-use Rattle.instance_reader.specs.declared.places.Key.TheVariants.{MaxQ, Breaks, Service, Energy, Time}
+use Rattle.instance_reader.specs.Shapes.{first_wrong_shape, most_types, odd_row, odd_row_in, uneven}
+use Rattle.instance_reader.specs.Sizes.{first_large, large, large_in, large_in_curve, large_in_rows, most_number}
+use Rattle.instance_reader.specs.declared.places.Key.TheVariants.{MaxQ, Breaks, Service, Energy, Time, MinQ, HomeQ}
 use Rattle.instance_reader.specs.declared.places.Part.TheVariants as part
 use Rattle.instance_reader.specs.declared.places.Place.{Place}
 
@@ -35,7 +37,7 @@ nothing_along search_in P each number (x ∷ xs) h =
 
 small_number : (place : Place) (number : ℕ) → large place number ≡ None → number ≤ 10 ^ 9
 small_number place number h =
-    let test = unbroken (nat_lt (10 ^ 9) number) place h in
+    let test = unbroken (nat_lt most_number number) place h in
     grind (arith, nat_tests, test)
 
 small_numbers : (place : Place) (numbers : List ℕ) → large_in place numbers ≡ None → All (λ number. number ≤ 10 ^ 9) numbers
@@ -60,12 +62,19 @@ small_curve : (capacity : ℕ) → capacity ≤ 10 ^ 9 → (place : Place) (curv
     IsSmall (points_of curve) capacity
 small_curve capacity small place curve h =
     let first_two = neither (large_in (part_of place part.Time) curve.times) _ h in
-    let second = neither (large_in (part_of place part.Charge) curve.charges) None first_two.1 in
+    let second = neither (large_in (part_of place part.Charge) curve.charges) _ first_two.1 in
     record {
       times = All-zip-first (λ number. number ≤ 10 ^ 9) curve.times curve.charges (small_numbers (part_of place part.Time) curve.times first_two.0);
       charges = All-zip-second (λ number. number ≤ 10 ^ 9) curve.times curve.charges (small_numbers (part_of place part.Charge) curve.charges second.0);
       full = small;
     }
+
+small_plug_time : (place : Place) (curve : CurveOfType) → large_in_curve place curve ≡ None → curve.plug_time ≤ 10 ^ 9
+small_plug_time place curve h =
+    let first_two = neither (large_in (part_of place part.Time) curve.times) _ h in
+    let second = neither (large_in (part_of place part.Charge) curve.charges) _ first_two.1 in
+    let third = neither (large (part_of place part.Plug) curve.plug_time) None second.1 in
+    small_number (part_of place part.Plug) curve.plug_time third.0
 
 pub small_contents : (c : Contents) → first_large c ≡ None → HasSmallNumbers c
 unfolding first_large
@@ -74,12 +83,14 @@ small_contents c h =
     let b = neither (look_along large_in_curve (at_key Breaks) c.curves) _ a.1 in
     let d = neither (large_in (at_key Service) c.process_times) _ b.1 in
     let e = neither (large_in_rows (at_key Energy) c.energies) _ d.1 in
-    let f = neither (large_in_rows (at_key Time) c.times) None e.1 in
+    let f = neither (large_in_rows (at_key Time) c.times) _ e.1 in
     let capacity = small_number (at_key MaxQ) c.capacity a.0 in
     record {
       capacity = capacity;
       curves = nothing_along (λ number. large_in_curve (item_of (at_key Breaks) number)) (λ curve. IsSmall (points_of curve) c.capacity)
           (λ number curve none. small_curve c.capacity capacity (item_of (at_key Breaks) number) curve none) 0 c.curves b.0;
+      plug_times = nothing_along (λ number. large_in_curve (item_of (at_key Breaks) number)) (λ curve. curve.plug_time ≤ 10 ^ 9)
+          (λ number curve none. small_plug_time (item_of (at_key Breaks) number) curve none) 0 c.curves b.0;
       process_times = small_numbers (at_key Service) c.process_times d.0;
       energies = small_rows (at_key Energy) c.energies e.0;
       times = small_rows (at_key Time) c.times f.0;
@@ -97,15 +108,15 @@ right_rows nodes place rows h =
 pub shaped_contents : (c : Contents) → first_wrong_shape c ≡ None → HasShape c
 unfolding first_wrong_shape
 shaped_contents c h =
-    let a = neither (then_some (nat_lt 16 (length c.curves)) (at_key Breaks)) _ h in
+    let a = neither (then_some (nat_lt most_types (length c.curves)) (at_key Breaks)) _ h in
     let b = neither (look_along uneven (at_key Breaks) c.curves) _ a.1 in
     let d = neither (then_some (nat_lt (nodes_of c) (length c.process_times)) (at_key Service)) _ b.1 in
-    let e = neither (then_some (nat_eq (nodes_of c) 0 || nat_lt 400 (nodes_of c)) (at_key Energy)) _ d.1 in
+    let e = neither (then_some (nat_eq (nodes_of c) 0 || nat_lt most_nodes (nodes_of c)) (at_key Energy)) _ d.1 in
     let f = neither (odd_row_in (nodes_of c) (at_key Energy) c.energies) _ e.1 in
     let g = neither (then_some (not (nat_eq (length c.times) (nodes_of c))) (at_key Time)) _ f.1 in
     let i = neither (odd_row_in (nodes_of c) (at_key Time) c.times) None g.1 in
     let few_times = unbroken (nat_lt (nodes_of c) (length c.process_times)) (at_key Service) d.0 in
-    let range = or_parts (nat_eq (nodes_of c) 0) (nat_lt 400 (nodes_of c)) (unbroken (nat_eq (nodes_of c) 0 || nat_lt 400 (nodes_of c)) (at_key Energy) e.0) in
+    let range = or_parts (nat_eq (nodes_of c) 0) (nat_lt most_nodes (nodes_of c)) (unbroken (nat_eq (nodes_of c) 0 || nat_lt most_nodes (nodes_of c)) (at_key Energy) e.0) in
     let count = unbroken (not (nat_eq (length c.times) (nodes_of c))) (at_key Time) g.0 in
     record {
       some_node = grind (arith, nat_tests, range);
@@ -114,4 +125,18 @@ shaped_contents c h =
       energy_rows = right_rows (nodes_of c) (at_key Energy) c.energies f.0;
       time_count = grind (arith, nat_tests, count);
       time_rows = right_rows (nodes_of c) (at_key Time) c.times i.0;
+    }
+
+level_within : (capacity level : ℕ) (place : Place) → then_some (nat_lt capacity level) place ≡ None → level ≤ capacity
+level_within capacity level place h =
+    let test = unbroken (nat_lt capacity level) place h in
+    grind (arith, nat_tests, test)
+
+pub levels_within : (c : Contents) → first_level_past_full c ≡ None → HasLevels c
+levels_within c h =
+    let a = neither (then_some (nat_lt c.capacity c.reserve) (at_key MinQ)) _ h in
+    let b = neither (then_some (nat_lt c.capacity c.home_level) (at_key HomeQ)) None a.1 in
+    record {
+      reserve = level_within c.capacity c.reserve (at_key MinQ) a.0;
+      home_level = level_within c.capacity c.home_level (at_key HomeQ) b.0;
     }

@@ -10,3 +10,4 @@ pub mod CheckedLemmas
 pub mod StationsLemmas
 pub mod PartsLemmas
 pub mod FaultsLemmas
+pub mod LawsLemmas

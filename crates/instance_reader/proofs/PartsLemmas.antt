@@ -11,12 +11,12 @@ use Rattle.std.specs.List.{range_with_len}
 use Rattle.ev_model.specs.Curve.{IsCurve, IsMultipleOfSlopes}
 use Rattle.ev_model.specs.Network.{HasFittingCurve, IsNetwork, is_customer, node_count}
 use Rattle.instance_reader.proofs.ListLemmas.{All-slice_get, slice_get-within}
-use Rattle.instance_reader.specs.Contents.{Contents, nodes_of, points_of}
+use Rattle.instance_reader.specs.Contents.{Contents, CurveOfType, nodes_of, points_of}
 use Rattle.instance_reader.specs.Curves.{all_points, cut_curve}
 use Rattle.instance_reader.specs.Customers.{AreCustomers, IsIndexOf, has_customer}
 use Rattle.instance_reader.specs.Inside.{IsInstance, network_inside, points_at}
 use Rattle.instance_reader.specs.Instance.{IsCustomerNumber, customer_nodes}
-use Rattle.instance_reader.specs.Meaning.{IsCurveNumber, curve_at_node, network_of}
+use Rattle.instance_reader.specs.Meaning.{IsCurveNumber, curve_at_node, network_of, plug_time_at, plug_time_of, plug_time_of_number}
 use Rattle.instance_reader.specs.Parts.{AreParts}
 use Rattle.instance_reader.specs.declared.curves.StationCurve.{StationCurve}
 use Rattle.instance_reader.specs.declared.instance.Instance.TheInside.{Inside}
@@ -46,11 +46,11 @@ curve_count c curves numbers d limit h =
 -- the breakpoints that a number leads to
 points_of_number : (c : Contents) (curves : List StationCurve) (numbers : List (Option ℕ)) (d limit : ℕ) → AreParts c curves numbers d limit →
     (node : ℕ) (o : Option ℕ) → IsCurveNumber c node o → points_at curves o ≡ curve_at_node c node
-points_of_number c curves numbers d limit h node None is = sym is
+points_of_number c curves numbers d limit h node None is = ap (option_map points_of) (sym is)
 points_of_number c curves numbers d limit h node (Some number) is =
     sym (slice_get-map (λ s. s.curve.points) curves number)
     ∙ ap (λ points. slice_get points number) (curve_points c curves numbers d limit h)
-    ∙ slice_get-map points_of c.curves number ∙ sym is.1
+    ∙ slice_get-map points_of c.curves number ∙ ap (option_map points_of) (sym is.1)
 
 -- the curves by node
 curves_by_node : (c : Contents) (curves : List StationCurve) (numbers : List (Option ℕ)) (d limit : ℕ) → AreParts c curves numbers d limit →
@@ -110,6 +110,40 @@ known_numbers c curves numbers d limit h =
     (λ node within. known_number c curves node (get_or numbers node None) (curve_count c curves numbers d limit h)
     (h.by_node.each node (rw (sym h.by_node.all) within)))
 
+-- ---- the times to plug in
+
+plug_time_same : (c : Contents) (node : ℕ) (o : Option ℕ) → IsCurveNumber c node o → plug_time_of_number c.curves o ≡ plug_time_at c node
+plug_time_same c node None is = ap plug_time_of (sym is)
+plug_time_same c node (Some number) is = ap plug_time_of (sym is.1)
+
+-- the times to plug in by node
+pub plug_times_by_node : (c : Contents) (curves : List StationCurve) (numbers : List (Option ℕ)) (d limit : ℕ) → AreParts c curves numbers d limit →
+    map (plug_time_of_number c.curves) numbers ≡ map (plug_time_at c) (range_with_len 0 (nodes_of c))
+plug_times_by_node c curves numbers d limit h =
+    same_lists (map (plug_time_of_number c.curves) numbers) (map (plug_time_at c) (range_with_len 0 (nodes_of c)))
+    (length-map numbers (plug_time_of_number c.curves) ∙ h.by_node.all ∙ sym (length-map-range_with_len (plug_time_at c) 0 (nodes_of c)))
+    (λ node e within.
+    let count : length (map (plug_time_of_number c.curves) numbers) ≡ length numbers = length-map numbers (plug_time_of_number c.curves) in
+    let inside : node < length numbers = omega arith in
+    let known : node < nodes_of c = omega (arith, h.by_node.all) in
+    get_or-map (plug_time_of_number c.curves) numbers node None e inside
+    ∙ plug_time_same c node (get_or numbers node None) (h.by_node.each node known)
+    ∙ sym (get_or-map-range_with_len (plug_time_at c) 0 (nodes_of c) node node e known (omega arith)))
+
+small_plug_of : (o : Option CurveOfType) → IfSome o (λ curve. curve.plug_time ≤ 10 ^ 9) → plug_time_of o ≤ 10 ^ 9
+small_plug_of None h = omega arith
+small_plug_of (Some curve) h = h
+
+small_plug_number : (curves : List CurveOfType) → All (λ curve. curve.plug_time ≤ 10 ^ 9) curves → (o : Option ℕ) → plug_time_of_number curves o ≤ 10 ^ 9
+small_plug_number curves all None = omega arith
+small_plug_number curves all (Some number) =
+    small_plug_of (slice_get curves number) (IfSome-slice_get (λ curve. curve.plug_time ≤ 10 ^ 9) curves number (slice_get curves number) all refl)
+
+small_plug_times : (curves : List CurveOfType) (numbers : List (Option ℕ)) → All (λ curve. curve.plug_time ≤ 10 ^ 9) curves →
+    All (λ time. time ≤ 10 ^ 9) (map (plug_time_of_number curves) numbers)
+small_plug_times curves numbers all =
+    All-map (λ time. time ≤ 10 ^ 9) (plug_time_of_number curves) numbers (λ k e within. small_plug_number curves all (get_or numbers k e))
+
 -- ---- the customers
 
 some_stays : {X Y : Type 0} (f : X → Y) (o : Option X) → is_some o ≡ true → is_none (option_map f o) ≡ false
@@ -147,14 +181,16 @@ customer_number a customers node (Some number) same list is = (same node ∙ is.
 node_total : (a : Inside) (c : Contents) → map (λ row. row.items) a.energies.items ≡ c.energies → node_count (network_inside a) ≡ nodes_of c
 node_total a c energies = ap length energies
 
-network_of_parts : (a : Inside) (c : Contents) → a.max_q ≡ c.capacity →
+network_of_parts : (a : Inside) (c : Contents) → a.max_q ≡ c.capacity → a.min_q ≡ c.reserve → a.home_q ≡ c.home_level →
+    a.plug_times.items ≡ map (plug_time_of_number c.curves) a.curve_numbers.items →
     map (λ row. row.items) a.energies.items ≡ c.energies → map (λ row. row.items) a.times.items ≡ c.times →
     a.process_times.items ≡ c.process_times ++ replicate (nodes_of c - length c.process_times) 0 →
     AreParts c a.curves.items a.curve_numbers.items a.denominator a.limit → IsNetwork (network_inside a)
-network_of_parts a c capacity energies times process_times h =
+network_of_parts a c capacity reserve home plugs energies times process_times h =
     let total : node_count (network_inside a) ≡ nodes_of c = node_total a c energies in
     record {
       depot = rw energies h.shape.some_node;
+      few_nodes = rw energies h.shape.few_nodes;
       energy_rows = rw energies h.shape.energy_rows;
       time_count = rw (times, energies) h.shape.time_count;
       time_rows = rw (times, energies) h.shape.time_rows;
@@ -164,7 +200,11 @@ network_of_parts a c capacity energies times process_times h =
           ap length process_times ∙ sum ∙ sym total;
       curve_count = length-map a.curve_numbers.items (points_at a.curves.items) ∙ h.by_node.all ∙ sym total;
       curves = rw capacity (fitting_curves c a.curves.items a.curve_numbers.items a.denominator a.limit h);
+      plug_count = ap length plugs ∙ length-map a.curve_numbers.items (plug_time_of_number c.curves) ∙ h.by_node.all ∙ sym total;
       small_capacity = rw capacity h.small.capacity;
+      reserve_within = rw (reserve, capacity) h.levels.reserve;
+      home_within = rw (home, capacity) h.levels.home_level;
+      small_plug_times = rw plugs (small_plug_times c.curves a.curve_numbers.items h.small.plug_times);
       small_energies = rw energies h.small.energies;
       small_times = rw times h.small.times;
       small_process_times = rw process_times (All-append (λ time. time ≤ 10 ^ 9) c.process_times (replicate (nodes_of c - length c.process_times) 0)
@@ -174,13 +214,14 @@ network_of_parts a c capacity energies times process_times h =
       small_limit = h.small_limit;
     }
 
-pub parts_make_an_instance : (a : Inside) (c : Contents) → a.max_q ≡ c.capacity →
+pub parts_make_an_instance : (a : Inside) (c : Contents) → a.max_q ≡ c.capacity → a.min_q ≡ c.reserve → a.home_q ≡ c.home_level →
+    a.plug_times.items ≡ map (plug_time_of_number c.curves) a.curve_numbers.items →
     map (λ row. row.items) a.energies.items ≡ c.energies → map (λ row. row.items) a.times.items ≡ c.times →
     a.process_times.items ≡ c.process_times ++ replicate (nodes_of c - length c.process_times) 0 →
     AreParts c a.curves.items a.curve_numbers.items a.denominator a.limit →
     AreCustomers a.curve_numbers.items (nodes_of c) a.customers.items a.customer_numbers.items → IsInstance a
-parts_make_an_instance a c capacity energies times process_times h customers =
-    let network = network_of_parts a c capacity energies times process_times h in
+parts_make_an_instance a c capacity reserve home plugs energies times process_times h customers =
+    let network = network_of_parts a c capacity reserve home plugs energies times process_times h in
     let total : node_count (network_inside a) ≡ nodes_of c = node_total a c energies in
     let rows : node_count (network_inside a) ≡ length a.energies.items = length-map a.energies.items (λ row. row.items) in
     let known = known_numbers c a.curves.items a.curve_numbers.items a.denominator a.limit h in
@@ -201,11 +242,21 @@ parts_make_an_instance a c capacity energies times process_times h customers =
       };
     }
 
-pub parts_make_the_network : (a : Inside) (c : Contents) → a.max_q ≡ c.capacity →
+pub parts_make_the_network : (a : Inside) (c : Contents) → a.max_q ≡ c.capacity → a.min_q ≡ c.reserve → a.home_q ≡ c.home_level →
+    a.plug_times.items ≡ map (plug_time_of_number c.curves) a.curve_numbers.items →
     map (λ row. row.items) a.energies.items ≡ c.energies → map (λ row. row.items) a.times.items ≡ c.times →
     a.process_times.items ≡ c.process_times ++ replicate (nodes_of c - length c.process_times) 0 →
     AreParts c a.curves.items a.curve_numbers.items a.denominator a.limit →
     network_inside a ≡ record (network_of a.denominator c) { limit = a.limit }
 unfolding network_of
-parts_make_the_network a c capacity energies times process_times h =
-    rw (capacity, energies, times, process_times, curves_by_node c a.curves.items a.curve_numbers.items a.denominator a.limit h) refl
+parts_make_the_network a c capacity reserve home plugs energies times process_times h =
+    rw (
+      capacity,
+      reserve,
+      home,
+      energies,
+      times,
+      process_times,
+      curves_by_node c a.curves.items a.curve_numbers.items a.denominator a.limit h,
+      plugs ∙ plug_times_by_node c a.curves.items a.curve_numbers.items a.denominator a.limit h,
+    ) refl

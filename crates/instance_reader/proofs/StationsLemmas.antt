@@ -1,15 +1,17 @@
 -- The numbers of the curves by node.
 use Rattle.std.proofs.Common.{◌≡◌, ◌∙◌, ℕ, ◌<◌, List, Option, None, Some, Bool, true, false, All, length, map, get_or, slice_get, slice_index, is_some, not, option_map, refl, ap}
 use Rattle.std.proofs.lemmas.List.{get_or-map, length-map}
-use Rattle.std.proofs.lemmas.Option.{get_or_from_slice_get, slice_get-map}
+use Rattle.std.proofs.lemmas.Option.{get_or_from_slice_get, slice_get-map, slice_get_read}
 use Rattle.instance_reader.proofs.CheckedLemmas.{nothing_along, unbroken}
 use Rattle.instance_reader.proofs.ListLemmas.{All-slice_get, find-position, position-within, slice_get-within}
 use Rattle.instance_reader.specs.Contents.{Contents, CurveOfType, Station, nodes_of}
-use Rattle.instance_reader.specs.Meaning.{AreCurveNumbers, IsCurveNumber, curve_of_type}
+use Rattle.instance_reader.specs.Meaning.{AreCurveNumbers, IsCurveNumber, curve_of_type, plug_time_of}
 use Rattle.instance_reader.specs.Nodes.{AreStationNumbers, IsStationNumber, station_at}
 use Rattle.instance_reader.specs.Search.{first_along}
 use Rattle.instance_reader.specs.Types.{is_among, names_of, type_number, type_place, unlisted}
 use Rattle.instance_reader.specs.Values.{same_name}
+use Rattle.instance_reader.specs.Views.{curve_view}
+use Rattle.instance_reader.specs.declared.fields.CurveEntry.{CurveEntry}
 use Rattle.instance_reader.specs.declared.places.Key.TheVariants.{Css}
 
 not_false : (b : Bool) → not b ≡ false → b ≡ true
@@ -65,3 +67,9 @@ AreCurveNumbers-by_node c stations numbers types are is_types none is_numbers = 
       rw is_numbers (get_or-map (option_map (slice_index types)) stations node None None inside) in
       rw at (node_curve c types node (get_or stations node None) (are.each node within) is_types (all_listed c.curves c.stations none));
 }
+
+-- the time to plug in that an entry of the file tells
+pub plug_time_here : (curves : List CurveEntry) (number : ℕ) (x : CurveEntry) → number < length curves → x ≡ get_or curves number x →
+    plug_time_of (slice_get (map curve_view curves) number) ≡ x.plug_time
+plug_time_here curves number x within is =
+    ap plug_time_of (slice_get-map curve_view curves number ∙ ap (option_map curve_view) (slice_get_read curves (length curves) number x refl within is))

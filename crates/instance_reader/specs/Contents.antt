@@ -5,7 +5,7 @@ use Rattle.serde_json.specs.Data.{Data}
 use Rattle.serde_json.specs.Find.{get}
 use Rattle.instance_reader.specs.Places.{part_text}
 use Rattle.instance_reader.specs.Values.{Name, whole, whole_of, array_of, name_of, type_value, value_at}
-use Rattle.instance_reader.specs.declared.places.Key.TheVariants.{MaxQ, Css, Breaks, Service, Energy, Time, TMax, MaxT}
+use Rattle.instance_reader.specs.declared.places.Key.TheVariants.{MaxQ, Css, Breaks, Service, Energy, Time, TMax, MaxT, MinQ, HomeQ}
 use Rattle.instance_reader.specs.declared.places.Part.TheVariants as part
 
 -- an entry of css: a node with a charging station, and the type of the station
@@ -13,11 +13,12 @@ pub record Station : Type 0 where
   pub node : ℕ
   pub type_name : Name
 
--- an entry of breakpoints_by_type: a type of station, and the breakpoints of its charging curve
+-- an entry of breakpoints_by_type: a type of station, the breakpoints of its charging curve, and its time to plug in
 pub record CurveOfType : Type 0 where
   pub type_name : Name
   pub times : List ℕ
   pub charges : List ℕ
+  pub plug_time : ℕ
 
 pub record Contents : Type 0 where
   pub capacity : ℕ
@@ -28,6 +29,8 @@ pub record Contents : Type 0 where
   pub times : List (List ℕ)
   pub t_max : Option ℕ
   pub max_t : Option ℕ
+  pub reserve : ℕ
+  pub home_level : ℕ
 
 -- the number of nodes is the number of rows of the energies
 abbrev pub nodes_of : Contents → ℕ
@@ -67,6 +70,7 @@ curve_in entry = record {
   type_name = name_in (type_value entry);
   times = numbers_in (get (part_text part.Time) entry);
   charges = numbers_in (get (part_text part.Charge) entry);
+  plug_time = number_in (get (part_text part.Plug) entry);
 }
 
 unfoldable pub contents_of : Data → Contents
@@ -79,4 +83,6 @@ contents_of top = record {
   times = rows_in (value_at Time top);
   t_max = limit_in (value_at TMax top);
   max_t = limit_in (value_at MaxT top);
+  reserve = number_in (value_at MinQ top);
+  home_level = number_in (value_at HomeQ top);
 }

@@ -13,10 +13,13 @@ points_at curves (Some number) = option_map (λ c. c.curve.points) (slice_get cu
 abbrev pub network_inside : Inside → Network
 network_inside a = record {
   capacity = a.max_q;
+  reserve = a.min_q;
+  home_level = a.home_q;
   energies = map (λ row. row.items) a.energies.items;
   times = map (λ row. row.items) a.times.items;
   process_times = a.process_times.items;
   curves = map (points_at a.curves.items) a.curve_numbers.items;
+  plug_times = a.plug_times.items;
   denominator = a.denominator;
   limit = a.limit;
 }

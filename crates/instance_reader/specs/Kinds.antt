@@ -7,12 +7,17 @@ use Rattle.instance_reader.specs.Places.{at_key, part_of, part_text}
 use Rattle.instance_reader.specs.Search.{first, look_along}
 use Rattle.instance_reader.specs.Values.{whole_of, array_of, name_of, type_value, value_at}
 use Rattle.instance_reader.specs.declared.places.Place.{Place}
-use Rattle.instance_reader.specs.declared.places.Key.TheVariants.{MaxQ, Css, Breaks, Service, Energy, Time, TMax, MaxT}
+use Rattle.instance_reader.specs.declared.places.Key.TheVariants.{MaxQ, Css, Breaks, Service, Energy, Time, TMax, MaxT, MinQ, HomeQ}
 use Rattle.instance_reader.specs.declared.places.Part.TheVariants as part
 
 -- a whole number must stand at the place
 abbrev pub not_whole : Place → Option Data → Option Place
 not_whole place value = then_some (is_none (option_and_then whole_of value)) place
+
+-- a whole number may stand at the place
+abbrev pub not_whole_if_there : Place → Option Data → Option Place
+not_whole_if_there place None = None
+not_whole_if_there place (Some d) = not_whole place (Some d)
 
 -- a whole number or null may stand at the place
 abbrev pub no_limit : Place → Option Data → Option Place
@@ -54,6 +59,7 @@ no_curve place entry = first
     ∷ no_type (part_of place part.TypeName) (type_value entry)
     ∷ not_wholes (part_of place part.Time) (get (part_text part.Time) entry)
     ∷ not_wholes (part_of place part.Charge) (get (part_text part.Charge) entry)
+    ∷ not_whole_if_there (part_of place part.Plug) (get (part_text part.Plug) entry)
     ∷ [])
 
 -- the first place where a value of another kind stands, or none where one must
@@ -67,4 +73,6 @@ first_wrong_kind top = first
     ∷ not_rows (at_key Time) (value_at Time top)
     ∷ no_limit (at_key TMax) (value_at TMax top)
     ∷ no_limit (at_key MaxT) (value_at MaxT top)
+    ∷ not_whole_if_there (at_key MinQ) (value_at MinQ top)
+    ∷ not_whole_if_there (at_key HomeQ) (value_at HomeQ top)
     ∷ [])

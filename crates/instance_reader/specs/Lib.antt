@@ -14,6 +14,7 @@ pub mod Inside
 pub mod Customers
 pub mod Curves
 pub mod Limits
+pub mod Levels
 pub mod Faults
 pub mod Checked
 pub mod Parts

@@ -1,7 +1,7 @@
 -- Places in an instance file.
 use Rattle.std.specs.Prelude.{ℕ, List, None, Some, is_none, if◌then◌else◌, codes}
 use Rattle.instance_reader.specs.declared.places.Key.{Key}
-use Rattle.instance_reader.specs.declared.places.Key.TheVariants.{MaxQ, Css, Breaks, Service, Energy, Time, TMax, MaxT}
+use Rattle.instance_reader.specs.declared.places.Key.TheVariants.{MaxQ, Css, Breaks, Service, Energy, Time, TMax, MaxT, MinQ, HomeQ}
 use Rattle.instance_reader.specs.declared.places.Part.{Part}
 use Rattle.instance_reader.specs.declared.places.Part.TheVariants as part
 use Rattle.instance_reader.specs.declared.places.Place.{Place}
@@ -16,6 +16,8 @@ key_text Energy = codes "energy_matrix"
 key_text Time = codes "time_matrix"
 key_text TMax = codes "t_max"
 key_text MaxT = codes "max_t"
+key_text MinQ = codes "min_q"
+key_text HomeQ = codes "home_q"
 
 -- a part of an entry, as a place is printed with it
 abbrev pub part_text : Part → List ℕ
@@ -23,6 +25,7 @@ part_text part.NodeId = codes "node_id"
 part_text part.TypeName = codes "type"
 part_text part.Time = codes "time"
 part_text part.Charge = codes "charge"
+part_text part.Plug = codes "plug_time"
 
 -- the place of the value under a key of the top object
 abbrev pub at_key : Key → Place

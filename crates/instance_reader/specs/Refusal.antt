@@ -11,6 +11,13 @@ abbrev pub RefusesAt : Option Place → PlaceFault → Type 0
 RefusesAt broken (At place) = broken ≡ Some place
 RefusesAt broken Memory = Unit {0}
 
+-- want of memory, or a fault of which P holds; none of the faults of the bytes as a whole
+abbrev pub OnContents : (ReadFault → Type 0) → ReadFault → Type 0
+OnContents P fault.Memory = Unit {0}
+OnContents P (fault.TooLong len) = ⊥
+OnContents P fault.NotJson = ⊥
+OnContents P other = P other
+
 -- a refusal other than want of memory is the first fault that was found; it is none of the bytes as a whole
 abbrev pub Refuses : Option ReadFault → ReadFault → Type 0
 Refuses found fault.Memory = Unit {0}

@@ -20,7 +20,12 @@ abbrev pub station_view : StationEntry → Station
 station_view s = record { node = s.node; type_name = name_view s.type_name }
 
 abbrev pub curve_view : CurveEntry → CurveOfType
-curve_view c = record { type_name = name_view c.type_name; times = c.times.items; charges = c.charges.items }
+curve_view c = record {
+  type_name = name_view c.type_name;
+  times = c.times.items;
+  charges = c.charges.items;
+  plug_time = c.plug_time;
+}
 
 abbrev pub contents_view : Fields → Contents
 contents_view f = record {
@@ -32,6 +37,8 @@ contents_view f = record {
   times = map (λ row. row.items) f.times.items;
   t_max = f.t_max;
   max_t = f.max_t;
+  reserve = f.min_q;
+  home_level = f.home_q;
 }
 
 -- the data of a value that may be absent

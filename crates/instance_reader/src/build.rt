@@ -9,6 +9,7 @@ use crate::curves::StationCurve;
 use crate::customers::{Customers, numbered_customers};
 use crate::fields::Fields;
 use crate::instance::Instance;
+use crate::stations::plug_times;
 use std::alloc::{AllocError, Global};
 
 /// The process times of all nodes: those that are missing are 0.
@@ -38,14 +39,18 @@ pub(crate) fn build(
         (λ g. g ≡ record (network_of denominator (contents_view fields)) { limit = limit }) }
 {
     let Customers { nodes, numbers } = numbered_customers(alloc, curve_numbers.as_slice())?;
+    let plug_times = plug_times(alloc, fields.curves.as_slice(), curve_numbers.as_slice())?;
     let process_times = padded(fields.process_times, curve_numbers.len())?;
     Ok(Instance {
         max_q: fields.max_q,
+        min_q: fields.min_q,
+        home_q: fields.home_q,
         energies: fields.energies,
         times: fields.times,
         process_times,
         curves,
         curve_numbers,
+        plug_times,
         customers: nodes,
         customer_numbers: numbers,
         denominator,

@@ -89,7 +89,6 @@ pub(crate) fn scaled(
     curves: Vec<Curve>,
     denominator: u64,
 ) -> Result<Vec<StationCurve>, AllocError>
-    requires some { 1 ≤ denominator }
     requires small { denominator ≤ 10 ^ 9 }
     requires multiple { All (λ c. IsMultipleOfSlopes c.full c.points denominator) curves.items }
     ensures same { IfOk result (λ v. map (λ s. s.curve) v.items ≡ curves.items) }

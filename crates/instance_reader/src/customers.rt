@@ -26,7 +26,8 @@ pub(crate) fn numbered_customers(
     curve_numbers: &[Option<usize>],
 ) -> Result<Customers, AllocError>
     ensures { IfOk result
-        (λ c. AreCustomers curve_numbers.now (length curve_numbers.now) c.nodes.items c.numbers.items) }
+        (λ c. AreCustomers curve_numbers.now (length curve_numbers.now)
+        c.nodes.items c.numbers.items) }
 {
     let mut nodes = Vec::new(alloc);
     let mut numbers = Vec::new(alloc);

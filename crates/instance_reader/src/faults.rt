@@ -6,7 +6,7 @@ use charge_curve::CurveFault;
 
 /// The first broken rule of an instance file. The rules are tried in this order, and within a rule
 /// the places in the order of the fields: `max_q`, `css`, `breakpoints_by_type`, `process_times`,
-/// `energy_matrix`, `time_matrix`, `t_max`, `max_t`.
+/// `energy_matrix`, `time_matrix`, `t_max`, `max_t`, `min_q`, `home_q`.
 #[derive(Clone, Copy, Debug, Drop, PartialEq, Eq)]
 pub enum ReadFault {
     /// The file has more than 2^26 bytes; `len` is how many it has.
@@ -32,6 +32,8 @@ pub enum ReadFault {
     Denominator,
     /// The common denominator times the given limit is past 10^18.
     Horizon { limit: u64 },
+    /// The reserve or the level at home is past a full battery.
+    Level { place: Place },
     /// Memory was refused.
     Memory,
 }

@@ -14,13 +14,14 @@ pub(crate) struct StationEntry {
     pub type_name: TypeName,
 }
 
-/// An entry of `breakpoints_by_type`: a type, and the times and the charges of its curve's
-/// breakpoints.
+/// An entry of `breakpoints_by_type`: a type, the times and the charges of its curve's breakpoints,
+/// and its time to plug in.
 #[derive(Drop)]
 pub(crate) struct CurveEntry {
     pub type_name: TypeName,
     pub times: Vec<u64>,
     pub charges: Vec<u64>,
+    pub plug_time: u64,
 }
 
 /// All fields. The matrices are by the node left and then the node reached.
@@ -34,4 +35,6 @@ pub(crate) struct Fields {
     pub times: Vec<Vec<u64>>,
     pub t_max: Option<u64>,
     pub max_t: Option<u64>,
+    pub min_q: u64,
+    pub home_q: u64,
 }

@@ -2,7 +2,7 @@
 
 ghost use Rattle.std.specs.Prelude.{◌≡◌, ◌*◌, ◌^◌, ◌<◌, ◌≤◌, None, true, All, IfOk, IfErr, IfSome, MatchOption, length};
 ghost use Rattle.std.specs.List.Sorted.{IsStrictlyIncreasing};
-ghost use Rattle.ev_model.specs.Network.{IsNetwork, curve_at, energy, is_customer, node_count, process_time, scaled_limit, travel_time};
+ghost use Rattle.ev_model.specs.Network.{IsNetwork, curve_at, energy, is_customer, most_nodes, node_count, plug_time, process_time, scaled_limit, travel_time};
 ghost use Rattle.instance_reader.specs.Instance.{IsCurveAt, IsCustomerNumber, customer_nodes};
 
 use crate::curves::StationCurve;
@@ -19,11 +19,14 @@ use std::marker::Model;
 #[derive(Drop)]
 pub struct Instance {
     pub(crate) max_q: u64,
+    pub(crate) min_q: u64,
+    pub(crate) home_q: u64,
     pub(crate) energies: Vec<Vec<u64>>,
     pub(crate) times: Vec<Vec<u64>>,
     pub(crate) process_times: Vec<u64>,
     pub(crate) curves: Vec<StationCurve>,
     pub(crate) curve_numbers: Vec<Option<usize>>,
+    pub(crate) plug_times: Vec<u64>,
     pub(crate) customers: Vec<usize>,
     pub(crate) customer_numbers: Vec<Option<usize>>,
     pub(crate) denominator: u64,
@@ -47,6 +50,7 @@ impl Instance {
     pub fn nodes(&self) -> usize
         ensures value { result ≡ node_count self.now }
         ensures some { 1 ≤ result }
+        ensures few { result ≤ most_nodes }
         ensures network { IsNetwork self.now }
     {
         self.energies.len()
@@ -58,6 +62,24 @@ impl Instance {
         ensures small { result ≤ 10 ^ 9 }
     {
         self.max_q
+    }
+
+    /// The reserve: the least level on arriving at a stop.
+    pub fn min_q(&self) -> u64
+        ensures value { result ≡ self.now.reserve }
+        ensures within { result ≤ self.now.capacity }
+        ensures small { result ≤ 10 ^ 9 }
+    {
+        self.min_q
+    }
+
+    /// The least level on arriving at the end of a route.
+    pub fn home_q(&self) -> u64
+        ensures value { result ≡ self.now.home_level }
+        ensures within { result ≤ self.now.capacity }
+        ensures small { result ≤ 10 ^ 9 }
+    {
+        self.home_q
     }
 
     /// The time of the arc from node `i` to node `j`.
@@ -94,12 +116,24 @@ impl Instance {
     /// The scaled curve of the station at a node, `None` exactly where the node has no station.
     pub fn curve_at(&self, node: usize) -> Option<&Scaled>
         requires { node < node_count self.now }
-        ensures { MatchOption result (curve_at self.now node ≡ None) (λ s. IsCurveAt self.now node s.now) }
+        ensures { MatchOption result (curve_at self.now node ≡ None)
+            (λ s. IsCurveAt self.now node s.now) }
     {
         match self.curve_numbers[node] {
             Some(number) => Some(&self.curves[number].scaled),
             None => None,
         }
+    }
+
+    /// The time to plug in at a node, that of its station's type; 0 where it has no station. It is
+    /// paid where something is charged.
+    pub fn plug_at(&self, node: usize) -> u64
+        requires { node < node_count self.now }
+        ensures value { result ≡ plug_time self.now node }
+        ensures small { result ≤ 10 ^ 9 }
+        ensures scaled { self.now.denominator * result ≤ 10 ^ 18 }
+    {
+        self.plug_times[node]
     }
 
     /// The number by which a time is multiplied to be a scaled time: the least common multiple of

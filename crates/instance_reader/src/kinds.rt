@@ -3,7 +3,7 @@
 ghost use Rattle.std.specs.Prelude.{◌≡◌, None, Some, map, option_and_then, option_map, IfOk, IfErr};
 ghost use Rattle.serde_json.specs.View.{view};
 ghost use Rattle.instance_reader.specs.Contents.{contents_of, curve_in, items_in, limit_in, name_in, number_in, numbers_in, rows_in, station_in};
-ghost use Rattle.instance_reader.specs.Kinds.{first_wrong_kind, in_array, no_curve, no_limit, no_station, no_type, not_rows, not_whole, not_wholes};
+ghost use Rattle.instance_reader.specs.Kinds.{first_wrong_kind, in_array, no_curve, no_limit, no_station, no_type, not_rows, not_whole, not_whole_if_there, not_wholes};
 ghost use Rattle.instance_reader.specs.Refusal.{RefusesAt};
 ghost use Rattle.instance_reader.specs.Search.{look_along};
 ghost use Rattle.instance_reader.specs.Values.{array_of, type_value};
@@ -24,6 +24,18 @@ fn whole(value: Option<&Value>, place: Place) -> Result<u64, PlaceFault>
     match value.and_then(Value::as_u64) {
         Some(number) => Ok(number),
         None => Err(PlaceFault::At { place }),
+    }
+}
+
+/// A whole number, which is 0 where the value is absent.
+fn whole_or_zero(value: Option<&Value>, place: Place) -> Result<u64, PlaceFault>
+    ensures kind { IfOk result (λ _. not_whole_if_there place (data_of value.entry) ≡ None) }
+    ensures value { IfOk result (λ n. n ≡ number_in (data_of value.entry)) }
+    ensures err { IfErr result (RefusesAt (not_whole_if_there place (data_of value.entry))) }
+{
+    match value {
+        None => Ok(0),
+        Some(value) => whole(Some(value), place),
     }
 }
 
@@ -50,7 +62,8 @@ fn limit(value: Option<&Value>, place: Place) -> Result<Option<u64>, PlaceFault>
 /// The items of an array.
 #[tactic(auto, using(crate::proofs::ValuesLemmas::values_lemmas))]
 fn items(value: Option<&Value>) -> Option<&[Value]>
-    ensures { option_map (λ s. map view s.now) result ≡ option_and_then array_of (data_of value.entry) }
+    ensures { option_map (λ s. map view s.now) result
+        ≡ option_and_then array_of (data_of value.entry) }
 {
     match value.and_then(Value::as_array) {
         Some(items) => Some(items.as_slice()),
@@ -98,7 +111,8 @@ fn row_items(alloc: Global, items: &[Value], place: Place) -> Result<Vec<Vec<u64
     ensures kind { IfOk result
         (λ _. look_along (λ at d. not_wholes at (Some d)) place (map view items.now) ≡ None) }
     ensures value { IfOk result
-        (λ v. map (λ row. row.items) v.items ≡ map (λ d. numbers_in (Some d)) (map view items.now)) }
+        (λ v. map (λ row. row.items) v.items
+        ≡ map (λ d. numbers_in (Some d)) (map view items.now)) }
     ensures err { IfErr result
         (RefusesAt (look_along (λ at d. not_wholes at (Some d)) place (map view items.now))) }
 {
@@ -186,10 +200,12 @@ fn curve(alloc: Global, entry: &Value, place: Place) -> Result<CurveEntry, Place
         entry.get(Part::Charge.name()),
         place.part(Part::Charge),
     )?;
+    let plug_time = whole_or_zero(entry.get(Part::Plug.name()), place.part(Part::Plug))?;
     Ok(CurveEntry {
         type_name,
         times,
         charges,
+        plug_time,
     })
 }
 
@@ -288,5 +304,7 @@ pub(crate) fn fields(alloc: Global, top: &Value) -> Result<Fields, PlaceFault>
         times: rows(alloc, top.get(Key::Time.name()), Place::at_key(Key::Time))?,
         t_max: limit(top.get(Key::TMax.name()), Place::at_key(Key::TMax))?,
         max_t: limit(top.get(Key::MaxT.name()), Place::at_key(Key::MaxT))?,
+        min_q: whole_or_zero(top.get(Key::MinQ.name()), Place::at_key(Key::MinQ))?,
+        home_q: whole_or_zero(top.get(Key::HomeQ.name()), Place::at_key(Key::HomeQ))?,
     })
 }

@@ -3,8 +3,8 @@
 //! [`read_instance`] answers the instance that the bytes mean, or the first rule that they break.
 //! The rules stand one to a module, in the order in which they are tried: `required_keys`, `kinds`
 //! (which also takes the fields out of the value), `sizes`, `shapes`, `nodes`, `types`, `curves`,
-//! `limits`. Each has its definition, the first broken place in the list of its places, in the file
-//! of `specs/` with its name.
+//! `limits`, `levels`. Each has its definition, the first broken place in the list of its places, in
+//! the file of `specs/` with its name.
 #![tactic(auto)]
 
 mod build;
@@ -14,6 +14,8 @@ mod faults;
 mod fields;
 mod instance;
 mod kinds;
+mod laws;
+mod levels;
 mod limits;
 mod nodes;
 mod places;
@@ -26,6 +28,7 @@ mod types;
 
 pub use faults::{LimitFault, ReadFault};
 pub use instance::Instance;
+pub use laws::bytes_mean_one_thing;
 pub use places::{Key, Part, Place};
 pub use read::read_instance;
 

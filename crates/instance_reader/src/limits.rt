@@ -1,7 +1,7 @@
 //! The limit on a route, and how far it may be scaled.
 
-ghost use Rattle.std.specs.Prelude.{◌≡◌, ◌*◌, ◌/◌, ◌^◌, ◌<◌, ◌≤◌, None, Some, IfOk, IfErr, nat_lt, unwrap_or};
-ghost use Rattle.instance_reader.specs.Limits.{past_horizon};
+ghost use Rattle.std.specs.Prelude.{◌≡◌, ◌*◌, ◌/◌, ◌<◌, ◌≤◌, None, Some, IfOk, IfErr, nat_lt, unwrap_or};
+ghost use Rattle.instance_reader.specs.Limits.{horizon, past_horizon};
 ghost use Rattle.instance_reader.specs.Meaning.{smaller};
 
 use crate::faults::ReadFault;
@@ -11,7 +11,7 @@ const HORIZON: u64 = 1_000_000_000_000_000_000;
 
 /// The limit, scaled by the denominator, is past 10^18.
 pub(crate) fn is_past_horizon(denominator: u64, limit: u64) -> bool
-    ensures { result ≡ nat_lt (10 ^ 18) (denominator * limit) }
+    ensures { result ≡ nat_lt horizon (denominator * limit) }
 {
     u128::from(denominator) * u128::from(limit) > u128::from(HORIZON)
 }
@@ -30,8 +30,8 @@ pub(crate) fn smaller(a: Option<u64>, b: Option<u64>) -> Option<u64>
 /// The greatest limit that isn't scaled past 10^18.
 pub(crate) fn greatest(denominator: u64) -> u64
     requires { 1 ≤ denominator }
-    ensures value { result ≡ 10 ^ 18 / denominator }
-    ensures within { denominator * result ≤ 10 ^ 18 }
+    ensures value { result ≡ horizon / denominator }
+    ensures within { denominator * result ≤ horizon }
 {
     HORIZON / denominator
 }
@@ -40,8 +40,8 @@ pub(crate) fn greatest(denominator: u64) -> u64
 /// is refused.
 pub(crate) fn checked_limit(denominator: u64, given: Option<u64>) -> Result<u64, ReadFault>
     requires { 1 ≤ denominator }
-    ensures value { IfOk result (λ limit. limit ≡ unwrap_or given (10 ^ 18 / denominator)) }
-    ensures within { IfOk result (λ limit. denominator * limit ≤ 10 ^ 18) }
+    ensures value { IfOk result (λ limit. limit ≡ unwrap_or given (horizon / denominator)) }
+    ensures within { IfOk result (λ limit. denominator * limit ≤ horizon) }
     ensures ok { IfOk result (λ _. past_horizon denominator given ≡ None) }
     ensures err { IfErr result (λ fault. past_horizon denominator given ≡ Some fault) }
 {

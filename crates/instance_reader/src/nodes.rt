@@ -19,7 +19,8 @@ fn node_place(index: usize) -> Place
 
 /// The node isn't one of the instance, or has a station already.
 fn is_wrong(numbers: &[Option<usize>], node: usize) -> bool
-    ensures { result ≡ (not (nat_lt node (length numbers.now)) || is_some (slice_index_or numbers.now node None)) }
+    ensures { result ≡ (not (nat_lt node (length numbers.now))
+        || is_some (slice_index_or numbers.now node None)) }
 {
     node >= numbers.len() || numbers[node].is_some()
 }

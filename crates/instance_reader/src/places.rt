@@ -22,6 +22,10 @@ pub enum Key {
     TMax,
     /// Another name for a limit on the time of a route.
     MaxT,
+    /// The reserve: the least level on arriving at a stop.
+    MinQ,
+    /// The least level on arriving at the end of a route.
+    HomeQ,
 }
 
 /// A part of an entry of `css` or of `breakpoints_by_type`.
@@ -35,12 +39,14 @@ pub enum Part {
     Time,
     /// The charges of a curve's breakpoints.
     Charge,
+    /// The time to plug in at a station of the type.
+    Plug,
 }
 
 /// Where a value stands in an instance file: under `key`, there in the item number `i`, of that in
 /// the part `part`, and there in the item number `j`. Items are numbered from 0, and what isn't
-/// there is `None`: the energy of the arc from node 2 to node 3 stands under `energy_matrix` with `i`
-/// 2, no part, and `j` 3.
+/// there is `None`: the energy of the arc from node 2 to node 3 stands under `energy_matrix` with
+/// `i` 2, no part, and `j` 3.
 #[derive(Clone, Copy, Debug, PartialEq, Eq)]
 pub struct Place {
     pub key: Key,
@@ -63,6 +69,8 @@ impl Key {
             Key::Time => "time_matrix",
             Key::TMax => "t_max",
             Key::MaxT => "max_t",
+            Key::MinQ => "min_q",
+            Key::HomeQ => "home_q",
         }
     }
 }
@@ -78,6 +86,7 @@ impl Part {
             Part::TypeName => "type",
             Part::Time => "time",
             Part::Charge => "charge",
+            Part::Plug => "plug_time",
         }
     }
 }

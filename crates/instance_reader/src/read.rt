@@ -1,10 +1,12 @@
 //! Reads an instance: the rules in their order.
 
-ghost use Rattle.std.specs.Prelude.{◌≡◌, IfOk, IfErr};
+ghost use Rattle.std.specs.Prelude.{◌≡◌, ◌≢◌, IfOk, IfErr};
 ghost use Rattle.serde_json.specs.View.{view};
-ghost use Rattle.instance_reader.specs.Faults.{AreGood, IsFirstFault, IsFirstFaultIn, IsFirstFaultOf, IsInstanceOf, IsMeantBy, Means, size_fault};
+ghost use Rattle.instance_reader.specs.Faults.{AreGood, IsFirstFault, IsFirstFaultIn, IsFirstFaultOf, IsInstanceOf, IsMeantBy, Means, early_fault, size_fault};
 ghost use Rattle.instance_reader.specs.Meaning.{AreCurveNumbers};
+ghost use Rattle.instance_reader.specs.Refusal.{OnContents, Refuses};
 ghost use Rattle.instance_reader.specs.Views.{contents_view};
+ghost use Rattle.instance_reader.specs.declared.faults.ReadFault.TheVariants.{Memory};
 
 use crate::build::build;
 use crate::curves::{curves, scaled};
@@ -12,6 +14,7 @@ use crate::faults::{PlaceFault, ReadFault};
 use crate::fields::Fields;
 use crate::instance::Instance;
 use crate::kinds::fields;
+use crate::levels::first_level_past_full;
 use crate::limits::{checked_limit, smaller};
 use crate::required_keys::first_missing;
 use crate::shapes::first_wrong_shape;
@@ -31,17 +34,18 @@ const MOST_DENOMINATOR: u64 = 1_000_000_000;
 ///
 /// The top value is an object with the keys `max_q` (the charge of a full battery), `css` (the
 /// stations, each with a `node_id` and a type), `breakpoints_by_type` (the charging curves, each
-/// with a type and its breakpoints as `time` and `charge`), `process_times` (by node, missing ones
-/// are 0), `energy_matrix` and `time_matrix` (by the node left and the node reached), and maybe
-/// `t_max` and `max_t` (limits on the time of a route, of which the smaller holds). A type stands
-/// under `cs_type`, or under `type` where that is absent. Other keys are passed over. All numbers
-/// are whole.
+/// with a type, its breakpoints as `time` and `charge`, and maybe the time to plug in as
+/// `plug_time`), `process_times` (by node, missing ones are 0), `energy_matrix` and `time_matrix`
+/// (by the node left and the node reached), and maybe `t_max` and `max_t` (limits on the time of a
+/// route, of which the smaller holds), `min_q` (the reserve) and `home_q` (the least level on
+/// arriving at the end of a route). A type stands under `cs_type`, or under `type` where that is
+/// absent. Other keys are passed over. All numbers are whole.
 ///
 /// The answer is the instance that the bytes mean, or the first broken rule, as [`ReadFault`] lists
 /// them.
 pub fn read_instance(alloc: Global, bytes: &[u8]) -> Result<Instance, ReadFault>
     ensures instance { IfOk result (IsInstanceOf bytes.now) }
-    ensures fault { IfErr result (IsFirstFault bytes.now) }
+    ensures fault { IfErr result (λ fault. fault ≢ Memory → IsFirstFault bytes.now fault) }
 {
     if bytes.len() > MOST_BYTES {
         return Err(ReadFault::TooLong { len: bytes.len() });
@@ -61,7 +65,7 @@ pub fn read_instance(alloc: Global, bytes: &[u8]) -> Result<Instance, ReadFault>
 /// Reads an instance from the value of a file.
 fn read_value(alloc: Global, top: &Value) -> Result<Instance, ReadFault>
     ensures instance { IfOk result (Means (view top.now)) }
-    ensures fault { IfErr result (IsFirstFaultOf (view top.now)) }
+    ensures fault { IfErr result (OnContents (IsFirstFaultOf (view top.now))) }
 {
     if let Some(key) = first_missing(top) {
         return Err(ReadFault::Missing { key });
@@ -96,7 +100,7 @@ fn good_curves(alloc: Global, fields: &Fields) -> Result<GoodCurves, ReadFault>
     ensures good { IfOk result (λ k. AreGood (contents_view fields.now) k.curves.items) }
     ensures by_node { IfOk result
         (λ k. AreCurveNumbers (contents_view fields.now) k.curve_numbers.items) }
-    ensures fault { IfErr result (IsFirstFaultIn (contents_view fields.now)) }
+    ensures fault { IfErr result (Refuses (early_fault (contents_view fields.now))) }
 {
     if let Some(fault) = size_fault(fields) {
         return Err(fault);
@@ -112,7 +116,7 @@ fn good_curves(alloc: Global, fields: &Fields) -> Result<GoodCurves, ReadFault>
 /// Reads an instance from the fields of a file.
 fn read_fields(alloc: Global, fields: Fields) -> Result<Instance, ReadFault>
     ensures instance { IfOk result (IsMeantBy (contents_view fields)) }
-    ensures fault { IfErr result (IsFirstFaultIn (contents_view fields)) }
+    ensures fault { IfErr result (OnContents (IsFirstFaultIn (contents_view fields))) }
 {
     let GoodCurves {
         curves,
@@ -122,6 +126,9 @@ fn read_fields(alloc: Global, fields: Fields) -> Result<Instance, ReadFault>
         return Err(ReadFault::Denominator);
     };
     let limit = checked_limit(denominator, smaller(fields.t_max, fields.max_t))?;
+    if let Some(place) = first_level_past_full(&fields) {
+        return Err(ReadFault::Level { place });
+    }
     let Ok(curves) = scaled(alloc, curves, denominator) else {
         return Err(ReadFault::Memory);
     };

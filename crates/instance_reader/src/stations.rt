@@ -2,12 +2,12 @@
 
 ghost use Rattle.std.specs.Prelude.{◌≡◌, ◌<◌, None, map, option_map, length, slice_index, All, IfOk, IfErr, IfSome};
 ghost use Rattle.instance_reader.specs.Faults.{station_fault};
-ghost use Rattle.instance_reader.specs.Meaning.{AreCurveNumbers};
+ghost use Rattle.instance_reader.specs.Meaning.{AreCurveNumbers, plug_time_of_number};
 ghost use Rattle.instance_reader.specs.Refusal.{Refuses};
-ghost use Rattle.instance_reader.specs.Views.{contents_view};
+ghost use Rattle.instance_reader.specs.Views.{contents_view, curve_view};
 
 use crate::faults::{PlaceFault, ReadFault};
-use crate::fields::Fields;
+use crate::fields::{CurveEntry, Fields};
 use crate::nodes::station_numbers;
 use crate::types::station_types;
 use std::alloc::{AllocError, Global};
@@ -30,6 +30,35 @@ fn by_node(
         }
     }
     Ok(numbers)
+}
+
+/// The time to plug in where the number of the curve is this; 0 where there is no curve.
+#[tactic(auto, using(crate::proofs::StationsLemmas::plug_time_here))]
+fn plug_time(curves: &[CurveEntry], number: Option<usize>) -> u64
+    requires { IfSome number (λ n. n < length curves.now) }
+    ensures { result ≡ plug_time_of_number (map curve_view curves.now) number }
+{
+    match number {
+        Some(number) => curves[number].plug_time,
+        None => 0,
+    }
+}
+
+/// The time to plug in at each node, by the number of its curve; 0 where it has none.
+pub(crate) fn plug_times(
+    alloc: Global,
+    curves: &[CurveEntry],
+    curve_numbers: &[Option<usize>],
+) -> Result<Vec<u64>, AllocError>
+    requires { All (λ o. IfSome o (λ number. number < length curves.now)) curve_numbers.now }
+    ensures { IfOk result
+        (λ v. v.items ≡ map (plug_time_of_number (map curve_view curves.now)) curve_numbers.now) }
+{
+    let mut times = Vec::new(alloc);
+    for number in curve_numbers {
+        times.push(plug_time(curves, *number))?;
+    }
+    Ok(times)
 }
 
 /// The number of the curve at each node, or the first broken rule on stations.

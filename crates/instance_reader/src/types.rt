@@ -62,12 +62,14 @@ fn type_numbers<'a>(
     stations: &'a [StationEntry],
 ) -> Result<Vec<usize>, PlaceFault>
     ensures listed { IfOk result
-        (λ _. first_along (unlisted (names_in names.now.keys)) 0 (map station_view stations.now) ≡ None) }
+        (λ _. first_along (unlisted (names_in names.now.keys)) 0 (map station_view stations.now)
+        ≡ None) }
     ensures value { IfOk result
         (λ v. v.items ≡ map (λ s. number_among (names_in names.now.keys) s.type_name)
         (map station_view stations.now)) }
     ensures err { IfErr result
-        (RefusesAt (first_along (unlisted (names_in names.now.keys)) 0 (map station_view stations.now))) }
+        (RefusesAt
+        (first_along (unlisted (names_in names.now.keys)) 0 (map station_view stations.now))) }
 {
     let mut numbers = Vec::new(alloc);
     for (index, station) in stations.iter().enumerate() {
@@ -94,7 +96,8 @@ pub(crate) fn station_types<'a>(
     ensures types { IfOk result
         (λ _. wrong_type_in (map curve_view curves.now) (map station_view stations.now) ≡ None) }
     ensures value { IfOk result
-        (λ v. v.items ≡ map (type_number (map curve_view curves.now)) (map station_view stations.now)) }
+        (λ v. v.items
+        ≡ map (type_number (map curve_view curves.now)) (map station_view stations.now)) }
     ensures err { IfErr result
         (RefusesAt (wrong_type_in (map curve_view curves.now) (map station_view stations.now))) }
 {

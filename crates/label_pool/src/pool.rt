@@ -67,7 +67,8 @@ impl<V: Covers + Drop> Pool<V> {
     /// takes no memory.
     pub fn next_live(&self, i: usize) -> Option<usize>
         requires { (bucket : ℕ) × IsLive self.now.labels bucket i }
-        ensures { (bucket : ℕ) → IsLive self.now.labels bucket i → IsFirstLive self.now.labels bucket (i + 1) result }
+        ensures { (bucket : ℕ) → IsLive self.now.labels bucket i →
+            IsFirstLive self.now.labels bucket (i + 1) result }
     {
         self.live.next(i)
     }
@@ -75,7 +76,8 @@ impl<V: Covers + Drop> Pool<V> {
     /// The value of label `i`. It takes no memory.
     pub fn value(&self, i: usize) -> &V
         requires { i < length self.now.labels }
-        ensures { (label : Label V) → slice_get self.now.labels i ≡ Some label → result.now ≡ label.value }
+        ensures { (label : Label V) → slice_get self.now.labels i ≡ Some label →
+            result.now ≡ label.value }
     {
         &self.labels[i].value
     }
@@ -83,7 +85,8 @@ impl<V: Covers + Drop> Pool<V> {
     /// The label that `i` was come to from, which has a lower number. It takes no memory.
     pub fn parent(&self, i: usize) -> Option<usize>
         requires { i < length self.now.labels }
-        ensures parent { (label : Label V) → slice_get self.now.labels i ≡ Some label → result ≡ label.parent }
+        ensures parent { (label : Label V) → slice_get self.now.labels i ≡ Some label →
+            result ≡ label.parent }
         ensures lower { IfSome result (λ p. p < i) }
     {
         self.labels[i].parent
@@ -93,7 +96,8 @@ impl<V: Covers + Drop> Pool<V> {
     /// none. It takes no memory.
     pub fn next_key(&self) -> Option<u64>
         ensures none { IsNone result ↔ NoneWaits self.now.labels }
-        ensures key { IfSome result (λ key. (i : ℕ) × (label : Label V) × IsNext self.now.labels i label × (key ≡ label.key)) }
+        ensures key { IfSome result (λ key. (i : ℕ) × (label : Label V)
+            × IsNext self.now.labels i label × (key ≡ label.key)) }
     {
         self.queue.least_key()
     }
@@ -102,7 +106,9 @@ impl<V: Covers + Drop> Pool<V> {
     /// comes exactly where no label waits. It takes no memory.
     pub fn take_next(&mut self) -> Option<usize>
         ensures none { IsNone result ↔ NoneWaits self.old.labels }
-        ensures next { IfSome result (λ i. (label : Label V) × IsNext self.old.labels i label × (self.new ≡ record self.old { labels = set self.old.labels i (record label { settled = true }) })) }
+        ensures next { IfSome result (λ i. (label : Label V) × IsNext self.old.labels i label
+            × (self.new ≡ record self.old { labels =
+            set self.old.labels i (record label { settled = true }) })) }
         ensures unchanged { IsNone result → self.new ≡ self.old }
         ensures small { length self.new.labels < 2 ^ 63 }
     {
@@ -127,12 +133,16 @@ impl<V: Covers + Drop> Pool<V> {
     ) -> Result<Option<usize>, AllocError>
         requires bucket { bucket < self.old.buckets }
         requires parent { IfSome parent (λ p. p < length self.old.labels) }
-        ensures none { IfOk result (λ added. IsNone added ↔ IsCovered V.dominates self.old.labels bucket value) }
+        ensures none { IfOk result (λ added. IsNone added
+            ↔ IsCovered V.dominates self.old.labels bucket value) }
         ensures unchanged { IfOk result (λ added. IsNone added → self.new ≡ self.old) }
         ensures some { IfOk result (λ added. IfSome added (λ i. i ≡ length self.old.labels)) }
-        ensures added { IfOk result (λ added. IfSome added (λ i. self.new ≡ record self.old { labels = labels_with V.dominates self.old.labels (record { bucket = bucket; value = value; key = key; parent = parent; live = true; settled = false }) })) }
+        ensures added { IfOk result (λ added. IfSome added (λ i. self.new ≡ record self.old { labels =
+            labels_with V.dominates self.old.labels (record { bucket = bucket; value = value;
+            key = key; parent = parent; live = true; settled = false }) })) }
         ensures own { IfOk result (λ added. IsCovered V.dominates self.new.labels bucket value) }
-        ensures keeps { IfOk result (λ added. (b : ℕ) (x : V) → IsCovered V.dominates self.old.labels b x → IsCovered V.dominates self.new.labels b x) }
+        ensures keeps { IfOk result (λ added. (b : ℕ) (x : V) →
+            IsCovered V.dominates self.old.labels b x → IsCovered V.dominates self.new.labels b x) }
         ensures err { OnErr result (self.new ≡ self.old) }
     {
         if is_covered(self.labels.as_slice(), &self.live, bucket, &value) {
@@ -205,7 +215,8 @@ fn retire_covered<V: Covers + Drop>(
 )
     requires bucket { bucket < length live.old.lists }
     requires tied { IsTied labels.old.items live.old queue.old }
-    ensures labels { labels.new.items ≡ map (beside V.dominates bucket value.now) labels.old.items }
+    ensures labels { labels.new.items
+        ≡ map (beside V.dominates bucket value.now) labels.old.items }
     ensures tied { IsTied labels.new.items live.new queue.new }
     ensures lists { length live.new.lists ≡ length live.old.lists }
     ensures items { live.new.items ≡ live.old.items }
@@ -230,7 +241,8 @@ fn retire<V: Covers + Drop>(
 )
     requires tied { IsTied labels.old.items live.old queue.old }
     requires live { (bucket : ℕ) × IsLive labels.old.items bucket i }
-    ensures labels { (label : Label V) → slice_get labels.old.items i ≡ Some label → labels.new.items ≡ set labels.old.items i (record label { live = false }) }
+    ensures labels { (label : Label V) → slice_get labels.old.items i ≡ Some label →
+        labels.new.items ≡ set labels.old.items i (record label { live = false }) }
     ensures live { live.new ≡ record live.old { lists = lists_without live.old.lists i } }
     ensures tied { IsTied labels.new.items live.new queue.new }
     ensures queue { length queue.new ≡ length queue.old }

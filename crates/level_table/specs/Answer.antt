@@ -1,5 +1,5 @@
 -- What is answered about one route, among the plans in whole units of charge.
-use Rattle.std.specs.Prelude.{ℕ, ◌+◌, ◌-◌, ◌*◌, ◌≤◌, List, length, filter, is_some}
+use Rattle.std.specs.Prelude.{ℕ, ◌+◌, ◌-◌, ◌*◌, ◌^◌, ◌≤◌, List, length, filter, is_some}
 use Rattle.std.specs.List.{range_with_len}
 use Rattle.ev_model.specs.Network.{Network, curve_at, node_count}
 use Rattle.ev_model.specs.Feasible.{IsFeasible}
@@ -25,3 +25,7 @@ stations g = filter (λ node. is_some (curve_at g node)) (range_with_len 0 (node
 -- the cells of a table: for each arc of the route, for the node before it and each station that may be inserted there, for each whole level
 abbrev pub cell_count : Network → List ℕ → ℕ
 cell_count g route = (length route - 1) * (length (stations g) + 1) * (g.capacity + 1)
+
+-- the most cells of a table
+abbrev pub most_cells : ℕ
+most_cells = 2 * 10 ^ 7

@@ -13,9 +13,11 @@ pub(crate) struct Reach {
 }
 
 impl Reach {
-    /// Whether this takes less time than what is held, or as much in fewer moves. Where nothing is held it does.
+    /// Whether this takes less time than what is held, or as much in fewer moves. Where nothing is
+    /// held it does.
     pub(crate) fn is_nearer(self, held: Option<Reach>) -> bool
-        ensures { MatchOption held (IsTrue result) (λ other. IsTrue result ↔ (rank self < rank other)) }
+        ensures { MatchOption held (IsTrue result)
+            (λ other. IsTrue result ↔ (rank self < rank other)) }
     {
         match held {
             None => true,

@@ -1,7 +1,7 @@
 //! The nodes that have a curve.
 
-ghost use Rattle.std.specs.Prelude.{◌≡◌, IfOk, length};
-ghost use Rattle.ev_model.specs.Network.{IsNetwork};
+ghost use Rattle.std.specs.Prelude.{◌≡◌, ◌≤◌, IfOk, length};
+ghost use Rattle.ev_model.specs.Network.{IsNetwork, most_nodes};
 ghost use Rattle.level_table.specs.Answer.{stations};
 
 use instance_reader::Instance;
@@ -9,7 +9,8 @@ use std::alloc::{AllocError, Global};
 
 /// How many nodes have a curve. It takes no memory.
 pub(crate) fn station_count(inst: &Instance) -> usize
-    ensures { result ≡ length (stations inst.now) }
+    ensures value { result ≡ length (stations inst.now) }
+    ensures few { result ≤ most_nodes }
 {
     let mut count = 0;
     for node in 0..inst.nodes() {

@@ -17,6 +17,23 @@ const FINE_UNITS: &str =
 const TWO_STATIONS: &str =
     r#"{"max_q":10,"css":[{"node_id":2,"cs_type":"fast"},{"node_id":3,"cs_type":"fast"}],"breakpoints_by_type":[{"cs_type":"fast","time":[0,4,10],"charge":[0,8,10]}],"process_times":[0,0,0,0],"energy_matrix":[[0,11,8,11],[11,0,11,4],[8,11,0,8],[11,4,8,0]],"time_matrix":[[0,11,8,11],[11,0,11,4],[8,11,0,8],[11,4,8,0]]}"#;
 
+/// The first with a time to plug in, and so the two stations.
+const PLUG_TIME: &str =
+    r#"{"max_q":10,"css":[{"node_id":2,"cs_type":"fast"}],"breakpoints_by_type":[{"cs_type":"fast","time":[0,4,10],"charge":[0,8,10],"plug_time":1}],"process_times":[0,0,0],"energy_matrix":[[0,6,3],[6,0,2],[5,2,0]],"time_matrix":[[0,10,8],[10,0,3],[8,3,0]]}"#;
+
+const TWO_PLUG_TIMES: &str =
+    r#"{"max_q":10,"css":[{"node_id":2,"cs_type":"fast"},{"node_id":3,"cs_type":"fast"}],"breakpoints_by_type":[{"cs_type":"fast","time":[0,4,10],"charge":[0,8,10],"plug_time":1}],"process_times":[0,0,0,0],"energy_matrix":[[0,11,8,11],[11,0,11,4],[8,11,0,8],[11,4,8,0]],"time_matrix":[[0,11,8,11],[11,0,11,4],[8,11,0,8],[11,4,8,0]]}"#;
+
+/// The first with a reserve, and with levels at home that can and that can't be had.
+const RESERVE: &str =
+    r#"{"max_q":10,"css":[{"node_id":2,"cs_type":"fast"}],"breakpoints_by_type":[{"cs_type":"fast","time":[0,4,10],"charge":[0,8,10]}],"process_times":[0,0,0],"energy_matrix":[[0,6,3],[6,0,2],[5,2,0]],"time_matrix":[[0,10,8],[10,0,3],[8,3,0]],"min_q":1}"#;
+
+const HOME_LEVEL: &str =
+    r#"{"max_q":10,"css":[{"node_id":2,"cs_type":"fast"}],"breakpoints_by_type":[{"cs_type":"fast","time":[0,4,10],"charge":[0,8,10]}],"process_times":[0,0,0],"energy_matrix":[[0,6,3],[6,0,2],[5,2,0]],"time_matrix":[[0,10,8],[10,0,3],[8,3,0]],"home_q":5}"#;
+
+const HOME_LEVEL_TOO_HIGH: &str =
+    r#"{"max_q":10,"css":[{"node_id":2,"cs_type":"fast"}],"breakpoints_by_type":[{"cs_type":"fast","time":[0,4,10],"charge":[0,8,10]}],"process_times":[0,0,0],"energy_matrix":[[0,6,3],[6,0,2],[5,2,0]],"time_matrix":[[0,10,8],[10,0,3],[8,3,0]],"home_q":6}"#;
+
 const NO_STATION: &str =
     r#"{"max_q":10,"css":[],"breakpoints_by_type":[],"process_times":[0,0],"energy_matrix":[[0,1],[1,0]],"time_matrix":[[0,4],[4,0]]}"#;
 
@@ -29,7 +46,8 @@ fn instance(alloc: Global, file: &str, limit: Option<u64>) -> Option<Instance> {
     }
 }
 
-/// Its stops as text: the node of each, with `v` before an inserted one and the amount charged after `+`.
+/// Its stops as text: the node of each, with `v` before an inserted one and the amount charged after
+/// `+`.
 fn text(alloc: Global, stops: &[Stop]) -> Option<String> {
     let mut text = String::new(alloc);
     for stop in stops {
@@ -42,7 +60,13 @@ fn text(alloc: Global, stops: &[Stop]) -> Option<String> {
 }
 
 /// The answer as text.
-fn solved(alloc: Global, file: &str, word: &str, start: u64, limit: Option<u64>) -> Option<String> {
+fn answer_text(
+    alloc: Global,
+    file: &str,
+    word: &str,
+    start: u64,
+    limit: Option<u64>,
+) -> Option<String> {
     let inst = instance(alloc, file, limit)?;
     let Ok(route) = read_route(alloc, word, &inst) else {
         return None;
@@ -68,9 +92,21 @@ fn worked_instances_are_solved(rt: HostRuntime) -> Result<(), Fail> {
         (ONE_STATION, 10, Some(22), "0+0 v2+1 1+0 0+0 "),
         (TWO_STATIONS, 10, None, "0+0 v2+6 v3+8 1+0 v3+8 v2+8 0+0 "),
         (NO_STATION, 10, None, "0+0 1+0 0+0 "),
+        (PLUG_TIME, 10, Some(22), "infeasible"),
+        (PLUG_TIME, 10, Some(23), "0+0 v2+1 1+0 0+0 "),
+        (TWO_PLUG_TIMES, 10, Some(58), "infeasible"),
+        (
+            TWO_PLUG_TIMES,
+            10,
+            Some(59),
+            "0+0 v2+6 v3+8 1+0 v3+8 v2+8 0+0 ",
+        ),
+        (RESERVE, 10, None, "0+0 1+0 v2+4 0+0 "),
+        (HOME_LEVEL, 10, None, "0+0 1+0 v2+8 0+0 "),
+        (HOME_LEVEL_TOO_HIGH, 10, None, "infeasible"),
         (FINE_UNITS, 1000000000, None, "Levels { cells: 4000000004 }"),
     ] {
-        let answer = solved(alloc, file, "0,1,0", start, limit).expect(&rt, "memory");
+        let answer = answer_text(alloc, file, "0,1,0", start, limit).expect(&rt, "memory");
         assert_eq!(rt; answer.as_str(), want, "{file} from {start}");
     }
     Ok(())

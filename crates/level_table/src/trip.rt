@@ -1,86 +1,110 @@
-//! A route on an instance, and the cells of its table.
+//! A route on an instance, and the entries of its table.
 
 ghost use Rattle.std.specs.Prelude.{◌≡◌, ◌+◌, ◌-◌, ◌*◌, ◌<◌, ◌≤◌, ◌^◌, ◌⊎◌, length};
 ghost use Rattle.ev_model.specs.Network.{node_count, scaled_limit};
-ghost use Rattle.level_table.specs.Answer.{cell_count, stations};
-ghost use Rattle.level_table.specs.Places.{index_of, IsHome, IsPlace, IsTrip, node_at, place_of};
+ghost use Rattle.level_table.specs.Answer.{stations};
+ghost use Rattle.level_table.specs.Places.{entry_count, index_of, IsHome, IsPlace, IsTrip};
+ghost use Rattle.level_table.specs.Places.{node_at, place_of};
 
 use crate::place::Place;
 use instance_reader::Instance;
+use std::marker::Model;
 
-/// A route on an instance, with the nodes that have a curve.
-#[derive(Clone, Copy)]
+/// A route on an instance, with the nodes that have a curve. Contracts see the network and the
+/// route.
+#[derive(Drop)]
 pub(crate) struct Trip<'a> {
     pub(crate) inst: &'a Instance,
     pub(crate) route: &'a [usize],
     pub(crate) stations: &'a [usize],
 }
 
-impl Trip<'_> {
+impl<'a> Model for Trip<'a> {
+    ghost use Rattle.level_table.specs.Journey.{IsSmallTrip, Journey, journey};
+
+    ghost Value = { Journey };
+
+    ghost view = { journey };
+
+    ghost invariant = { IsSmallTrip };
+}
+
+impl<'a> Trip<'a> {
     /// The scaled limit on the time of the route.
     pub(crate) fn limit(&self) -> u64
-        ensures value { result ≡ scaled_limit self.now.inst.now }
+        ensures value { result ≡ scaled_limit self.now.network }
         ensures small { result ≤ 10 ^ 18 }
     {
         self.inst.denominator() * self.inst.limit()
     }
 
+    /// The number of arcs of the route: the index in it of the depot at its end.
+    pub(crate) fn arcs(&self) -> usize
+        ensures value { result ≡ length self.now.route - 1 }
+        ensures trip { IsTrip self.now.network self.now.route }
+    {
+        self.route.len() - 1
+    }
+
     /// The number of slots after each node of the route.
     pub(crate) fn slots(&self) -> usize
-        requires trip { IsTrip self.now.inst.now self.now.route.now self.now.stations.now }
-        ensures { result ≡ length (stations self.now.inst.now) + 1 }
+        ensures value { result ≡ length (stations self.now.network) + 1 }
+        ensures trip { IsTrip self.now.network self.now.route }
     {
         self.stations.len() + 1
     }
 
     /// The number of whole levels.
     pub(crate) fn levels(&self) -> usize
-        ensures value { result ≡ self.now.inst.now.capacity + 1 }
+        ensures value { result ≡ self.now.network.capacity + 1 }
         ensures small { result ≤ 10 ^ 9 + 1 }
     {
         self.inst.max_q() as usize + 1
     }
 
-    /// The number of cells for places before the end of the route.
-    pub(crate) fn cells(&self) -> usize
-        requires trip { IsTrip self.now.inst.now self.now.route.now self.now.stations.now }
-        ensures { result ≡ cell_count self.now.inst.now self.now.route.now }
+    /// The number of entries for places before the end of the route: two for each cell.
+    pub(crate) fn entries(&self) -> usize
+        ensures value { result ≡ entry_count self.now.network self.now.route }
+        ensures trip { IsTrip self.now.network self.now.route }
     {
-        (self.route.len() - 1) * self.slots() * self.levels()
+        self.arcs() * self.slots() * self.levels() * 2
     }
 
-    /// The number of the cell that stands for a place.
+    /// The number of the entry that stands for a place.
     pub(crate) fn index_of(&self, place: Place) -> usize
-        requires trip { IsTrip self.now.inst.now self.now.route.now self.now.stations.now }
-        requires place { IsPlace self.now.inst.now self.now.route.now place ⊎ IsHome self.now.inst.now self.now.route.now place }
-        ensures value { result ≡ index_of self.now.inst.now place }
-        ensures within { result < cell_count self.now.inst.now self.now.route.now + self.now.inst.now.capacity + 1 }
+        requires { IsPlace self.now.network self.now.route place
+            ⊎ IsHome self.now.network self.now.route place }
+        ensures value { result ≡ index_of self.now.network place }
+        ensures within { result
+            < entry_count self.now.network self.now.route + (self.now.network.capacity + 1) * 2 }
     {
-        (place.passed * self.slots() + place.slot) * self.levels() + place.level as usize
+        let row = place.passed * self.slots() + place.slot;
+        let cell = row * self.levels() + place.level as usize;
+        cell * 2 + place.entry()
     }
 
-    /// The place that a cell stands for.
+    /// The place that an entry stands for.
     pub(crate) fn place_of(&self, index: usize) -> Place
-        requires trip { IsTrip self.now.inst.now self.now.route.now self.now.stations.now }
-        requires cell { index < cell_count self.now.inst.now self.now.route.now }
-        ensures value { result ≡ place_of self.now.inst.now index }
-        ensures place { IsPlace self.now.inst.now self.now.route.now result }
+        requires { index < entry_count self.now.network self.now.route }
+        ensures value { result ≡ place_of self.now.network index }
+        ensures place { IsPlace self.now.network self.now.route result }
     {
-        let row = index / self.levels();
+        let cell = index / 2;
+        let row = cell / self.levels();
         Place {
             passed: row / self.slots(),
             slot: row % self.slots(),
-            level: (index % self.levels()) as u64,
+            level: (cell % self.levels()) as u64,
+            plugged: index % 2 == 0,
         }
     }
 
     /// The node of a slot after the node of the route at `passed`.
     pub(crate) fn node_at(&self, passed: usize, slot: usize) -> usize
-        requires trip { IsTrip self.now.inst.now self.now.route.now self.now.stations.now }
-        requires passed { passed < length self.now.route.now }
-        requires slot { slot ≤ length (stations self.now.inst.now) }
-        ensures value { result ≡ node_at self.now.inst.now self.now.route.now passed slot }
-        ensures known { result < node_count self.now.inst.now }
+        requires passed { passed < length self.now.route }
+        requires slot { slot ≤ length (stations self.now.network) }
+        ensures value { result ≡ node_at self.now.network self.now.route passed slot }
+        ensures known { result < node_count self.now.network }
     {
         if slot == 0 {
             self.route[passed]

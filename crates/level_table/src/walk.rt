@@ -1,12 +1,13 @@
 //! The plan that goes home the nearest way.
 
-ghost use Rattle.std.specs.Prelude.{◌≡◌, ◌<◌, ◌≤◌, ◌⊎◌, IfOk, IfSome, IsSome, MatchOption, OnOk};
+ghost use Rattle.std.specs.Prelude.{◌≡◌, ◌^◌, ◌<◌, ◌≤◌, ◌⊎◌, length};
+ghost use Rattle.std.specs.Prelude.{IfOk, IfSome, IsSome, MatchOption, OnOk};
 ghost use Rattle.ev_model.specs.Feasible.{IsFeasible};
 ghost use Rattle.ev_model.specs.Route.{FollowsRoute};
 ghost use Rattle.ev_model.specs.Time.{time_of};
 ghost use Rattle.level_table.specs.Answer.{HasNoWholePlan, IsFastestWhole};
-ghost use Rattle.level_table.specs.Cells.{cell_at, IsTable};
-ghost use Rattle.level_table.specs.Places.{index_of, IsHome, IsPlace, IsTrip};
+ghost use Rattle.level_table.specs.Table.{entry_at, IsTable};
+ghost use Rattle.level_table.specs.Places.{index_of, IsHome, IsPlace};
 ghost use Rattle.level_table.specs.Walk.{start_place, stop_after, stops_after};
 
 use crate::moves::Move;
@@ -17,24 +18,26 @@ use crate::trip::Trip;
 use ev_model::Stop;
 use std::alloc::{AllocError, Global};
 
-impl Trip<'_> {
-    /// The stops of a fastest whole plan of the route from a level, `None` exactly where no whole plan is feasible.
+impl<'a> Trip<'a> {
+    /// The stops of a fastest whole plan of the route from a level, `None` exactly where no whole plan
+    /// is feasible.
     pub(crate) fn fastest(&self, alloc: Global, start: u64) -> Result<Option<Vec<Stop>>, AllocError>
-        requires trip { IsTrip self.now.inst.now self.now.route.now self.now.stations.now }
-        requires level { start ≤ self.now.inst.now.capacity }
-        ensures { IfOk result (λ answer. MatchOption answer (HasNoWholePlan self.now.inst.now self.now.route.now start)
-            (λ v. IsFastestWhole self.now.inst.now self.now.route.now start v.items)) }
+        requires level { start ≤ self.now.network.capacity }
+        ensures { IfOk result (λ answer. MatchOption answer
+            (HasNoWholePlan self.now.network self.now.route start)
+            (λ v. IsFastestWhole self.now.network self.now.route start v.items)) }
     {
-        let cells = self.filled_table(alloc)?;
+        let entries = self.filled_table(alloc)?;
         let place = Place {
             passed: 0,
             slot: 0,
             level: start,
+            plugged: false,
         };
-        if cells[self.index_of(place)].is_none() {
+        if entries[self.index_of(place)].is_none() {
             return Ok(None);
         }
-        let stops = self.walk(alloc, &cells, place)?;
+        let stops = self.walk(alloc, &entries, place)?;
         Ok(Some(stops))
     }
 
@@ -42,18 +45,18 @@ impl Trip<'_> {
     fn walk(
         &self,
         alloc: Global,
-        cells: &[Option<Reach>],
+        entries: &[Option<Reach>],
         start: Place,
     ) -> Result<Vec<Stop>, AllocError>
-        requires trip { IsTrip self.now.inst.now self.now.route.now self.now.stations.now }
         requires start { start ≡ start_place start.level }
-        requires level { start.level ≤ self.now.inst.now.capacity }
-        requires table { IsTable self.now.inst.now self.now.route.now cells.now }
-        requires reached { IsSome (cell_at cells.now (index_of self.now.inst.now start)) }
-        ensures feasible { IfOk result (λ v. IsFeasible self.now.inst.now 1 start.level v.items) }
-        ensures follows { IfOk result (λ v. FollowsRoute self.now.route.now v.items) }
-        ensures time { IfOk result (λ v. IfSome (cell_at cells.now (index_of self.now.inst.now start))
-            (λ r. time_of self.now.inst.now 1 start.level v.items ≤ r.time)) }
+        requires level { start.level ≤ self.now.network.capacity }
+        requires table { IsTable self.now.network self.now.route entries.now }
+        requires reached { IsSome (entry_at entries.now (index_of self.now.network start)) }
+        ensures feasible { IfOk result (λ v. IsFeasible self.now.network 1 start.level v.items) }
+        ensures follows { IfOk result (λ v. FollowsRoute self.now.route v.items) }
+        ensures time { IfOk result (λ v. IfSome
+            (entry_at entries.now (index_of self.now.network start))
+            (λ r. time_of self.now.network 1 start.level v.items ≤ r.time)) }
     {
         let mut stops = Vec::new(alloc);
         let mut place = start;
@@ -62,8 +65,8 @@ impl Trip<'_> {
             added: 0,
             via: false,
         };
-        while place.passed < self.route.len() - 1 {
-            let offer = self.best(cells, place).unwrap();
+        while place.passed < self.arcs() {
+            let offer = self.best(entries, place).unwrap();
             stop = self.go_on(offer, stop, &mut stops)?;
             place = offer.to;
         }
@@ -73,17 +76,21 @@ impl Trip<'_> {
 
     /// The stop after a move. The stop before is put to the stops where the vehicle leaves it.
     fn go_on(&self, offer: Offer, stop: Stop, stops: &mut Vec<Stop>) -> Result<Stop, AllocError>
-        requires trip { IsTrip self.now.inst.now self.now.route.now self.now.stations.now }
-        requires place { IsPlace self.now.inst.now self.now.route.now offer.to ⊎ IsHome self.now.inst.now self.now.route.now offer.to }
-        requires added { stop.added ≤ self.now.inst.now.capacity }
-        ensures stop { IfOk result (λ next. next ≡ stop_after self.now.inst.now self.now.route.now offer.step offer.to stop) }
-        ensures stops { OnOk result (stops.new.items ≡ stops_after offer.step stop stops.old.items) }
+        requires place { IsPlace self.now.network self.now.route offer.to
+            ⊎ IsHome self.now.network self.now.route offer.to }
+        requires ends { 2 ≤ length self.now.route }
+        requires added { stop.added ≤ 10 ^ 9 }
+        ensures stop { IfOk result (λ next. next
+            ≡ stop_after self.now.network self.now.route offer.step offer.to stop) }
+        ensures stops { OnOk result
+            (stops.new.items ≡ stops_after offer.step stop stops.old.items) }
     {
         match offer.step {
             Move::Charge => Ok(Stop {
                 added: stop.added + 1,
                 ..stop
             }),
+            Move::Unplug => Ok(stop),
             Move::Drive { .. } => {
                 stops.push(stop)?;
                 Ok(Stop {

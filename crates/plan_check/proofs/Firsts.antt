@@ -3,11 +3,12 @@ use Rattle.std.proofs.Common.{◌≡◌, ◌∙◌, ℕ, ◌+◌, ◌<◌, ◌�
 use Rattle.std.proofs.lemmas.Bool.{ltb-false, ltb-true, not-false, not-true}
 use Rattle.std.proofs.lemmas.Option.{same_Some}
 use Rattle.ev_model.specs.Network.{Network}
-use Rattle.route_plan.specs.Walking.{walked}
+use Rattle.route_plan.specs.Walking.{walk_along}
 use Rattle.route_plan.specs.declared.plan.RoutePlan.{RoutePlan}
 use Rattle.route_plan.proofs.Walked.{feasible_is_walked}
-use Rattle.plan_check.specs.FirstFaults.{cost_from, first_empty, first_stray_from, first_twice, first_unserved, later_fault, or_empty, or_later, or_unserved}
-use Rattle.plan_check.specs.FleetRules.{IsBroken, IsCustomer, IsFirstBroken, IsRouteAt, IsStray, place_of, position_of, rule_of, times_served}
+use Rattle.plan_check.specs.FirstFaults.{cost_from, first_empty, first_stray_from, first_twice, first_unserved, later_fault, or_empty, or_unserved}
+use Rattle.route_plan.specs.FirstPlaces.{or_later}
+use Rattle.plan_check.specs.FleetRules.{IsBroken, IsCustomer, IsFirstBroken, IsRouteAt, IsStray, subject_of, position_of, rule_of, times_served}
 use Rattle.plan_check.specs.declared.fault.PlanFault.{PlanFault}
 use Rattle.plan_check.specs.declared.fault.PlanFault.TheVariants.{EmptyRoute, Stray, Twice, Unserved, Walk}
 use Rattle.plan_check.proofs.Customers.{first_customer, no_customer}
@@ -26,7 +27,7 @@ keeps_more g plans rule keeps none fault broken =
 
 -- a fault of the same rule at an earlier place
 abbrev EarlierInRule : PlanFault → PlanFault → Type 0
-EarlierInRule other fault = (place_of other < place_of fault) ⊎ ((place_of other ≡ place_of fault) × (position_of other < position_of fault))
+EarlierInRule other fault = (subject_of other < subject_of fault) ⊎ ((subject_of other ≡ subject_of fault) × (position_of other < position_of fault))
 
 is_first : (g : Network) (plans : List RoutePlan) (fault : PlanFault) → IsBroken g plans fault → KeepsBefore g plans (rule_of fault) →
     ((other : PlanFault) → IsBroken g plans other → rule_of other ≡ rule_of fault → EarlierInRule other fault → ⊥) → IsFirstBroken g plans fault
@@ -56,7 +57,7 @@ walks_keep g plans before cost walks = keeps_more g plans 1 (keeps_none g plans)
     none : (fault : PlanFault) → IsBroken g plans fault → rule_of fault ≡ 1 → ⊥
     none (Walk route reason) broken same =
         let well = feasible_is_walked g g.capacity broken.0.stops (walks.feasible route broken.0 broken.1) in
-        let fails : walked g g.capacity broken.0.stops ≡ Err reason = broken.2 in
+        let fails : walk_along g g.capacity broken.0.stops ≡ Err reason = broken.2 in
         cc
     none other broken same = omega (arith, same)
 

@@ -7,7 +7,7 @@ use Rattle.ev_model.specs.Feasible.{IsFeasible}
 use Rattle.ev_model.specs.Fleet.{IsFleetPlan, ServesOnly, customers_of}
 use Rattle.ev_model.specs.Network.{Network}
 use Rattle.ev_model.specs.declared.Stop.{Stop}
-use Rattle.route_plan.specs.Walking.{walked}
+use Rattle.route_plan.specs.Walking.{walk_along}
 use Rattle.route_plan.specs.declared.plan.RoutePlan.{RoutePlan}
 use Rattle.route_plan.specs.declared.walks.Walk.{Walk as WalkEnd}
 use Rattle.route_plan.specs.declared.walks.WalkFault.{WalkFault}
@@ -41,7 +41,7 @@ without_stray g (first ∷ ss) feasible only = no_stray g first ss feasible.plan
 pub fleet_plan_keeps : (g : Network) (plans : List RoutePlan) → IsFleetPlan g 1 (stops_of plans) → (fault : PlanFault) → IsBroken g plans fault → ⊥
 fleet_plan_keeps g plans fleet (Walk route reason) broken =
     let well = feasible_is_walked g g.capacity broken.0.stops (at_route (IsFeasible g 1 g.capacity) plans route broken.0 fleet.feasible broken.1) in
-    let fails : walked g g.capacity broken.0.stops ≡ Err reason = broken.2 in
+    let fails : walk_along g g.capacity broken.0.stops ≡ Err reason = broken.2 in
     cc
 fleet_plan_keeps g plans fleet (Twice customer) broken = omega (arith, fleet.once customer broken.0.0 broken.0.1, broken.1)
 fleet_plan_keeps g plans fleet (Unserved customer) broken = omega (arith, fleet.once customer broken.0.0 broken.0.1, broken.1)
@@ -50,8 +50,8 @@ fleet_plan_keeps g plans fleet (Stray route at) broken =
     without_stray g broken.0.stops (at_route (IsFeasible g 1 g.capacity) plans route broken.0 fleet.feasible broken.1)
     (at_route (ServesOnly g) plans route broken.0 fleet.only broken.1) at broken.2
 
-feasible_unless : (g : Network) (stops : List Stop) (answer : Result WalkEnd WalkFault) → walked g g.capacity stops ≡ answer →
-    ((reason : WalkFault) → walked g g.capacity stops ≡ Err reason → ⊥) → IsFeasible g 1 g.capacity stops
+feasible_unless : (g : Network) (stops : List Stop) (answer : Result WalkEnd WalkFault) → walk_along g g.capacity stops ≡ answer →
+    ((reason : WalkFault) → walk_along g g.capacity stops ≡ Err reason → ⊥) → IsFeasible g 1 g.capacity stops
 feasible_unless g stops (Ok w) is none = (walked_is_feasible g g.capacity stops w is).0
 feasible_unless g stops (Err reason) is none = absurd (none reason is)
 
@@ -67,4 +67,4 @@ unbroken_is_fleet_plan g plans none = record {
 }
   where
     feasible : (i : ℕ) (p : RoutePlan) → IsRouteAt plans i p → IsFeasible g 1 g.capacity p.stops
-    feasible i p at = feasible_unless g p.stops (walked g g.capacity p.stops) refl (λ reason fails. none (Walk i reason) (p, at, fails))
+    feasible i p at = feasible_unless g p.stops (walk_along g g.capacity p.stops) refl (λ reason fails. none (Walk i reason) (p, at, fails))

@@ -6,7 +6,8 @@ use Rattle.std.proofs.lemmas.Option.{same_Some}
 use Rattle.ev_model.specs.Fleet.{customers_of}
 use Rattle.ev_model.specs.Network.{Network}
 use Rattle.route_plan.specs.declared.plan.RoutePlan.{RoutePlan}
-use Rattle.plan_check.specs.FirstFaults.{behind_first, first_empty, first_stray, first_stray_from, or_later, serves}
+use Rattle.plan_check.specs.FirstFaults.{first_empty, first_stray, first_stray_from, serves}
+use Rattle.route_plan.specs.FirstPlaces.{behind_first, or_later}
 use Rattle.plan_check.specs.FleetRules.{IsRouteAt, IsStray}
 use Rattle.plan_check.specs.declared.fault.PlanFault.{PlanFault}
 use Rattle.plan_check.specs.declared.fault.PlanFault.TheVariants.{Stray}

@@ -7,17 +7,9 @@ use Rattle.ev_model.specs.Fleet.{customers_of}
 use Rattle.ev_model.specs.Network.{Network, is_customer}
 use Rattle.ev_model.specs.Route.{route_of}
 use Rattle.ev_model.specs.declared.Stop.{Stop}
-use Rattle.plan_check.specs.FirstFaults.{behind_first, first_stray, serves, strays}
+use Rattle.plan_check.specs.FirstFaults.{first_stray, serves, strays}
+use Rattle.route_plan.specs.FirstPlaces.{behind_first}
 use Rattle.plan_check.specs.FleetRules.{IsStray}
-
-one_has_no_stray : (g : Network) (at : ℕ) (stops : List Stop) → length stops ≤ 1 → first_stray g at stops ≡ None
-one_has_no_stray g at [] le = refl
-one_has_no_stray g at (s ∷ []) le = refl
-one_has_no_stray g at (s ∷ t ∷ ss) le = absurd (omega (arith, le))
-
--- the last stop is looked at no more
-pub first_stray-end : (g : Network) (stops : List Stop) (n at : ℕ) → length stops ≤ at + 1 → first_stray g n (drop at stops) ≡ None
-first_stray-end g stops n at le = one_has_no_stray g n (drop at stops) (omega (arith, length-drop at stops, le))
 
 -- ---- where a stop serves a customer, strays or is passed over
 

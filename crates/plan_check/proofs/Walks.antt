@@ -7,7 +7,7 @@ use Rattle.ev_model.specs.Fleet.{cost_of}
 use Rattle.ev_model.specs.Network.{Network, node_count}
 use Rattle.ev_model.specs.Plan.{AreStopsFrom, EndsAtDepot}
 use Rattle.ev_model.specs.declared.Stop.{Stop}
-use Rattle.route_plan.specs.Walking.{walked}
+use Rattle.route_plan.specs.Walking.{walk_along}
 use Rattle.route_plan.specs.declared.plan.RoutePlan.{RoutePlan}
 use Rattle.route_plan.specs.declared.walks.Walk.{Walk as WalkEnd}
 use Rattle.route_plan.specs.declared.walks.WalkFault.{WalkFault}
@@ -33,7 +33,7 @@ cost_from-Ok g route before cost [] is =
     let same : before ≡ cost = cc in
     record { feasible = λ i p at. absurd (cc); sum = omega (arith, same) }
 cost_from-Ok g route before cost (p ∷ ps) is =
-    let step = goes_on route (walked g g.capacity p.stops) (λ w. cost_from g (route + 1) (before + w.time) ps) cost is in
+    let step = goes_on route (walk_along g g.capacity p.stops) (λ w. cost_from g (route + 1) (before + w.time) ps) cost is in
     let here = walked_is_feasible g g.capacity p.stops step.0 step.1 in
     let rest = cost_from-Ok g (route + 1) (before + step.0.time) cost ps step.2 in
     record {
@@ -54,11 +54,11 @@ pub record IsFirstWalk (g : Network) (plans : List RoutePlan) (first : ℕ) (fau
   pub reason : WalkFault
   pub is : fault ≡ Walk (first + at) reason
   pub there : slice_get plans at ≡ Some plan
-  pub fails : walked g g.capacity plan.stops ≡ Err reason
-  pub before : (i : ℕ) (p : RoutePlan) (other : WalkFault) → i < at → slice_get plans i ≡ Some p → walked g g.capacity p.stops ≡ Err other → ⊥
+  pub fails : walk_along g g.capacity plan.stops ≡ Err reason
+  pub before : (i : ℕ) (p : RoutePlan) (other : WalkFault) → i < at → slice_get plans i ≡ Some p → walk_along g g.capacity p.stops ≡ Err other → ⊥
 
 module _ (g : Network) (route before : ℕ) (p : RoutePlan) (ps : List RoutePlan) (fault : PlanFault) where
-  fails_here : (reason : WalkFault) → walked g g.capacity p.stops ≡ Err reason → Walk route reason ≡ fault → IsFirstWalk g (p ∷ ps) route fault
+  fails_here : (reason : WalkFault) → walk_along g g.capacity p.stops ≡ Err reason → Walk route reason ≡ fault → IsFirstWalk g (p ∷ ps) route fault
   fails_here reason fails is = record {
     at = 0;
     plan = p;
@@ -69,7 +69,7 @@ module _ (g : Network) (route before : ℕ) (p : RoutePlan) (ps : List RoutePlan
     before = λ i q other below at. absurd (omega (arith, below));
   }
 
-  fails_later : (w : WalkEnd) → walked g g.capacity p.stops ≡ Ok w → IsFirstWalk g ps (route + 1) fault → IsFirstWalk g (p ∷ ps) route fault
+  fails_later : (w : WalkEnd) → walk_along g g.capacity p.stops ≡ Ok w → IsFirstWalk g ps (route + 1) fault → IsFirstWalk g (p ∷ ps) route fault
   fails_later w walks rest = record {
     at = suc rest.at;
     plan = rest.plan;
@@ -80,14 +80,14 @@ module _ (g : Network) (route before : ℕ) (p : RoutePlan) (ps : List RoutePlan
     before = earlier;
   }
     where
-      earlier : (i : ℕ) (q : RoutePlan) (other : WalkFault) → i < suc rest.at → slice_get (p ∷ ps) i ≡ Some q → walked g g.capacity q.stops ≡ Err other → ⊥
+      earlier : (i : ℕ) (q : RoutePlan) (other : WalkFault) → i < suc rest.at → slice_get (p ∷ ps) i ≡ Some q → walk_along g g.capacity q.stops ≡ Err other → ⊥
       earlier zero q other below at fails =
           let same : p ≡ q = same_Some p q at in
-          let fails_too : walked g g.capacity p.stops ≡ Err other = rw same fails in
+          let fails_too : walk_along g g.capacity p.stops ≡ Err other = rw same fails in
           cc
       earlier (suc i) q other below at fails = rest.before i q other (omega (arith, below)) at fails
 
-  fails_in : (walk : Result WalkEnd WalkFault) → walked g g.capacity p.stops ≡ walk → after_walk route walk (λ w. cost_from g (route + 1) (before + w.time) ps) ≡ Err fault →
+  fails_in : (walk : Result WalkEnd WalkFault) → walk_along g g.capacity p.stops ≡ walk → after_walk route walk (λ w. cost_from g (route + 1) (before + w.time) ps) ≡ Err fault →
       ((w : WalkEnd) → cost_from g (route + 1) (before + w.time) ps ≡ Err fault → IsFirstWalk g ps (route + 1) fault) → IsFirstWalk g (p ∷ ps) route fault
   fails_in (Ok w) walk is rest = fails_later w walk (rest w is)
   fails_in (Err reason) walk is rest = let same : Walk route reason ≡ fault = cc in fails_here reason walk same
@@ -95,7 +95,7 @@ module _ (g : Network) (route before : ℕ) (p : RoutePlan) (ps : List RoutePlan
 pub cost_from-Err : (g : Network) (route before : ℕ) (plans : List RoutePlan) (fault : PlanFault) → cost_from g route before plans ≡ Err fault → IsFirstWalk g plans route fault
 cost_from-Err g route before [] fault is = absurd (cc)
 cost_from-Err g route before (p ∷ ps) fault is =
-    fails_in g route before p ps fault (walked g g.capacity p.stops) refl is (λ w. cost_from-Err g (route + 1) (before + w.time) ps fault)
+    fails_in g route before p ps fault (walk_along g g.capacity p.stops) refl is (λ w. cost_from-Err g (route + 1) (before + w.time) ps fault)
 
 -- ---- the nodes of a route that is walked to its end
 

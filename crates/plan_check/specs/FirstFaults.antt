@@ -4,7 +4,8 @@ use Rattle.std.specs.List.{find, list_any}
 use Rattle.ev_model.specs.Network.{Network, is_customer}
 use Rattle.ev_model.specs.declared.Stop.{Stop}
 use Rattle.instance_reader.specs.Instance.{customer_nodes}
-use Rattle.route_plan.specs.Walking.{walked}
+use Rattle.route_plan.specs.FirstPlaces.{behind_first, first_before_last, or_later}
+use Rattle.route_plan.specs.Walking.{walk_along}
 use Rattle.route_plan.specs.declared.plan.RoutePlan.{RoutePlan}
 use Rattle.route_plan.specs.declared.walks.Walk.{Walk as WalkEnd}
 use Rattle.route_plan.specs.declared.walks.WalkFault.{WalkFault}
@@ -21,7 +22,7 @@ after_walk route (Err fault) next = Err (Walk route fault)
 abbrev pub cost_from : Network → ℕ → ℕ → List RoutePlan → Result ℕ PlanFault
 cost_from g route cost [] = Ok cost
 cost_from g route cost (p ∷ ps) =
-    after_walk route (walked g g.capacity p.stops) (λ w. cost_from g (route + 1) (cost + w.time) ps)
+    after_walk route (walk_along g g.capacity p.stops) (λ w. cost_from g (route + 1) (cost + w.time) ps)
 
 -- the first customer that is served more than once
 abbrev pub first_twice : Network → List RoutePlan → Option ℕ
@@ -46,19 +47,7 @@ strays g s = not s.via && not (is_customer g s.node)
 
 -- the first position of such a stop before the last stop, counted from `at`
 abbrev pub first_stray : Network → ℕ → List Stop → Option ℕ
-first_stray g at [] = None
-first_stray g at (s ∷ []) = None
-first_stray g at (s ∷ t ∷ ss) = if strays g s then Some at else first_stray g (at + 1) (t ∷ ss)
-
--- the stops behind the first
-abbrev pub behind_first : List Stop → List Stop
-behind_first [] = []
-behind_first (s ∷ ss) = ss
-
--- a fault at a place, if there is one, else the later ones
-abbrev pub or_later : Option ℕ → (ℕ → PlanFault) → Option PlanFault → Option PlanFault
-or_later None fault later = later
-or_later (Some at) fault later = Some (fault at)
+first_stray g at stops = first_before_last (strays g) at stops
 
 -- the first stray stop of the routes from this index on
 abbrev pub first_stray_from : Network → ℕ → List RoutePlan → Option PlanFault

@@ -3,7 +3,7 @@ use Rattle.std.specs.Prelude.{◌≡◌, ℕ, ◌+◌, ◌<◌, ◌⊎◌, List,
 use Rattle.ev_model.specs.Fleet.{all_customers, customers_of, times_in}
 use Rattle.ev_model.specs.Network.{Network, is_customer, node_count}
 use Rattle.ev_model.specs.declared.Stop.{Stop}
-use Rattle.route_plan.specs.Walking.{walked}
+use Rattle.route_plan.specs.Walking.{walk_along}
 use Rattle.route_plan.specs.declared.plan.RoutePlan.{RoutePlan}
 use Rattle.plan_check.specs.declared.fault.PlanFault.{PlanFault}
 use Rattle.plan_check.specs.declared.fault.PlanFault.TheVariants.{Walk, Twice, Unserved, EmptyRoute, Stray}
@@ -35,7 +35,7 @@ IsRouteAt plans route p = slice_get plans route ≡ Some p
 
 -- the fault is a broken rule of the plans
 abbrev pub IsBroken : Network → List RoutePlan → PlanFault → Type 0
-IsBroken g plans (Walk route fault) = (p : RoutePlan) × IsRouteAt plans route p × (walked g g.capacity p.stops ≡ Err fault)
+IsBroken g plans (Walk route fault) = (p : RoutePlan) × IsRouteAt plans route p × (walk_along g g.capacity p.stops ≡ Err fault)
 IsBroken g plans (Twice customer) = IsCustomer g customer × (1 < times_served g plans customer)
 IsBroken g plans (Unserved customer) = IsCustomer g customer × (times_served g plans customer ≡ 0)
 IsBroken g plans (EmptyRoute route) = (p : RoutePlan) × IsRouteAt plans route p × (customers_of g p.stops ≡ [])
@@ -50,12 +50,12 @@ rule_of (EmptyRoute route) = 4
 rule_of (Stray route at) = 5
 
 -- the route or the customer that a fault names
-abbrev pub place_of : PlanFault → ℕ
-place_of (Walk route fault) = route
-place_of (Twice customer) = customer
-place_of (Unserved customer) = customer
-place_of (EmptyRoute route) = route
-place_of (Stray route at) = route
+abbrev pub subject_of : PlanFault → ℕ
+subject_of (Walk route fault) = route
+subject_of (Twice customer) = customer
+subject_of (Unserved customer) = customer
+subject_of (EmptyRoute route) = route
+subject_of (Stray route at) = route
 
 -- the position in the route, where a fault names one
 abbrev pub position_of : PlanFault → ℕ
@@ -66,8 +66,8 @@ position_of other = 0
 abbrev pub ComesBefore : PlanFault → PlanFault → Type 0
 ComesBefore f h =
     (rule_of f < rule_of h)
-    ⊎ ((rule_of f ≡ rule_of h) × (place_of f < place_of h))
-    ⊎ ((rule_of f ≡ rule_of h) × (place_of f ≡ place_of h) × (position_of f < position_of h))
+    ⊎ ((rule_of f ≡ rule_of h) × (subject_of f < subject_of h))
+    ⊎ ((rule_of f ≡ rule_of h) × (subject_of f ≡ subject_of h) × (position_of f < position_of h))
 
 -- the first broken rule of the plans
 pub record IsFirstBroken (g : Network) (plans : List RoutePlan) (fault : PlanFault) : Type 0 where

@@ -5,7 +5,8 @@ ghost use Rattle.std.specs.List.{list_any};
 ghost use Rattle.ev_model.specs.Fleet.{cost_of, IsFleetPlan};
 ghost use Rattle.ev_model.specs.Network.{node_count};
 ghost use Rattle.instance_reader.specs.Instance.{customer_nodes};
-ghost use Rattle.plan_check.specs.FirstFaults.{behind_first, cost_from, first_empty, first_stray, first_stray_from, later_fault, serves, strays};
+ghost use Rattle.plan_check.specs.FirstFaults.{cost_from, first_empty, first_stray, first_stray_from, later_fault, serves, strays};
+ghost use Rattle.route_plan.specs.FirstPlaces.{behind_first};
 ghost use Rattle.plan_check.specs.FleetRules.{IsFirstBroken, stops_of};
 ghost use Rattle.plan_check.specs.Tallies.{AllKnown, AreKnown, first_in, first_outside};
 

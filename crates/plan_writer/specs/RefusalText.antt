@@ -1,5 +1,6 @@
--- The line of a refusal (want of memory has no line, and no text here): its kind, the number of the broken rule, and the place or the number that breaks it.
-use Rattle.std.specs.Prelude.{ℕ, ◌++◌, ◌∷◌, [], List, Option, None, Some, decimal, codes}
+-- The line of a refusal: its kind, the number of the broken rule, and the place or the number that breaks it.
+-- Want of memory is no rule; it has no line, and its text here is empty.
+use Rattle.std.specs.Prelude.{◌≢◌, ℕ, ◌++◌, ◌∷◌, [], List, Option, None, Some, decimal, codes}
 use Rattle.charge_curve.specs.declared.fault.CurveFault.{CurveFault}
 use Rattle.charge_curve.specs.declared.fault.CurveFault.TheVariants as curve
 use Rattle.ev_text.specs.declared.TextFault.{TextFault}
@@ -15,6 +16,18 @@ use Rattle.route_plan.specs.declared.route.RouteFault.{RouteFault}
 use Rattle.route_plan.specs.declared.route.RouteFault.TheVariants as route
 use Rattle.plan_writer.specs.declared.refusal.Refusal.{Refusal}
 use Rattle.plan_writer.specs.declared.refusal.Refusal.TheVariants.{Instance, Limit, Charge, Route, Levels, Customers, Plan}
+
+-- the fault of an instance is a rule: neither it nor the fault of a curve in it is want of memory
+pub record IsInstanceRule (fault : ReadFault) : Type 0 where
+  pub no_memory : fault ≢ instance.Memory
+  pub no_curve_memory : (index : ℕ) → fault ≢ instance.BadCurve index curve.Memory
+
+-- the refusal names a rule: no want of memory stands in it
+abbrev pub IsRule : Refusal → Type 0
+IsRule (Instance fault) = IsInstanceRule fault
+IsRule (Route fault) = fault ≢ route.Memory
+IsRule (Plan fault) = fault ≢ plan.Memory
+IsRule other = Unit {0}
 
 -- an index behind a slash, where there is one
 abbrev pub slash_index : Option ℕ → List ℕ
@@ -37,6 +50,10 @@ curve_text (curve.Short last) = codes "short " ++ decimal last
 curve_text curve.TooMany = codes "toomany"
 curve_text curve.Memory = []
 
+-- the entry of a curve and its broken rule
+abbrev pub curve_fault_text : ℕ → CurveFault → List ℕ
+curve_fault_text index fault = codes "9 breakpoints_by_type/" ++ decimal index ++ codes " " ++ curve_text fault
+
 abbrev pub instance_text : ReadFault → List ℕ
 instance_text (instance.TooLong len) = codes "1 " ++ decimal len
 instance_text instance.NotJson = codes "2"
@@ -46,7 +63,7 @@ instance_text (instance.TooLarge place) = codes "5 " ++ place_text place
 instance_text (instance.Shape place) = codes "6 " ++ place_text place
 instance_text (instance.Node place) = codes "7 " ++ place_text place
 instance_text (instance.TypeName place) = codes "8 " ++ place_text place
-instance_text (instance.BadCurve index fault) = codes "9 breakpoints_by_type/" ++ decimal index ++ codes " " ++ curve_text fault
+instance_text (instance.BadCurve index fault) = curve_fault_text index fault
 instance_text instance.Denominator = codes "10"
 instance_text (instance.Horizon limit) = codes "11 " ++ decimal limit
 instance_text instance.Memory = []

@@ -34,7 +34,8 @@ pub fn push_check_report(
     inst: &Instance,
     judgement: &Judgement,
 ) -> Result<(), AllocError>
-    ensures ok { OnOk result (out.new.items ≡ out.old.items ++ check_text inst.now.denominator judgement.now) }
+    ensures ok { OnOk result
+        (out.new.items ≡ out.old.items ++ check_text inst.now.denominator judgement.now) }
     ensures err { OnErr result (IsPrefixOf out.old.items out.new.items) }
 {
     match judgement {
@@ -50,7 +51,8 @@ fn push_accepted(
     cost: Option<u128>,
     denominator: u64,
 ) -> Result<(), AllocError>
-    ensures ok { OnOk result (out.new.items ≡ out.old.items ++ check_text denominator (judgement.Accepted cost)) }
+    ensures ok { OnOk result
+        (out.new.items ≡ out.old.items ++ check_text denominator (judgement.Accepted cost)) }
     ensures err { OnErr result (IsPrefixOf out.old.items out.new.items) }
 {
     out.extend_from_slice(b"accepted\ncost ")?;
@@ -90,7 +92,9 @@ fn push_over(
 
 /// Appends the line of a plan that is rejected.
 fn push_rejected(alloc: Global, out: &mut Vec<u8>, fault: &PlanFault) -> Result<(), AllocError>
-    ensures ok { OnOk result (out.new.items ≡ out.old.items ++ (codes "rejected plan " ++ rule_text fault.now ++ 10 ∷ [])) }
+    ensures ok { OnOk result
+        (out.new.items ≡ out.old.items
+        ++ (codes "rejected plan " ++ rule_text fault.now ++ 10 ∷ [])) }
     ensures err { OnErr result (IsPrefixOf out.old.items out.new.items) }
 {
     out.extend_from_slice(b"rejected plan ")?;
@@ -129,7 +133,8 @@ fn push_walk(
     route: usize,
     fault: &WalkFault,
 ) -> Result<(), AllocError>
-    ensures ok { OnOk result (out.new.items ≡ out.old.items ++ rule_text (plan.Walk route fault.now)) }
+    ensures ok { OnOk result
+        (out.new.items ≡ out.old.items ++ rule_text (plan.Walk route fault.now)) }
     ensures err { OnErr result (IsPrefixOf out.old.items out.new.items) }
 {
     push_numbered(alloc, out, b"1 route ", route as u128)?;

@@ -18,7 +18,9 @@ pub fn push_fixed(
     inst: &Instance,
     plan: Option<(&RoutePlan, u64)>,
 ) -> Result<(), AllocError>
-    ensures ok { OnOk result (out.new.items ≡ out.old.items ++ fixed_text inst.now.denominator (option_map (λ p. (p.0.now.stops, p.1)) plan.entry)) }
+    ensures ok { OnOk result
+        (out.new.items ≡ out.old.items
+        ++ fixed_text inst.now.denominator (option_map (λ p. (p.0.now.stops, p.1)) plan.entry)) }
     ensures err { OnErr result (IsPrefixOf out.old.items out.new.items) }
 {
     match plan {
@@ -49,7 +51,8 @@ fn push_charged(
     time: u64,
     denominator: u64,
 ) -> Result<(), AllocError>
-    ensures ok { OnOk result (out.new.items ≡ out.old.items ++ fixed_text denominator (Some (stops.now, time))) }
+    ensures ok { OnOk result
+        (out.new.items ≡ out.old.items ++ fixed_text denominator (Some (stops.now, time))) }
     ensures err { OnErr result (IsPrefixOf out.old.items out.new.items) }
 {
     push_time(alloc, out, time, denominator)?;
@@ -63,7 +66,8 @@ fn push_time(
     time: u64,
     denominator: u64,
 ) -> Result<(), AllocError>
-    ensures ok { OnOk result (out.new.items ≡ out.old.items ++ (codes "time " ++ over denominator time ++ 10 ∷ [])) }
+    ensures ok { OnOk result
+        (out.new.items ≡ out.old.items ++ (codes "time " ++ over denominator time ++ 10 ∷ [])) }
     ensures err { OnErr result (out.new.items ≡ out.old.items) }
 {
     let line = format!(in alloc; "time {time}/{denominator}\n")?;

@@ -1,8 +1,8 @@
 //! The line of a refusal.
 
-ghost use Rattle.std.specs.Prelude.{◌≡◌, ◌++◌, OnErr, OnOk, codes, decimal};
+ghost use Rattle.std.specs.Prelude.{◌≡◌, ◌≢◌, ◌++◌, OnErr, OnOk, codes, decimal};
 ghost use Rattle.ev_outside.specs.Counts.{IsPrefixOf};
-ghost use Rattle.plan_writer.specs.RefusalText.{cause_text, curve_text, fault_text, instance_text, place_text, plan_fault_text, refusal_text, route_text, slash_index, slash_part};
+ghost use Rattle.plan_writer.specs.RefusalText.{IsInstanceRule, IsRule, cause_text, curve_fault_text, curve_text, fault_text, instance_text, place_text, plan_fault_text, refusal_text, route_text, slash_index, slash_part};
 
 use crate::words::{push_numbered, push_word};
 use charge_curve::CurveFault;
@@ -31,10 +31,11 @@ pub enum Refusal {
 }
 
 /// Appends the line of a refusal: its kind, the number of the broken rule, and the place or the
-/// number that breaks it. Want of memory is no rule: callers handle it before.
+/// number that breaks it. Want of memory is no rule and has no line.
 ///
 /// After an `Err` `out` has kept its old bytes as a prefix.
 pub fn push_refusal(alloc: Global, out: &mut Vec<u8>, refusal: &Refusal) -> Result<(), AllocError>
+    requires { IsRule refusal.now }
     ensures ok { OnOk result (out.new.items ≡ out.old.items ++ refusal_text refusal.now) }
     ensures err { OnErr result (IsPrefixOf out.old.items out.new.items) }
 {
@@ -45,6 +46,7 @@ pub fn push_refusal(alloc: Global, out: &mut Vec<u8>, refusal: &Refusal) -> Resu
 
 /// Appends the kind of a refusal and its rule.
 fn push_cause(alloc: Global, out: &mut Vec<u8>, refusal: &Refusal) -> Result<(), AllocError>
+    requires { IsRule refusal.now }
     ensures ok { OnOk result (out.new.items ≡ out.old.items ++ cause_text refusal.now) }
     ensures err { OnErr result (IsPrefixOf out.old.items out.new.items) }
 {
@@ -74,6 +76,7 @@ fn push_instance_fault(
     out: &mut Vec<u8>,
     fault: &ReadFault,
 ) -> Result<(), AllocError>
+    requires { IsInstanceRule fault.now }
     ensures ok { OnOk result (out.new.items ≡ out.old.items ++ instance_text fault.now) }
     ensures err { OnErr result (IsPrefixOf out.old.items out.new.items) }
 {
@@ -92,6 +95,7 @@ fn push_instance_fault(
         ReadFault::BadCurve { index, fault } => push_curve_fault(alloc, out, *index, fault),
         ReadFault::Denominator => push_word(out, b"10"),
         ReadFault::Horizon { limit } => push_numbered(alloc, out, b"11 ", *limit as u128),
+        // No rule, and excluded by the condition.
         ReadFault::Memory => Ok(()),
     }
 }
@@ -153,7 +157,8 @@ fn push_curve_fault(
     index: usize,
     fault: &CurveFault,
 ) -> Result<(), AllocError>
-    ensures ok { OnOk result (out.new.items ≡ out.old.items ++ (codes "9 breakpoints_by_type/" ++ decimal index ++ codes " " ++ curve_text fault.now)) }
+    requires { fault.now ≢ CurveFault.Memory }
+    ensures ok { OnOk result (out.new.items ≡ out.old.items ++ curve_fault_text index fault.now) }
     ensures err { OnErr result (IsPrefixOf out.old.items out.new.items) }
 {
     push_numbered(alloc, out, b"9 breakpoints_by_type/", index as u128)?;
@@ -163,6 +168,7 @@ fn push_curve_fault(
 
 /// Appends the broken rule of a curve.
 fn push_curve_rule(alloc: Global, out: &mut Vec<u8>, fault: &CurveFault) -> Result<(), AllocError>
+    requires { fault.now ≢ CurveFault.Memory }
     ensures ok { OnOk result (out.new.items ≡ out.old.items ++ curve_text fault.now) }
     ensures err { OnErr result (IsPrefixOf out.old.items out.new.items) }
 {
@@ -172,12 +178,14 @@ fn push_curve_rule(alloc: Global, out: &mut Vec<u8>, fault: &CurveFault) -> Resu
         CurveFault::Concave { index } => push_numbered(alloc, out, b"concave ", *index as u128),
         CurveFault::Short { last } => push_numbered(alloc, out, b"short ", *last as u128),
         CurveFault::TooMany => push_word(out, b"toomany"),
+        // No rule, and excluded by the condition.
         CurveFault::Memory => Ok(()),
     }
 }
 
 /// Appends the number of a broken rule of a route, and its place.
 fn push_route_fault(alloc: Global, out: &mut Vec<u8>, fault: &RouteFault) -> Result<(), AllocError>
+    requires { fault.now ≢ RouteFault.Memory }
     ensures ok { OnOk result (out.new.items ≡ out.old.items ++ route_text fault.now) }
     ensures err { OnErr result (IsPrefixOf out.old.items out.new.items) }
 {
@@ -188,18 +196,21 @@ fn push_route_fault(alloc: Global, out: &mut Vec<u8>, fault: &RouteFault) -> Res
         RouteFault::Ends => push_word(out, b"4"),
         RouteFault::InnerDepot { at } => push_numbered(alloc, out, b"5 at ", *at as u128),
         RouteFault::Again { at } => push_numbered(alloc, out, b"6 at ", *at as u128),
+        // No rule, and excluded by the condition.
         RouteFault::Memory => Ok(()),
     }
 }
 
 /// Appends the number of a broken rule of a plan's text, and its place or the text's length.
 fn push_plan_fault(alloc: Global, out: &mut Vec<u8>, fault: &PlanText) -> Result<(), AllocError>
+    requires { fault.now ≢ PlanText.Memory }
     ensures ok { OnOk result (out.new.items ≡ out.old.items ++ plan_fault_text fault.now) }
     ensures err { OnErr result (IsPrefixOf out.old.items out.new.items) }
 {
     match fault {
         PlanText::Bad { fault } => push_text_fault(alloc, out, fault),
         PlanText::TooLong { len } => push_numbered(alloc, out, b"5 ", *len as u128),
+        // No rule, and excluded by the condition.
         PlanText::Memory => Ok(()),
     }
 }

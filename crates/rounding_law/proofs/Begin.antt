@@ -25,6 +25,6 @@ begins g k j start (first ∷ stops) none feasible =
     record {
       from = omega (arith, node, some_node g first.node stops feasible.plan.2 feasible.plan.3);
       stops_left = feasible.plan.3;
-      kept = feasible.battery;
+      kept = feasible.battery.0;
       told = refl;
     }

@@ -32,7 +32,7 @@ only_from g k j from level (s ∷ ss) (w ∷ ws) some kept nodes marks levels =
     subst (λ n. levels_from g 1 n (leaving_level g 1 from (whole_level k j level) w) ws ≡ map (λ z. whole_level k j z) (levels_from g k s.node (leaving_level g k from level s) ss)) node later in
     let more_levels : levels_from g 1 s.node (whole_level k j (leaving_level g k from level s)) ws ≡ map (λ z. whole_level k j z) (levels_from g k s.node (leaving_level g k from level s) ss) =
     subst (λ l. levels_from g 1 s.node l ws ≡ map (λ z. whole_level k j z) (levels_from g k s.node (leaving_level g k from level s) ss)) leaves there in
-    let arrives = arrives_rounded g k j from level s some kept.0 in
+    let arrives = arrives_rounded g k j from level s some (omega (arith, kept.0)) in
     let needs : energy g from w.node ≡ energy g from s.node = ap (λ n. energy g from n) node in
     let amount : w.added ≡ whole_level k j (leaving_level g k from level s) - whole_level k j (arriving_level g k from level s) = omega (arith, leaves, arrives, needs) in
     let first : w ≡ rounded_stop g k j from level s = same_stop w s.node (whole_level k j (leaving_level g k from level s) - whole_level k j (arriving_level g k from level s)) s.via node amount mark in
@@ -59,4 +59,4 @@ only_rounding g k j start (first ∷ stops) (w ∷ ws) some lt plan kept whole_p
     let more_levels : levels_from g 1 first.node (whole_level k j (k * start)) ws ≡ map (λ z. whole_level k j z) (levels_from g k first.node (k * start) stops) =
     subst (λ l. levels_from g 1 first.node l ws ≡ map (λ z. whole_level k j z) (levels_from g k first.node (k * start) stops)) begins there in
     ap (λ (t : Stop). t ∷ ws) same
-    ∙ ap (λ ts. first ∷ ts) (only_from g k j first.node (k * start) stops ws some kept more_nodes more_marks more_levels)
+    ∙ ap (λ ts. first ∷ ts) (only_from g k j first.node (k * start) stops ws some kept.0 more_nodes more_marks more_levels)

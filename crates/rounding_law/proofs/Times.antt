@@ -1,16 +1,18 @@
--- The times of the rounded plans add up to the plan's time.
-use Rattle.std.proofs.Common.{◌≡◌, ◌∙◌, ℕ, zero, suc, ◌+◌, ◌-◌, ◌*◌, ◌<◌, ◌≤◌, arith, refl, ap, List, [], ◌∷◌, Option, Some, None, get_or, inl, inr}
+-- The times of the rounded plans add up to the plan's time, but for times of plugging in where a rounded stop charges nothing.
+use Rattle.std.proofs.Common.{◌≡◌, ◌∙◌, ℕ, zero, suc, ◌+◌, ◌-◌, ◌*◌, ◌<◌, ◌≤◌, arith, refl, sym, ap, List, [], ◌∷◌, Option, Some, None, get_or, inl, inr}
 use Rattle.std.specs.List.{All}
+use Rattle.std.specs.Prelude.{nat_lt, if◌then◌else◌}
 use Rattle.std.proofs.Math.Nat.{mul-le-mul_left}
 use Rattle.std.proofs.lemmas.Bool.{cases_lt}
+use Rattle.std.proofs.lemmas.Bool.Decides.{nat_tests}
 use Rattle.std.proofs.lemmas.List.Elements.{All-head, All-tail}
 use Rattle.ev_model.specs.Curve.{charge_time, charge_time_in}
 use Rattle.ev_model.specs.Levels.{arriving_level, KeepsBatteryFrom, leaving_level}
-use Rattle.ev_model.specs.Network.{curve_at, energy, HasFittingCurve, IsNetwork, Network, process_time, travel_time}
-use Rattle.ev_model.specs.Time.{charging_time, stop_time, time_from}
+use Rattle.ev_model.specs.Network.{curve_at, energy, HasFittingCurve, IsNetwork, Network, plug_time, process_time, travel_time}
+use Rattle.ev_model.specs.Time.{charging_time, plugging_time, stop_time, time_from}
 use Rattle.ev_model.specs.declared.Stop.{Stop}
 use Rattle.ev_model.proofs.ChargeTime.{charge_time-rises, charge_time_in-one}
-use Rattle.rounding_law.specs.Rounding.{rounded_from, rounded_stop, whole_level}
+use Rattle.rounding_law.specs.Rounding.{PaysNoPlugTime, rounded_from, rounded_stop, whole_level}
 use Rattle.rounding_law.specs.Sums.{sum_below}
 use Rattle.rounding_law.proofs.Floors.{values_add_up, whole_level-rises, whole_level-shift}
 
@@ -30,7 +32,7 @@ sum_const : (c n : ℕ) → sum_below (λ j. c) n ≡ n * c
 sum_const c zero = omega arith
 sum_const c (suc n) = omega (arith, sum_const c n)
 
-sum_le : (f h : ℕ → ℕ) (n : ℕ) → ((j : ℕ) → j < n → h j ≤ f j) → sum_below h n ≤ sum_below f n
+pub sum_le : (f h : ℕ → ℕ) (n : ℕ) → ((j : ℕ) → j < n → h j ≤ f j) → sum_below h n ≤ sum_below f n
 sum_le f h zero e = omega arith
 sum_le f h (suc n) e = omega (arith, sum_le f h n (λ j lt. e j (omega arith)), e n (omega arith))
 
@@ -89,32 +91,85 @@ leaving_is_rounded g k j from level s some enough =
     let more = whole_level-rises k j (arriving_level g k from level s) (leaving_level g k from level s) some (omega arith) in
     omega (arith, arriving, more)
 
+-- a stop that charges nothing charges nothing in whole units
+pub adds_some : (k j x a : ℕ) → 0 < whole_level k j (x + a) - whole_level k j x → 0 < a
+adds_some k j x zero more =
+    let same : x + 0 ≡ x = omega arith in
+    let none : 0 < whole_level k j x - whole_level k j x = rw same at more in
+    absurd (omega (arith, none))
+adds_some k j x (suc a) more = omega arith
+
+paid_only : (time a b : ℕ) → (0 < a → 0 < b) → (if nat_lt 0 a then time else 0) ≤ (if nat_lt 0 b then time else 0)
+paid_only time zero b only = omega arith
+paid_only time (suc a) zero only = let none = only (omega arith) in absurd (omega (arith, none))
+paid_only time (suc a) (suc b) only = grind (arith, nat_tests)
+
+-- a rounded stop plugs in only where the stop does
+plugs_in_only : (g : Network) (k j from level : ℕ) (s : Stop) → plugging_time g (rounded_stop g k j from level s) ≤ plugging_time g s
+plugs_in_only g k j from level s =
+    paid_only (plug_time g s.node) (whole_level k j (leaving_level g k from level s) - whole_level k j (arriving_level g k from level s)) s.added
+    (adds_some k j (arriving_level g k from level s) s.added)
+
+-- the scaled time that a rounded stop saves: that of plugging in, where it charges nothing and the stop does
+abbrev saved_time : Network → ℕ → ℕ → ℕ → ℕ → Stop → ℕ
+saved_time g k j from level s = g.denominator * (plugging_time g s - plugging_time g (rounded_stop g k j from level s))
+
+abbrev pub saved_from : Network → ℕ → ℕ → ℕ → ℕ → List Stop → ℕ
+saved_from g k j from level [] = 0
+saved_from g k j from level (s ∷ ss) = saved_time g k j from level s + saved_from g k j s.node (leaving_level g k from level s) ss
+
+-- where no stop that charges has a plug time, nothing is saved
+pub nothing_saved : (g : Network) (k j from level : ℕ) (stops : List Stop) → PaysNoPlugTime g stops → saved_from g k j from level stops ≡ 0
+nothing_saved g k j from level [] none = refl
+nothing_saved g k j from level (s ∷ ss) free_all =
+    let free : plugging_time g s ≡ 0 = unpaid (plug_time g s.node) s.added (All-head (λ t. 0 < t.added → plug_time g t.node ≡ 0) s ss free_all) in
+    let rest = nothing_saved g k j s.node (leaving_level g k from level s) ss (All-tail (λ t. 0 < t.added → plug_time g t.node ≡ 0) s ss free_all) in
+    let none : 0 - plugging_time g (rounded_stop g k j from level s) ≡ 0 = omega arith in
+    rw (free, rest, none) (omega arith)
+  where
+    unpaid : (time a : ℕ) → (0 < a → time ≡ 0) → (if nat_lt 0 a then time else 0) ≡ 0
+    unpaid time zero free = refl
+    unpaid time (suc a) free = let none = free (omega arith) in grind (arith, nat_tests, none)
+
+split : (d a p q : ℕ) → p ≤ q → 1 * (d * (a + p)) + d * (q - p) ≡ d * (a + q)
+split d a p q le =
+    let parts : q ≡ p + (q - p) = omega arith in
+    ap (λ x. 1 * x + d * (q - p)) refl ∙ omega arith ∙ ap (λ x. d * (a + x)) (sym parts)
+
 -- the times of a stop add up
 stop_times_add_up : (g : Network) (k from level : ℕ) (s : Stop) → 0 < k → IsNetwork g → k * energy g from s.node ≤ level →
-    sum_below (λ j. stop_time g 1 from (whole_level k j level) (rounded_stop g k j from level s)) k ≡ stop_time g k from level s
+    sum_below (λ j. stop_time g 1 from (whole_level k j level) (rounded_stop g k j from level s) + saved_time g k j from level s) k ≡ stop_time g k from level s
 stop_times_add_up g k from level s some network enough =
-    let fixed = g.denominator * (travel_time g from s.node + process_time g s.node) in
+    let way = travel_time g from s.node + process_time g s.node in
+    let fixed = g.denominator * (way + plugging_time g s) in
     let before = arriving_level g k from level s in
     let after = leaving_level g k from level s in
     let charge = λ (j : ℕ). charging_time 1 g.denominator (curve_at g s.node) (whole_level k j before) (whole_level k j after) in
-    let each : (j : ℕ) → j < k → stop_time g 1 from (whole_level k j level) (rounded_stop g k j from level s) ≡ fixed + charge j = λ j lt.
-    let once : 1 * fixed ≡ fixed = omega arith in
-    rw (leaving_is_rounded g k j from level s some enough, arriving_is_rounded g k j from level s some enough, once) refl in
+    let each : (j : ℕ) → j < k → stop_time g 1 from (whole_level k j level) (rounded_stop g k j from level s) + saved_time g k j from level s ≡ fixed + charge j = λ j lt.
+    let parts = split g.denominator way (plugging_time g (rounded_stop g k j from level s)) (plugging_time g s) (plugs_in_only g k j from level s) in
+    rw (leaving_is_rounded g k j from level s some enough, arriving_is_rounded g k j from level s some enough) (omega (arith, parts)) in
     let charged = charging_adds_up g.denominator k before after (curve_at g s.node) some (omega arith) (rises_at g s.node network) in
     sum_same _ _ k each ∙ sum_add (λ j. fixed) charge k ∙ rw (sum_const fixed k, charged) refl
 
 -- the times of the stops add up
 pub times_add_up : (g : Network) (k from level : ℕ) (stops : List Stop) → 0 < k → IsNetwork g → KeepsBatteryFrom g k from level stops →
-    sum_below (λ j. time_from g 1 from (whole_level k j level) (rounded_from g k j from level stops)) k ≡ time_from g k from level stops
+    sum_below (λ j. time_from g 1 from (whole_level k j level) (rounded_from g k j from level stops) + saved_from g k j from level stops) k ≡ time_from g k from level stops
 times_add_up g k from level [] some network kept = sum_zero k
 times_add_up g k from level (s ∷ ss) some network kept =
+    let enough : k * energy g from s.node ≤ level = omega (arith, kept.0) in
     let after = leaving_level g k from level s in
-    let now = λ (j : ℕ). stop_time g 1 from (whole_level k j level) (rounded_stop g k j from level s) in
-    let rest = λ (j : ℕ). time_from g 1 s.node (whole_level k j after) (rounded_from g k j s.node after ss) in
-    let each : (j : ℕ) → j < k → time_from g 1 from (whole_level k j level) (rounded_from g k j from level (s ∷ ss)) ≡ now j + rest j =
-    λ j lt. ap (λ l. now j + time_from g 1 s.node l (rounded_from g k j s.node after ss)) (leaving_is_rounded g k j from level s some kept.0) in
+    let now = λ (j : ℕ). stop_time g 1 from (whole_level k j level) (rounded_stop g k j from level s) + saved_time g k j from level s in
+    let rest = λ (j : ℕ). time_from g 1 s.node (whole_level k j after) (rounded_from g k j s.node after ss) + saved_from g k j s.node after ss in
+    let each : (j : ℕ) → j < k → time_from g 1 from (whole_level k j level) (rounded_from g k j from level (s ∷ ss)) + saved_from g k j from level (s ∷ ss) ≡ now j + rest j =
+    λ j lt. regroup (stop_time g 1 from (whole_level k j level) (rounded_stop g k j from level s)) (saved_time g k j from level s)
+    (saved_from g k j s.node after ss) (time_from g 1 s.node (leaving_level g 1 from (whole_level k j level) (rounded_stop g k j from level s)) (rounded_from g k j s.node after ss))
+    (time_from g 1 s.node (whole_level k j after) (rounded_from g k j s.node after ss))
+    (ap (λ l. time_from g 1 s.node l (rounded_from g k j s.node after ss)) (leaving_is_rounded g k j from level s some enough)) in
     sum_same _ _ k each ∙ sum_add now rest k
-    ∙ rw (stop_times_add_up g k from level s some network kept.0, times_add_up g k s.node after ss some network kept.2) refl
+    ∙ rw (stop_times_add_up g k from level s some network enough, times_add_up g k s.node after ss some network kept.2) refl
+  where
+    regroup : (a b c later same : ℕ) → later ≡ same → a + later + (b + c) ≡ a + b + (same + c)
+    regroup a b c later same e = omega (arith, e)
 
 -- one of n numbers is at most their average
 pub below_average : (f : ℕ → ℕ) (n : ℕ) → (j : ℕ) × (j < suc n) × (suc n * f j ≤ sum_below f (suc n))

@@ -2,27 +2,54 @@
 use Rattle.std.proofs.Common.{◌≡◌, ◌∙◌, ℕ, zero, suc, ◌+◌, ◌*◌, ◌<◌, ◌≤◌, arith, sym, ap, List, [], ◌∷◌, inl, inr}
 use Rattle.std.proofs.Math.Nat.{mul-le-mul_left}
 use Rattle.std.proofs.lemmas.Bool.{cases_lt}
+use Rattle.std.proofs.lemmas.List.Elements.{All-tail}
 use Rattle.ev_model.specs.Fastest.{HasNoPlan, IsFastest}
 use Rattle.ev_model.specs.Feasible.{IsFeasible}
 use Rattle.ev_model.specs.Levels.{KeepsBattery}
-use Rattle.ev_model.specs.Network.{IsNetwork, Network, scaled_limit}
+use Rattle.ev_model.specs.Network.{IsNetwork, Network, plug_time, scaled_limit}
 use Rattle.ev_model.specs.Route.{FollowsRoute}
 use Rattle.ev_model.specs.Time.{time_from, time_of}
 use Rattle.ev_model.specs.declared.Stop.{Stop}
-use Rattle.rounding_law.specs.Rounding.{rounded_from, rounded_plan, whole_level}
+use Rattle.rounding_law.specs.Rounding.{PaysNoPlugTime, rounded_from, rounded_plan, whole_level}
 use Rattle.rounding_law.specs.Sums.{sum_below}
 use Rattle.rounding_law.proofs.Shape.{rounded_is_plan, rounded_keeps_battery, same_plan_route, start_stays}
-use Rattle.rounding_law.proofs.Times.{below_average, sum_same, sum_zero, times_add_up}
+use Rattle.rounding_law.proofs.Times.{below_average, nothing_saved, saved_from, sum_le, sum_same, sum_zero, times_add_up}
 
--- the times of the rounded plans add up to the plan's time
-pub plan_times_add_up : (g : Network) (k start : ℕ) (stops : List Stop) → 0 < k → IsNetwork g → KeepsBattery g k start stops →
-    sum_below (λ j. time_of g 1 start (rounded_plan g k j start stops)) k ≡ time_of g k start stops
+-- what the rounded plans save
+abbrev saved_of : Network → ℕ → ℕ → ℕ → List Stop → ℕ
+saved_of g k j start [] = 0
+saved_of g k j start (first ∷ stops) = saved_from g k j first.node (k * start) stops
+
+-- the times of the rounded plans and what they save add up to the plan's time
+plan_times_add_up : (g : Network) (k start : ℕ) (stops : List Stop) → 0 < k → IsNetwork g → KeepsBattery g k start stops →
+    sum_below (λ j. time_of g 1 start (rounded_plan g k j start stops) + saved_of g k j start stops) k ≡ time_of g k start stops
 plan_times_add_up g k start [] some network kept = sum_zero k
 plan_times_add_up g k start (first ∷ stops) some network kept =
     let rest = λ (j : ℕ). rounded_from g k j first.node (k * start) stops in
-    let each : (j : ℕ) → j < k → time_of g 1 start (rounded_plan g k j start (first ∷ stops)) ≡ time_from g 1 first.node (whole_level k j (k * start)) (rest j) =
-    λ j lt. ap (λ l. time_from g 1 first.node l (rest j)) (sym (start_stays k j start some lt)) in
-    sum_same _ _ k each ∙ times_add_up g k first.node (k * start) stops some network kept
+    let saved = λ (j : ℕ). saved_from g k j first.node (k * start) stops in
+    let each : (j : ℕ) → j < k → time_of g 1 start (rounded_plan g k j start (first ∷ stops)) + saved j ≡ time_from g 1 first.node (whole_level k j (k * start)) (rest j) + saved j =
+    λ j lt. ap (λ l. time_from g 1 first.node l (rest j) + saved j) (sym (start_stays k j start some lt)) in
+    sum_same _ _ k each ∙ times_add_up g k first.node (k * start) stops some network kept.0
+
+-- the times of the rounded plans add up to at most the plan's time
+pub plan_times_at_most : (g : Network) (k start : ℕ) (stops : List Stop) → 0 < k → IsNetwork g → KeepsBattery g k start stops →
+    sum_below (λ j. time_of g 1 start (rounded_plan g k j start stops)) k ≤ time_of g k start stops
+plan_times_at_most g k start stops some network kept =
+    let all = plan_times_add_up g k start stops some network kept in
+    let fewer = sum_le (λ j. time_of g 1 start (rounded_plan g k j start stops) + saved_of g k j start stops) (λ j. time_of g 1 start (rounded_plan g k j start stops)) k
+    (λ j lt. omega arith) in
+    omega (arith, all, fewer)
+
+-- and to the plan's time, where no plug time is paid
+pub plan_times_exact : (g : Network) (k start : ℕ) (stops : List Stop) → 0 < k → IsNetwork g → KeepsBattery g k start stops → PaysNoPlugTime g stops →
+    sum_below (λ j. time_of g 1 start (rounded_plan g k j start stops)) k ≡ time_of g k start stops
+plan_times_exact g k start [] some network kept free = sum_zero k
+plan_times_exact g k start (first ∷ stops) some network kept free =
+    let later = All-tail (λ s. 0 < s.added → plug_time g s.node ≡ 0) first stops free in
+    let each : (j : ℕ) → j < k → time_of g 1 start (rounded_plan g k j start (first ∷ stops))
+    ≡ time_of g 1 start (rounded_plan g k j start (first ∷ stops)) + saved_of g k j start (first ∷ stops) =
+    λ j lt. let none = nothing_saved g k j first.node (k * start) stops later in omega (arith, none) in
+    sum_same _ _ k each ∙ plan_times_add_up g k start (first ∷ stops) some network kept
 
 -- one of the rounded plans is no slower
 one_no_slower : (g : Network) (k start : ℕ) (stops : List Stop) → 0 < k → IsNetwork g → KeepsBattery g k start stops →
@@ -30,7 +57,8 @@ one_no_slower : (g : Network) (k start : ℕ) (stops : List Stop) → 0 < k → 
 one_no_slower g zero start stops some network kept = absurd (omega (arith, some))
 one_no_slower g (suc n) start stops some network kept =
     let found = below_average (λ j. time_of g 1 start (rounded_plan g (suc n) j start stops)) n in
-    (found.0, found.1, rw (plan_times_add_up g (suc n) start stops some network kept) at found.2)
+    let all = plan_times_at_most g (suc n) start stops some network kept in
+    (found.0, found.1, omega (arith, found.2, all))
 
 pub some_kths : (g : Network) (k start : ℕ) (stops : List Stop) → IsFeasible g k start stops → 0 < k
 some_kths g k start [] feasible = absurd feasible.plan

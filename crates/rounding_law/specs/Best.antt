@@ -4,7 +4,7 @@ use Rattle.ev_model.specs.Feasible.{IsFeasible}
 use Rattle.ev_model.specs.Network.{Network}
 use Rattle.ev_model.specs.Time.{time_of}
 use Rattle.ev_model.specs.declared.Stop.{Stop}
-use Rattle.rounding_law.specs.Rounding.{rounded_plan}
+use Rattle.rounding_law.specs.Rounding.{rounded_plan, rounded_time}
 
 -- the time of a whole plan, none where it is not feasible
 abbrev pub IsTimeOf : Network → ℕ → List Stop → Option ℕ → Type 0
@@ -22,4 +22,4 @@ pub record IsFastestOffset (g : Network) (k start : ℕ) (stops : List Stop) (of
   pub below : offset < k
   pub feasible : IsFeasible g 1 start (rounded_plan g k offset start stops)
   pub fastest : (j : ℕ) → j < k → IsFeasible g 1 start (rounded_plan g k j start stops)
-      → time_of g 1 start (rounded_plan g k offset start stops) ≤ time_of g 1 start (rounded_plan g k j start stops)
+      → rounded_time g k offset start stops ≤ rounded_time g k j start stops

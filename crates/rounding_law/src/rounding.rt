@@ -14,10 +14,10 @@ use std::alloc::{AllocError, Global};
 
 /// The whole plan that a plan in kths of a unit rounds to with the offset `j`, which is below `k`.
 ///
-/// `p` is a feasible plan from the charge `start`, in whole units. Each battery level of `z` kths along
-/// the plan becomes `(z + j) / k` units, rounded down, with the same `j` throughout; the amounts are
-/// the differences of these levels. The stops' nodes and marks stay, and the battery stays between
-/// empty and full. The plan may last longer than the limit; see [`crate::best_rounding`].
+/// `p` is a feasible plan from the charge `start`, in whole units. Each battery level of `z` kths
+/// along the plan becomes `(z + j) / k` units, rounded down, with the same `j` throughout; the amounts
+/// are the differences of these levels. The stops' nodes and marks stay, and the battery is kept. The
+/// plan may last longer than the limit; see [`crate::best_rounding`].
 pub fn rounded(
     alloc: Global,
     p: &FracPlan,
@@ -27,8 +27,10 @@ pub fn rounded(
 ) -> Result<RoutePlan, AllocError>
     requires feasible { IsFeasible inst.now p.now.k start p.now.stops }
     requires offset { j < p.now.k }
-    ensures exact { IfOk result (λ whole. whole.stops ≡ rounded_plan inst.now p.now.k j start p.now.stops) }
-    ensures rounded { IfOk result (λ whole. IsRounded inst.now p.now.k j start p.now.stops whole.stops) }
+    ensures exact { IfOk result (λ whole.
+        whole.stops ≡ rounded_plan inst.now p.now.k j start p.now.stops) }
+    ensures rounded { IfOk result (λ whole.
+        IsRounded inst.now p.now.k j start p.now.stops whole.stops) }
     ensures plan { IfOk result (λ whole. IsPlan inst.now whole.stops) }
     ensures battery { IfOk result (λ whole. KeepsBattery inst.now 1 start whole.stops) }
 {
@@ -48,7 +50,8 @@ fn rounded_stops(
 ) -> Result<Vec<Stop>, AllocError>
     requires feasible { IsFeasible inst.now p.now.k start p.now.stops }
     requires offset { j < p.now.k }
-    ensures { IfOk result (λ whole. whole.items ≡ rounded_plan inst.now p.now.k j start p.now.stops) }
+    ensures { IfOk result (λ whole.
+        whole.items ≡ rounded_plan inst.now p.now.k j start p.now.stops) }
 {
     let stops = p.stops.as_slice();
     let full = p.k as u128 * inst.max_q() as u128;

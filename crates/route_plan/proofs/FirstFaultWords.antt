@@ -1,6 +1,7 @@
 -- The fault of the text of a route's word is the first from the left.
-use Rattle.std.proofs.Common.{◌≡◌, ◌≢◌, ◌∙◌, inl, inr, ℕ, zero, suc, ◌+◌, ◌^◌, ◌<◌, ◌≤◌, ◌==◌, true, false, List, [], ◌∷◌, ◌++◌, decimal, length, length-drop, take, Result, Ok, Err, refl, sym, ap, subst, append_assoc, append-nil, arith}
+use Rattle.std.proofs.Common.{◌≡◌, ◌≢◌, ◌∙◌, inl, inr, ℕ, zero, suc, ◌+◌, ◌^◌, ◌<◌, ◌≤◌, ◌==◌, true, false, List, [], ◌∷◌, ◌++◌, decimal, length, length-append, length-drop, take, Result, Ok, Err, refl, sym, ap, subst, append_assoc, append-nil, arith}
 use Rattle.std.specs.List.{All}
+use Rattle.std.proofs.Math.Seq.{take-append_seam}
 use Rattle.std.proofs.lemmas.Bool.{cases_eq, eq-eqb, ne_eqb}
 use Rattle.std.proofs.lemmas.List.Elements.{All-cons, All-head, All-nil, All-tail}
 use Rattle.ev_text.specs.Numerals.{BeginsWithoutDigit}
@@ -8,16 +9,15 @@ use Rattle.ev_text.specs.Scans.{and_then, rest_of, whole_at, word_at, TakesNumbe
 use Rattle.ev_text.specs.declared.TextFault.{TextFault}
 use Rattle.ev_text.specs.declared.TextFault.TheVariants.{NotWhole, TooLarge, Word}
 use Rattle.ev_text.proofs.Readings.{TakesNumber-from_whole_at, TakesWord-from_word_at, number_read, same_number, whole_at-cases, word_at-word}
-use Rattle.route_plan.specs.FirstFault.{BeginsRouteWord, IsNoEnd}
-use Rattle.route_plan.specs.RouteWords.{SpellsRoute, comma_at, more_nodes, next_at, node_at, nodes_in, or_text, with_nodes}
+use Rattle.ev_text.specs.Texts.{Begins, IsNoEnd, fault_place}
+use Rattle.route_plan.specs.RouteWords.{BeginsRouteWord, SpellsRoute, read_comma, more_nodes, read_next, read_node, nodes_in, or_text, with_nodes}
 use Rattle.route_plan.specs.declared.route.RouteFault.{RouteFault}
 use Rattle.route_plan.specs.declared.route.RouteFault.TheVariants.{Text}
-use Rattle.route_plan.proofs.FirstFaultGrown.{Keeps, Within, grown, past_within, rest_of-grown}
-use Rattle.route_plan.proofs.FirstFaultMended.{Begins, IsMended, behind, fault_of_two, mended-behind, mended-here, mended-map, word_moves}
-use Rattle.route_plan.proofs.FirstFaultNumbers.{keeps-whole}
-use Rattle.route_plan.proofs.FirstFaultWhole.{first_fault}
-use Rattle.route_plan.proofs.PlanReadingParts.{small_limit}
-use Rattle.route_plan.proofs.Spelled.{Err-ne-Ok, IsSmall, and_then-ok, begins_without_digit, behind_commas, or_text-ok, route_text-cons}
+use Rattle.ev_text.proofs.Grown.{Keeps, Within, grown, past_within, rest_of-grown}
+use Rattle.ev_text.proofs.Mended.{IsMended, behind, mended-behind, mended-here, mended-map}
+use Rattle.ev_text.proofs.Results.{Err-ne-Ok, and_then-ok, fault_of_two}
+use Rattle.ev_text.proofs.GrownNumbers.{keeps-whole}
+use Rattle.route_plan.proofs.Spelled.{IsSmall, begins_without_digit, behind_commas, or_text-ok, route_text-cons, small_limit}
 
 -- the words of routes
 abbrev IsRouteWord : List ℕ → Type 0
@@ -84,7 +84,7 @@ module _ (s : List ℕ × ℕ) (within : Within s) where
       let refused = keeps.1 (no_end other less is) in
       Err-ne-Ok other (m, (s.0 ++ more, s.1 + length (decimal m))) (sym refused ∙ later.0)
 
-  no_number : (fault : RouteFault) → node_at s ≡ Err fault → IsFirst s fault
+  no_number : (fault : RouteFault) → read_node s ≡ Err fault → IsFirst s fault
   no_number fault is =
       let none = missing s (whole_at (10 ^ 9) s) fault is in
       record {
@@ -103,7 +103,7 @@ module _ (s u : List ℕ × ℕ) (n : ℕ) (takes : TakesNumber (10 ^ 9) n s u) 
   goes_on : (more : List ℕ) → IsRouteWord (rest_of s ++ more) → IsRouteWord (decimal n ++ (rest_of u ++ more))
   goes_on more = subst IsRouteWord (ap (λ xs. xs ++ more) takes.number.spelled ∙ append_assoc (decimal n) (rest_of u) more)
 
-  no_comma : rest_of u ≢ [] → comma_at u ≡ Err fault → IsFirst s fault
+  no_comma : rest_of u ≢ [] → read_comma u ≡ Err fault → IsFirst s fault
   no_comma some is =
       let none = missing u (word_at (44 ∷ []) u) fault is in
       record {
@@ -131,8 +131,8 @@ module _ (s u : List ℕ × ℕ) (n : ℕ) (takes : TakesNumber (10 ^ 9) n s u) 
     is = rest.is;
     mended =
         mended-behind IsRouteWord s (Word rest.at) (decimal n) u takes.number.spelled number_moves
-        (mended-behind (behind (decimal n) IsRouteWord) u (Word rest.at) (44 ∷ []) t comma.standing (word_moves (44 ∷ []) u t comma)
-        (mended-map IsRouteWord (behind (44 ∷ []) (behind (decimal n) IsRouteWord)) t (Word rest.at) (λ text word. in_front n text takes.within word) rest.mended));
+        (mended-behind (behind (decimal n) IsRouteWord) u (Word rest.at) (44 ∷ []) t comma.standing (ap (λ (v : List ℕ × ℕ). v.1) comma.moved)
+        (mended-map IsRouteWord (behind (44 ∷ []) (behind (decimal n) IsRouteWord)) t (Word rest.at) (λ text begins. (begins.0, in_front n (text ++ begins.0) takes.within begins.1)) rest.mended));
     hopeless = λ less begins.
         let same : length t.0 ≡ length s.0 = ap (λ (v : List ℕ × ℕ). length v.0) comma.moved ∙ ap (λ (v : List ℕ × ℕ). length v.0) takes.moved in
         rest.hopeless (omega (arith, less, same))
@@ -146,7 +146,7 @@ with_nodes-err first (Err other) fault is = is
 more_within : (s t : List ℕ × ℕ) (word : List ℕ) → Within s → TakesWord word s t → Within t
 more_within s t word within takes = subst Within (sym takes.moved) (past_within word (rest_of t) s within takes.standing)
 
-first_of_more : (most : ℕ) (s u : List ℕ × ℕ) (n : ℕ) (fault : RouteFault) → Within s → node_at s ≡ Ok (n, u) → more_nodes most u ≡ Err fault → IsFirst s fault
+first_of_more : (most : ℕ) (s u : List ℕ × ℕ) (n : ℕ) (fault : RouteFault) → Within s → read_node s ≡ Ok (n, u) → more_nodes most u ≡ Err fault → IsFirst s fault
 first_of_more zero s u n fault within found is = absurd (Err-ne-Ok fault [] (sym is))
 first_of_more (suc most) s u n fault within found is = elim (cases_eq (length (rest_of u)) 0) [
   | inl none ↦ let at_end : (length (rest_of u) == 0) ≡ true = eq-eqb (length (rest_of u)) 0 none in absurd (Err-ne-Ok fault [] (sym (rw at_end at is)))
@@ -164,24 +164,24 @@ first_of_more (suc most) s u n fault within found is = elim (cases_eq (length (r
     others : ℕ × (List ℕ × ℕ) → Result (List ℕ) RouteFault
     others found = with_nodes (found.0 ∷ []) (more_nodes most found.1)
 
-    comma : (t : List ℕ × ℕ) → comma_at u ≡ Ok t → TakesWord (44 ∷ []) u t
+    comma : (t : List ℕ × ℕ) → read_comma u ≡ Ok t → TakesWord (44 ∷ []) u t
     comma t is = TakesWord-from_word_at (44 ∷ []) u t (or_text-ok u (word_at (44 ∷ []) u) t is)
 
-    next : rest_of u ≢ [] → and_then (next_at u) others ≡ Err fault
-        → ((t v : List ℕ × ℕ) (m : ℕ) (fault : RouteFault) → Within t → node_at t ≡ Ok (m, v) → more_nodes most v ≡ Err fault → IsFirst t fault) → IsFirst s fault
-    next some refused later = elim (fault_of_two (next_at u) others fault refused) [
-      | inl none ↦ elim (fault_of_two (comma_at u) node_at fault none) [
+    next : rest_of u ≢ [] → and_then (read_next u) others ≡ Err fault
+        → ((t v : List ℕ × ℕ) (m : ℕ) (fault : RouteFault) → Within t → read_node t ≡ Ok (m, v) → more_nodes most v ≡ Err fault → IsFirst t fault) → IsFirst s fault
+    next some refused later = elim (fault_of_two (read_next u) others fault refused) [
+      | inl none ↦ elim (fault_of_two (read_comma u) read_node fault none) [
         | inl none ↦ no_comma s u n takes fault some none
         | inr h ↦ behind_comma s u n takes fault h.0 (comma h.0 h.1) (no_number h.0 (more_within u h.0 (44 ∷ []) inside (comma h.0 h.1)) fault h.2)
       ]
       | inr h ↦
-          let t = and_then-ok (comma_at u) node_at h.0 h.1 in
+          let t = and_then-ok (read_comma u) read_node h.0 h.1 in
           behind_comma s u n takes fault t.0 (comma t.0 t.1)
           (later t.0 h.0.1 h.0.0 fault (more_within u t.0 (44 ∷ []) inside (comma t.0 t.1)) t.2 (with_nodes-err (h.0.0 ∷ []) (more_nodes most h.0.1) fault h.2))
     ]
 
 first_of_word : (word : List ℕ) (fault : RouteFault) → nodes_in word ≡ Err fault → IsFirst (word, 0) fault
-first_of_word word fault is = elim (fault_of_two (node_at (word, 0)) others fault is) [
+first_of_word word fault is = elim (fault_of_two (read_node (word, 0)) others fault is) [
   | inl none ↦ no_number (word, 0) (omega arith) fault none
   | inr h ↦ first_of_more (length word) (word, 0) h.0.1 h.0.0 fault (omega arith) h.1 (with_nodes-err (h.0.0 ∷ []) (more_nodes (length word) h.0.1) fault h.2)
 ]
@@ -191,6 +191,13 @@ first_of_word word fault is = elim (fault_of_two (node_at (word, 0)) others faul
 
 pub only_its_text : (word : List ℕ) (fault : RouteFault) → nodes_in word ≡ Err fault → (at : ℕ) × (fault ≡ Text at)
 only_its_text word fault is = let first = first_of_word word fault is in (first.at, first.is)
+
+-- what a fault of the bytes says of them
+first_fault : (Language : List ℕ → Type 0) (bytes : List ℕ) (fault : TextFault) → IsMended Language (bytes, 0) fault → Begins Language (take (fault_place fault) bytes) × (fault_place fault ≤ length bytes)
+first_fault Language bytes fault mended =
+    let at : length mended.front ≡ fault_place fault = omega (arith, mended.place) in
+    let front : take (fault_place fault) bytes ≡ mended.front = ap (λ n. take n bytes) (sym at) ∙ ap (λ xs. take (length mended.front) xs) mended.parts ∙ take-append_seam mended.front mended.back in
+    (subst (Begins Language) (sym front) mended.before, omega (arith, at, ap (λ xs. length xs) mended.parts, length-append mended.front mended.back))
 
 pub first_of_its_text : (word : List ℕ) (at : ℕ) → nodes_in word ≡ Err (Text at) → (at ≤ length word) × BeginsRouteWord (take at word) × (at < length word → BeginsRouteWord word → ⊥)
 first_of_its_text word at is =

@@ -2,16 +2,16 @@
 use Rattle.std.proofs.Common.{◌≡◌, ◌∙◌, ℕ, zero, suc, ◌<◌, ◌≤◌, ◌==◌, false, List, [], ◌∷◌, ◌++◌, length, Result, Ok, Err, refl, sym, ap, subst, append_assoc, append-nil, arith}
 use Rattle.std.proofs.lemmas.Bool.{ne_eqb}
 use Rattle.ev_text.specs.Scans.{rest_of}
-use Rattle.route_plan.specs.RouteWords.{more_nodes, next_at, node_at, nodes_in, with_nodes}
+use Rattle.route_plan.specs.RouteWords.{more_nodes, read_next, read_node, nodes_in, with_nodes}
 use Rattle.route_plan.specs.declared.route.RouteFault.{RouteFault}
 
 -- the nodes so far and those that follow are all of the word
 abbrev pub IsReadTo : List ℕ → List ℕ → List ℕ × ℕ → Type 0
 IsReadTo word nodes s = (most : ℕ) × (length (rest_of s) ≤ most) × (with_nodes nodes (more_nodes most s) ≡ nodes_in word)
 
-pub begins : (word items : List ℕ) (n : ℕ) (start s : List ℕ × ℕ) → start ≡ (word, 0) → node_at start ≡ Ok (n, s) → length (rest_of s) ≤ length (rest_of start) → items ≡ n ∷ [] → IsReadTo word items s
+pub begins : (word items : List ℕ) (n : ℕ) (start s : List ℕ × ℕ) → start ≡ (word, 0) → read_node start ≡ Ok (n, s) → length (rest_of s) ≤ length (rest_of start) → items ≡ n ∷ [] → IsReadTo word items s
 begins word items n start s start_is found le is =
-    let here : node_at (word, 0) ≡ Ok (n, s) = subst (λ (x : List ℕ × ℕ). node_at x ≡ Ok (n, s)) start_is found in
+    let here : read_node (word, 0) ≡ Ok (n, s) = subst (λ (x : List ℕ × ℕ). read_node x ≡ Ok (n, s)) start_is found in
     (length word, subst (λ (x : List ℕ × ℕ). length (rest_of s) ≤ length (rest_of x)) start_is le, rw (here, is) refl)
 
 with_nodes-twice : (first : List ℕ) (n : ℕ) (rest : Result (List ℕ) RouteFault) → with_nodes first (with_nodes (n ∷ []) rest) ≡ with_nodes (first ++ n ∷ []) rest
@@ -22,7 +22,7 @@ some_length : (xs : List ℕ) → (xs ≡ [] → ⊥) → 0 < length xs
 some_length [] some = absurd (some refl)
 some_length (x ∷ xs) some = omega arith
 
-pub goes_on : (word nodes items : List ℕ) (n : ℕ) (s t : List ℕ × ℕ) → IsReadTo word nodes s → (rest_of s ≡ [] → ⊥) → next_at s ≡ Ok (n, t) → length (rest_of t) < length (rest_of s) → items ≡ nodes ++ n ∷ [] → IsReadTo word items t
+pub goes_on : (word nodes items : List ℕ) (n : ℕ) (s t : List ℕ × ℕ) → IsReadTo word nodes s → (rest_of s ≡ [] → ⊥) → read_next s ≡ Ok (n, t) → length (rest_of t) < length (rest_of s) → items ≡ nodes ++ n ∷ [] → IsReadTo word items t
 goes_on word nodes items n s t (zero, le, is) some found less items_is = absurd (omega (arith, le, some_length (rest_of s) some))
 goes_on word nodes items n s t (suc most, le, is) some found less items_is =
     let more : (length (rest_of s) == 0) ≡ false = ne_eqb (length (rest_of s)) 0 (λ none. absurd (omega (arith, none, some_length (rest_of s) some))) in

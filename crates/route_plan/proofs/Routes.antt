@@ -6,7 +6,9 @@ use Rattle.std.proofs.lemmas.Option.{none-some}
 use Rattle.std.proofs.lemmas.List.Elements.{All-cons, All-head, All-nil, All-tail}
 use Rattle.ev_model.specs.Network.{Network, node_count}
 use Rattle.ev_model.specs.Route.{IsRoute, Moves}
-use Rattle.route_plan.specs.RouteRules.{after_first, ends_at_depot, first_again, first_inner_depot, first_unknown, has_ends, or_again, or_ends, or_inner_depot, or_later, route_fault}
+use Rattle.route_plan.specs.RouteRules.{first_again, first_inner_depot, first_unknown, has_ends, is_depot, or_again, or_ends, or_inner_depot, route_fault}
+use Rattle.route_plan.specs.FirstPlaces.{first_before_last, last_passes, or_later}
+use Rattle.route_plan.specs.Limits.{most_route_nodes}
 use Rattle.route_plan.specs.declared.route.RouteFault.{RouteFault}
 use Rattle.route_plan.specs.declared.route.RouteFault.TheVariants.{Again, Ends, InnerDepot, TooLong, Unknown}
 
@@ -42,39 +44,39 @@ all_move at (n ∷ m ∷ ns) none =
     (differs m n here.0, all_move (at + 1) (m ∷ ns) here.1)
 
 -- nodes that end at the depot, without it
-without_end : (nodes : List ℕ) → ends_at_depot nodes ≡ true → (inner : List ℕ) × (nodes ≡ inner ++ 0 ∷ [])
+without_end : (nodes : List ℕ) → last_passes is_depot nodes ≡ true → (inner : List ℕ) × (nodes ≡ inner ++ 0 ∷ [])
 without_end [] ends = absurd (false≢true ends)
 without_end (n ∷ []) ends = ([], ap (λ x. x ∷ []) (eqb-true n 0 ends))
 without_end (n ∷ m ∷ ns) ends =
     let rest = without_end (m ∷ ns) ends in
     (n ∷ rest.0, ap (λ xs. n ∷ xs) rest.1)
 
-no_depot_inside : (at : ℕ) (inner : List ℕ) → first_inner_depot at (inner ++ 0 ∷ []) ≡ None → All (λ node. node ≢ 0) inner
+no_depot_inside : (at : ℕ) (inner : List ℕ) → first_before_last is_depot at (inner ++ 0 ∷ []) ≡ None → All (λ node. node ≢ 0) inner
 no_depot_inside at [] none = All-nil (λ node. node ≢ 0)
 no_depot_inside at (n ∷ []) none =
-    let here = passed (nat_eq n 0) (first_inner_depot (at + 1) (0 ∷ [])) at none in
+    let here = passed (nat_eq n 0) (first_before_last is_depot (at + 1) (0 ∷ [])) at none in
     All-cons (λ node. node ≢ 0) n [] (differs n 0 here.0) (All-nil (λ node. node ≢ 0))
 no_depot_inside at (n ∷ m ∷ ns) none =
-    let here = passed (nat_eq n 0) (first_inner_depot (at + 1) (m ∷ ns ++ 0 ∷ [])) at none in
+    let here = passed (nat_eq n 0) (first_before_last is_depot (at + 1) (m ∷ ns ++ 0 ∷ [])) at none in
     All-cons (λ node. node ≢ 0) n (m ∷ ns) (differs n 0 here.0) (no_depot_inside (at + 1) (m ∷ ns) here.1)
 
 -- from the depot on
-route_from : (g : Network) (ns : List ℕ) → ends_at_depot ns ≡ true → All (λ node. node < node_count g) (0 ∷ ns) → first_inner_depot 1 ns ≡ None → Moves (0 ∷ ns) → IsRoute g (0 ∷ ns)
+route_from : (g : Network) (ns : List ℕ) → last_passes is_depot ns ≡ true → All (λ node. node < node_count g) (0 ∷ ns) → first_before_last is_depot 1 ns ≡ None → Moves (0 ∷ ns) → IsRoute g (0 ∷ ns)
 route_from g ns ends known none moves =
     let cut = without_end ns ends in (
       cut.0,
       record {
         ends = ap (λ xs. 0 ∷ xs) cut.1;
         known = known;
-        no_depot = no_depot_inside 1 cut.0 (subst (λ (xs : List ℕ). first_inner_depot 1 xs ≡ None) cut.1 none);
+        no_depot = no_depot_inside 1 cut.0 (subst (λ (xs : List ℕ). first_before_last is_depot 1 xs ≡ None) cut.1 none);
         moves = moves;
       },
     )
 
-route_of_ends : (g : Network) (nodes : List ℕ) → has_ends nodes ≡ true → All (λ node. node < node_count g) nodes → first_inner_depot 1 (after_first nodes) ≡ None → Moves nodes → IsRoute g nodes
+route_of_ends : (g : Network) (nodes : List ℕ) → has_ends nodes ≡ true → All (λ node. node < node_count g) nodes → first_inner_depot nodes ≡ None → Moves nodes → IsRoute g nodes
 route_of_ends g [] ends known none moves = absurd (false≢true ends)
 route_of_ends g (n ∷ ns) ends known none moves =
-    let parts = and_parts (nat_eq n 0) (ends_at_depot ns) ends in
+    let parts = and_parts (nat_eq n 0) (last_passes is_depot ns) ends in
     let depot : n ≡ 0 = eqb-true n 0 parts.0 in
     subst (λ x. IsRoute g (x ∷ ns)) (sym depot)
     (route_from g ns parts.1 (subst (λ x. All (λ node. node < node_count g) (x ∷ ns)) depot known) none (subst (λ x. Moves (x ∷ ns)) depot moves))
@@ -82,16 +84,16 @@ route_of_ends g (n ∷ ns) ends known none moves =
 pub is_route : (g : Network) (nodes : List ℕ) → route_fault (node_count g) nodes ≡ None → IsRoute g nodes
 is_route g nodes none =
     let count = node_count g in
-    let few = chosen (nat_le (length nodes) 400) (or_later (first_unknown count 0 nodes) (λ at. Unknown at) (or_ends nodes)) TooLong none in
+    let few = chosen (nat_le (length nodes) most_route_nodes) (or_later (first_unknown count 0 nodes) (λ at. Unknown at) (or_ends nodes)) TooLong none in
     let known = no_fault (first_unknown count 0 nodes) (λ at. Unknown at) (or_ends nodes) few.1 in
     let ends = chosen (has_ends nodes) (or_inner_depot nodes) Ends known.1 in
-    let inner = no_fault (first_inner_depot 1 (after_first nodes)) (λ at. InnerDepot at) (or_again nodes) ends.1 in
+    let inner = no_fault (first_inner_depot nodes) (λ at. InnerDepot at) (or_again nodes) ends.1 in
     let again = no_fault (first_again 1 nodes) (λ at. Again at) None inner.1 in
     route_of_ends g nodes ends.0 (all_known count 0 nodes known.0) inner.0 (all_move 1 nodes again.0)
 
-pub is_short : (g : Network) (nodes : List ℕ) → route_fault (node_count g) nodes ≡ None → length nodes ≤ 400
+pub is_short : (g : Network) (nodes : List ℕ) → route_fault (node_count g) nodes ≡ None → length nodes ≤ most_route_nodes
 is_short g nodes none =
-    leb-true (length nodes) 400 (chosen (nat_le (length nodes) 400) (or_later (first_unknown (node_count g) 0 nodes) (λ at. Unknown at) (or_ends nodes)) TooLong none).0
+    leb-true (length nodes) most_route_nodes (chosen (nat_le (length nodes) most_route_nodes) (or_later (first_unknown (node_count g) 0 nodes) (λ at. Unknown at) (or_ends nodes)) TooLong none).0
 
 -- and of a route no rule is broken
 
@@ -108,12 +110,12 @@ none_again at (n ∷ m ∷ ns) moves =
     let here : nat_eq m n ≡ false = ne_eqb m n moves.0 in
     rw here (none_again (at + 1) (m ∷ ns) moves.1)
 
-ends_behind : (inner : List ℕ) → ends_at_depot (inner ++ 0 ∷ []) ≡ true
+ends_behind : (inner : List ℕ) → last_passes is_depot (inner ++ 0 ∷ []) ≡ true
 ends_behind [] = refl
 ends_behind (n ∷ []) = refl
 ends_behind (n ∷ m ∷ ns) = ends_behind (m ∷ ns)
 
-none_inside : (at : ℕ) (inner : List ℕ) → All (λ node. node ≢ 0) inner → first_inner_depot at (inner ++ 0 ∷ []) ≡ None
+none_inside : (at : ℕ) (inner : List ℕ) → All (λ node. node ≢ 0) inner → first_before_last is_depot at (inner ++ 0 ∷ []) ≡ None
 none_inside at [] others = refl
 none_inside at (n ∷ []) others =
     let here : nat_eq n 0 ≡ false = ne_eqb n 0 (All-head (λ node. node ≢ 0) n [] others) in
@@ -122,11 +124,11 @@ none_inside at (n ∷ m ∷ ns) others =
     let here : nat_eq n 0 ≡ false = ne_eqb n 0 (All-head (λ node. node ≢ 0) n (m ∷ ns) others) in
     rw here (none_inside (at + 1) (m ∷ ns) (All-tail (λ node. node ≢ 0) n (m ∷ ns) others))
 
-pub is_unbroken : (g : Network) (nodes : List ℕ) → IsRoute g nodes → length nodes ≤ 400 → route_fault (node_count g) nodes ≡ None
+pub is_unbroken : (g : Network) (nodes : List ℕ) → IsRoute g nodes → length nodes ≤ most_route_nodes → route_fault (node_count g) nodes ≡ None
 is_unbroken g nodes (inner, is) short =
-    let few : nat_le (length nodes) 400 ≡ true = le-leb (length nodes) 400 short in
+    let few : nat_le (length nodes) most_route_nodes ≡ true = le-leb (length nodes) most_route_nodes short in
     let known = none_unknown (node_count g) 0 nodes is.known in
     let ends : has_ends nodes ≡ true = ap has_ends is.ends ∙ ends_behind inner in
-    let inside : first_inner_depot 1 (after_first nodes) ≡ None = ap (λ xs. first_inner_depot 1 (after_first xs)) is.ends ∙ none_inside 1 inner is.no_depot in
+    let inside : first_inner_depot nodes ≡ None = ap (λ xs. first_inner_depot xs) is.ends ∙ none_inside 1 inner is.no_depot in
     let again = none_again 1 nodes is.moves in
     rw (few, known, ends, inside, again) refl

@@ -1,14 +1,14 @@
 -- A word is read as the nodes that it spells.
 use Rattle.std.proofs.Common.{◌≡◌, ◌∙◌, ℕ, zero, suc, ◌+◌, ◌^◌, ◌<◌, ◌≤◌, ◌==◌, true, false, inl, inr, List, [], ◌∷◌, ◌++◌, length, length-append, decimal, Result, Ok, Err, refl, sym, ap, subst, append-nil, arith}
 use Rattle.std.specs.List.{All}
-use Rattle.std.specs.Result.{is_ok}
-use Rattle.std.proofs.lemmas.Bool.{cases_eq, eq-eqb, false≢true, ne_eqb}
+use Rattle.std.proofs.lemmas.Bool.{cases_eq, eq-eqb, ne_eqb}
 use Rattle.std.proofs.lemmas.List.Elements.{All-cons, All-head, All-nil, All-tail}
 use Rattle.ev_text.specs.Numerals.{BeginsWithoutDigit}
 use Rattle.ev_text.specs.Scans.{and_then, past, rest_of, whole_at, word_at}
 use Rattle.ev_text.specs.declared.TextFault.{TextFault}
 use Rattle.ev_text.proofs.Readings.{TakesNumber-from_whole_at, TakesWord-from_word_at, number_read, word_read}
-use Rattle.route_plan.specs.RouteWords.{SpellsRoute, comma_at, more_nodes, next_at, node_at, nodes_in, or_text, route_text, with_nodes}
+use Rattle.ev_text.proofs.Results.{Err-ne-Ok, Ok-injective, and_then-ok, no_bytes}
+use Rattle.route_plan.specs.RouteWords.{SpellsRoute, read_comma, more_nodes, read_next, read_node, nodes_in, or_text, route_text, with_nodes}
 use Rattle.route_plan.specs.declared.route.RouteFault.{RouteFault}
 use Rattle.route_plan.specs.declared.route.RouteFault.TheVariants.{Text}
 
@@ -24,21 +24,6 @@ pub route_text-cons : (n : ℕ) (ns : List ℕ) → route_text (n ∷ ns) ≡ de
 route_text-cons n [] = sym (append-nil (decimal n))
 route_text-cons n (m ∷ ns) = ap (λ xs. decimal n ++ 44 ∷ xs) (route_text-cons m ns)
 
-value_or : {A E : Type 0} → A → Result A E → A
-value_or d (Ok a) = a
-value_or d (Err fault) = d
-
-pub Ok-injective : {A E : Type 0} (a b : A) → ◌≡◌ {A = Result A E} (Ok a) (Ok b) → a ≡ b
-unfolding value_or
-Ok-injective {A} {E} a b same = ap (λ (r : Result A E). value_or a r) same
-
-pub Err-ne-Ok : {A E : Type 0} (fault : E) (a : A) → ◌≡◌ {A = Result A E} (Err fault) (Ok a) → ⊥
-Err-ne-Ok {A} {E} fault a same = false≢true (ap (λ (r : Result A E). is_ok r) same)
-
-pub and_then-ok : {A B E : Type 0} (r : Result A E) (next : A → Result B E) (v : B) → and_then r next ≡ Ok v → (a : A) × (r ≡ Ok a) × (next a ≡ Ok v)
-and_then-ok (Ok a) next v is = (a, refl, is)
-and_then-ok (Err fault) next v is = absurd (Err-ne-Ok fault v is)
-
 pub or_text-ok : {A : Type 0} (s : List ℕ × ℕ) (r : Result A TextFault) (v : A) → or_text s r ≡ Ok v → r ≡ Ok v
 or_text-ok s (Ok a) v is = ap (λ x. Ok x) (Ok-injective a v is)
 or_text-ok {A} s (Err fault) v is = absurd (Err-ne-Ok {A = A} (Text s.1) v is)
@@ -47,7 +32,7 @@ with_nodes-ok : (n : ℕ) (rest : Result (List ℕ) RouteFault) (ns : List ℕ) 
 with_nodes-ok n (Ok ms) ns is = (ms, refl, sym (Ok-injective (n ∷ ms) ns is))
 with_nodes-ok n (Err fault) ns is = absurd (Err-ne-Ok {A = List ℕ} fault ns is)
 
-small_limit : 10 ^ 9 < 10 ^ 64
+pub small_limit : 10 ^ 9 < 10 ^ 64
 small_limit = omega arith
 
 -- what was read of the nodes that follow is what stands there
@@ -55,17 +40,13 @@ record IsFollowed (s : List ℕ × ℕ) (ns : List ℕ) : Type 0 where
   pub text : rest_of s ≡ behind_commas ns
   pub small : All IsSmall ns
 
-node_read : (s t : List ℕ × ℕ) (n : ℕ) → node_at s ≡ Ok (n, t) → (n ≤ 10 ^ 9) × (rest_of s ≡ decimal n ++ rest_of t)
+node_read : (s t : List ℕ × ℕ) (n : ℕ) → read_node s ≡ Ok (n, t) → (n ≤ 10 ^ 9) × (rest_of s ≡ decimal n ++ rest_of t)
 node_read s t n is =
     let takes = TakesNumber-from_whole_at (10 ^ 9) s n t small_limit (or_text-ok s (whole_at (10 ^ 9) s) (n, t) is) in
     (takes.within, takes.number.spelled)
 
-comma_read : (s t : List ℕ × ℕ) → comma_at s ≡ Ok t → rest_of s ≡ 44 ∷ rest_of t
+comma_read : (s t : List ℕ × ℕ) → read_comma s ≡ Ok t → rest_of s ≡ 44 ∷ rest_of t
 comma_read s t is = (TakesWord-from_word_at (44 ∷ []) s t (or_text-ok s (word_at (44 ∷ []) s) t is)).standing
-
-pub no_bytes : (xs : List ℕ) → length xs ≡ 0 → xs ≡ []
-no_bytes [] none = refl
-no_bytes (x ∷ xs) none = absurd (omega (arith, none))
 
 followed_end : (s : List ℕ × ℕ) (ns : List ℕ) → rest_of s ≡ [] → [] ≡ ns → IsFollowed s ns
 followed_end s ns none same = subst (λ (xs : List ℕ). IsFollowed s xs) same (record { text = none; small = All-nil IsSmall })
@@ -78,9 +59,9 @@ more_are_followed (suc most) s ns le is = elim (cases_eq (length (rest_of s)) 0)
       followed_end s ns (no_bytes (rest_of s) none) (Ok-injective [] ns (rw at_end at is))
   | inr some ↦
       let more : (length (rest_of s) == 0) ≡ false = ne_eqb (length (rest_of s)) 0 some in
-      let read : and_then (next_at s) (λ found. with_nodes (found.0 ∷ []) (more_nodes most found.1)) ≡ Ok ns = rw more at is in
-      let step = and_then-ok (next_at s) (λ (found : ℕ × (List ℕ × ℕ)). with_nodes (found.0 ∷ []) (more_nodes most found.1)) ns read in
-      let parts = and_then-ok (comma_at s) node_at step.0 step.1 in
+      let read : and_then (read_next s) (λ found. with_nodes (found.0 ∷ []) (more_nodes most found.1)) ≡ Ok ns = rw more at is in
+      let step = and_then-ok (read_next s) (λ (found : ℕ × (List ℕ × ℕ)). with_nodes (found.0 ∷ []) (more_nodes most found.1)) ns read in
+      let parts = and_then-ok (read_comma s) read_node step.0 step.1 in
       let rest = with_nodes-ok step.0.0 (more_nodes most step.0.1) ns step.2 in
       followed_on most s parts.0 step.0.1 step.0.0 rest.0 ns le (comma_read s parts.0 parts.1) (node_read parts.0 step.0.1 step.0.0 parts.2) rest.2
       (λ fewer. more_are_followed most step.0.1 rest.0 fewer rest.1)
@@ -100,7 +81,7 @@ more_are_followed (suc most) s ns le is = elim (cases_eq (length (rest_of s)) 0)
 -- what was read is what the word spells
 pub spells_what_is_read : (word nodes : List ℕ) → nodes_in word ≡ Ok nodes → SpellsRoute word nodes
 spells_what_is_read word nodes is =
-    let step = and_then-ok (node_at (word, 0)) (λ (found : ℕ × (List ℕ × ℕ)). with_nodes (found.0 ∷ []) (more_nodes (length word) found.1)) nodes is in
+    let step = and_then-ok (read_node (word, 0)) (λ (found : ℕ × (List ℕ × ℕ)). with_nodes (found.0 ∷ []) (more_nodes (length word) found.1)) nodes is in
     let n = step.0.0 in
     let t = step.0.1 in
     let first = node_read (word, 0) t n step.1 in

@@ -1,23 +1,20 @@
 -- Writing the stops of a plan, one after another.
-use Rattle.std.proofs.Common.{◌≡◌, ◌∙◌, ℕ, suc, ◌+◌, ◌<◌, ◌++◌, List, [], ◌∷◌, codes, nat_lt, if◌then◌else◌, length, drop, get_or, refl, sym, ap, true, arith, append_assoc, append-nil, add-one, drop-cons}
+use Rattle.std.proofs.Common.{◌≡◌, ◌∙◌, ℕ, zero, suc, ◌+◌, ◌<◌, ◌++◌, List, [], ◌∷◌, codes, nat_lt, if◌then◌else◌, length, drop, get_or, refl, sym, ap, true, arith, append_assoc, add-one, drop-cons}
 use Rattle.std.proofs.lemmas.Bool.{lt-ltb}
 use Rattle.ev_model.specs.declared.Stop.{Stop}
-use Rattle.route_plan.specs.PlanTexts.{stop_text, stops_text}
+use Rattle.ev_text.specs.Texts.{marked_texts, parted_texts}
+use Rattle.route_plan.specs.PlanTexts.{stop_text}
 
 -- the text of the stops from a position on; each is behind a space unless it is the first of all
 abbrev pub left_text : ℕ → List Stop → List ℕ
-left_text at [] = []
-left_text at (s ∷ ss) = (if nat_lt 0 at then codes " " else []) ++ stops_text (s ∷ ss)
+left_text zero stops = parted_texts (codes " ") stop_text stops
+left_text (suc at) stops = marked_texts (codes " ") stop_text stops
 
-stops_text-cons : (at : ℕ) (s : Stop) (ss : List Stop) → stops_text (s ∷ ss) ≡ stop_text s ++ left_text (suc at) ss
-stops_text-cons at s [] = sym (append-nil (stop_text s))
-stops_text-cons at s (t ∷ ss) =
+left_text-cons : (at : ℕ) (s : Stop) (ss : List Stop) → left_text at (s ∷ ss) ≡ (if nat_lt 0 at then codes " " else []) ++ (stop_text s ++ left_text (suc at) ss)
+left_text-cons zero s ss = refl
+left_text-cons (suc at) s ss =
     let later : nat_lt 0 (suc at) ≡ true = lt-ltb 0 (suc at) (omega arith) in
-    rw later (append_assoc (stop_text s) (codes " ") (stops_text (t ∷ ss)))
-
-pub left_text-all : (stops : List Stop) → left_text 0 stops ≡ stops_text stops
-left_text-all [] = refl
-left_text-all (s ∷ ss) = refl
+    rw later refl
 
 -- one stop more was written
 pub writes_on : (front items all : List ℕ) (stops : List Stop) (d : Stop) (at : ℕ) → at < length stops → items ≡ front ++ (if nat_lt 0 at then codes " " else []) ++ stop_text (get_or stops at d) → front ++ left_text at (drop at stops) ≡ all → items ++ left_text (at + 1) (drop (at + 1) stops) ≡ all
@@ -30,6 +27,6 @@ writes_on front items all stops d at within is told =
     (ap (λ xs. xs ++ after) is
     ∙ append_assoc (front ++ space) (stop_text s) after
     ∙ append_assoc front space (stop_text s ++ after)
-    ∙ ap (λ xs. front ++ (space ++ xs)) (sym (stops_text-cons at s rest))
+    ∙ ap (λ xs. front ++ xs) (sym (left_text-cons at s rest))
     ∙ ap (λ xs. front ++ left_text at xs) (sym (drop-cons stops at d within))
     ∙ told)

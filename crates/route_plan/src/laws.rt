@@ -6,13 +6,10 @@ ghost use Rattle.ev_model.specs.Network.{Network, node_count};
 ghost use Rattle.ev_model.specs.Route.{IsRoute};
 ghost use Rattle.ev_model.specs.Time.{time_of};
 ghost use Rattle.ev_model.specs.declared.Stop.{Stop};
-ghost use Rattle.route_plan.specs.FirstFault.{BeginsRouteWord};
-ghost use Rattle.route_plan.specs.PlanReading.{fleet_plan_in, plan_in};
-ghost use Rattle.route_plan.specs.PlanTexts.{SpellsFleetPlan, SpellsPlan};
+ghost use Rattle.route_plan.specs.Limits.{most_route_nodes};
 ghost use Rattle.route_plan.specs.RouteRules.{route_fault};
-ghost use Rattle.route_plan.specs.RouteWords.{nodes_in, SpellsRoute};
-ghost use Rattle.route_plan.specs.Walking.{end_level, walked};
-ghost use Rattle.route_plan.specs.declared.plan.FleetPlan.{FleetPlan};
+ghost use Rattle.route_plan.specs.RouteWords.{BeginsRouteWord, SpellsRoute, nodes_in};
+ghost use Rattle.route_plan.specs.Walking.{end_level, walk_along};
 ghost use Rattle.route_plan.specs.declared.route.RouteFault.{RouteFault};
 ghost use Rattle.route_plan.specs.declared.route.RouteFault.TheVariants.{Text};
 ghost use Rattle.route_plan.specs.declared.walks.Walk.{Walk};
@@ -27,23 +24,22 @@ pub fn words_spell_routes()
 /// word has no other fault.
 pub fn route_word_faults_are_first()
     ensures first { (word : List ℕ) (at : ℕ) → nodes_in word ≡ Err (Text at)
-        → (at ≤ length word) × BeginsRouteWord (take at word) × (at < length word → BeginsRouteWord word → ⊥) }
-    ensures only { (word : List ℕ) (fault : RouteFault) → nodes_in word ≡ Err fault → (at : ℕ) × (fault ≡ Text at) }
-{}
-
-/// Bytes are read as a plan exactly where they spell it, and the same of fleet plans.
-pub fn texts_spell_plans()
-    ensures plan { (bytes : List ℕ) (stops : List Stop) → (plan_in bytes ≡ Ok stops) ↔ SpellsPlan bytes stops }
-    ensures fleet { (bytes : List ℕ) (plan : Option FleetPlan) → (fleet_plan_in bytes ≡ Ok plan) ↔ SpellsFleetPlan bytes plan }
+        → (at ≤ length word) × BeginsRouteWord (take at word) × (at < length word →
+        BeginsRouteWord word → ⊥) }
+    ensures only { (word : List ℕ) (fault : RouteFault) → nodes_in word ≡ Err fault →
+        (at : ℕ) × (fault ≡ Text at) }
 {}
 
 /// Nodes break no rule exactly where they are a route of the network, of at most 400 nodes.
 pub fn unbroken_nodes_are_routes()
-    ensures { (g : Network) (nodes : List ℕ) → (route_fault (node_count g) nodes ≡ None) ↔ (IsRoute g nodes × (length nodes ≤ 400)) }
+    ensures { (g : Network) (nodes : List ℕ) → (route_fault (node_count g) nodes ≡ None) ↔
+        (IsRoute g nodes × (length nodes ≤ most_route_nodes)) }
 {}
 
 /// A whole plan is walked to its end exactly where it is feasible, and the walk tells its time and its last level.
 pub fn feasible_plans_are_walked()
-    ensures { (g : Network) (start : ℕ) (stops : List Stop) (w : Walk) → (walked g start stops ≡ Ok w)
-        ↔ (IsFeasible g 1 start stops × (w.time ≡ time_of g 1 start stops) × (w.last ≡ end_level g start stops)) }
+    ensures { (g : Network) (start : ℕ) (stops : List Stop) (w : Walk) →
+        (walk_along g start stops ≡ Ok w)
+        ↔ (IsFeasible g 1 start stops × (w.time ≡ time_of g 1 start stops)
+        × (w.last ≡ end_level g start stops)) }
 {}

@@ -4,8 +4,8 @@ ghost use Rattle.std.specs.Prelude.{◌≡◌, ◌≢◌, ◌<◌, ◌≤◌, []
 ghost use Rattle.ev_model.specs.Network.{node_count};
 ghost use Rattle.ev_model.specs.Route.{IsRoute};
 ghost use Rattle.ev_text.specs.Scans.{rest_of};
-ghost use Rattle.route_plan.specs.RouteRules.{after_first, first_again, first_inner_depot, first_unknown, has_ends, route_fault, route_in};
-ghost use Rattle.route_plan.specs.RouteWords.{comma_at, next_at, node_at, nodes_in, SpellsRoute};
+ghost use Rattle.route_plan.specs.RouteRules.{first_again, first_inner_depot, first_unknown, has_ends, route_fault, route_in};
+ghost use Rattle.route_plan.specs.RouteWords.{read_comma, read_next, read_node, nodes_in, SpellsRoute};
 
 use ev_text::Scan;
 use instance_reader::Instance;
@@ -45,7 +45,8 @@ pub fn read_route(alloc: Global, word: &str, inst: &Instance) -> Result<Vec<usiz
     ensures ok { IfOk result (λ nodes. route_in (node_count inst.now) word.now ≡ Ok nodes.items) }
     ensures route { IfOk result (λ nodes. IsRoute inst.now nodes.items) }
     ensures spelled { IfOk result (λ nodes. SpellsRoute word.now nodes.items) }
-    ensures fault { IfErr result (λ fault. fault ≢ RouteFault.Memory → route_in (node_count inst.now) word.now ≡ Err fault) }
+    ensures fault { IfErr result (λ fault. fault ≢ RouteFault.Memory →
+        route_in (node_count inst.now) word.now ≡ Err fault) }
 {
     let nodes = read_nodes(alloc, word.as_bytes())?;
     match first_fault(nodes.as_slice(), inst.nodes()) {
@@ -57,7 +58,8 @@ pub fn read_route(alloc: Global, word: &str, inst: &Instance) -> Result<Vec<usiz
 /// The nodes of a word.
 fn read_nodes(alloc: Global, word: &[u8]) -> Result<Vec<usize>, RouteFault>
     ensures ok { IfOk result (λ nodes. nodes_in word.now ≡ Ok nodes.items) }
-    ensures fault { IfErr result (λ fault. fault ≢ RouteFault.Memory → nodes_in word.now ≡ Err fault) }
+    ensures fault { IfErr result (λ fault. fault ≢ RouteFault.Memory →
+        nodes_in word.now ≡ Err fault) }
 {
     let mut scan = Scan::new(word);
     let mut nodes = Vec::new(alloc);
@@ -72,8 +74,8 @@ fn read_nodes(alloc: Global, word: &[u8]) -> Result<Vec<usize>, RouteFault>
 
 /// Takes the number of a node.
 fn take_node(scan: &mut Scan<'_>) -> Result<usize, RouteFault>
-    ensures ok { IfOk result (λ node. node_at scan.old ≡ Ok (node, scan.new)) }
-    ensures fault { IfErr result (λ fault. node_at scan.old ≡ Err fault) }
+    ensures ok { IfOk result (λ node. read_node scan.old ≡ Ok (node, scan.new)) }
+    ensures fault { IfErr result (λ fault. read_node scan.old ≡ Err fault) }
     ensures no_longer { OnOk result (length (rest_of scan.new) ≤ length (rest_of scan.old)) }
 {
     let at = scan.place();
@@ -85,8 +87,8 @@ fn take_node(scan: &mut Scan<'_>) -> Result<usize, RouteFault>
 
 /// Takes a comma.
 fn take_comma(scan: &mut Scan<'_>) -> Result<(), RouteFault>
-    ensures ok { OnOk result (comma_at scan.old ≡ Ok scan.new) }
-    ensures fault { IfErr result (λ fault. comma_at scan.old ≡ Err fault) }
+    ensures ok { OnOk result (read_comma scan.old ≡ Ok scan.new) }
+    ensures fault { IfErr result (λ fault. read_comma scan.old ≡ Err fault) }
     ensures shorter { OnOk result (length (rest_of scan.new) < length (rest_of scan.old)) }
 {
     let at = scan.place();
@@ -98,8 +100,8 @@ fn take_comma(scan: &mut Scan<'_>) -> Result<(), RouteFault>
 
 /// Takes a comma and the number of the next node.
 fn take_next(scan: &mut Scan<'_>) -> Result<usize, RouteFault>
-    ensures ok { IfOk result (λ node. next_at scan.old ≡ Ok (node, scan.new)) }
-    ensures fault { IfErr result (λ fault. next_at scan.old ≡ Err fault) }
+    ensures ok { IfOk result (λ node. read_next scan.old ≡ Ok (node, scan.new)) }
+    ensures fault { IfErr result (λ fault. read_next scan.old ≡ Err fault) }
     ensures shorter { OnOk result (length (rest_of scan.new) < length (rest_of scan.old)) }
 {
     take_comma(scan)?;
@@ -163,7 +165,7 @@ fn ends(nodes: &[usize]) -> bool
 
 /// The first position of the depot between the ends.
 fn inner_depot(nodes: &[usize]) -> Option<usize>
-    ensures { result ≡ first_inner_depot 1 (after_first nodes.now) }
+    ensures { result ≡ first_inner_depot nodes.now }
 {
     for at in 1..nodes.len().saturating_sub(1) {
         if nodes[at] == 0 {

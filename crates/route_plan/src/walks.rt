@@ -18,7 +18,7 @@ pub enum WalkFault {
     Unknown { at: usize },
     /// The node is that of the stop before.
     Again { at: usize },
-    /// The arc takes more energy than is left.
+    /// The level on arriving is below the reserve or, at the last stop, below the level at home.
     Empty { at: usize },
     /// The node has no station, and the stop was inserted or charges.
     NotStation { at: usize },

@@ -7,10 +7,13 @@ use Rattle.ev_model.specs.declared.Stop.{Stop}
 abbrev pub no_station : Network
 no_station = record {
   capacity = 10;
+  reserve = 0;
+  home_level = 0;
   energies = (0 ∷ 1 ∷ []) ∷ (1 ∷ 0 ∷ []) ∷ [];
   times = (0 ∷ 4 ∷ []) ∷ (4 ∷ 0 ∷ []) ∷ [];
   process_times = 0 ∷ 0 ∷ [];
   curves = None ∷ None ∷ [];
+  plug_times = 0 ∷ 0 ∷ [];
   denominator = 1;
   limit = 1000000000000000000;
 }

@@ -11,10 +11,13 @@ curve = (0, 0) ∷ (4, 8) ∷ (10, 10) ∷ []
 abbrev pub one_station : Network
 one_station = record {
   capacity = 10;
+  reserve = 0;
+  home_level = 0;
   energies = (0 ∷ 6 ∷ 3 ∷ []) ∷ (6 ∷ 0 ∷ 2 ∷ []) ∷ (5 ∷ 2 ∷ 0 ∷ []) ∷ [];
   times = (0 ∷ 10 ∷ 8 ∷ []) ∷ (10 ∷ 0 ∷ 3 ∷ []) ∷ (8 ∷ 3 ∷ 0 ∷ []) ∷ [];
   process_times = 0 ∷ 0 ∷ 0 ∷ [];
   curves = None ∷ None ∷ Some curve ∷ [];
+  plug_times = 0 ∷ 0 ∷ 0 ∷ [];
   denominator = 2;
   limit = 500000000000000000;
 }

@@ -8,10 +8,13 @@ use Rattle.ev_model.specs.declared.Stop.{Stop}
 abbrev pub two_stations : Network
 two_stations = record {
   capacity = 10;
+  reserve = 0;
+  home_level = 0;
   energies = (0 ∷ 11 ∷ 8 ∷ 11 ∷ []) ∷ (11 ∷ 0 ∷ 11 ∷ 4 ∷ []) ∷ (8 ∷ 11 ∷ 0 ∷ 8 ∷ []) ∷ (11 ∷ 4 ∷ 8 ∷ 0 ∷ []) ∷ [];
   times = (0 ∷ 11 ∷ 8 ∷ 11 ∷ []) ∷ (11 ∷ 0 ∷ 11 ∷ 4 ∷ []) ∷ (8 ∷ 11 ∷ 0 ∷ 8 ∷ []) ∷ (11 ∷ 4 ∷ 8 ∷ 0 ∷ []) ∷ [];
   process_times = 0 ∷ 0 ∷ 0 ∷ 0 ∷ [];
   curves = None ∷ None ∷ Some curve ∷ Some curve ∷ [];
+  plug_times = 0 ∷ 0 ∷ 0 ∷ 0 ∷ [];
   denominator = 2;
   limit = 500000000000000000;
 }

@@ -1,8 +1,10 @@
-use Rattle.charge_curve.proofs.Curves.{denominator_past, is_denominator}
+use Rattle.std.proofs.Common.{arith}
+use Rattle.charge_curve.proofs.Curves.{all_left, common_at_end}
 use Rattle.charge_curve.proofs.denominator.common_denominator.Goals as goal
 
-pub returns-in-Some-clause-some : goal.returns-in-Some-clause-some
-returns-in-Some-clause-some c = is_denominator c.args.curves.now c.in-Some.denominator c.in-Some.ensures.some.0 c.in-Some.ensures.some.2
+pub loop-curve-init : goal.loop-curve-init
+loop-curve-init c = (omega arith, omega arith, all_left c.args.curves.now)
 
-pub returns-in-None-clause-none : goal.returns-in-None-clause-none
-returns-in-None-clause-none c = denominator_past c.args.curves.now c.args.limit c.in-None.ensures.none
+pub returns-clause-some : goal.returns-clause-some
+returns-clause-some c =
+    common_at_end c.args.curves.now c.loop-curve.common c.loop-curve.curve-index (omega arith) c.loop-curve.invariant.0 c.loop-curve.invariant.2

@@ -1,9 +1,13 @@
-use Rattle.std.proofs.Common.{◌∙◌, Ok, ap, sym}
+use Rattle.std.proofs.Common.{Option, subst, sym}
 use Rattle.evroute.proofs.Refused.{refused_answers}
+use Rattle.route_plan.specs.PlanTexts.{SpellsFleetPlan}
+use Rattle.route_plan.specs.declared.plan.FleetPlan.{FleetPlan}
 use Rattle.evroute.proofs.check.judged.Goals as goal
 
 pub returns-in-Ok-clause-answers : goal.returns-in-Ok-clause-answers
-returns-in-Ok-clause-answers c = λ limit file fleet. c.reported.ensures.answers limit file c.args.bytes.now fleet (c.in-Ok.ensures.ok ∙ ap (λ p. Ok p) (sym c.as_ref.ensures.value))
+returns-in-Ok-clause-answers c = λ limit file fleet.
+    c.reported.ensures.answers limit file c.args.bytes.now fleet
+    (subst (λ (plan : Option FleetPlan). SpellsFleetPlan c.args.bytes.now plan) (sym c.as_ref.ensures.value) c.in-Ok.ensures.ok)
 
 pub returns-in-Err-Refused-clause-answers : goal.returns-in-Err-Refused-clause-answers
 returns-in-Err-Refused-clause-answers c = λ limit file fleet.

@@ -5,13 +5,13 @@ use Rattle.evroute.proofs.fixed.charged_on.Goals as goal
 
 pub returns-in-Ok-route-clause-ok : goal.returns-in-Ok-route-clause-ok
 returns-in-Ok-route-clause-ok c = λ bytes network.
-    let task = is_task c.args.options c.args.word.now bytes c.args.inst.now c.in-Ok-route.route.items c.in-Ok.start network c.in-Ok.ensures.ok c.in-Ok.ensures.within c.in-Ok-route.ensures.spelled in
+    let task = is_task c.args.options c.args.word.now bytes c.args.inst.now c.in-Ok-route.route.items c.in-Ok.start network c.in-Ok.ensures.ok c.in-Ok.ensures.within c.in-Ok-route.ensures.spelled c.in-Ok-route.ensures.is_route c.in-Ok-route.ensures.short in
     c.solved.ensures.ok c.args.options c.args.word.now bytes
     (subst (λ (r : List ℕ). IsTask c.args.options c.args.word.now bytes c.args.inst.now r) (sym c.as_slice.ensures.value) task) c.in-Ok.ensures.ok
 
 pub returns-in-Ok-route-clause-ended : goal.returns-in-Ok-route-clause-ended
 returns-in-Ok-route-clause-ended c = λ bytes network.
-    let task = is_task c.args.options c.args.word.now bytes c.args.inst.now c.in-Ok-route.route.items c.in-Ok.start network c.in-Ok.ensures.ok c.in-Ok.ensures.within c.in-Ok-route.ensures.spelled in
+    let task = is_task c.args.options c.args.word.now bytes c.args.inst.now c.in-Ok-route.route.items c.in-Ok.start network c.in-Ok.ensures.ok c.in-Ok.ensures.within c.in-Ok-route.ensures.spelled c.in-Ok-route.ensures.is_route c.in-Ok-route.ensures.short in
     c.solved.ensures.ended c.args.options c.args.word.now bytes
     (subst (λ (r : List ℕ). IsTask c.args.options c.args.word.now bytes c.args.inst.now r) (sym c.as_slice.ensures.value) task)
 

@@ -1,6 +1,7 @@
-use Rattle.std.proofs.Common.{◌≡◌}
+use Rattle.std.proofs.Common.{◌≡◌, ◌∙◌, None, Some, sym}
 use Rattle.std.proofs.lemmas.Result.{err_from_is_err_and}
-use Rattle.instance_reader.proofs.FaultsLemmas.{denominator_fault, denominator_is, horizon_fault, meant_by, multiple_of_curves, parts_of}
+use Rattle.instance_reader.proofs.FaultsLemmas.{denominator_fault, denominator_is, horizon_fault, level_fault, meant_by, multiple_of_curves, parts_of}
+use Rattle.instance_reader.specs.Levels.{first_level_past_full}
 use Rattle.instance_reader.specs.Meaning.{given_limit}
 use Rattle.instance_reader.specs.Views.{contents_view}
 use Rattle.instance_reader.proofs.read.read_fields.Goals as goal
@@ -27,10 +28,16 @@ returns-in_err-limit-clause-fault c =
     let returned = err_from_is_err_and c.from_residual-in_err-limit.result c.from_residual-in_err-limit.ensures.1 in
     rw (returned.1, returned.2) fault
 
-pub scaled-requires-clause-some : goal.scaled-requires-clause-some
-scaled-requires-clause-some c =
+pub returns-in-Some-first_level_past_full-clause-fault : goal.returns-in-Some-first_level_past_full-clause-fault
+returns-in-Some-first_level_past_full-clause-fault c =
+    let contents = contents_view c.args.fields in
     let told = rw c.as_slice.ensures.value at c.in-Some.ensures.some in
-    (denominator_is (contents_view c.args.fields) c.in_ok-curves.field-0.curves.items c.in-Some.denominator c.in_ok-curves.ensures.good told).some
+    let is = denominator_is contents c.in_ok-curves.field-0.curves.items c.in-Some.denominator c.in_ok-curves.ensures.good told in
+    let given : c.smaller.result ≡ given_limit contents = c.smaller.ensures in
+    let within = rw given at c.in_ok-limit.ensures.ok in
+    let past : first_level_past_full contents ≡ Some c.in-Some-first_level_past_full.place = sym c.first_level_past_full.ensures ∙ c.in-Some-first_level_past_full.is in
+    level_fault contents c.in_ok-curves.field-0.curves.items c.in-Some.denominator c.in-Some-first_level_past_full.place c.in_ok-curves.ensures.good is
+    c.in-Some.ensures.within within past
 
 pub scaled-requires-clause-multiple : goal.scaled-requires-clause-multiple
 scaled-requires-clause-multiple c =
@@ -44,8 +51,9 @@ build-requires c =
     let contents = contents_view c.args.fields in
     let told = rw c.as_slice.ensures.value at c.in-Some.ensures.some in
     let is = denominator_is contents c.in_ok-curves.field-0.curves.items c.in-Some.denominator c.in_ok-curves.ensures.good told in
+    let levels : first_level_past_full contents ≡ None = sym c.first_level_past_full.ensures ∙ c.in_default-first_level_past_full.is in
     parts_of contents c.in_ok-curves.field-0.curves.items c.in-Ok.curves.items c.in_ok-curves.field-0.curve_numbers.items c.in-Some.denominator c.in_ok-limit.limit
-    c.in_ok-curves.ensures.good c.in-Ok.ensures.same c.in-Ok.ensures.scaled c.in_ok-curves.ensures.by_node is c.in-Some.ensures.within c.in_ok-limit.ensures.within
+    c.in_ok-curves.ensures.good c.in-Ok.ensures.same c.in-Ok.ensures.scaled c.in_ok-curves.ensures.by_node is c.in-Some.ensures.within c.in_ok-limit.ensures.within levels
 
 pub returns-in-Ok-build-clause-instance : goal.returns-in-Ok-build-clause-instance
 returns-in-Ok-build-clause-instance c =
@@ -55,5 +63,6 @@ returns-in-Ok-build-clause-instance c =
     let given : c.smaller.result ≡ given_limit contents = c.smaller.ensures in
     let within = rw given at c.in_ok-limit.ensures.ok in
     let limit = rw given at c.in_ok-limit.ensures.value in
+    let levels : first_level_past_full contents ≡ None = sym c.first_level_past_full.ensures ∙ c.in_default-first_level_past_full.is in
     meant_by contents c.in_ok-curves.field-0.curves.items c.in-Some.denominator c.in_ok-limit.limit c.in-Ok-build.instance c.in_ok-curves.ensures.good
-    is c.in-Some.ensures.within within limit c.in-Ok-build.ensures
+    is c.in-Some.ensures.within within levels limit c.in-Ok-build.ensures

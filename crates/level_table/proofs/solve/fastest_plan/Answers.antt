@@ -1,17 +1,9 @@
-use Rattle.std.proofs.Common.{◌∙◌, Global, MatchOption, Option, Vec, subst, sym}
+use Rattle.std.proofs.Common.{Global, MatchOption, Option, Vec, subst, sym}
 use Rattle.ev_model.specs.Fastest.{IsFastest}
 use Rattle.ev_model.specs.declared.Stop.{Stop}
 use Rattle.level_table.specs.Answer.{HasNoWholePlan, IsFastestWhole}
 use Rattle.level_table.proofs.AnyFraction.{fastest-in_any_fraction, none-in_any_fraction}
 use Rattle.level_table.proofs.solve.fastest_plan.Goals as goal
-
-pub fastest-requires-clause-trip : goal.fastest-requires-clause-trip
-fastest-requires-clause-trip c = record {
-  network = c.station_nodes.ensures.network;
-  is_route = c.requires.route;
-  are_stations = c.deref.ensures.value ∙ c.in_ok-stations.ensures.nodes;
-  small = c.requires.small;
-}
 
 pub returns-in_default : goal.returns-in_default
 returns-in_default c =

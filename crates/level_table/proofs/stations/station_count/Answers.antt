@@ -18,5 +18,5 @@ loop-node-preserved c =
           (w.count-is ∙ c.loop-node.invariant.0 ∙ sym (ap length next), omega (arith, w.count-is, c.loop-node.invariant.1))
     ]
 
-pub returns : goal.returns
-returns c = c.loop-node.invariant.0 ∙ ap length (stations_below-all c.args.inst.now c.loop-node.node (omega arith))
+pub returns-clause-value : goal.returns-clause-value
+returns-clause-value c = c.loop-node.invariant.0 ∙ ap length (stations_below-all c.args.inst.now c.loop-node.node (omega arith))

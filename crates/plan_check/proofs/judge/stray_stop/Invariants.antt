@@ -1,5 +1,6 @@
 use Rattle.std.proofs.Common.{◌≡◌, ◌≤◌, drop}
-use Rattle.plan_check.specs.FirstFaults.{behind_first, first_stray}
+use Rattle.plan_check.specs.FirstFaults.{first_stray}
+use Rattle.route_plan.specs.FirstPlaces.{behind_first}
 use Rattle.plan_check.proofs.judge.stray_stop.Given as goal
 
 abbrev pub invariant-loop-at : goal.invariant-loop-at

@@ -1,6 +1,7 @@
 use Rattle.std.proofs.Common.{sym, ◌∙◌, arith}
-use Rattle.route_plan.proofs.Rules.{first_inner_depot-end}
+use Rattle.route_plan.specs.RouteRules.{is_depot}
+use Rattle.route_plan.proofs.Ends.{first_before_last-end}
 use Rattle.route_plan.proofs.route.inner_depot.Goals as goal
 
 pub returns : goal.returns
-returns c = sym (first_inner_depot-end c.args.nodes.now c.loop-at.at c.loop-at.at (omega arith)) ∙ c.loop-at.invariant.1
+returns c = sym (first_before_last-end is_depot c.args.nodes.now c.loop-at.at c.loop-at.at (omega arith)) ∙ c.loop-at.invariant.1

@@ -1,11 +1,11 @@
 use Rattle.std.proofs.Common.{◌≡◌, ◌+◌, ◌-◌, ◌*◌, ◌≤◌, length}
 use Rattle.level_table.specs.Answer.{stations}
-use Rattle.level_table.specs.Cells.{IsTable}
+use Rattle.level_table.specs.Table.{IsTable}
 use Rattle.level_table.proofs.trip.Trip.settle_layers.Given as goal
 
 abbrev pub invariant-loop-passed : goal.invariant-loop-passed
 invariant-loop-passed l = record {
-  table : IsTable l.self.inst.now l.self.route.now l.cells;
-  passed : l.passed ≤ length l.self.route.now - 1;
-  layer : l.layer ≡ (length (stations l.self.inst.now) + 1) * (l.self.inst.now.capacity + 1);
+  table : IsTable l.self.network l.self.route l.entries;
+  passed : l.passed ≤ length l.self.route - 1;
+  layer : l.layer ≡ (length (stations l.self.network) + 1) * (l.self.network.capacity + 1) * 2;
 }

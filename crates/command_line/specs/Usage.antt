@@ -1,0 +1,10 @@
+-- How the program is called: a line a command.
+use Rattle.std.specs.Prelude.{List, ℕ, ◌++◌, codes}
+
+abbrev pub usage_text : List ℕ
+usage_text =
+    codes "evroute fixed FILE ROUTE [--limit N] [--charge N]\n"
+    ++ codes "evroute fleet FILE PLAN CERT [--limit N] [--nodes N]\n"
+    ++ codes "evroute check FILE PLAN CERT [--limit N]\n"
+    ++ codes "evroute convert FILE OUTFILE --time-digits N --energy-digits N\n"
+    ++ codes "evroute make SEED CUSTOMERS STATIONS OUTFILE\n"

@@ -1,0 +1,100 @@
+//! The job of what the command finds.
+
+ghost use Rattle.std.specs.Prelude.{◌≡◌, IfOk, codes, is_none, option_map};
+ghost use Rattle.clap.specs.Words.{first_of};
+ghost use Rattle.clap.specs.Walk.{texts};
+ghost use Rattle.command_line.specs.JobValue.{AnswersJob};
+ghost use Rattle.command_line.specs.Matches.{rows_in};
+ghost use Rattle.command_line.specs.Words.{charge_in, digits_in, gives_only, gives_own, job_in, job_of_command, limit_in, rest_in};
+
+use crate::Job;
+use crate::check::check_job;
+use crate::convert::convert_job;
+use crate::fixed::fixed_job;
+use crate::make::make_job;
+use crate::words::{GREATEST_DIGITS, GREATEST_VALUE, is_listed, number_of, optional_number};
+use clap::ArgMatches;
+use std::alloc::{AllocError, Global};
+
+/// The options of all commands.
+const OPTIONS: [&str; 5] = ["limit", "charge", "nodes", "time-digits", "energy-digits"];
+
+/// The first value of an argument.
+fn first_of<'a>(matches: &ArgMatches<'a>, name: &str) -> Option<&'a str>
+    ensures { option_map (λ text. text.now) result ≡ first_of name.now (rows_in matches.now) }
+{
+    matches.get_str(name)
+}
+
+/// Whether none of the options `names` is given that is not one of a command's own.
+fn gives_own(matches: &ArgMatches<'_>, own: &[&str], names: &[&str]) -> bool
+    ensures { result ≡ gives_own (texts own.now) (rows_in matches.now) (texts names.now) }
+{
+    for name in names {
+        if !is_listed(name, own) && first_of(matches, name).is_some() {
+            return false;
+        }
+    }
+    true
+}
+
+/// Whether no option is given but some of these.
+pub(crate) fn gives_only(matches: &ArgMatches<'_>, own: &[&str]) -> bool
+    ensures { result ≡ gives_only (texts own.now) (rows_in matches.now) }
+{
+    gives_own(matches, own, &OPTIONS)
+}
+
+/// The limit, where it is given; `None` where its value is no number of one.
+pub(crate) fn limit_in(matches: &ArgMatches<'_>) -> Option<Option<u64>>
+    ensures { result ≡ limit_in (rows_in matches.now) }
+{
+    optional_number(first_of(matches, "limit"), GREATEST_VALUE)
+}
+
+/// The level at the start, where it is given; `None` where its value is no number of one.
+pub(crate) fn charge_in(matches: &ArgMatches<'_>) -> Option<Option<u64>>
+    ensures { result ≡ charge_in (rows_in matches.now) }
+{
+    optional_number(first_of(matches, "charge"), GREATEST_VALUE)
+}
+
+/// The number of digits that has to be given by an option.
+pub(crate) fn digits_in(matches: &ArgMatches<'_>, name: &str) -> Option<u32>
+    ensures { result ≡ digits_in name.now (rows_in matches.now) }
+{
+    let word = first_of(matches, name)?;
+    let number = number_of(word, GREATEST_DIGITS)?;
+    Some(number as u32)
+}
+
+/// The job of what the command finds.
+pub(crate) fn job_in(alloc: Global, matches: &ArgMatches<'_>) -> Result<Option<Job>, AllocError>
+    ensures { AnswersJob result (job_in (rows_in matches.now)) }
+{
+    let Some(command) = first_of(matches, "command") else {
+        return Ok(None);
+    };
+    match matches.get_strs("rest") {
+        Some(rest) => job_of_command(alloc, command, rest, matches),
+        None => job_of_command(alloc, command, &[], matches),
+    }
+}
+
+/// The job of a command, of the words behind it and of the options.
+fn job_of_command(
+    alloc: Global,
+    command: &str,
+    rest: &[&str],
+    matches: &ArgMatches<'_>,
+) -> Result<Option<Job>, AllocError>
+    ensures { AnswersJob result (job_of_command command.now (texts rest.now) (rows_in matches.now)) }
+{
+    match command {
+        "fixed" => fixed_job(alloc, rest, matches),
+        "check" => check_job(alloc, rest, matches),
+        "convert" => convert_job(alloc, rest, matches),
+        "make" => make_job(alloc, rest, matches),
+        _ => Ok(None),
+    }
+}

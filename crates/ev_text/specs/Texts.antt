@@ -1,0 +1,45 @@
+-- Texts of values, put together from few, and what a fault from the left says of a text.
+use Rattle.std.specs.Prelude.{◌≡◌, ℕ, Bool, List, [], ◌∷◌, ◌++◌, if◌then◌else◌}
+use Rattle.ev_text.specs.declared.TextFault.{TextFault}
+use Rattle.ev_text.specs.declared.TextFault.TheVariants.{NotWhole, TooLarge, Word, End}
+
+-- a word, where it stands
+abbrev pub optional_text : List ℕ → Bool → List ℕ
+optional_text word stands = if stands then word else []
+
+-- items, each behind a mark
+abbrev pub marked_texts : {A : Type 0} → List ℕ → (A → List ℕ) → List A → List ℕ
+marked_texts mark text [] = []
+marked_texts mark text (a ∷ others) = mark ++ text a ++ marked_texts mark text others
+
+-- items, parted by marks
+abbrev pub parted_texts : {A : Type 0} → List ℕ → (A → List ℕ) → List A → List ℕ
+parted_texts mark text [] = []
+parted_texts mark text (a ∷ others) = text a ++ marked_texts mark text others
+
+-- items, one behind the other
+abbrev pub joined_texts : {A : Type 0} → (A → List ℕ) → List A → List ℕ
+joined_texts text [] = []
+joined_texts text (a ∷ others) = text a ++ joined_texts text others
+
+-- the bytes are the text of a value that fits
+abbrev pub IsTextOf : {A : Type 0} → (A → List ℕ) → (A → Type 0) → List ℕ → Type 0
+IsTextOf {A} text Fits bytes = (value : A) × Fits value × (text value ≡ bytes)
+
+-- the bytes can be continued to a text of a language
+abbrev pub Begins : (List ℕ → Type 0) → List ℕ → Type 0
+Begins Language bytes = (more : List ℕ) × Language (bytes ++ more)
+
+-- the byte where a fault is
+abbrev pub fault_place : TextFault → ℕ
+fault_place (NotWhole at) = at
+fault_place (TooLarge at) = at
+fault_place (Word at) = at
+fault_place (End at) = at
+
+-- the fault is another one than that the text ends too early
+abbrev pub IsNoEnd : TextFault → Type 0
+IsNoEnd (NotWhole at) = Unit {0}
+IsNoEnd (TooLarge at) = Unit {0}
+IsNoEnd (Word at) = Unit {0}
+IsNoEnd (End at) = ⊥

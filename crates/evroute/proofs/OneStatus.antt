@@ -1,0 +1,213 @@
+-- The causes of the statuses exclude each other.
+use Rattle.std.proofs.Common.{◌≡◌, ◌∙◌, ℕ, ◌<◌, ◌≤◌, List, Option, None, Some, Ok, Err, take, ap, arith, refl, subst, sym}
+use Rattle.command_line.specs.Words.{CheckJob, CheckPlan, FixedJob, FixedRoute, Job}
+use Rattle.command_line.specs.declared.Options.{Options}
+use Rattle.ev_model.specs.Fastest.{HasNoPlan}
+use Rattle.ev_model.specs.Network.{Network, node_count}
+use Rattle.ev_outside.specs.Shelf.{Files, bytes_under}
+use Rattle.level_table.specs.Answer.{cell_count}
+use Rattle.plan_check.proofs.FleetPlans.{fleet_plan_keeps}
+use Rattle.plan_writer.specs.RefusalText.{IsRule}
+use Rattle.plan_writer.specs.declared.refusal.Refusal.{Refusal}
+use Rattle.plan_writer.specs.declared.refusal.Refusal.TheVariants as refusal
+use Rattle.route_plan.proofs.PlanReadingRead.{reads_fleet_plan}
+use Rattle.route_plan.proofs.Routes.{is_unbroken}
+use Rattle.route_plan.proofs.Spelled.{Err-ne-Ok, Ok-injective, reads_what_is_spelled}
+use Rattle.route_plan.specs.PlanTexts.{SpellsFleetPlan}
+use Rattle.route_plan.specs.RouteRules.{route_fault, route_in}
+use Rattle.route_plan.specs.RouteWords.{nodes_in}
+use Rattle.route_plan.specs.declared.plan.FleetPlan.{FleetPlan}
+use Rattle.evroute.proofs.Instances.{one_limited, refused_has_none}
+use Rattle.evroute.specs.CheckAnswer.{CheckAnswers, HasFleetNetwork, IsCheckRefused, IsValid, PutsAccepted, PutsRejected, customer_count}
+use Rattle.evroute.specs.FixedAnswer.{FixedAnswers, IsRefused, IsSmallTask, IsTask, PutsInfeasible, PutsPlan, start_of}
+use Rattle.evroute.specs.Run.{HasCause, IsAnswered, IsTold, most_bytes}
+use Rattle.evroute.specs.declared.status.Status.{Status}
+use Rattle.evroute.specs.declared.status.Status.TheVariants as status
+
+-- three causes, of which each excludes the others
+pub record ExcludeEachOther (Cause : Status → Type 0) : Type 0 where
+  pub answered : (s : Status) → Cause s → IsAnswered s
+  pub done_negative : Cause status.Done → Cause status.Negative → ⊥
+  pub done_refused : Cause status.Done → Cause status.Refused → ⊥
+  pub negative_refused : Cause status.Negative → Cause status.Refused → ⊥
+
+one_of : (Cause : Status → Type 0) → ExcludeEachOther Cause → (s t : Status) → Cause s → Cause t → s ≡ t
+one_of Cause is status.Done status.Done p q = refl
+one_of Cause is status.Done status.Negative p q = absurd (is.done_negative p q)
+one_of Cause is status.Done status.Refused p q = absurd (is.done_refused p q)
+one_of Cause is status.Done status.Words p q = absurd (is.answered status.Words q)
+one_of Cause is status.Done status.Fault p q = absurd (is.answered status.Fault q)
+one_of Cause is status.Done status.Memory p q = absurd (is.answered status.Memory q)
+one_of Cause is status.Done status.Stopped p q = absurd (is.answered status.Stopped q)
+one_of Cause is status.Negative status.Done p q = absurd (is.done_negative q p)
+one_of Cause is status.Negative status.Negative p q = refl
+one_of Cause is status.Negative status.Refused p q = absurd (is.negative_refused p q)
+one_of Cause is status.Negative status.Words p q = absurd (is.answered status.Words q)
+one_of Cause is status.Negative status.Fault p q = absurd (is.answered status.Fault q)
+one_of Cause is status.Negative status.Memory p q = absurd (is.answered status.Memory q)
+one_of Cause is status.Negative status.Stopped p q = absurd (is.answered status.Stopped q)
+one_of Cause is status.Refused status.Done p q = absurd (is.done_refused q p)
+one_of Cause is status.Refused status.Negative p q = absurd (is.negative_refused q p)
+one_of Cause is status.Refused status.Refused p q = refl
+one_of Cause is status.Refused status.Words p q = absurd (is.answered status.Words q)
+one_of Cause is status.Refused status.Fault p q = absurd (is.answered status.Fault q)
+one_of Cause is status.Refused status.Memory p q = absurd (is.answered status.Memory q)
+one_of Cause is status.Refused status.Stopped p q = absurd (is.answered status.Stopped q)
+one_of Cause is status.Words t p q = absurd (is.answered status.Words p)
+one_of Cause is status.Fault t p q = absurd (is.answered status.Fault p)
+one_of Cause is status.Memory t p q = absurd (is.answered status.Memory p)
+one_of Cause is status.Stopped t p q = absurd (is.answered status.Stopped p)
+
+-- ---- `fixed`
+
+read_as : (g : Network) (word route : List ℕ) (options : Options) (bytes : List ℕ) → IsTask options word bytes g route → route_in (node_count g) word ≡ Ok route
+read_as g word route options bytes task =
+    let nodes : nodes_in word ≡ Ok route = reads_what_is_spelled word route task.spelled in
+    let unbroken : route_fault (node_count g) route ≡ None = is_unbroken g route task.is_route task.short in
+    rw (nodes, unbroken) refl
+
+same_network : (options : Options) (word bytes : List ℕ) (g h : Network) (r s : List ℕ) → IsTask options word bytes g r → IsTask options word bytes h s → g ≡ h
+same_network options word bytes g h r s p q = one_limited options.limit bytes g h p.start.network q.start.network
+
+same_route : (options : Options) (word bytes : List ℕ) (g h : Network) (r s : List ℕ) → IsTask options word bytes g r → IsTask options word bytes h s → r ≡ s
+same_route options word bytes g h r s p q =
+    Ok-injective r s (sym (reads_what_is_spelled word r p.spelled) ∙ reads_what_is_spelled word s q.spelled)
+
+charge_within_not : (g : Network) (charge : Option ℕ) (level : ℕ) → charge ≡ Some level → g.capacity < level → start_of g charge ≤ g.capacity → ⊥
+charge_within_not g charge level is past within =
+    let fits : level ≤ g.capacity = subst (λ (c : Option ℕ). start_of g c ≤ g.capacity) is within in
+    omega (arith, past, fits)
+
+refused_is_no_task : (options : Options) (word bytes : List ℕ) (g : Network) (route : List ℕ) (r : Refusal) →
+    IsSmallTask options word bytes g route → IsRule r → IsRefused options word bytes r → ⊥
+refused_is_no_task options word bytes g route (refusal.Instance e) small rule first =
+    refused_has_none options.limit bytes (refusal.Instance e) g rule first small.task.start.network
+refused_is_no_task options word bytes g route (refusal.Limit limit) small rule past =
+    refused_has_none options.limit bytes (refusal.Limit limit) g rule past small.task.start.network
+refused_is_no_task options word bytes g route (refusal.Charge level) small rule (h, network, is, past) =
+    let same : h ≡ g = one_limited options.limit bytes h g network small.task.start.network in
+    charge_within_not g options.charge level is (subst (λ (x : Network). x.capacity < level) same past) small.task.start.within
+refused_is_no_task options word bytes g route (refusal.Route e) small rule (h, start, fault) =
+    let same : h ≡ g = one_limited options.limit bytes h g start.network small.task.start.network in
+    let read : route_in (node_count g) word ≡ Ok route = read_as g word route options bytes small.task in
+    Err-ne-Ok e route (sym (subst (λ (x : Network). route_in (node_count x) word ≡ Err e) same fault) ∙ read)
+refused_is_no_task options word bytes g route (refusal.Levels cells) small rule (h, (other, task, is, past)) =
+    let network : h ≡ g = same_network options word bytes h g other route task small.task in
+    let nodes : other ≡ route = same_route options word bytes h g other route task small.task in
+    let count : cell_count h other ≡ cell_count g route = ap (λ (x : Network). cell_count x other) network ∙ ap (λ (r : List ℕ). cell_count g r) nodes in
+    omega (arith, is, past, count, small.small)
+refused_is_no_task options word bytes g route (refusal.Customers count) small rule is = absurd is
+refused_is_no_task options word bytes g route (refusal.Plan e) small rule is = absurd is
+
+plan_is_some : (options : Options) (word bytes text other : List ℕ) → PutsPlan options word bytes text → PutsInfeasible options word bytes other → ⊥
+plan_is_some options word bytes text other p q =
+    let network : q.network ≡ p.network = same_network options word bytes q.network p.network q.route p.route q.task.task p.task.task in
+    let nodes : q.route ≡ p.route = same_route options word bytes q.network p.network q.route p.route q.task.task p.task.task in
+    let none : HasNoPlan p.network p.route (start_of p.network options.charge) =
+    subst (λ (r : List ℕ). HasNoPlan p.network r (start_of p.network options.charge)) nodes
+    (subst (λ (x : Network). HasNoPlan x q.route (start_of x options.charge)) network q.none) in
+    none 1 p.stops p.fastest.feasible p.fastest.follows
+
+FixedCause : Options → List ℕ → List ℕ → Status → Type 0
+FixedCause options word bytes s = (text : List ℕ) × FixedAnswers options word bytes s text
+
+fixed_answered : (options : Options) (word bytes : List ℕ) (s : Status) → FixedCause options word bytes s → IsAnswered s
+unfolding FixedCause
+fixed_answered options word bytes status.Done p = tt
+fixed_answered options word bytes status.Negative p = tt
+fixed_answered options word bytes status.Refused p = tt
+fixed_answered options word bytes status.Words p = absurd p.1
+fixed_answered options word bytes status.Fault p = absurd p.1
+fixed_answered options word bytes status.Memory p = absurd p.1
+fixed_answered options word bytes status.Stopped p = absurd p.1
+
+fixed_exclude : (options : Options) (word bytes : List ℕ) → ExcludeEachOther (FixedCause options word bytes)
+unfolding FixedCause
+fixed_exclude options word bytes = record {
+  answered = fixed_answered options word bytes;
+  done_negative = λ p q. plan_is_some options word bytes p.0 q.0 p.1 q.1;
+  done_refused = λ p q. refused_is_no_task options word bytes p.1.network p.1.route q.1.refusal p.1.task q.1.rule q.1.refused;
+  negative_refused = λ p q. refused_is_no_task options word bytes p.1.network p.1.route q.1.refusal p.1.task q.1.rule q.1.refused;
+}
+
+-- ---- `check`
+
+same_fleet : (limit : Option ℕ) (bytes : List ℕ) (g h : Network) → HasFleetNetwork limit bytes g → HasFleetNetwork limit bytes h → g ≡ h
+same_fleet limit bytes g h p q = one_limited limit bytes g h p.network q.network
+
+same_plan : (bytes : List ℕ) (p q : Option FleetPlan) → SpellsFleetPlan bytes p → SpellsFleetPlan bytes q → p ≡ q
+same_plan bytes p q is other = Ok-injective p q (sym (reads_fleet_plan bytes p is) ∙ reads_fleet_plan bytes q other)
+
+refused_is_no_plan : (limit : Option ℕ) (bytes plan_bytes : List ℕ) (g : Network) (plan : Option FleetPlan) (r : Refusal) →
+    HasFleetNetwork limit bytes g → SpellsFleetPlan plan_bytes plan → IsRule r → IsCheckRefused limit bytes plan_bytes r → ⊥
+refused_is_no_plan limit bytes plan_bytes g plan (refusal.Instance e) fleet spelled rule first =
+    refused_has_none limit bytes (refusal.Instance e) g rule first fleet.network
+refused_is_no_plan limit bytes plan_bytes g plan (refusal.Limit given) fleet spelled rule past =
+    refused_has_none limit bytes (refusal.Limit given) g rule past fleet.network
+refused_is_no_plan limit bytes plan_bytes g plan (refusal.Customers count) fleet spelled rule (h, network, is, many) =
+    let same : h ≡ g = one_limited limit bytes h g network fleet.network in
+    let counts : count ≡ customer_count g = is ∙ ap (λ (x : Network). customer_count x) same in
+    omega (arith, counts, many, fleet.few)
+refused_is_no_plan limit bytes plan_bytes g plan (refusal.Plan e) fleet spelled rule (h, other, fault) =
+    Err-ne-Ok e plan (sym fault ∙ reads_fleet_plan plan_bytes plan spelled)
+refused_is_no_plan limit bytes plan_bytes g plan (refusal.Charge level) fleet spelled rule is = absurd is
+refused_is_no_plan limit bytes plan_bytes g plan (refusal.Route e) fleet spelled rule is = absurd is
+refused_is_no_plan limit bytes plan_bytes g plan (refusal.Levels cells) fleet spelled rule is = absurd is
+
+accepted_is_unbroken : (limit : Option ℕ) (bytes plan_bytes text other : List ℕ) → PutsAccepted limit bytes plan_bytes text → PutsRejected limit bytes plan_bytes other → ⊥
+accepted_is_unbroken limit bytes plan_bytes text other p q =
+    let network : p.network ≡ q.network = same_fleet limit bytes p.network q.network p.fleet q.fleet in
+    let plan : p.plan ≡ Some q.plan = same_plan plan_bytes p.plan (Some q.plan) p.spelled q.spelled in
+    let valid : IsValid q.network (Some q.plan) p.cost =
+    subst (λ (x : Option FleetPlan). IsValid q.network x p.cost) plan (subst (λ (x : Network). IsValid x p.plan p.cost) network p.valid) in
+    fleet_plan_keeps q.network q.plan.routes valid.0 q.fault q.broken.broken
+
+CheckCause : Option ℕ → List ℕ → List ℕ → Status → Type 0
+CheckCause limit bytes plan_bytes s = (text : List ℕ) × CheckAnswers limit bytes plan_bytes s text
+
+check_answered : (limit : Option ℕ) (bytes plan_bytes : List ℕ) (s : Status) → CheckCause limit bytes plan_bytes s → IsAnswered s
+unfolding CheckCause
+check_answered limit bytes plan_bytes status.Done p = tt
+check_answered limit bytes plan_bytes status.Negative p = tt
+check_answered limit bytes plan_bytes status.Refused p = tt
+check_answered limit bytes plan_bytes status.Words p = absurd p.1
+check_answered limit bytes plan_bytes status.Fault p = absurd p.1
+check_answered limit bytes plan_bytes status.Memory p = absurd p.1
+check_answered limit bytes plan_bytes status.Stopped p = absurd p.1
+
+check_exclude : (limit : Option ℕ) (bytes plan_bytes : List ℕ) → ExcludeEachOther (CheckCause limit bytes plan_bytes)
+unfolding CheckCause
+check_exclude limit bytes plan_bytes = record {
+  answered = check_answered limit bytes plan_bytes;
+  done_negative = λ p q. accepted_is_unbroken limit bytes plan_bytes p.0 q.0 p.1 q.1;
+  done_refused = λ p q. refused_is_no_plan limit bytes plan_bytes p.1.network p.1.plan q.1.refusal p.1.fleet p.1.spelled q.1.rule q.1.refused;
+  negative_refused = λ p q. refused_is_no_plan limit bytes plan_bytes p.1.network (Some p.1.plan) q.1.refusal p.1.fleet p.1.spelled q.1.rule q.1.refused;
+}
+
+-- ---- a job whose files are told
+
+abbrev take_under : Files → List ℕ → List ℕ
+take_under files name = take most_bytes (bytes_under files name)
+
+told_fixed : (job : FixedJob) (files : Files) (s : Status) → HasCause (FixedRoute job) (Some files) s → FixedCause job.options job.route (take_under files job.file) s
+unfolding FixedCause
+told_fixed job files s (text, (bytes, read, answers)) =
+    (text, subst (λ (bs : List ℕ). FixedAnswers job.options job.route bs s text) read answers)
+
+told_check : (job : CheckJob) (files : Files) (s : Status) → HasCause (CheckPlan job) (Some files) s → CheckCause job.limit (take_under files job.file) (take_under files job.plan) s
+unfolding CheckCause
+told_check job files s (text, (bytes, read, (plan_bytes, read_plan, answers))) = (
+  text,
+  subst (λ (bs : List ℕ). CheckAnswers job.limit (take_under files job.file) bs s text) read_plan
+      (subst (λ (bs : List ℕ). CheckAnswers job.limit bs plan_bytes s text) read answers),
+)
+
+pub one_status : (job : Job) (files : Option Files) (s t : Status) → IsTold files → HasCause job files s → HasCause job files t → s ≡ t
+one_status (FixedRoute job) (Some files) s t told p q =
+    one_of (FixedCause job.options job.route (take_under files job.file)) (fixed_exclude job.options job.route (take_under files job.file)) s t
+    (told_fixed job files s p) (told_fixed job files t q)
+one_status (CheckPlan job) (Some files) s t told p q =
+    one_of (CheckCause job.limit (take_under files job.file) (take_under files job.plan)) (check_exclude job.limit (take_under files job.file) (take_under files job.plan)) s t
+    (told_check job files s p) (told_check job files t q)
+one_status (FixedRoute job) None s t told p q = absurd told
+one_status (CheckPlan job) None s t told p q = absurd told

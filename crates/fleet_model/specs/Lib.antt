@@ -1,0 +1,15 @@
+pub mod Places
+pub mod Pairs
+pub mod Labels
+pub mod Prices
+pub mod Section
+pub mod Coverage
+pub mod Steps
+pub mod ClosedList
+pub mod Whole
+pub mod Tree
+pub mod Cover
+pub mod PricedLabels
+pub mod Examples
+pub mod ClosedListRules
+pub mod Margins
