@@ -137,9 +137,10 @@ impl<V: Covers + Drop> Pool<V> {
             ↔ IsCovered V.dominates self.old.labels bucket value) }
         ensures unchanged { IfOk result (λ added. IsNone added → self.new ≡ self.old) }
         ensures some { IfOk result (λ added. IfSome added (λ i. i ≡ length self.old.labels)) }
-        ensures added { IfOk result (λ added. IfSome added (λ i. self.new ≡ record self.old { labels =
-            labels_with V.dominates self.old.labels (record { bucket = bucket; value = value;
-            key = key; parent = parent; live = true; settled = false }) })) }
+        ensures added { IfOk result (λ added. IfSome added (λ i.
+            self.new ≡ record self.old { labels = labels_with V.dominates self.old.labels
+            (record { bucket = bucket; value = value; key = key; parent = parent;
+            live = true; settled = false }) })) }
         ensures own { IfOk result (λ added. IsCovered V.dominates self.new.labels bucket value) }
         ensures keeps { IfOk result (λ added. (b : ℕ) (x : V) →
             IsCovered V.dominates self.old.labels b x → IsCovered V.dominates self.new.labels b x) }
