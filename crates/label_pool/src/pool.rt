@@ -107,8 +107,10 @@ impl<V: Covers + Drop> Pool<V> {
     pub fn take_next(&mut self) -> Option<usize>
         ensures none { IsNone result ↔ NoneWaits self.old.labels }
         ensures next { IfSome result (λ i. (label : Label V) × IsNext self.old.labels i label
-            × (self.new ≡ record self.old { labels =
-            set self.old.labels i (record label { settled = true }) })) }
+            × (self.new ≡ record self.old {
+              labels =
+                  set self.old.labels i (record label { settled = true });
+            })) }
         ensures unchanged { IsNone result → self.new ≡ self.old }
         ensures small { length self.new.labels < 2 ^ 63 }
     {
@@ -138,9 +140,17 @@ impl<V: Covers + Drop> Pool<V> {
         ensures unchanged { IfOk result (λ added. IsNone added → self.new ≡ self.old) }
         ensures some { IfOk result (λ added. IfSome added (λ i. i ≡ length self.old.labels)) }
         ensures added { IfOk result (λ added. IfSome added (λ i.
-            self.new ≡ record self.old { labels = labels_with V.dominates self.old.labels
-            (record { bucket = bucket; value = value; key = key; parent = parent;
-            live = true; settled = false }) })) }
+            self.new ≡ record self.old {
+              labels = labels_with V.dominates self.old.labels
+                  (record {
+                    bucket = bucket;
+                    value = value;
+                    key = key;
+                    parent = parent;
+                    live = true;
+                    settled = false;
+                  });
+            })) }
         ensures own { IfOk result (λ added. IsCovered V.dominates self.new.labels bucket value) }
         ensures keeps { IfOk result (λ added. (b : ℕ) (x : V) →
             IsCovered V.dominates self.old.labels b x → IsCovered V.dominates self.new.labels b x) }
