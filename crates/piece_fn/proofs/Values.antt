@@ -1,12 +1,12 @@
 -- What the parts of points mean as values.
-use Rattle.std.proofs.Common.{◌≡◌, ◌∙◌, ℕ, ◌+◌, ◌-◌, ◌<◌, min, refl, sym, ap, List, [], ◌∷◌, get_or, arith}
+use Rattle.std.proofs.Common.{◌≡◌, ◌∙◌, ℕ, ◌+◌, ◌-◌, ◌<◌, ◌≤◌, min, refl, sym, ap, List, [], ◌∷◌, get_or, arith}
 use Rattle.charge_curve.specs.Points.{ArePoints, last_level, time_on}
-use Rattle.charge_curve.specs.Scaled.{BeginsEmpty}
-use Rattle.dominance.specs.Coverage.{Reaches}
-use Rattle.dominance.specs.LevelTimes.{IsLevel, time_at}
+use Rattle.ev_model.specs.Curve.{BeginsEmpty}
+use Rattle.dominance.specs.Coverage.{CoversEach, Reaches}
+use Rattle.dominance.specs.LevelTimes.{IsLevel, LevelTimes, time_at}
 use Rattle.dominance.specs.Steps.{IsChargeFrom, IsShift, NothingLeft}
 use Rattle.dominance.proofs.Pieces.{never_falls, time_on-before}
-use Rattle.piece_fn.specs.PieceFn.{first_level, IsReach, level_times}
+use Rattle.piece_fn.specs.PieceFn.{first_level, IsCut, IsReach, level_times}
 use Rattle.piece_fn.specs.Reach.{LastsTo}
 use Rattle.piece_fn.proofs.Levels.{first-level_times, first_is_least, is_level, level_is, reached, reaches, time_at-level_times}
 use Rattle.piece_fn.proofs.Parts.{IsPart}
@@ -55,6 +55,45 @@ pub past_limit : (energy time limit : ℕ) (ps : List (ℕ × ℕ)) → ArePoint
 past_limit energy time limit ps are past level is enough =
     let value = time_at-level_times ps level are is in
     omega (arith, value, past, never_falls ps are energy level enough)
+
+-- without the levels below one
+pub part_is_cut : (least : ℕ) (ps out : List (ℕ × ℕ)) → ArePoints ps → least ≤ last_level ps → IsPart least 0 0 0 (time_on ps (last_level ps)) ps out → IsCut least (level_times ps) (level_times out)
+part_is_cut least ps out are le is =
+    let last = is.all (last_level ps) le (omega arith) (omega arith) in
+    let place : (level : ℕ) → level - 0 ≡ level = λ level. omega arith in record {
+      begins = omega (arith, first-level_times ps, first-level_times out, is.first);
+      left = λ level. (
+        λ low.
+            let inside = level_is out level is.are low in
+            (is_level ps level are (omega (arith, inside, is.first)) (omega (arith, inside, is.last)), omega (arith, inside, is.first)),
+        λ both. let inside = level_is ps level are both.0 in is_level out level is.are (omega (arith, is.first, inside, both.1)) (omega (arith, last, inside)),
+      );
+      same = λ level low.
+          let inside = level_is out level is.are low in
+          let there = is_level ps level are (omega (arith, inside, is.first)) (omega (arith, inside, is.last)) in
+          let value = time_at-level_times ps level are there in
+          let here = time_at-level_times out level is.are low in
+          let moved : time_on out level ≡ 0 + (time_on ps level - 0) = ap (λ x. time_on out x) (sym (place level)) ∙ is.times level (omega (arith, inside, is.first)) (omega (arith, inside)) in
+          omega (arith, value, here, moved);
+    }
+
+pub below_least : (least : ℕ) (ps : List (ℕ × ℕ)) → ArePoints ps → last_level ps < least → (level : ℕ) → IsLevel (level_times ps) level → level < least
+below_least least ps are less level is = let inside = level_is ps level are is in omega (arith, inside, less)
+
+-- a cut keeps coverage
+pub cut_keeps : (least extra : ℕ) (own other left mine : LevelTimes) → CoversEach own other extra → IsCut least other left → IsCut least own mine → CoversEach mine left extra
+cut_keeps least extra own other left mine covers its ours level low =
+    let before = (its.left level).0 low in
+    let high = covers level before.0 in
+    let there = (ours.left high.0).1 (high.1, omega (arith, before.1, high.2.0)) in
+    (high.0, there, (high.2.0, omega (arith, ours.same high.0 there, its.same level low, high.2.1)))
+
+pub cut_keeps_none : (least extra : ℕ) (own other left : LevelTimes) → CoversEach own other extra → IsCut least other left → ((level : ℕ) → IsLevel own level → level < least) → (level : ℕ) → IsLevel left level → ⊥
+cut_keeps_none least extra own other left covers its none level low =
+    let before = (its.left level).0 low in
+    let high = covers level before.0 in
+    let under = none high.0 high.1 in
+    omega (arith, before.1, high.2.0, under)
 
 -- after a charge
 begins_at_zero : (curve : List (ℕ × ℕ)) → BeginsEmpty curve → first_level curve ≡ 0

@@ -1,5 +1,5 @@
 -- Label values by few supporting points (level, time), between which times are linear.
-use Rattle.std.specs.Prelude.{◌≡◌, ℕ, ◌+◌, ◌-◌, ◌≤◌, Bool, ◌||◌, List, [], ◌∷◌, map, nat_eq}
+use Rattle.std.specs.Prelude.{◌≡◌, ◌↔◌, ℕ, ◌+◌, ◌-◌, ◌≤◌, Bool, ◌||◌, List, [], ◌∷◌, map, max, nat_eq}
 use Rattle.std.specs.List.{AllZip, filter, list_any, range_with_len}
 use Rattle.charge_curve.specs.Points.{last_level, time_on}
 use Rattle.dominance.specs.Coverage.{levels_of, Reaches}
@@ -38,3 +38,9 @@ pub record IsReach (own other : LevelTimes) (extra from to : ℕ) : Type 0 where
   pub ends : IsLevel other to
   pub reached : (level : ℕ) → from ≤ level → level ≤ to → Reaches own extra level (time_at other level)
   pub stops : IsLevel other (to + 1) → Reaches own extra (to + 1) (time_at other (to + 1)) → ⊥
+
+-- w is v without its levels below one
+pub record IsCut (least : ℕ) (v w : LevelTimes) : Type 0 where
+  pub begins : w.first ≡ max least v.first
+  pub left : (level : ℕ) → IsLevel w level ↔ (IsLevel v level × (least ≤ level))
+  pub same : (level : ℕ) → IsLevel w level → time_at w level ≡ time_at v level

@@ -6,7 +6,7 @@ ghost use Rattle.charge_curve.specs.Points.{ArePoints, last_level, time_on};
 ghost use Rattle.dominance.specs.Coverage.{CoversEach, Reaches, SomeReaches};
 ghost use Rattle.dominance.specs.LevelTimes.{IsLevel, IsValue, LevelTimes, time_at};
 ghost use Rattle.dominance.specs.Steps.{IsCharge, IsChargeFrom};
-ghost use Rattle.piece_fn.specs.PieceFn.{first_level, IsChargeList, IsReach, level_times};
+ghost use Rattle.piece_fn.specs.PieceFn.{first_level, IsChargeList, IsCut, IsReach, level_times};
 
 use crate::charging::{Move, Points, carried, starts};
 use crate::coverage::{covers, is_in_time};
@@ -98,6 +98,39 @@ impl PieceFn {
             return None;
         }
         Some(farthest(own, others, extra, from, end))
+    }
+
+    /// The value without its levels below `least`. `None` comes exactly where no level is left.
+    ///
+    /// What covered another value before the cut covers it after the cut.
+    pub fn cut(&self, least: u64) -> Result<Option<PieceFn>, AllocError>
+        ensures none { IfOk result (λ cut. IfNone cut ((level : ℕ) →
+            IsLevel (level_times self.now) level → level < least)) }
+        ensures some { IfOk result (λ cut. IfSome cut (λ value.
+            IsCut least (level_times self.now) (level_times value))) }
+        ensures keeps { IfOk result (λ cut. (other left : LevelTimes) (extra : ℕ) →
+            CoversEach (level_times self.now) other extra → IsCut least other left →
+            MatchOption cut ((level : ℕ) → IsLevel left level → ⊥)
+            (λ value. CoversEach (level_times value) left extra)) }
+    {
+        let points = self.points();
+        let last = last_level(points);
+        if last < least {
+            return Ok(None);
+        }
+        let by = Move {
+            down: 0,
+            zero: 0,
+            base: 0,
+        };
+        let points = carried(
+            *self.points.allocator(),
+            points,
+            least,
+            by,
+            time_at(points, last),
+        )?;
+        Ok(Some(PieceFn { points }))
     }
 
     /// What becomes of the value by charging from one of its levels, up to a full battery or the limit.

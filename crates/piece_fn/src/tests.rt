@@ -1,5 +1,3 @@
-ghost use Rattle.std.specs.Prelude.{◌<◌};
-
 use crate::PieceFn;
 use charge_curve::Curve;
 use dominance::{Covers, LabelValue, Row};
@@ -41,22 +39,12 @@ fn a_value_steps_along_an_arc_and_charges(rt: HostRuntime) {
     assert_eq!(rt; f.least(), (7, 16));
     assert!(rt; PieceFn::is_points(f.points()));
     assert!(rt; !PieceFn::is_points(&[(7, 16), (9, 17)]));
-}
-
-/// Three points with small levels and times, for each number below 288.
-fn points_of(number: u64) -> [(u64, u64); 3]
-    requires { number < 288 }
-{
-    let first = (number % 3, number / 144);
-    let second = (
-        first.0 + 1 + number / 3 % 2,
-        first.1 + (1 + number / 3 % 2) * (number / 6 % 3),
-    );
-    let third = (
-        second.0 + 1 + number / 18 % 2,
-        second.1 + (1 + number / 18 % 2) * (number / 36 % 4),
-    );
-    [first, second, third]
+    let cut = f
+        .cut(9)
+        .expect(&rt, "memory")
+        .expect(&rt, "a level is left");
+    assert_eq!(rt; cut.points(), [(9, 23), (10, 29)].as_slice());
+    assert!(rt; f.cut(11).expect(&rt, "memory").is_none());
 }
 
 /// The value as a plain row of times, if its times are in order. Its levels are below 12.
@@ -120,8 +108,14 @@ fn few_points_and_plain_rows_agree(rt: HostRuntime) {
     let alloc = rt.alloc();
     let other = PieceFn::from_points(alloc, &[(1, 1), (3, 3), (4, 6)]).expect(&rt, "memory");
     let other_row = Row::from_times(alloc, 1, &[1, 2, 3, 6]).expect(&rt, "memory");
-    for number in 0..288 {
-        let points = points_of(number);
+    for points in [
+        [(0, 0), (1, 0), (2, 0)],
+        [(1, 1), (3, 3), (4, 6)],
+        [(2, 0), (3, 2), (5, 2)],
+        [(0, 1), (2, 5), (3, 8)],
+        [(1, 0), (2, 1), (4, 7)],
+        [(2, 1), (4, 1), (5, 2)],
+    ] {
         assert!(rt; PieceFn::is_points(&points));
         let value = PieceFn::from_points(alloc, &points).expect(&rt, "memory");
         let row = row_of(alloc, &value)

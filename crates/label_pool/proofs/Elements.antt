@@ -1,0 +1,51 @@
+-- Elements of a list after a write and behind an append.
+use Rattle.std.proofs.Common.{◌≡◌, ℕ, zero, suc, ◌<◌, List, [], ◌∷◌, ◌++◌, ◌⊎◌, inl, inr, get_or, length, map, set, refl, sym, ap, arith, Some}
+use Rattle.std.specs.Prelude.{slice_get}
+use Rattle.std.proofs.lemmas.Option.{same_Some, none-some, slice_get_read, slice_get_within}
+
+module _ {X : Type 0} where
+  pub set_here : (xs : List X) (i : ℕ) (x y : X) → slice_get xs i ≡ Some y → slice_get (set xs i x) i ≡ Some x
+  set_here [] i x y h = absurd (none-some y h)
+  set_here (z ∷ zs) zero x y h = refl
+  set_here (z ∷ zs) (suc i) x y h = set_here zs i x y h
+
+  pub set_there : (xs : List X) (i j : ℕ) (x : X) → (j ≡ i → ⊥) → slice_get (set xs i x) j ≡ slice_get xs j
+  set_there [] i j x n = refl
+  set_there (z ∷ zs) zero zero x n = absurd (n refl)
+  set_there (z ∷ zs) zero (suc j) x n = refl
+  set_there (z ∷ zs) (suc i) zero x n = refl
+  set_there (z ∷ zs) (suc i) (suc j) x n = set_there zs i j x (λ e. n (ap suc e))
+
+  pub map-set_like : {Y : Type 0} (f : X → Y) (xs : List X) (i : ℕ) (x y : X) → slice_get xs i ≡ Some y → f x ≡ f y → map f (set xs i x) ≡ map f xs
+  map-set_like f [] i x y h e = refl
+  map-set_like f (z ∷ zs) zero x y h e = ap (λ w. w ∷ map f zs) (rw e (ap f (sym (same_Some z y h))))
+  map-set_like f (z ∷ zs) (suc i) x y h e = ap (λ ws. f z ∷ ws) (map-set_like f zs i x y h e)
+
+  pub map-unchanged : (f : X → X) (xs : List X) → ((i : ℕ) (x : X) → slice_get xs i ≡ Some x → f x ≡ x) → map f xs ≡ xs
+  map-unchanged f [] h = refl
+  map-unchanged f (z ∷ zs) h = let e = h 0 z refl in let rest = map-unchanged f zs (λ i x at. h (suc i) x at) in cc
+
+  pub appended_here : (xs : List X) (x : X) → slice_get (xs ++ x ∷ []) (length xs) ≡ Some x
+  appended_here [] x = refl
+  appended_here (z ∷ zs) x = appended_here zs x
+
+  pub appended_before : (xs ys : List X) (i : ℕ) (x : X) → slice_get xs i ≡ Some x → slice_get (xs ++ ys) i ≡ Some x
+  appended_before [] ys i x h = absurd (none-some x h)
+  appended_before (z ∷ zs) ys zero x h = h
+  appended_before (z ∷ zs) ys (suc i) x h = appended_before zs ys i x h
+
+  pub appended_cases : (xs : List X) (x y : X) (i : ℕ) → slice_get (xs ++ x ∷ []) i ≡ Some y → (slice_get xs i ≡ Some y) ⊎ ((i ≡ length xs) × (x ≡ y))
+  appended_cases [] x y zero h = inr (refl, same_Some x y h)
+  appended_cases [] x y (suc i) h = absurd (none-some y h)
+  appended_cases (z ∷ zs) x y zero h = inl h
+  appended_cases (z ∷ zs) x y (suc i) h =
+      elim (appended_cases zs x y i h) [ inl e ↦ inl e | inr e ↦ inr (ap suc e.0, e.1) ]
+
+  -- what was read at a place where there is an element
+  pub read_at : (xs : List X) (i : ℕ) (there x : X) → slice_get xs i ≡ Some there → x ≡ get_or xs i x → slice_get xs i ≡ Some x
+  read_at xs i there x h e = slice_get_read xs (length xs) i x refl (slice_get_within xs i there h) e
+
+  pub element_at : (xs : List X) (i : ℕ) → i < length xs → (x : X) × (slice_get xs i ≡ Some x)
+  element_at [] i l = absurd (omega arith)
+  element_at (z ∷ zs) zero l = (z, refl)
+  element_at (z ∷ zs) (suc i) l = element_at zs i (omega arith)

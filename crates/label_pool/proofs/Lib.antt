@@ -1,0 +1,4 @@
+pub mod Elements
+pub mod Ties
+pub mod Covering
+pub mod Chains

@@ -1,0 +1,6 @@
+use Rattle.label_pool.proofs.Ties.{tied_new}
+use Rattle.label_pool.proofs.pool.Pool.new.Goals as goal
+
+pub invariant_of-result : goal.invariant_of-result
+invariant_of-result g c =
+    tied_new c.new.result.items c.new-live.result c.grow.new.self c.new-2.result c.args.buckets c.new.ensures.items c.new-live.ensures c.in_ok-grow.ensures.ok c.new-2.ensures
