@@ -3,7 +3,7 @@ use Rattle.std.proofs.Common.{◌≡◌, ◌∙◌, sym, ap, ℕ, ◌+◌, ◌-�
 use Rattle.std.proofs.lemmas.List.{append-nil, take_all, take-append-drop, take_rest}
 use Rattle.std.proofs.Math.Seq.{take-append_seam, take-add}
 use Rattle.std.specs.Io.KnownBytes.{Consumes, Appends, Keeps, IsAtEnd}
-use Rattle.ev_outside.specs.Counts.{IsPrefixOf}
+use Rattle.ev_text.specs.Scans.{IsPrefixOf}
 use Rattle.ev_outside.specs.Sink.{AppendsPrefix}
 
 -- A part of what the source had was appended, and `left` bytes of `most` are still wanted.

@@ -16,7 +16,3 @@ NeverFalls before now = (name : List ℕ) → before name ≤ now name
 -- Each name's count is what it was.
 abbrev pub Stays : (List ℕ → ℕ) → (List ℕ → ℕ) → Type 0
 Stays before now = (name : List ℕ) → now name ≡ before name
-
--- The whole begins with the front.
-abbrev pub IsPrefixOf : List ℕ → List ℕ → Type 0
-IsPrefixOf front whole = (rest : List ℕ) × (whole ≡ front ++ rest)

@@ -1,6 +1,7 @@
 -- What calls on named files do. A shelf that doesn't tell its bytes has `None` in place of its files.
 use Rattle.std.specs.Prelude.{◌≡◌, ◌≢◌, ℕ, ◌+◌, ◌≤◌, List, [], ◌++◌, length, take, Option, Some, None, unwrap_or}
-use Rattle.ev_outside.specs.Counts.{IsPrefixOf, NeverFalls, Stays}
+use Rattle.ev_outside.specs.Counts.{NeverFalls, Stays}
+use Rattle.ev_text.specs.Scans.{IsPrefixOf}
 
 -- which names hold which bytes: `None` where a name isn't there
 abbrev pub Files : Type 0

@@ -1,7 +1,7 @@
 -- What calls on the output do. A sink that doesn't tell its bytes has `None` in their place.
 use Rattle.std.specs.Prelude.{◌≡◌, ℕ, List, ◌++◌, Option, Some, None}
 use Rattle.std.specs.Io.KnownBytes.{Appends}
-use Rattle.ev_outside.specs.Counts.{IsPrefixOf}
+use Rattle.ev_text.specs.Scans.{IsPrefixOf}
 
 -- what holds of an output: the bytes that were written, where it tells them, and how many calls have failed
 pub record SinkState : Type 0 where

@@ -1,6 +1,7 @@
 //! The files of the system.
 ghost use Rattle.std.specs.Prelude.{◌≡◌, ◌≤◌, ℕ, OnOk, OnErr, IsErrOf};
-ghost use Rattle.ev_outside.specs.Counts.{one_more, Rose, IsPrefixOf};
+ghost use Rattle.ev_outside.specs.Counts.{one_more, Rose};
+ghost use Rattle.ev_text.specs.Scans.{IsPrefixOf};
 ghost use Rattle.ev_outside.specs.Shelf.{untold, AppendsFile, CountsNeverFall, CountsStay, HoldsUnder, KeepsOthers};
 
 use super::shelf::{Shelf, ShelfFault};

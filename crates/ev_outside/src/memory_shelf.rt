@@ -1,6 +1,7 @@
 //! Named files in memory, for tests.
 ghost use Rattle.std.specs.Prelude.{◌≡◌, ◌⊎◌, ◌↔◌, ◌++◌, ◌∷◌, [], ℕ, List, Option, Some, None, map, OnOk, OnErr, IfSome, IfOk, IsErrOf, IsNone, IsSome, string_bytes};
-ghost use Rattle.ev_outside.specs.Counts.{one_more, Rose, IsPrefixOf};
+ghost use Rattle.ev_outside.specs.Counts.{one_more, Rose};
+ghost use Rattle.ev_text.specs.Scans.{IsPrefixOf};
 ghost use Rattle.ev_outside.specs.Shelf.{Files, AppendsFile, CountsNeverFall, CountsStay, HoldsUnder, KeepsOthers};
 
 use super::shelf::{Shelf, ShelfFault};
@@ -126,7 +127,8 @@ fn add_name(names: &mut Vec<String>, name: &str) -> Result<(), AllocError>
 
 impl Shelf for MemoryShelf {
     ghost use Rattle.std.specs.Prelude.{◌≡◌, ◌⊎◌, ◌++◌, ◌∷◌, [], Some, OnOk, OnErr, IsErrOf, IsNone, IsSome};
-    ghost use Rattle.ev_outside.specs.Counts.{one_more, Rose, IsPrefixOf};
+    ghost use Rattle.ev_outside.specs.Counts.{one_more, Rose};
+    ghost use Rattle.ev_text.specs.Scans.{IsPrefixOf};
     ghost use Rattle.ev_outside.specs.Shelf.{AppendsFile, CountsNeverFall, CountsStay, HoldsUnder, KeepsOthers};
     ghost use Rattle.ev_outside.specs.MemoryShelf.{one_call_more, read_failed, state_of, told_by, write_failed, IsNextToFail, ChangesFile};
 

@@ -1,6 +1,7 @@
 //! Named files.
 ghost use Rattle.std.specs.Prelude.{◌≡◌, OnOk, OnErr, IsErrOf};
-ghost use Rattle.ev_outside.specs.Counts.{Rose, IsPrefixOf};
+ghost use Rattle.ev_outside.specs.Counts.{Rose};
+ghost use Rattle.ev_text.specs.Scans.{IsPrefixOf};
 ghost use Rattle.ev_outside.specs.Shelf.{ShelfState, AppendsFile, CountsNeverFall, CountsStay, HoldsUnder, KeepsOthers};
 
 use thiserror::Error;

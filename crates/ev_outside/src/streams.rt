@@ -1,6 +1,6 @@
 //! Loops over the reads and writes of std, which may take a part of what they are asked for.
 ghost use Rattle.std.specs.Prelude.{◌≡◌, ◌+◌, ◌++◌, ◌≤◌, take, length, OnOk, OnErr, IfSome, MatchBool};
-ghost use Rattle.ev_outside.specs.Counts.{IsPrefixOf};
+ghost use Rattle.ev_text.specs.Scans.{IsPrefixOf};
 ghost use Rattle.std.specs.Io.KnownBytes.{Appends};
 ghost use Rattle.ev_outside.specs.Sink.{AppendsPrefix};
 

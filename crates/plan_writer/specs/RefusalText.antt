@@ -10,8 +10,8 @@ use Rattle.instance_reader.specs.declared.faults.ReadFault.{ReadFault}
 use Rattle.instance_reader.specs.declared.faults.ReadFault.TheVariants as instance
 use Rattle.instance_reader.specs.declared.places.Part.{Part}
 use Rattle.instance_reader.specs.declared.places.Place.{Place}
-use Rattle.route_plan.specs.declared.plan_text.PlanText.{PlanText}
-use Rattle.route_plan.specs.declared.plan_text.PlanText.TheVariants as plan
+use Rattle.route_plan.specs.declared.text.plan_text.PlanText.{PlanText}
+use Rattle.route_plan.specs.declared.text.plan_text.PlanText.TheVariants as plan
 use Rattle.route_plan.specs.declared.route.RouteFault.{RouteFault}
 use Rattle.route_plan.specs.declared.route.RouteFault.TheVariants as route
 use Rattle.plan_writer.specs.declared.refusal.Refusal.{Refusal}

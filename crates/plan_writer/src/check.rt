@@ -1,7 +1,7 @@
 //! The text of `check`.
 
 ghost use Rattle.std.specs.Prelude.{◌≡◌, ◌++◌, ◌∷◌, [], OnErr, OnOk, codes};
-ghost use Rattle.ev_outside.specs.Counts.{IsPrefixOf};
+ghost use Rattle.ev_text.specs.Scans.{IsPrefixOf};
 ghost use Rattle.plan_check.specs.declared.fault.PlanFault.TheVariants as plan;
 ghost use Rattle.plan_writer.specs.CheckText.{check_text, cost_text, rule_text, walk_text};
 ghost use Rattle.plan_writer.specs.FixedText.{over};

@@ -1,7 +1,7 @@
 //! The text of `fixed`.
 
 ghost use Rattle.std.specs.Prelude.{◌≡◌, ◌++◌, ◌∷◌, [], Some, None, OnOk, OnErr, codes, decimal, option_map};
-ghost use Rattle.ev_outside.specs.Counts.{IsPrefixOf};
+ghost use Rattle.ev_text.specs.Scans.{IsPrefixOf};
 ghost use Rattle.plan_writer.specs.FixedText.{amount_text, fixed_text, over, stop_line, stop_lines};
 
 use ev_model::Stop;

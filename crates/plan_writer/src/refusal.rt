@@ -1,7 +1,7 @@
 //! The line of a refusal.
 
 ghost use Rattle.std.specs.Prelude.{◌≡◌, ◌≢◌, ◌++◌, OnErr, OnOk, codes, decimal};
-ghost use Rattle.ev_outside.specs.Counts.{IsPrefixOf};
+ghost use Rattle.ev_text.specs.Scans.{IsPrefixOf};
 ghost use Rattle.plan_writer.specs.RefusalText.{IsInstanceRule, IsRule, cause_text, curve_fault_text, curve_text, fault_text, instance_text, place_text, plan_fault_text, refusal_text, route_text, slash_index, slash_part};
 
 use crate::words::{push_numbered, push_word};

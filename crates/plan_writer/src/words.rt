@@ -1,7 +1,7 @@
 //! Words and numbers, of which lines are made.
 
 ghost use Rattle.std.specs.Prelude.{◌≡◌, ◌++◌, OnErr, OnOk, decimal};
-ghost use Rattle.ev_outside.specs.Counts.{IsPrefixOf};
+ghost use Rattle.ev_text.specs.Scans.{IsPrefixOf};
 
 use ev_text::push_whole;
 use std::alloc::{AllocError, Global};

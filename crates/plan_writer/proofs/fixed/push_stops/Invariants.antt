@@ -1,5 +1,5 @@
 use Rattle.std.proofs.Common.{◌≡◌, ◌++◌, drop}
-use Rattle.ev_outside.specs.Counts.{IsPrefixOf}
+use Rattle.ev_text.specs.Scans.{IsPrefixOf}
 use Rattle.plan_writer.specs.FixedText.{stop_lines}
 use Rattle.plan_writer.proofs.fixed.push_stops.Given as goal
 
