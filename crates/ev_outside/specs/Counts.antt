@@ -1,5 +1,5 @@
 -- Counts of faults, which never fall.
-use Rattle.std.specs.Prelude.{◌≡◌, ℕ, ◌+◌, ◌-◌, ◌^◌, ◌≤◌, min, List, ◌++◌}
+use Rattle.std.specs.Prelude.{◌≡◌, ℕ, ◌+◌, ◌-◌, ◌^◌, ◌≤◌, min, List}
 
 -- a count of 64 bits after one more fault: its last value stays
 abbrev pub one_more : ℕ → ℕ
