@@ -10,8 +10,8 @@ use Rattle.instance_reader.specs.declared.faults.ReadFault.{ReadFault}
 use Rattle.instance_reader.specs.declared.faults.ReadFault.TheVariants as instance
 use Rattle.instance_reader.specs.declared.places.Part.{Part}
 use Rattle.instance_reader.specs.declared.places.Place.{Place}
-use Rattle.route_plan.specs.declared.plan_text.PlanText.{PlanText}
-use Rattle.route_plan.specs.declared.plan_text.PlanText.TheVariants as plan
+use Rattle.route_plan.specs.declared.text.plan_text.PlanText.{PlanText}
+use Rattle.route_plan.specs.declared.text.plan_text.PlanText.TheVariants as plan
 use Rattle.route_plan.specs.declared.route.RouteFault.{RouteFault}
 use Rattle.route_plan.specs.declared.route.RouteFault.TheVariants as route
 use Rattle.plan_writer.specs.declared.refusal.Refusal.{Refusal}
@@ -66,6 +66,7 @@ instance_text (instance.TypeName place) = codes "8 " ++ place_text place
 instance_text (instance.BadCurve index fault) = curve_fault_text index fault
 instance_text instance.Denominator = codes "10"
 instance_text (instance.Horizon limit) = codes "11 " ++ decimal limit
+instance_text (instance.Level place) = codes "12 " ++ place_text place
 instance_text instance.Memory = []
 
 abbrev pub route_text : RouteFault → List ℕ

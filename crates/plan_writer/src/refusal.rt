@@ -95,6 +95,7 @@ fn push_instance_fault(
         ReadFault::BadCurve { index, fault } => push_curve_fault(alloc, out, *index, fault),
         ReadFault::Denominator => push_word(out, b"10"),
         ReadFault::Horizon { limit } => push_numbered(alloc, out, b"11 ", *limit as u128),
+        ReadFault::Level { place } => push_placed(alloc, out, b"12 ", place),
         // No rule, and excluded by the condition.
         ReadFault::Memory => Ok(()),
     }
