@@ -1,6 +1,6 @@
 //! The first steps of each job that reads an instance.
 
-ghost use Rattle.std.specs.Prelude.{ℕ, IfErr, IfOk, List, Option};
+ghost use Rattle.std.specs.Prelude.{◌≢◌, ℕ, IfErr, IfOk, List, Option};
 ghost use Rattle.evroute.specs.Ended.{IsNetworkEnded, IsRuleOrMemory};
 ghost use Rattle.evroute.specs.LimitedNetwork.{HasNetwork};
 ghost use Rattle.instance_reader.specs.Faults.{IsFirstFault};
@@ -14,7 +14,8 @@ use std::alloc::Global;
 /// Why an instance isn't read. Want of memory is no rule, in a curve either.
 fn unread(fault: ReadFault) -> Ended
     ensures rule { IsRuleOrMemory result }
-    ensures ended { (limit : Option ℕ) (bytes : List ℕ) → IsFirstFault bytes fault
+    ensures ended { (limit : Option ℕ) (bytes : List ℕ)
+        → (fault ≢ ReadFault.Memory → IsFirstFault bytes fault)
         → IsNetworkEnded limit bytes result }
 {
     match fault {
