@@ -24,18 +24,6 @@ fn job_text(alloc: Global, line: &str) -> Result<String, AllocError> {
         Some(Job::Check(job)) => {
             format!(in alloc; "check {} {} {:?}", job.file, job.plan, job.limit)
         }
-        Some(Job::Convert(job)) => {
-            format!(in alloc;
-                "convert {} {} {} {}",
-                job.file, job.outfile, job.time_digits, job.energy_digits
-            )
-        }
-        Some(Job::Make(job)) => {
-            format!(in alloc;
-                "make {} {} {} {}",
-                job.seed, job.customers, job.stations, job.outfile
-            )
-        }
         None => String::from_str(alloc, "none"),
     }
 }
@@ -72,23 +60,6 @@ fn words_name_jobs(rt: HostRuntime) {
         ("check A A", "none"),
         ("check A P Q", "none"),
         ("fleet A P Q", "none"),
-        (
-            "convert A W --time-digits 2 --energy-digits=1000000000",
-            "convert A W 2 1000000000",
-        ),
-        (
-            "convert A W --time-digits 2 --energy-digits 1000000001",
-            "none",
-        ),
-        ("convert A W --time-digits 2", "none"),
-        ("convert A A --time-digits 2 --energy-digits 0", "none"),
-        (
-            "make 18446744073709551615 4294967295 0 M",
-            "make 18446744073709551615 4294967295 0 M",
-        ),
-        ("make 18446744073709551616 1 0 M", "none"),
-        ("make 1 4294967296 0 M", "none"),
-        ("make 1 1 0 M --limit 1", "none"),
         ("--help", "none"),
         ("fixed A 0,1,0 -h", "none"),
         ("help", "none"),

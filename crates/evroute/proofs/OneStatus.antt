@@ -5,14 +5,15 @@ use Rattle.command_line.specs.declared.Options.{Options}
 use Rattle.ev_model.specs.Fastest.{HasNoPlan}
 use Rattle.ev_model.specs.Network.{Network, node_count}
 use Rattle.ev_outside.specs.Shelf.{Files, bytes_under}
+use Rattle.ev_text.proofs.Results.{Err-ne-Ok, Ok-injective}
 use Rattle.level_table.specs.Answer.{cell_count}
 use Rattle.plan_check.proofs.FleetPlans.{fleet_plan_keeps}
 use Rattle.plan_writer.specs.RefusalText.{IsRule}
 use Rattle.plan_writer.specs.declared.refusal.Refusal.{Refusal}
 use Rattle.plan_writer.specs.declared.refusal.Refusal.TheVariants as refusal
-use Rattle.route_plan.proofs.PlanReadingRead.{reads_fleet_plan}
+use Rattle.route_plan.proofs.PlanLaws.{fleet_plan_is_spelled}
 use Rattle.route_plan.proofs.Routes.{is_unbroken}
-use Rattle.route_plan.proofs.Spelled.{Err-ne-Ok, Ok-injective, reads_what_is_spelled}
+use Rattle.route_plan.proofs.Spelled.{reads_what_is_spelled}
 use Rattle.route_plan.specs.PlanTexts.{SpellsFleetPlan}
 use Rattle.route_plan.specs.RouteRules.{route_fault, route_in}
 use Rattle.route_plan.specs.RouteWords.{nodes_in}
@@ -136,7 +137,7 @@ same_fleet : (limit : Option ℕ) (bytes : List ℕ) (g h : Network) → HasFlee
 same_fleet limit bytes g h p q = one_limited limit bytes g h p.network q.network
 
 same_plan : (bytes : List ℕ) (p q : Option FleetPlan) → SpellsFleetPlan bytes p → SpellsFleetPlan bytes q → p ≡ q
-same_plan bytes p q is other = Ok-injective p q (sym (reads_fleet_plan bytes p is) ∙ reads_fleet_plan bytes q other)
+same_plan bytes p q is other = Ok-injective p q (sym ((fleet_plan_is_spelled bytes p).1 is) ∙ (fleet_plan_is_spelled bytes q).1 other)
 
 refused_is_no_plan : (limit : Option ℕ) (bytes plan_bytes : List ℕ) (g : Network) (plan : Option FleetPlan) (r : Refusal) →
     HasFleetNetwork limit bytes g → SpellsFleetPlan plan_bytes plan → IsRule r → IsCheckRefused limit bytes plan_bytes r → ⊥
@@ -149,7 +150,7 @@ refused_is_no_plan limit bytes plan_bytes g plan (refusal.Customers count) fleet
     let counts : count ≡ customer_count g = is ∙ ap (λ (x : Network). customer_count x) same in
     omega (arith, counts, many, fleet.few)
 refused_is_no_plan limit bytes plan_bytes g plan (refusal.Plan e) fleet spelled rule (h, other, fault) =
-    Err-ne-Ok e plan (sym fault ∙ reads_fleet_plan plan_bytes plan spelled)
+    Err-ne-Ok e plan (sym fault ∙ (fleet_plan_is_spelled plan_bytes plan).1 spelled)
 refused_is_no_plan limit bytes plan_bytes g plan (refusal.Charge level) fleet spelled rule is = absurd is
 refused_is_no_plan limit bytes plan_bytes g plan (refusal.Route e) fleet spelled rule is = absurd is
 refused_is_no_plan limit bytes plan_bytes g plan (refusal.Levels cells) fleet spelled rule is = absurd is

@@ -1,11 +1,16 @@
 -- A job whose answer was found is performed.
-use Rattle.std.proofs.Common.{◌≡◌, ◌≢◌, ℕ, ◌⊎◌, List, Option, inl, inr, refl, subst, sym}
+use Rattle.std.proofs.Common.{◌≡◌, ◌≢◌, ℕ, ◌⊎◌, List, [], Option, None, Some, IfSome, ap, inl, inr, refl, subst, sym}
+use Rattle.std.proofs.lemmas.List.{append-nil}
+use Rattle.std.specs.Option.{option_map}
+use Rattle.command_line.specs.Usage.{usage_text}
+use Rattle.command_line.specs.JobValue.{job_value}
 use Rattle.command_line.specs.Words.{Job}
+use Rattle.command_line.specs.declared.Job as values
 use Rattle.ev_outside.specs.Counts.{Rose}
 use Rattle.ev_outside.specs.Shelf.{Files, ShelfState}
 use Rattle.ev_outside.specs.Sink.{Adds, AddsPrefix, SinkState}
 use Rattle.evroute.proofs.OneStatus.{one_status}
-use Rattle.evroute.specs.Run.{BreakNoRule, EndsUnlessHindered, HasCause, HasFaultCause, HasFileFault, IsAnswered, IsTold, JobAnswers, Performs, PutsAnswer, PutsPart}
+use Rattle.evroute.specs.Run.{BreakNoRule, EndsUnlessHindered, HasCause, HasFaultCause, HasFileFault, IsAnswered, IsTold, JobAnswers, Performs, PutsAnswer, PutsPart, TellsUsage}
 use Rattle.evroute.specs.declared.status.Status.{Status}
 use Rattle.evroute.specs.declared.status.Status.TheVariants as status
 
@@ -71,3 +76,28 @@ performs_fault job before after old cause files =
 pub performs_nothing : (job : Job) (before after : ShelfState) (old : SinkState) → after.files ≡ before.files → Performs job before after old old status.Memory
 performs_nothing job before after old files =
     performs job before after old old status.Memory (λ is. cc) (λ is. cc) (λ none. absurd none) (inl refl) (λ is. absurd (memory_is_no_fault is)) files
+
+-- ---- where no job is known, since memory for its words was refused
+
+nothing_added : (old : Option (List ℕ)) (text : List ℕ) → AddsPrefix old old text
+nothing_added None text = ([], (text, refl), refl)
+nothing_added (Some bytes) text = ([], (text, refl), ap (λ (bs : List ℕ). Some bs) (sym (append-nil bytes)))
+
+pub tells_nothing : (shelf : ShelfState) (old : SinkState) → TellsUsage shelf shelf old old status.Memory
+tells_nothing shelf old = record {
+  ends = inr (inr refl);
+  whole = λ is. cc;
+  part = nothing_added old.written usage_text;
+  fault = λ is. cc;
+  shelf = refl;
+}
+
+pub whatever_named : (named : Option Job) (shelf : ShelfState) (old : SinkState) → IfSome named (λ job. Performs job shelf shelf old old status.Memory)
+whatever_named None shelf old = tt
+whatever_named (Some job) shelf old = performs_nothing job shelf shelf old refl
+
+-- ---- what holds of the job that was read, of the job that the words name
+
+pub named_performs : (found : Option values.Job) (job : values.Job) (named : Option Job) (Holds : Job → Type 0) → found ≡ Some job → option_map job_value found ≡ named → Holds (job_value job) → IfSome named Holds
+named_performs found job named Holds is same holds =
+    subst (λ (n : Option Job). IfSome n Holds) same (subst (λ (f : Option values.Job). IfSome (option_map job_value f) Holds) (sym is) holds)

@@ -1,25 +1,39 @@
 -- The steps of a job, put together.
-use Rattle.std.proofs.Common.{◌≡◌, ℕ, ◌≤◌, List, length, Option, None, Some, Ok, refl, subst}
+use Rattle.std.proofs.Common.{◌≡◌, ◌↔◌, ℕ, ◌<◌, ◌≤◌, List, length, Option, None, Some, Result, Ok, Err, IfOk, IsErrOf, inl, inr, refl, subst, sym}
+use Rattle.std.proofs.lemmas.Bool.{cases_lt}
+use Rattle.std.specs.Option.{MatchOption}
 use Rattle.command_line.specs.declared.Options.{Options}
+use Rattle.ev_model.specs.Fastest.{HasNoPlan, IsFastest}
 use Rattle.ev_model.specs.Network.{Network, node_count}
 use Rattle.ev_model.specs.Route.{IsRoute}
+use Rattle.ev_model.specs.Time.{time_of}
+use Rattle.ev_model.specs.declared.Stop.{Stop}
+use Rattle.ev_text.proofs.Results.{Err-ne-Ok}
+use Rattle.level_table.specs.Answer.{cell_count, most_cells}
+use Rattle.level_table.specs.declared.fault.LevelFault.{LevelFault}
+use Rattle.level_table.specs.declared.fault.LevelFault.TheVariants.{Levels}
+use Rattle.plan_writer.specs.FixedText.{fixed_text}
 use Rattle.route_plan.proofs.Routes.{is_short}
-use Rattle.route_plan.proofs.Spelled.{Err-ne-Ok, reads_what_is_spelled}
+use Rattle.route_plan.proofs.Spelled.{reads_what_is_spelled}
+use Rattle.route_plan.specs.Limits.{most_route_nodes}
 use Rattle.route_plan.specs.RouteRules.{route_fault, route_in, unless_fault}
 use Rattle.route_plan.specs.RouteWords.{SpellsRoute, nodes_in}
 use Rattle.route_plan.specs.declared.route.RouteFault.{RouteFault}
-use Rattle.evroute.specs.FixedAnswer.{HasStart, IsTask, most_nodes, start_of}
+use Rattle.evroute.specs.FixedAnswer.{FixedAnswers, HasStart, IsTask, start_of}
 use Rattle.evroute.specs.Ended.{IsEnded, IsNetworkEnded}
 use Rattle.evroute.specs.LimitedNetwork.{HasNetwork}
+use Rattle.evroute.specs.declared.answer.Answer.{Answer}
 use Rattle.evroute.specs.declared.answer.Ended.{Ended}
 use Rattle.evroute.specs.declared.answer.Ended.TheVariants.{Refused, Memory}
+use Rattle.evroute.specs.declared.status.Status.{Status}
+use Rattle.evroute.specs.declared.status.Status.TheVariants as status
 use Rattle.plan_writer.specs.declared.refusal.Refusal.TheVariants as refusal
 
 pub has_start : (options : Options) (bytes : List ℕ) (g : Network) (level : ℕ) → HasNetwork options.limit bytes g → level ≡ start_of g options.charge → level ≤ g.capacity → HasStart options bytes g
 has_start options bytes g level network is within = record { network = network; within = subst (λ l. l ≤ g.capacity) is within }
 
 pub is_task : (options : Options) (word bytes : List ℕ) (g : Network) (route : List ℕ) (level : ℕ) → HasNetwork options.limit bytes g → level ≡ start_of g options.charge → level ≤ g.capacity
-    → SpellsRoute word route → IsRoute g route → length route ≤ most_nodes → IsTask options word bytes g route
+    → SpellsRoute word route → IsRoute g route → length route ≤ most_route_nodes → IsTask options word bytes g route
 is_task options word bytes g route level network is within spelled is_route short = record {
   start = has_start options bytes g level network is within;
   spelled = spelled;
@@ -32,7 +46,7 @@ no_fault nodes other None is = refl
 no_fault nodes other (Some fault) is = absurd (Err-ne-Ok fault other is)
 
 -- a route that was read of a word is short
-pub short_route : (g : Network) (word route : List ℕ) → SpellsRoute word route → route_in (node_count g) word ≡ Ok route → length route ≤ most_nodes
+pub short_route : (g : Network) (word route : List ℕ) → SpellsRoute word route → route_in (node_count g) word ≡ Ok route → length route ≤ most_route_nodes
 short_route g word route spelled read =
     let nodes : nodes_in word ≡ Ok route = reads_what_is_spelled word route spelled in
     let told : unless_fault route (route_fault (node_count g) route) ≡ Ok route = rw nodes at read in
@@ -48,3 +62,52 @@ ended_of options word bytes (Refused (refusal.Charge level)) is = absurd is.1
 ended_of options word bytes (Refused (refusal.Route fault)) is = absurd is.1
 ended_of options word bytes (Refused (refusal.Levels cells)) is = absurd is.1
 ended_of options word bytes (Refused (refusal.Plan fault)) is = absurd is.1
+
+-- ---- the answer to a task
+
+pub match_some : {A : Type 0} (answer : Option A) (a : A) (P : Type 0) (Q : A → Type 0) → answer ≡ Some a → MatchOption answer P Q → Q a
+match_some {A} answer a P Q is holds = subst (λ (o : Option A). MatchOption o P Q) is holds
+
+pub match_none : {A : Type 0} (answer : Option A) (P : Type 0) (Q : A → Type 0) → answer ≡ None → MatchOption answer P Q → P
+match_none {A} answer P Q is holds = subst (λ (o : Option A). MatchOption o P Q) is holds
+
+few_unless : (count : ℕ) → (most_cells < count → ⊥) → count ≤ most_cells
+few_unless count many = elim (cases_lt most_cells count) [
+  | inl past ↦ absurd (many past)
+  | inr within ↦ within
+]
+
+-- a table that was searched was not too large
+are_few : {A : Type 0} (found : A) (count : ℕ) → ((cells : ℕ) → (◌≡◌ {A = Result A LevelFault} (Ok found) (Err (Levels cells))) ↔ ((cells ≡ count) × (most_cells < cells))) → count ≤ most_cells
+are_few {A} found count levels = few_unless count (λ past. Err-ne-Ok (Levels count) found (sym ((levels count).1 (refl, past))))
+
+pub puts_plan : {A E : Type 0} (options : Options) (word bytes : List ℕ) (g : Network) (route : List ℕ) (level : ℕ) → IsTask options word bytes g route → level ≡ start_of g options.charge
+    → (found : A) → ((cells : ℕ) → (◌≡◌ {A = Result A LevelFault} (Ok found) (Err (Levels cells))) ↔ ((cells ≡ cell_count g route) × (most_cells < cells)))
+    → (stops : List Stop) → IsFastest g route level stops → (made : Result Answer E) → IfOk made (λ a. a.status ≡ status.Done)
+    → IfOk made (λ a. a.text.items ≡ fixed_text g.denominator (Some (stops, time_of g 1 level stops)))
+    → IfOk made (λ a. FixedAnswers options word bytes a.status a.text.items)
+puts_plan options word bytes g route level task is found levels stops fastest (Err none) answered text = tt
+puts_plan options word bytes g route level task is found levels stops fastest (Ok a) answered text =
+    subst (λ (s : Status). FixedAnswers options word bytes s a.text.items) (sym answered) (record {
+      network = g;
+      route = route;
+      task = record { task = task; small = are_few found (cell_count g route) levels };
+      stops = stops;
+      fastest = subst (λ n. IsFastest g route n stops) is fastest;
+      text_is = subst (λ n. a.text.items ≡ fixed_text g.denominator (Some (stops, time_of g 1 n stops))) is text;
+    })
+
+pub puts_infeasible : {A E : Type 0} (options : Options) (word bytes : List ℕ) (g : Network) (route : List ℕ) (level : ℕ) → IsTask options word bytes g route → level ≡ start_of g options.charge
+    → (found : A) → ((cells : ℕ) → (◌≡◌ {A = Result A LevelFault} (Ok found) (Err (Levels cells))) ↔ ((cells ≡ cell_count g route) × (most_cells < cells)))
+    → HasNoPlan g route level → (made : Result Answer E) → IfOk made (λ a. a.status ≡ status.Negative)
+    → IfOk made (λ a. a.text.items ≡ fixed_text g.denominator None)
+    → IfOk made (λ a. FixedAnswers options word bytes a.status a.text.items)
+puts_infeasible options word bytes g route level task is found levels none (Err e) answered text = tt
+puts_infeasible options word bytes g route level task is found levels none (Ok a) answered text =
+    subst (λ (s : Status). FixedAnswers options word bytes s a.text.items) (sym answered) (record {
+      network = g;
+      route = route;
+      task = record { task = task; small = are_few found (cell_count g route) levels };
+      none = subst (λ n. HasNoPlan g route n) is none;
+      text_is = text;
+    })

@@ -1,17 +1,18 @@
 -- What `fixed` answers to the bytes of its file.
-use Rattle.std.specs.Prelude.{◌≡◌, ℕ, ◌*◌, ◌^◌, ◌<◌, ◌≤◌, List, length, Option, None, Some, Err}
+use Rattle.std.specs.Prelude.{◌≡◌, ℕ, ◌<◌, ◌≤◌, List, length, Option, None, Some, Err}
 use Rattle.ev_model.specs.Network.{Network, node_count}
 use Rattle.ev_model.specs.Time.{time_of}
 use Rattle.ev_model.specs.declared.Stop.{Stop}
 use Rattle.command_line.specs.declared.Options.{Options}
 use Rattle.instance_reader.specs.Faults.{IsFirstFault}
 use Rattle.ev_model.specs.Fastest.{HasNoPlan, IsFastest}
-use Rattle.level_table.specs.Answer.{cell_count}
+use Rattle.level_table.specs.Answer.{cell_count, most_cells}
 use Rattle.plan_writer.specs.FixedText.{fixed_text}
 use Rattle.plan_writer.specs.RefusalText.{IsRule, refusal_text}
 use Rattle.plan_writer.specs.declared.refusal.Refusal.{Refusal}
 use Rattle.plan_writer.specs.declared.refusal.Refusal.TheVariants as refusal
 use Rattle.ev_model.specs.Route.{IsRoute}
+use Rattle.route_plan.specs.Limits.{most_route_nodes}
 use Rattle.route_plan.specs.RouteRules.{route_in}
 use Rattle.route_plan.specs.RouteWords.{SpellsRoute}
 use Rattle.evroute.specs.LimitedNetwork.{HasNetwork, IsPastLimit}
@@ -28,20 +29,12 @@ pub record HasStart (options : Options) (bytes : List ℕ) (g : Network) : Type 
   pub network : HasNetwork options.limit bytes g
   pub within : start_of g options.charge ≤ g.capacity
 
--- the most nodes of a route
-abbrev pub most_nodes : ℕ
-most_nodes = 400
-
 -- besides, the word spells this route
 pub record IsTask (options : Options) (word bytes : List ℕ) (g : Network) (route : List ℕ) : Type 0 where
   pub start : HasStart options bytes g
   pub spelled : SpellsRoute word route
   pub is_route : IsRoute g route
-  pub short : length route ≤ most_nodes
-
--- the most cells of a table
-abbrev pub most_cells : ℕ
-most_cells = 2 * 10 ^ 7
+  pub short : length route ≤ most_route_nodes
 
 -- besides, its table is not too large
 pub record IsSmallTask (options : Options) (word bytes : List ℕ) (g : Network) (route : List ℕ) : Type 0 where

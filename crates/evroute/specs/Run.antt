@@ -1,6 +1,7 @@
 -- What the program owes for the job that its words name.
 use Rattle.std.specs.Prelude.{◌≡◌, ℕ, ◌+◌, ◌^◌, ◌≤◌, ◌⊎◌, List, length, map, take, Option, None, Some, String, string_bytes}
 use Rattle.std.specs.declared.alloc.Global.{Global}
+use Rattle.command_line.specs.Usage.{usage_text}
 use Rattle.command_line.specs.Words.{CheckJob, CheckPlan, FixedRoute, Job, job_of}
 use Rattle.ev_model.specs.Network.{Network}
 use Rattle.ev_outside.specs.Counts.{Rose}
@@ -108,7 +109,15 @@ pub record NothingFailed (before after : ShelfState) (old new : SinkState) : Typ
   pub shelf : CountsStay before after
   pub sink : new.faults ≡ old.faults
 
--- nothing was put, and no file changed
-pub record NothingDone (before after : ShelfState) (old new : SinkState) : Type 0 where
-  pub files : after.files ≡ before.files
-  pub put : new.written ≡ old.written
+-- what the program owes where its words name no job: it tells how it is called
+pub record TellsUsage (before after : ShelfState) (old new : SinkState) (ended : Status) : Type 0 where
+  -- the status tells that, unless the output failed or memory was refused
+  pub ends : EndsUnlessHindered status.Words ended
+  -- then the usage text was put
+  pub whole : ended ≡ status.Words → Adds old.written new.written usage_text
+  -- however it ends, nothing else is put than this text, or a prefix of it
+  pub part : AddsPrefix old.written new.written usage_text
+  -- a fault comes only where the output failed
+  pub fault : ended ≡ status.Fault → Rose old.faults new.faults
+  -- no file is read or written
+  pub shelf : after ≡ before

@@ -1,7 +1,7 @@
 //! The answer of `check`: a plan file is judged on an instance.
 
 ghost use Rattle.std.specs.Prelude.{◌≡◌, ◌≤◌, IfErr, IfOk, List, Option, option_map, ℕ};
-ghost use Rattle.command_line.specs.JobValue.{job_value};
+ghost use Rattle.command_line.specs.Words.{CheckPlan};
 ghost use Rattle.ev_model.specs.Network.{Network};
 ghost use Rattle.evroute.specs.CheckAnswer.{CheckAnswers, HasFleetNetwork, customer_count, most_customers};
 ghost use Rattle.evroute.specs.Ended.{IsCheckEnded, IsRuleOrMemory};
@@ -16,7 +16,6 @@ use crate::answer::{Answer, Ended, refused};
 use crate::instance::limited_instance;
 use crate::status::Status;
 use crate::steps::read_file;
-use command_line::{CheckWords, Job};
 use ev_outside::{Shelf, ShelfFault};
 use instance_reader::Instance;
 use plan_check::{PlanFault, check_fleet};
@@ -30,18 +29,20 @@ const MOST_CUSTOMERS: usize = 128;
 /// The answer of `check`: the instance is read, then the plan, which is judged on it.
 pub fn check<S: Shelf>(
     alloc: Global,
-    job: CheckWords<'_>,
+    file: &str,
+    plan: &str,
+    limit: Option<u64>,
     shelf: &mut S,
 ) -> Result<Answer, ShelfFault>
-    ensures { Finds (job_value (Job.Check job.entry))
+    ensures { Finds (CheckPlan (record { file = file.now; plan = plan.now; limit = limit }))
         (S.state shelf.old) (S.state shelf.new) result }
 {
-    let bytes = match read_file(alloc, job.file, shelf) {
+    let bytes = match read_file(alloc, file, shelf) {
         Ok(bytes) => bytes,
         Err(fault) => return Err(fault),
     };
-    match fleet_instance(alloc, bytes.as_slice(), job.limit) {
-        Ok(inst) => check_on(alloc, &inst, job, shelf),
+    match fleet_instance(alloc, bytes.as_slice(), limit) {
+        Ok(inst) => check_on(alloc, &inst, plan, shelf),
         Err(Ended::Refused(refusal)) => refused_job(alloc, refusal),
         Err(Ended::Memory) => Err(ShelfFault::Memory),
     }
@@ -64,15 +65,17 @@ fn refused_job(alloc: Global, refusal: Refusal) -> Result<Answer, ShelfFault>
 fn check_on<S: Shelf>(
     alloc: Global,
     inst: &Instance,
-    job: CheckWords<'_>,
+    plan: &str,
     shelf: &mut S,
 ) -> Result<Answer, ShelfFault>
     requires { customer_count inst.now ≤ most_customers }
-    ensures { (bytes : List ℕ) → AreRead (S.state shelf.old).files job.entry.file.now bytes
-        → HasFleetNetwork job.entry.limit bytes inst.now
-        → Finds (job_value (Job.Check job.entry)) (S.state shelf.old) (S.state shelf.new) result }
+    ensures { (file bytes : List ℕ) (limit : Option ℕ)
+        → AreRead (S.state shelf.old).files file bytes
+        → HasFleetNetwork limit bytes inst.now
+        → Finds (CheckPlan (record { file = file; plan = plan.now; limit = limit }))
+        (S.state shelf.old) (S.state shelf.new) result }
 {
-    let bytes = match read_file(alloc, job.plan, shelf) {
+    let bytes = match read_file(alloc, plan, shelf) {
         Ok(bytes) => bytes,
         Err(fault) => return Err(fault),
     };

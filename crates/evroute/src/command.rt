@@ -1,11 +1,11 @@
 //! The program over any files and any output.
 
-ghost use Rattle.std.specs.Prelude.{◌≡◌, ◌≢◌, ◌↔◌, ◌≤◌, IfSome, IsNone};
+ghost use Rattle.std.specs.Prelude.{◌≡◌, ◌≢◌, ◌≤◌, IfSome, IsNone};
 ghost use Rattle.command_line.specs.JobValue.{job_value};
 ghost use Rattle.ev_outside.specs.Shelf.{CountsNeverFall};
 ghost use Rattle.evroute.specs.Codes.{code_of};
 ghost use Rattle.evroute.specs.Found.{Finds};
-ghost use Rattle.evroute.specs.Run.{NothingDone, NothingFailed, Performs, job_named};
+ghost use Rattle.evroute.specs.Run.{NothingFailed, Performs, TellsUsage, job_named};
 ghost use Rattle.evroute.specs.declared.status.Status.{Status};
 
 use crate::answer::Answer;
@@ -13,9 +13,10 @@ use crate::check::check;
 use crate::fixed::fixed;
 use crate::status::Status;
 use crate::steps::put_answer;
+use crate::usage::put_usage;
 use command_line::{Job, job_words};
 use ev_outside::{Shelf, ShelfFault, Sink};
-use std::alloc::Global;
+use std::alloc::{AllocError, Global};
 
 /// The program: its words after its name, the files and the output.
 ///
@@ -23,12 +24,13 @@ use std::alloc::Global;
 /// ([`Status::Done`]), or that none is feasible ([`Status::Negative`]). `check FILE PLAN [--limit N]` reads PLAN
 /// as a fleet plan on the instance of FILE and puts that it is accepted and its cost ([`Status::Done`]), or the
 /// first rule that the plan breaks ([`Status::Negative`]). Both put the line of the first broken rule of their
-/// files and words ([`Status::Refused`]). Other words put nothing ([`Status::Words`]). After [`Status::Fault`]
-/// and [`Status::Memory`] a part of such a text may have been put. Files are read alone.
+/// files and words ([`Status::Refused`]). Other words put the usage text ([`Status::Words`]). After
+/// [`Status::Fault`] and [`Status::Memory`] a part of such a text may have been put. Files are read alone.
 pub fn run<S: Shelf, K: Sink>(alloc: Global, words: &[String], shelf: &mut S, out: &mut K) -> Status
-    ensures words { (result ≡ Status.Words) ↔ IsNone (job_named words.now) }
-    ensures nothing { result ≡ Status.Words
-        → NothingDone (S.state shelf.old) (S.state shelf.new) (K.state out.old) (K.state out.new) }
+    ensures words { result ≡ Status.Words → IsNone (job_named words.now) }
+    ensures usage { IsNone (job_named words.now)
+        → TellsUsage (S.state shelf.old) (S.state shelf.new)
+        (K.state out.old) (K.state out.new) result }
     ensures job { IfSome (job_named words.now) (λ job.
         Performs job (S.state shelf.old) (S.state shelf.new)
         (K.state out.old) (K.state out.new) result) }
@@ -37,9 +39,10 @@ pub fn run<S: Shelf, K: Sink>(alloc: Global, words: &[String], shelf: &mut S, ou
         (K.state out.old) (K.state out.new) }
     ensures falls { CountsNeverFall (S.state shelf.old) (S.state shelf.new) }
 {
-    match job_words(words) {
-        Some(job) => perform(alloc, job, shelf, out),
-        None => Status::Words,
+    match job_words(alloc, words) {
+        Ok(Some(job)) => perform(alloc, &job, shelf, out),
+        Ok(None) => put_usage(out),
+        Err(AllocError) => Status::Memory,
     }
 }
 
@@ -50,9 +53,10 @@ pub fn exit_code<S: Shelf, K: Sink>(
     shelf: &mut S,
     out: &mut K,
 ) -> u8
-    ensures words { (result ≡ code_of Status.Words) ↔ IsNone (job_named words.now) }
-    ensures nothing { result ≡ code_of Status.Words
-        → NothingDone (S.state shelf.old) (S.state shelf.new) (K.state out.old) (K.state out.new) }
+    ensures words { result ≡ code_of Status.Words → IsNone (job_named words.now) }
+    ensures usage { IsNone (job_named words.now) → (ended : Status) × (result ≡ code_of ended)
+        × TellsUsage (S.state shelf.old) (S.state shelf.new)
+        (K.state out.old) (K.state out.new) ended }
     ensures job { IfSome (job_named words.now) (λ job. (ended : Status) × (result ≡ code_of ended)
         × Performs job (S.state shelf.old) (S.state shelf.new)
         (K.state out.old) (K.state out.new) ended) }
@@ -65,9 +69,9 @@ pub fn exit_code<S: Shelf, K: Sink>(
 }
 
 /// A job: its answer is found and put.
-fn perform<S: Shelf, K: Sink>(alloc: Global, job: Job<'_>, shelf: &mut S, out: &mut K) -> Status
+fn perform<S: Shelf, K: Sink>(alloc: Global, job: &Job, shelf: &mut S, out: &mut K) -> Status
     ensures words { result ≢ Status.Words }
-    ensures job { Performs (job_value job.entry) (S.state shelf.old) (S.state shelf.new)
+    ensures job { Performs (job_value job.now) (S.state shelf.old) (S.state shelf.new)
         (K.state out.old) (K.state out.new) result }
     ensures stays { result ≢ Status.Fault
         → NothingFailed (S.state shelf.old) (S.state shelf.new)
@@ -82,11 +86,23 @@ fn perform<S: Shelf, K: Sink>(alloc: Global, job: Job<'_>, shelf: &mut S, out: &
 }
 
 /// The answer to a job, or why there is none.
-fn find_answer<S: Shelf>(alloc: Global, job: Job<'_>, shelf: &mut S) -> Result<Answer, ShelfFault>
-    ensures { Finds (job_value job.entry) (S.state shelf.old) (S.state shelf.new) result }
+fn find_answer<S: Shelf>(alloc: Global, job: &Job, shelf: &mut S) -> Result<Answer, ShelfFault>
+    ensures { Finds (job_value job.now) (S.state shelf.old) (S.state shelf.new) result }
 {
     match job {
-        Job::Fixed(job) => fixed(alloc, job, shelf),
-        Job::Check(job) => check(alloc, job, shelf),
+        Job::Fixed(job) => fixed(
+            alloc,
+            job.file.as_str(),
+            job.route.as_str(),
+            job.options,
+            shelf,
+        ),
+        Job::Check(job) => check(
+            alloc,
+            job.file.as_str(),
+            job.plan.as_str(),
+            job.limit,
+            shelf,
+        ),
     }
 }

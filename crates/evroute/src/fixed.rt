@@ -1,24 +1,25 @@
 //! The answer of `fixed`: one route of an instance is charged.
 
 ghost use Rattle.std.specs.Prelude.{◌≡◌, ◌≤◌, IfErr, IfOk, List, None, Some, length, ℕ};
-ghost use Rattle.command_line.specs.JobValue.{job_value};
+ghost use Rattle.command_line.specs.Words.{FixedRoute, job_with};
 ghost use Rattle.command_line.specs.declared.Options.{Options};
 ghost use Rattle.ev_model.specs.Feasible.{IsFeasible};
 ghost use Rattle.ev_model.specs.Route.{IsRoute};
 ghost use Rattle.ev_model.specs.Time.{time_of};
 ghost use Rattle.evroute.specs.Ended.{IsEnded};
-ghost use Rattle.evroute.specs.FixedAnswer.{FixedAnswers, HasStart, IsTask, most_nodes, start_of};
+ghost use Rattle.evroute.specs.FixedAnswer.{FixedAnswers, HasStart, IsTask, start_of};
 ghost use Rattle.evroute.specs.Found.{Finds};
 ghost use Rattle.evroute.specs.LimitedNetwork.{HasNetwork};
 ghost use Rattle.evroute.specs.Run.{IsAnswered};
 ghost use Rattle.plan_writer.specs.FixedText.{fixed_text};
+ghost use Rattle.route_plan.specs.Limits.{most_route_nodes};
 ghost use Rattle.route_plan.specs.RouteWords.{SpellsRoute};
 
 use crate::answer::{Answer, Ended, refused};
 use crate::instance::limited_instance;
 use crate::status::Status;
 use crate::steps::read_file;
-use command_line::{FixedWords, Job, Options};
+use command_line::Options;
 use ev_outside::{Shelf, ShelfFault};
 use instance_reader::Instance;
 use level_table::{LevelFault, solve_levels};
@@ -29,17 +30,19 @@ use std::alloc::{AllocError, Global};
 /// The answer of `fixed`: the file is read as an instance, and its route is charged.
 pub fn fixed<S: Shelf>(
     alloc: Global,
-    job: FixedWords<'_>,
+    file: &str,
+    route: &str,
+    options: Options,
     shelf: &mut S,
 ) -> Result<Answer, ShelfFault>
-    ensures { Finds (job_value (Job.Fixed job.entry))
+    ensures { Finds (FixedRoute (job_with file.now route.now options))
         (S.state shelf.old) (S.state shelf.new) result }
 {
-    let bytes = match read_file(alloc, job.file, shelf) {
+    let bytes = match read_file(alloc, file, shelf) {
         Ok(bytes) => bytes,
         Err(fault) => return Err(fault),
     };
-    match answer_to(alloc, bytes.as_slice(), job.route, job.options) {
+    match answer_to(alloc, bytes.as_slice(), route, options) {
         Ok(answer) => Ok(answer),
         Err(AllocError) => Err(ShelfFault::Memory),
     }
@@ -116,7 +119,7 @@ fn start(inst: &Instance, options: Options) -> Result<u64, Ended>
 fn route(alloc: Global, word: &str, inst: &Instance) -> Result<Vec<usize>, Ended>
     ensures spelled { IfOk result (λ nodes. SpellsRoute word.now nodes.items) }
     ensures is_route { IfOk result (λ nodes. IsRoute inst.now nodes.items) }
-    ensures short { IfOk result (λ nodes. length nodes.items ≤ most_nodes) }
+    ensures short { IfOk result (λ nodes. length nodes.items ≤ most_route_nodes) }
     ensures ended { (options : Options) (bytes : List ℕ) → HasStart options bytes inst.now
         → IfErr result (IsEnded options word.now bytes) }
 {

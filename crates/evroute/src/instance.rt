@@ -4,7 +4,6 @@ ghost use Rattle.std.specs.Prelude.{◌≢◌, ℕ, IfErr, IfOk, List, Option};
 ghost use Rattle.evroute.specs.Ended.{IsNetworkEnded, IsRuleOrMemory};
 ghost use Rattle.evroute.specs.LimitedNetwork.{HasNetwork};
 ghost use Rattle.instance_reader.specs.Faults.{IsFirstFault};
-ghost use Rattle.instance_reader.specs.declared.faults.ReadFault.TheVariants.{Memory};
 
 use crate::answer::Ended;
 use charge_curve::CurveFault;
@@ -16,7 +15,8 @@ use std::alloc::Global;
 fn unread(fault: ReadFault) -> Ended
     ensures rule { IsRuleOrMemory result }
     ensures ended { (limit : Option ℕ) (bytes : List ℕ)
-        → (fault ≢ Memory → IsFirstFault bytes fault) → IsNetworkEnded limit bytes result }
+        → (fault ≢ ReadFault.Memory → IsFirstFault bytes fault)
+        → IsNetworkEnded limit bytes result }
 {
     match fault {
         ReadFault::Memory => Ended::Memory,

@@ -8,6 +8,7 @@ mod fixed;
 mod instance;
 mod status;
 mod steps;
+mod usage;
 
 pub use command::{exit_code, run};
 use ev_outside::{FileShelf, OutSink};

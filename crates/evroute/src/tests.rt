@@ -1,4 +1,5 @@
 use crate::{Status, run};
+use command_line::usage;
 use ev_outside::{MemoryShelf, MemorySink};
 use std::alloc::{AllocError, Global};
 
@@ -93,7 +94,7 @@ fn a_route_is_charged_or_refused(rt: HostRuntime) {
             "refused levels 4000000004\n",
         ),
         ("fixed B 0,1,0", ONE_STATION, Status::Fault, ""),
-        ("fixed A", ONE_STATION, Status::Words, ""),
+        ("fixed A", ONE_STATION, Status::Words, usage()),
     ];
     for (line, text, status, put) in cases {
         let ended = run_on(alloc, line, text, "", &[], &[]).expect(&rt, "memory");
@@ -165,7 +166,7 @@ fn a_plan_is_accepted_or_its_first_broken_rule_named(rt: HostRuntime) {
             "refused limit 500000000000000001\n",
         ),
         ("check A B", CHARGED, Status::Fault, ""),
-        ("check A A", CHARGED, Status::Words, ""),
+        ("check A A", CHARGED, Status::Words, usage()),
     ];
     for (line, plan, status, put) in cases {
         let ended = run_on(alloc, line, ONE_STATION, plan, &[], &[]).expect(&rt, "memory");
@@ -177,6 +178,7 @@ fn a_plan_is_accepted_or_its_first_broken_rule_named(rt: HostRuntime) {
 #[test]
 fn a_failing_file_or_output_is_a_fault(rt: HostRuntime) {
     let alloc = rt.alloc();
+    let half_usage = &usage()[..usage().len() / 2];
     let cases = [
         (
             "fixed A 0,1,0",
@@ -212,6 +214,7 @@ fn a_failing_file_or_output_is_a_fault(rt: HostRuntime) {
             Status::Fault,
             "accepted\n",
         ),
+        ("check", "", None, Some(0), Status::Fault, half_usage),
     ];
     for (line, instance, failing_read, failing_put, status, put) in cases {
         let ended = run_on(

@@ -66,6 +66,12 @@ fn refusals_have_their_lines(rt: HostRuntime) {
             "refused instance 11 7\n",
         ),
         (
+            Refusal::Instance(ReadFault::Level {
+                place: Place::at_key(Key::MinQ),
+            }),
+            "refused instance 12 min_q\n",
+        ),
+        (
             Refusal::Limit(500000000000000001),
             "refused limit 500000000000000001\n",
         ),
