@@ -1,5 +1,5 @@
 -- Bytes mean one network at most, and those that break a rule mean none.
-use Rattle.std.proofs.Common.{◌≡◌, ◌≢◌, ◌∙◌, ℕ, ◌*◌, ◌<◌, ◌≤◌, ◌^◌, List, Option, None, Some, ap, arith, inl, inr, refl, subst, sym}
+use Rattle.std.proofs.Common.{◌≡◌, ◌∙◌, ℕ, ◌*◌, ◌<◌, ◌≤◌, ◌^◌, List, Option, None, Some, ap, arith, inl, inr, subst, sym}
 use Rattle.std.proofs.lemmas.Nat.Gcd.{dvd_antisymm}
 use Rattle.ev_model.specs.Network.{Network}
 use Rattle.instance_reader.specs.Contents.{Contents, contents_of}
