@@ -7,7 +7,11 @@ use std::alloc::{AllocError, Global};
 const ONE_STATION: &str =
     r#"{"max_q":10,"css":[{"node_id":2,"cs_type":"fast"}],"breakpoints_by_type":[{"cs_type":"fast","time":[0,4,10],"charge":[0,8,10]}],"process_times":[0,0,0],"energy_matrix":[[0,6,3],[6,0,2],[5,2,0]],"time_matrix":[[0,10,8],[10,0,3],[8,3,0]]}"#;
 
-/// The same with energies, battery and charges multiplied by 10^8.
+/// The same with a reserve of one unit.
+const WITH_RESERVE: &str =
+    r#"{"max_q":10,"css":[{"node_id":2,"cs_type":"fast"}],"breakpoints_by_type":[{"cs_type":"fast","time":[0,4,10],"charge":[0,8,10]}],"process_times":[0,0,0],"energy_matrix":[[0,6,3],[6,0,2],[5,2,0]],"time_matrix":[[0,10,8],[10,0,3],[8,3,0]],"min_q":1}"#;
+
+/// The first one with energies, battery and charges multiplied by 10^8.
 const FINE_LEVELS: &str =
     r#"{"max_q":1000000000,"css":[{"node_id":2,"cs_type":"fast"}],"breakpoints_by_type":[{"cs_type":"fast","time":[0,4,10],"charge":[0,800000000,1000000000]}],"process_times":[0,0,0],"energy_matrix":[[0,600000000,300000000],[600000000,0,200000000],[500000000,200000000,0]],"time_matrix":[[0,10,8],[10,0,3],[8,3,0]]}"#;
 
@@ -170,6 +174,28 @@ fn a_plan_is_accepted_or_its_first_broken_rule_named(rt: HostRuntime) {
     ];
     for (line, plan, status, put) in cases {
         let ended = run_on(alloc, line, ONE_STATION, plan, &[], &[]).expect(&rt, "memory");
+        assert_eq!(rt; ended.0, status, "{line}");
+        assert_eq!(rt; ended.1.as_slice(), put.as_bytes());
+    }
+}
+
+#[test]
+fn the_reserve_is_kept(rt: HostRuntime) {
+    let alloc = rt.alloc();
+    let cases = [
+        (
+            "fixed A 0,1,0",
+            Status::Done,
+            "time 46/2\nat 0\nat 1\nvia 2 charge 4\nat 0\n",
+        ),
+        (
+            "check A P",
+            Status::Negative,
+            "rejected plan 1 route 0 walk 4 at 3\n",
+        ),
+    ];
+    for (line, status, put) in cases {
+        let ended = run_on(alloc, line, WITH_RESERVE, CHARGED, &[], &[]).expect(&rt, "memory");
         assert_eq!(rt; ended.0, status, "{line}");
         assert_eq!(rt; ended.1.as_slice(), put.as_bytes());
     }
