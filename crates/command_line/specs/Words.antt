@@ -20,14 +20,26 @@ pub record CheckJob : Type 0 where
   pub plan : Text
   pub limit : Option ℕ
 
+-- the job of making the decimals of a file whole: the names of the files, and how many digits are kept
+pub record ConvertJob : Type 0 where
+  pub file : Text
+  pub outfile : Text
+  pub time_digits : ℕ
+  pub energy_digits : ℕ
+
 -- a job of the program
 pub data Job : Type 0 where
   FixedRoute : FixedJob → Job
   CheckPlan : CheckJob → Job
+  ConvertFile : ConvertJob → Job
 
 -- the greatest limit, level and number of nodes
 abbrev pub most_value : ℕ
 most_value = 10 ^ 18
+
+-- the greatest number of digits
+abbrev pub most_digits : ℕ
+most_digits = 10 ^ 9
 
 -- the whole word is a number in its one spelling, at most `most`
 abbrev pub all_taken : Result (ℕ × (List ℕ × ℕ)) TextFault → Option ℕ
@@ -41,6 +53,10 @@ number_of most word = all_taken (whole_at most (word, 0))
 abbrev pub optional_number : ℕ → Option Text → Option (Option ℕ)
 optional_number most None = Some None
 optional_number most (Some word) = option_map (λ n. Some n) (number_of most word)
+
+-- an option that has to be given
+abbrev pub required_number : ℕ → Option Text → Option ℕ
+required_number most word = option_and_then (number_of most) word
 
 -- the text is one of the names
 abbrev pub is_listed : Text → List Text → Bool
@@ -73,6 +89,9 @@ limit_in rows = optional_number most_value (first_of (codes "limit") rows)
 abbrev pub charge_in : List Row → Option (Option ℕ)
 charge_in rows = optional_number most_value (first_of (codes "charge") rows)
 
+abbrev pub digits_in : Text → List Row → Option ℕ
+digits_in name rows = required_number most_digits (first_of name rows)
+
 -- the job of these words with these options
 abbrev pub job_with : Text → Text → Options → FixedJob
 job_with file route options = record { file = file; route = route; options = options }
@@ -102,11 +121,29 @@ check_of (file ∷ plan ∷ []) rows =
     else None
 check_of rest rows = None
 
+-- the job of these words with these digits
+abbrev pub convert_job_of : Text → Text → ℕ → ℕ → ConvertJob
+convert_job_of file outfile time energy =
+    record { file = file; outfile = outfile; time_digits = time; energy_digits = energy }
+
+-- `convert FILE OUTFILE --time-digits N --energy-digits N`
+abbrev pub convert_with : Text → Text → Option ℕ → Option ℕ → Option Job
+convert_with file outfile (Some time) (Some energy) = Some (ConvertFile (convert_job_of file outfile time energy))
+convert_with file outfile time energy = None
+
+abbrev pub convert_of : List Text → List Row → Option Job
+convert_of (file ∷ outfile ∷ []) rows =
+    if gives_only (codes "time-digits" ∷ codes "energy-digits" ∷ []) rows && are_different (file ∷ outfile ∷ [])
+    then convert_with file outfile (digits_in (codes "time-digits") rows) (digits_in (codes "energy-digits") rows)
+    else None
+convert_of rest rows = None
+
 -- the job of a command, of the words behind it and of the options
 abbrev pub job_of_command : Text → List Text → List Row → Option Job
 job_of_command command rest rows =
     if bytes_eq command (codes "fixed") then fixed_of rest rows
     else if bytes_eq command (codes "check") then check_of rest rows
+    else if bytes_eq command (codes "convert") then convert_of rest rows
     else None
 
 -- the job of what the command finds

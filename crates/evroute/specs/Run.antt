@@ -2,12 +2,13 @@
 use Rattle.std.specs.Prelude.{◌≡◌, ℕ, ◌+◌, ◌^◌, ◌≤◌, ◌⊎◌, List, length, map, take, Option, None, Some, String, string_bytes}
 use Rattle.std.specs.declared.alloc.Global.{Global}
 use Rattle.command_line.specs.Usage.{usage_text}
-use Rattle.command_line.specs.Words.{CheckJob, CheckPlan, FixedRoute, Job, job_of}
+use Rattle.command_line.specs.Words.{CheckJob, CheckPlan, ConvertFile, ConvertJob, FixedRoute, Job, job_of}
 use Rattle.ev_model.specs.Network.{Network}
 use Rattle.ev_outside.specs.Counts.{Rose}
-use Rattle.ev_outside.specs.Shelf.{CountsStay, Files, ShelfState, bytes_under}
+use Rattle.ev_outside.specs.Shelf.{CountsStay, Files, HoldsUnder, KeepsOthers, ShelfState, bytes_under}
 use Rattle.ev_outside.specs.Sink.{Adds, AddsPrefix, SinkState}
 use Rattle.evroute.specs.CheckAnswer.{CheckAnswers, HasFleetNetwork}
+use Rattle.evroute.specs.ConvertAnswer.{BecomesWhole, ConvertAnswers}
 use Rattle.evroute.specs.FixedAnswer.{FixedAnswers}
 use Rattle.evroute.specs.declared.status.Status.{Status}
 use Rattle.evroute.specs.declared.status.Status.TheVariants as status
@@ -32,6 +33,8 @@ JobAnswers (FixedRoute job) files answered text =
 JobAnswers (CheckPlan job) files answered text =
     (bytes : List ℕ) × AreRead files job.file bytes
     × ((plan_bytes : List ℕ) × AreRead files job.plan plan_bytes × CheckAnswers job.limit bytes plan_bytes answered text)
+JobAnswers (ConvertFile job) files answered text =
+    (bytes : List ℕ) × AreRead files job.file bytes × ConvertAnswers job bytes answered text
 
 -- the cause of a status holds of the job's files: some text is its answer to them
 abbrev pub HasCause : Job → Option Files → Status → Type 0
@@ -69,15 +72,37 @@ abbrev pub ComesToPlan : CheckJob → Option Files → Type 0
 ComesToPlan job files =
     (bytes : List ℕ) × AreRead files job.file bytes × ((g : Network) × HasFleetNetwork job.limit bytes g)
 
--- a read of one of the job's files failed when its step came
+-- a write of the name failed
+abbrev pub HasFailedWrite : ShelfState → ShelfState → List ℕ → Type 0
+HasFailedWrite before after name = Rose (before.failed_writes name) (after.failed_writes name)
+
+-- `convert` comes to the file that it writes: no rule of its file and its digits is broken
+abbrev pub ComesToWrite : ConvertJob → Option Files → Type 0
+ComesToWrite job files =
+    (bytes : List ℕ) × AreRead files job.file bytes × ((whole : List ℕ) × BecomesWhole job bytes whole)
+
+-- the file that `convert` writes failed when its step came
+abbrev pub HasWriteFault : ConvertJob → ShelfState → ShelfState → Type 0
+HasWriteFault job before after = HasFailedWrite before after job.outfile × ComesToWrite job before.files
+
+-- a read or a write of one of the job's files failed when its step came
 abbrev pub HasFileFault : Job → ShelfState → ShelfState → Type 0
 HasFileFault (FixedRoute job) before after = HasFailedRead before after job.file
 HasFileFault (CheckPlan job) before after =
     HasFailedRead before after job.file ⊎ (HasFailedRead before after job.plan × ComesToPlan job before.files)
+HasFileFault (ConvertFile job) before after =
+    HasFailedRead before after job.file ⊎ HasWriteFault job before after
+
+-- the output failed when its step came: `convert` puts nothing but a refusal
+abbrev pub HasOutputFault : Job → Option Files → SinkState → SinkState → Type 0
+HasOutputFault (FixedRoute job) files old new = Rose old.faults new.faults
+HasOutputFault (CheckPlan job) files old new = Rose old.faults new.faults
+HasOutputFault (ConvertFile job) files old new =
+    Rose old.faults new.faults × HasCause (ConvertFile job) files status.Refused
 
 -- one of the job's files failed, or the output did
 abbrev pub HasFaultCause : Job → ShelfState → ShelfState → SinkState → SinkState → Type 0
-HasFaultCause job before after old new = HasFileFault job before after ⊎ Rose old.faults new.faults
+HasFaultCause job before after old new = HasFileFault job before after ⊎ HasOutputFault job before.files old new
 
 -- the job ends with this status, unless a file or the output failed or memory was refused
 abbrev pub EndsUnlessHindered : Status → Status → Type 0
@@ -87,6 +112,28 @@ EndsUnlessHindered wanted ended = (ended ≡ wanted) ⊎ (ended ≡ status.Fault
 pub record BreakNoRule (job : Job) (files : Option Files) : Type 0 where
   pub told : IsTold files
   pub unbroken : HasCause job files status.Refused → ⊥
+
+-- the file that `convert` writes holds exactly what the file that it reads becomes, and every other file what it held
+pub record WritesWhole (job : ConvertJob) (old new : Option Files) : Type 0 where
+  pub bytes : List ℕ
+  pub read : AreRead old job.file bytes
+  pub whole : List ℕ
+  pub becomes : BecomesWhole job bytes whole
+  pub written : HoldsUnder new job.outfile whole
+  pub others : KeepsOthers job.outfile old new
+
+-- what `convert` leaves under its names: nothing is known of the written one alone, where its write failed
+abbrev pub LeavesWhole : ConvertJob → ShelfState → ShelfState → Status → Type 0
+LeavesWhole job before after status.Done = WritesWhole job before.files after.files
+LeavesWhole job before after status.Fault =
+    (after.files ≡ before.files) ⊎ (HasWriteFault job before after × KeepsOthers job.outfile before.files after.files)
+LeavesWhole job before after other = after.files ≡ before.files
+
+-- what a job that ends with this status leaves under all names
+abbrev pub LeavesFiles : Job → ShelfState → ShelfState → Status → Type 0
+LeavesFiles (FixedRoute job) before after ended = after.files ≡ before.files
+LeavesFiles (CheckPlan job) before after ended = after.files ≡ before.files
+LeavesFiles (ConvertFile job) before after ended = LeavesWhole job before after ended
 
 -- what the program owes for a job: from the shelf before to the shelf after, from the old output to the new one
 pub record Performs (job : Job) (before after : ShelfState) (old new : SinkState) (ended : Status) : Type 0 where
@@ -101,8 +148,8 @@ pub record Performs (job : Job) (before after : ShelfState) (old new : SinkState
   -- where no rule is broken and nothing failed, the job is done, or its answer is negative, or memory was refused
   pub complete : BreakNoRule job before.files → (HasFaultCause job before after old new → ⊥)
       → (ended ≡ status.Done) ⊎ (ended ≡ status.Negative) ⊎ (ended ≡ status.Memory)
-  -- files are read alone
-  pub files : after.files ≡ before.files
+  -- files are read alone, but for the one that `convert` writes
+  pub files : LeavesFiles job before after ended
 
 -- no count of failed calls is what it was not before
 pub record NothingFailed (before after : ShelfState) (old new : SinkState) : Type 0 where
