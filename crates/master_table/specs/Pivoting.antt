@@ -1,8 +1,8 @@
 -- What a pivot makes of a table.
-use Rattle.std.specs.Prelude.{ℕ, ◌+◌, ℤ, pos, negsuc, ◌-ℤ◌, ◌*ℤ◌, Bool, true, false, List, [], ◌∷◌, map, set, get_or, take, cond, if◌then◌else◌, nat_lt, nat_eq, neg_ℤ, int_div, unsigned_abs}
+use Rattle.std.specs.Prelude.{◌≡◌, ◌≢◌, ℕ, ◌+◌, ◌<◌, ℤ, pos, negsuc, ◌-ℤ◌, ◌*ℤ◌, ◌<ℤ◌, Bool, true, false, List, [], ◌∷◌, map, set, get_or, take, cond, if◌then◌else◌, nat_lt, nat_eq, neg_ℤ, int_div, unsigned_abs}
 use Rattle.fleet_model.specs.Divisors.{gcd_of}
 use Rattle.fleet_model.specs.Equations.{combined}
-use Rattle.master_table.specs.Tableau.{Equation, Tableau, row_at, size}
+use Rattle.master_table.specs.Tableau.{Equation, Tableau, entry_at, row_at, size}
 
 -- the number is below 0
 abbrev pub is_below : ℤ → Bool
@@ -61,3 +61,22 @@ pivoted r col t = record {
   columns = t.columns;
   caps = t.caps;
 }
+
+-- for some number above 0, that number times the row `now` is f times the row `before` less g times the turned row
+pub record IsCombinationOf (f g : ℤ) (before turned now : Equation) : Type 0 where
+  pub factor : ℕ
+  pub some : 0 < factor
+  pub weight : pos factor *ℤ now.weight ≡ f *ℤ before.weight
+  pub right : pos factor *ℤ now.right ≡ f *ℤ before.right -ℤ g *ℤ turned.right
+  pub entries : (j : ℕ) → pos factor *ℤ get_or now.entries j (pos 0) ≡ f *ℤ get_or before.entries j (pos 0) -ℤ g *ℤ get_or turned.entries j (pos 0)
+
+-- a pivot in row r at the column: the row is turned so that its entry there is above 0, and taken out of each other row
+-- as often as that row has the column
+pub record IsPivotOf (r col : ℕ) (old new : Tableau) : Type 0 where
+  pub columns : new.columns ≡ old.columns
+  pub caps : new.caps ≡ old.caps
+  pub basis : new.basis ≡ set old.basis r col
+  pub turned : row_at new r ≡ turned_row col (row_at old r)
+  pub above : pos 0 <ℤ entry_at new r col
+  pub others : (i : ℕ) → i < size old + 2 → i ≢ r
+      → IsCombinationOf (entry_at new r col) (excess (size old) col i (row_at old i)) (row_at old i) (row_at new r) (row_at new i)

@@ -3,6 +3,7 @@ use Rattle.std.specs.Prelude.{◌≡◌, ℕ, ◌+◌, ◌<◌, ◌≤◌, ℤ, 
 use Rattle.fleet_model.specs.Divisors.{IsGcdOf}
 use Rattle.fleet_model.specs.Equations.{Column, column_at, cost_of, entry, help_of, helper, right_side}
 use Rattle.fleet_model.specs.Basis.{IsBody, IsDetermined, IsHelperList, IsPriceList}
+use Rattle.fleet_model.specs.Wide.{IsPast}
 
 -- a row: its weight (0 for a body equation), its right side, and its entry at each column
 pub record Equation : Type 0 where
@@ -96,3 +97,7 @@ pub record IsRowWithin (caps : Limits) (n i : ℕ) (row : Equation) : Type 0 whe
 -- no number of the table is past its cap
 abbrev pub IsWithinCaps : Tableau → Type 0
 IsWithinCaps t = (i : ℕ) → i < size t + 2 → IsRowWithin t.caps (size t) i (row_at t i)
+
+-- the table's basis is past its caps
+abbrev pub IsBasisPast : Tableau → Type 0
+IsBasisPast t = IsPast t.caps.body t.caps.cost (size t) t.columns (basis_columns t)

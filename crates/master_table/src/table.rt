@@ -1,13 +1,15 @@
 //! The table: what it is, what its calls tell, and pivots.
 
 ghost use Rattle.std.specs.Prelude.{◌≡◌, ◌≢◌, ◌+◌, ◌<◌, ◌≤◌, ◌^◌, ℕ, ℤ, pos, IfOk, IfErr, OnOk, OnErr, IsErrOf, Some, None, length, get_or};
+ghost use Rattle.fleet_model.specs.Basis.{IsBasis};
 ghost use Rattle.fleet_model.specs.Equations.{route};
 ghost use Rattle.master_table.specs.Adding.{first_past_row, with_column};
 ghost use Rattle.master_table.specs.FirstPast.{first_past};
 ghost use Rattle.master_table.specs.Fresh.{fresh};
-ghost use Rattle.master_table.specs.Pivoting.{pivoted};
+ghost use Rattle.master_table.specs.Pivoting.{pivoted, IsPivotOf};
 ghost use Rattle.master_table.specs.RowView.{limits_of};
-ghost use Rattle.master_table.specs.Tableau.{entry_at, row_at, size, IsTableau, IsWithinCaps};
+ghost use Rattle.master_table.specs.Solutions.{HaveSameSolutions};
+ghost use Rattle.master_table.specs.Tableau.{basis_columns, entry_at, row_at, size, IsBasisPast, IsTableau, IsWithinCaps};
 
 use crate::adding::{make_room, new_entries, past_row, push_entries};
 use crate::caps::{Caps, TableFault};
@@ -161,6 +163,7 @@ impl Table {
         ensures value { result ≡ size self.now }
         ensures small { result ≤ 128 }
         ensures tableau { IsTableau self.now }
+        ensures basis { IsBasis (size self.now) (basis_columns self.now) }
         ensures within { IsWithinCaps self.now }
     {
         self.basis.len()
@@ -186,8 +189,12 @@ impl Table {
         ensures within { OnOk result (first_past (pivoted row col self.old) ≡ None) }
         ensures wide { (past_row past_col : ℕ) → IsErrOf result (TableFault.Wide past_row past_col) →
             first_past (pivoted row col self.old) ≡ Some (past_row, past_col) }
+        ensures past { (past_row past_col : ℕ) → IsErrOf result (TableFault.Wide past_row past_col) →
+            IsBasisPast (pivoted row col self.old) }
         ensures unchanged { OnErr result (self.new ≡ self.old) }
         ensures tableau { IsTableau (pivoted row col self.old) }
+        ensures rows { IsPivotOf row col self.old (pivoted row col self.old) }
+        ensures solutions { HaveSameSolutions self.old (pivoted row col self.old) }
     {
         let alloc = *self.basis.allocator();
         let n = self.basis.len();
