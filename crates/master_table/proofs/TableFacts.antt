@@ -56,10 +56,10 @@ module _ (s : Inside) (t : Tableau) (view : tableau_of s ≡ t) (inv : IsTable s
   pub row_is : (i : ℕ) (d : Row) → i < length s.rows.items → equation_of (get_or s.rows.items i d) ≡ row_at t i
   row_is i d lt = sym (get_or-map equation_of s.rows.items i d (record { weight = pos 0; right = pos 0; entries = [] }) lt) ∙ ap (λ rows. get_or rows i (record { weight = pos 0; right = pos 0; entries = [] })) rows_are
 
-  body_cap : t.caps.body ≤ 2 ^ 40
+  pub body_cap : t.caps.body ≤ 2 ^ 40
   body_cap = subst (λ (u : Tableau). u.caps.body ≤ 2 ^ 40) view inv.body
 
-  cost_cap : t.caps.cost ≤ 2 ^ 84
+  pub cost_cap : t.caps.cost ≤ 2 ^ 84
   cost_cap = subst (λ (u : Tableau). u.caps.cost ≤ 2 ^ 84) view inv.cost
 
   pub rows_small : (i : ℕ) (d : Row) → i < length s.rows.items → IsSmallRow (2 ^ 84) (equation_of (get_or s.rows.items i d))

@@ -171,7 +171,9 @@ impl Table {
 
     /// The caps that the table was made with. It takes no memory.
     pub fn caps(&self) -> Caps
-        ensures { limits_of result ≡ self.now.caps }
+        ensures value { limits_of result ≡ self.now.caps }
+        ensures body { self.now.caps.body ≤ 2 ^ 40 }
+        ensures cost { self.now.caps.cost ≤ 2 ^ 84 }
     {
         self.caps
     }
