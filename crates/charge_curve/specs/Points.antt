@@ -5,7 +5,8 @@ use Rattle.std.specs.Prelude.{◌≡◌, ℕ, ◌+◌, ◌-◌, ◌*◌, ◌/◌
 abbrev pub ArePoints : List (ℕ × ℕ) → Type 0
 ArePoints [] = ⊥
 ArePoints (p ∷ []) = Unit {0}
-ArePoints (p ∷ q ∷ ps) = (p.0 < q.0) × (p.1 ≤ q.1) × ((q.1 - p.1) % (q.0 - p.0) ≡ 0) × ArePoints (q ∷ ps)
+ArePoints (p ∷ q ∷ ps) =
+    (p.0 < q.0) × (p.1 ≤ q.1) × ((q.1 - p.1) % (q.0 - p.0) ≡ 0) × ArePoints (q ∷ ps)
 
 abbrev pub last_level : List (ℕ × ℕ) → ℕ
 last_level [] = 0
@@ -20,7 +21,8 @@ slope p q = (q.1 - p.1) / (q.0 - p.0)
 abbrev pub time_on : List (ℕ × ℕ) → ℕ → ℕ
 time_on [] level = 0
 time_on (p ∷ []) level = p.1
-time_on (p ∷ q ∷ ps) level = if nat_le level q.0 then p.1 + slope p q * (level - p.0) else time_on (q ∷ ps) level
+time_on (p ∷ q ∷ ps) level =
+    if nat_le level q.0 then p.1 + slope p q * (level - p.0) else time_on (q ∷ ps) level
 
 -- a level takes no less time on a later piece
 abbrev pub IsSlowing : List (ℕ × ℕ) → Type 0

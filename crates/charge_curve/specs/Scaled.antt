@@ -14,7 +14,8 @@ below full points = filter (λ p. nat_lt p.1 full) points
 
 -- the breakpoints below full and full itself, each as (level, scaled time)
 abbrev pub breaks_of : ℕ → ℕ → List (ℕ × ℕ) → List (ℕ × ℕ)
-breaks_of d full points = map (scaled d) (below full points) ++ (full, charge_time d points full) ∷ []
+breaks_of d full points =
+    map (scaled d) (below full points) ++ (full, charge_time d points full) ∷ []
 
 -- what holds of every scaled curve: whole times for each level, from empty at time 0, and no piece faster than the one before
 pub record IsScaledCurve (breaks : List (ℕ × ℕ)) : Type 0 where

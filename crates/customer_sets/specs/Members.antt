@@ -50,7 +50,8 @@ digits-all bits n below =
 scaled : (d b p : ℕ) → (d * 2 + b) * p ≡ d * (p * 2) + b * p
 scaled d b p = omega arith
 
-sum_of_range : (bits n a : ℕ) → sum_by (λ c. 2 ^ c) (members_from bits a n) ≡ digits bits a n * 2 ^ a
+sum_of_range : (bits n a : ℕ) →
+    sum_by (λ c. 2 ^ c) (members_from bits a n) ≡ digits bits a n * 2 ^ a
 unfolding members_from
 sum_of_range bits zero a = rw (digits-zero bits a) (omega arith)
 sum_of_range bits (suc n) a =

@@ -14,7 +14,8 @@ forbid i j allows a b = allows a b && not (nat_eq a i && nat_eq b j)
 -- j has to follow i: no other place follows i, and j follows no other place
 abbrev pub require : ℕ → ℕ → (ℕ → ℕ → Bool) → ℕ → ℕ → Bool
 require i j allows a b =
-    allows a b && (nat_eq a b || (not (nat_eq a i && not (nat_eq b j)) && not (nat_eq b j && not (nat_eq a i))))
+    allows a b && (nat_eq a b
+    || (not (nat_eq a i && not (nat_eq b j)) && not (nat_eq b j && not (nat_eq a i))))
 
 -- forbidden pairs among the places of so many customers
 pub record ForbiddenPairs : Type 0 where
@@ -41,7 +42,8 @@ allows_of p a b = nat_eq a b || not (is_forbidden p a b)
 pub record IsPairs (p : ForbiddenPairs) : Type 0 where
   pub few : p.customers ≤ 128
   pub rows : length p.after ≡ 129
-  pub places : (a c : ℕ) → has (row_of p a) c ≡ true → (a ≤ p.customers) × (c < p.customers) × (c + 1 ≢ a)
+  pub places : (a c : ℕ) → has (row_of p a) c ≡ true →
+      (a ≤ p.customers) × (c < p.customers) × (c + 1 ≢ a)
   pub ends : (c : ℕ) → has p.home c ≡ true → c < p.customers
 
 -- requiring that j follows i would forbid a further pair
@@ -52,7 +54,8 @@ IsNarrowedBy p i j =
 
 -- no customer may follow another where requiring it would forbid a further pair
 abbrev pub IsDecidedFrom : ForbiddenPairs → ℕ → Type 0
-IsDecidedFrom p i = (j : ℕ) → 0 < j → j ≤ p.customers → i ≢ j → allows_of p i j ≡ true → IsNarrowedBy p i j → ⊥
+IsDecidedFrom p i =
+    (j : ℕ) → 0 < j → j ≤ p.customers → i ≢ j → allows_of p i j ≡ true → IsNarrowedBy p i j → ⊥
 
 abbrev pub IsDecided : ForbiddenPairs → Type 0
 IsDecided p = (i : ℕ) → 0 < i → i ≤ p.customers → IsDecidedFrom p i

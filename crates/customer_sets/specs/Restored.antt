@@ -8,8 +8,10 @@ abbrev pub restored : List ℕ → Inside
 restored set = record { bits = bits_of set }
 
 pub restored-members : (s : Inside) → s.bits < 2 ^ 128 → restored (members s.bits) ≡ s
-restored-members s below = ap (λ (b : ℕ). let r : Inside = record { bits = b } in r) (bits_of-members s.bits below)
+restored-members s below =
+    ap (λ (b : ℕ). let r : Inside = record { bits = b } in r) (bits_of-members s.bits below)
 
 -- the digits that a set came from
-pub bits_of-view : (bits : ℕ) (set : List ℕ) → members bits ≡ set → bits < 2 ^ 128 → bits_of set ≡ bits
+pub bits_of-view : (bits : ℕ) (set : List ℕ) → members bits ≡ set → bits < 2 ^ 128 →
+    bits_of set ≡ bits
 bits_of-view bits set view below = ap bits_of (sym view) ∙ bits_of-members bits below

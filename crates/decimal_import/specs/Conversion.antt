@@ -12,7 +12,8 @@ use Rattle.decimal_import.specs.declared.nesting.Unit.TheVariants.{Time, Energy}
 use Rattle.decimal_import.specs.declared.conversion.UnitDigits.{UnitDigits}
 
 -- What follows a value, and nothing after a fault.
-abbrev pub and_then : {A B : Type 0} → Result A ImportFault → (A → Result B ImportFault) → Result B ImportFault
+abbrev pub and_then : {A B : Type 0} → Result A ImportFault → (A → Result B ImportFault) →
+    Result B ImportFault
 and_then (Ok x) f = f x
 and_then (Err fault) f = Err fault
 
@@ -28,7 +29,8 @@ digits_of digits Energy = digits.energy
 -- A literal under a key without a unit stays as it is.
 abbrev pub number_text : UnitDigits → ℕ → Option Measure → Literal → Result (List ℕ) ImportFault
 number_text digits at None l = Ok (literal_text l)
-number_text digits at (Some unit) l = and_then (whole_number (digits_of digits unit) at l) (λ n. Ok (decimal n))
+number_text digits at (Some unit) l =
+    and_then (whole_number (digits_of digits unit) at l) (λ n. Ok (decimal n))
 
 -- what stands in the converted text for a token at this place, where the current key has this unit
 abbrev pub converted_token : UnitDigits → ℕ → Option Measure → Token → Result (List ℕ) ImportFault
@@ -55,7 +57,8 @@ finished at [] [] = Ok []
 finished at opens left = Err (faults.Token at)
 
 -- what the tokens become that stand at this place with these braces and brackets open, and the bytes left behind them
-abbrev pub converted_tokens : UnitDigits → ℕ → List Open → List Token → List ℕ → Result (List ℕ) ImportFault
+abbrev pub converted_tokens : UnitDigits → ℕ → List Open → List Token → List ℕ →
+    Result (List ℕ) ImportFault
 converted_tokens digits at opens [] left = finished at opens left
 converted_tokens digits at opens (t ∷ ts) left =
     and_then (ok_or (nested opens t ts) (faults.Token at)) (λ inner.

@@ -18,7 +18,8 @@ pub record IsLeastWhole (digits : ℕ) (l : Literal) (n : ℕ) : Type 0 where
 -- A literal under a key with a unit becomes its least whole number, which is within the limit, and any other literal stays.
 abbrev pub NumberBecomes : UnitDigits → Option Measure → Literal → List ℕ → Type 0
 NumberBecomes digits None l piece = piece ≡ literal_text l
-NumberBecomes digits (Some unit) l piece = (n : ℕ) × (IsLeastWhole (digits_of digits unit) l n × ((n ≤ 10 ^ 18) × (piece ≡ decimal n)))
+NumberBecomes digits (Some unit) l piece =
+    (n : ℕ) × (IsLeastWhole (digits_of digits unit) l n × ((n ≤ 10 ^ 18) × (piece ≡ decimal n)))
 
 -- Every other token stays.
 abbrev pub TokenBecomes : UnitDigits → Option Measure → Token → List ℕ → Type 0
@@ -30,8 +31,12 @@ abbrev pub Becomes : UnitDigits → List Open → List Token → List ℕ → Ty
 Becomes digits opens [] text = (opens ≡ []) × (text ≡ [])
 Becomes digits opens (t ∷ ts) text =
     (inner : List Open) × ((piece : List ℕ) × ((more : List ℕ) ×
-    ((nested opens t ts ≡ Some inner) × (TokenBecomes digits (unit_here opens) t piece × (Becomes digits inner ts more × (text ≡ piece ++ more))))))
+    ((nested opens t ts ≡ Some inner) ×
+    (TokenBecomes digits (unit_here opens) t piece ×
+    (Becomes digits inner ts more × (text ≡ piece ++ more))))))
 
 -- the bytes are cut into tokens to their end, and these become the text
 abbrev pub IsConverted : ℕ → ℕ → List ℕ → List ℕ → Type 0
-IsConverted time energy bytes text = (ts : List Token) × (IsCutInto bytes ts [] × Becomes (record { time = time; energy = energy }) [] ts text)
+IsConverted time energy bytes text =
+    (ts : List Token) ×
+    (IsCutInto bytes ts [] × Becomes (record { time = time; energy = energy }) [] ts text)

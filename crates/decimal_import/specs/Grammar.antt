@@ -25,7 +25,8 @@ is_sign (Some sign) = (sign == 43) || (sign == 45)
 
 abbrev pub is_exponent : Option Exponent → Bool
 is_exponent None = true
-is_exponent (Some e) = ((e.letter == 101) || (e.letter == 69)) && (is_sign e.sign && are_digits e.digits)
+is_exponent (Some e) =
+    ((e.letter == 101) || (e.letter == 69)) && (is_sign e.sign && are_digits e.digits)
 
 abbrev pub is_literal : Literal → Bool
 is_literal l = is_whole l.whole && (list_all is_digit l.fraction && is_exponent l.exponent)
@@ -48,13 +49,16 @@ is_token t = true
 pub record IsLongestInFront (bytes : List ℕ) (t : Token) (rest : List ℕ) : Type 0 where
   pub token : is_token t ≡ true
   pub in_front : bytes ≡ token_text t ++ rest
-  pub longest : (other : Token) (behind : List ℕ) → is_token other ≡ true → bytes ≡ token_text other ++ behind → length (token_text other) ≤ length (token_text t)
+  pub longest : (other : Token) (behind : List ℕ) → is_token other ≡ true →
+      bytes ≡ token_text other ++ behind → length (token_text other) ≤ length (token_text t)
 
 -- no token stands in front of the bytes
 abbrev pub NoTokenInFront : List ℕ → Type 0
-NoTokenInFront bytes = (t : Token) (rest : List ℕ) → is_token t ≡ true → bytes ≡ token_text t ++ rest → ⊥
+NoTokenInFront bytes =
+    (t : Token) (rest : List ℕ) → is_token t ≡ true → bytes ≡ token_text t ++ rest → ⊥
 
 -- the bytes are these tokens from the left, each the longest where it stands, and then bytes with no token in front
 abbrev pub IsCutInto : List ℕ → List Token → List ℕ → Type 0
 IsCutInto bytes [] left = (bytes ≡ left) × NoTokenInFront bytes
-IsCutInto bytes (t ∷ ts) left = (rest : List ℕ) × (IsLongestInFront bytes t rest × IsCutInto rest ts left)
+IsCutInto bytes (t ∷ ts) left =
+    (rest : List ℕ) × (IsLongestInFront bytes t rest × IsCutInto rest ts left)

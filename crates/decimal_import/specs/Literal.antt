@@ -33,7 +33,8 @@ exponent_text None = []
 exponent_text (Some e) = e.letter ∷ (sign_text e.sign ++ e.digits)
 
 abbrev pub literal_text : Literal → List ℕ
-literal_text l = minus_text l.is_negative ++ (l.whole ++ (fraction_text l.fraction ++ exponent_text l.exponent))
+literal_text l =
+    minus_text l.is_negative ++ (l.whole ++ (fraction_text l.fraction ++ exponent_text l.exponent))
 
 -- The parts of the longest literal in front of a text, each with what follows it.
 
@@ -53,7 +54,8 @@ whole_in_front (b ∷ bs) = if b == 48 then (48 ∷ [], bs) else run_in_front (b
 -- the digits behind a point; no digits where no point with a digit behind it stands in front
 abbrev pub fraction_in_front : List ℕ → List ℕ × List ℕ
 fraction_in_front [] = ([], [])
-fraction_in_front (b ∷ bs) = if (b == 46) && nat_lt 0 (length (digits_in_front bs)) then run_in_front bs else ([], b ∷ bs)
+fraction_in_front (b ∷ bs) =
+    if (b == 46) && nat_lt 0 (length (digits_in_front bs)) then run_in_front bs else ([], b ∷ bs)
 
 abbrev pub sign_in_front : List ℕ → Option ℕ × List ℕ
 sign_in_front [] = (None, [])
@@ -65,7 +67,9 @@ exponent_in_front [] = (None, [])
 exponent_in_front (b ∷ bs) =
     let signed = sign_in_front bs in
     let run = run_in_front signed.1 in
-    if ((b == 101) || (b == 69)) && nat_lt 0 (length run.0) then (Some (record { letter = b; sign = signed.0; digits = run.0 }), run.1) else (None, b ∷ bs)
+    if ((b == 101) || (b == 69)) && nat_lt 0 (length run.0)
+    then (Some (record { letter = b; sign = signed.0; digits = run.0 }), run.1)
+    else (None, b ∷ bs)
 
 abbrev pub literal_in_front : List ℕ → Option (Literal × List ℕ)
 literal_in_front bs =
@@ -73,4 +77,13 @@ literal_in_front bs =
     let whole = whole_in_front minus.1 in
     let fraction = fraction_in_front whole.1 in
     let exponent = exponent_in_front fraction.1 in
-    if nat_lt 0 (length whole.0) then Some (record { is_negative = minus.0; whole = whole.0; fraction = fraction.0; exponent = exponent.0 }, exponent.1) else None
+    if nat_lt 0 (length whole.0)
+    then Some (
+      record {
+        is_negative = minus.0;
+        whole = whole.0;
+        fraction = fraction.0;
+        exponent = exponent.0;
+      },
+      exponent.1,
+    ) else None

@@ -11,11 +11,13 @@ use Rattle.decimal_import.specs.declared.nesting.Open.{Open}
 -- the keys under which numbers are times
 abbrev pub time_keys : List (List ℕ)
 time_keys =
-    codes "time_matrix" ∷ codes "process_times" ∷ codes "time" ∷ codes "t_max" ∷ codes "max_t" ∷ codes "plug_time" ∷ []
+    codes "time_matrix" ∷ codes "process_times" ∷ codes "time" ∷ codes "t_max" ∷ codes "max_t" ∷
+    codes "plug_time" ∷ []
 
 -- the keys under which numbers are energies
 abbrev pub energy_keys : List (List ℕ)
-energy_keys = codes "energy_matrix" ∷ codes "max_q" ∷ codes "charge" ∷ codes "min_q" ∷ codes "home_q" ∷ []
+energy_keys =
+    codes "energy_matrix" ∷ codes "max_q" ∷ codes "charge" ∷ codes "min_q" ∷ codes "home_q" ∷ []
 
 -- whether a key is among these, byte by byte
 abbrev pub is_among : List ℕ → List (List ℕ) → Bool
@@ -23,7 +25,9 @@ is_among key keys = list_any (pointwise nat_eq key) keys
 
 -- what the numbers under a key measure; none under any other key
 abbrev pub unit_of_key : List ℕ → Option Measure
-unit_of_key key = if is_among key time_keys then Some Time else if is_among key energy_keys then Some Energy else None
+unit_of_key key =
+    if is_among key time_keys then Some Time else if is_among key energy_keys then Some Energy
+    else None
 
 -- the unit of the current key of the innermost
 abbrev pub unit_here : List Open → Option Measure

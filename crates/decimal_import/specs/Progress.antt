@@ -6,4 +6,5 @@ use Rattle.decimal_import.specs.declared.conversion.Conversion.{Conversion}
 
 -- what a conversion comes to, with these bytes left, which stand at this place
 abbrev pub outcome : Conversion → ℕ → List ℕ → Result (List ℕ) ImportFault
-outcome c at bytes = and_then (converted_from c.digits at c.nesting bytes) (λ more. Ok (c.text.items ++ more))
+outcome c at bytes =
+    and_then (converted_from c.digits at c.nesting bytes) (λ more. Ok (c.text.items ++ more))

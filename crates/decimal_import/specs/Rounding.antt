@@ -70,4 +70,6 @@ rounded_at p ds = whole_part p ds + (if nat_lt 0 (number_of (drop p ds)) then 1 
 -- How many digits stand before the point of a literal times 10 to the power of the digits, with the exponent
 -- cut to a size.
 abbrev pub capped_point : ℕ → ℕ → Literal → ℕ
-capped_point cap digits l = (length l.whole + digits + min (positive_exponent l.exponent) cap) - min (negative_exponent l.exponent) cap
+capped_point cap digits l =
+    (length l.whole + digits + min (positive_exponent l.exponent) cap)
+    - min (negative_exponent l.exponent) cap

@@ -65,7 +65,9 @@ abbrev pub text_in_front : List ℕ → Option (Token × List ℕ)
 text_in_front bs = option_map (λ n. (Text (take n bs), drop (n + 1) bs)) (closing_quote false 0 bs)
 
 abbrev pub word_in_front : Word → List ℕ → Option (Token × List ℕ)
-word_in_front w bs = if starts_with nat_eq bs (word_text w) then Some (Named w, drop (length (word_text w)) bs) else None
+word_in_front w bs =
+    if starts_with nat_eq bs (word_text w) then Some (Named w, drop (length (word_text w)) bs)
+    else None
 
 abbrev pub number_in_front : List ℕ → Option (Token × List ℕ)
 number_in_front bs = option_map (λ p. (Number p.0, p.1)) (literal_in_front bs)
@@ -95,7 +97,10 @@ is_colon_next_in (b ∷ bs) = if is_blank b then is_colon_next_in bs else b == 5
 unfoldable pub cut_within : ℕ → List ℕ → List Token × List ℕ
 cut_within zero bs = ([], bs)
 cut_within (suc most) bs =
-    option_map_or (λ p. (p.0 ∷ (cut_within most p.1).0, (cut_within most p.1).1)) (token_in_front bs) ([], bs)
+    option_map_or (λ p. (
+      p.0 ∷ (cut_within most p.1).0,
+      (cut_within most p.1).1,
+    )) (token_in_front bs) ([], bs)
 
 abbrev pub cut : List ℕ → List Token × List ℕ
 cut bs = cut_within (length bs) bs

@@ -12,7 +12,13 @@ exponent_of None = None
 exponent_of (Some e) = Some (record { letter = e.letter; sign = e.sign; digits = e.digits.now })
 
 abbrev pub literal_of : LiteralParts → Literal
-literal_of l = record { is_negative = l.is_negative; whole = l.whole.now; fraction = l.fraction.now; exponent = exponent_of l.exponent }
+literal_of l =
+    record {
+      is_negative = l.is_negative;
+      whole = l.whole.now;
+      fraction = l.fraction.now;
+      exponent = exponent_of l.exponent;
+    }
 
 abbrev pub token_of : TokenParts → Token
 token_of (parts.Opening b) = Opening b

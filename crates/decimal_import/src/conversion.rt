@@ -36,16 +36,21 @@ pub fn convert(
     time_digits: u32,
     energy_digits: u32,
 ) -> Result<Vec<u8>, ImportFault>
-    ensures ok { IfOk result (λ text. conversion_of bytes.now time_digits energy_digits ≡ Ok text.items) }
-    ensures fault { IfErr result (λ fault. Refuses fault (conversion_of bytes.now time_digits energy_digits)) }
+    ensures ok { IfOk result (λ text. conversion_of bytes.now time_digits energy_digits
+        ≡ Ok text.items) }
+    ensures fault { IfErr result (λ fault.
+        Refuses fault (conversion_of bytes.now time_digits energy_digits)) }
 
     // The bytes are the longest tokens from the left; each number under a key with a unit becomes the least whole
     // number, and every other token stays.
-    ensures converted { IfOk result (λ text. IsConverted time_digits energy_digits bytes.now text.items) }
+    ensures converted { IfOk result (λ text.
+        IsConverted time_digits energy_digits bytes.now text.items) }
 
     // Neither of these yields to want of memory.
-    ensures too_long { (len : ℕ) → IsErrOf result (ImportFault.TooLong len) ↔ ((len ≡ length bytes.now) × (2 ^ 26 < len)) }
-    ensures digits { IsErrOf result ImportFault.Digits ↔ ((length bytes.now ≤ 2 ^ 26) × ((9 < time_digits) ⊎ (9 < energy_digits))) }
+    ensures too_long { (len : ℕ) → IsErrOf result (ImportFault.TooLong len) ↔
+        ((len ≡ length bytes.now) × (2 ^ 26 < len)) }
+    ensures digits { IsErrOf result ImportFault.Digits ↔
+        ((length bytes.now ≤ 2 ^ 26) × ((9 < time_digits) ⊎ (9 < energy_digits))) }
 {
     if bytes.len() > MAX_LENGTH {
         return Err(ImportFault::TooLong { len: bytes.len() });
@@ -88,8 +93,10 @@ impl UnitDigits {
     ) -> Result<(), ImportFault>
         requires token { is_token (token_of token.now) ≡ true }
         requires spelling { spelling.now ≡ token_text (token_of token.now) }
-        ensures ok { OnOk result (and_then (converted_token self at unit (token_of token.now)) (λ piece. Ok (text.old.items ++ piece)) ≡ Ok text.new.items) }
-        ensures fault { IfErr result (λ fault. Refuses fault (converted_token self at unit (token_of token.now))) }
+        ensures ok { OnOk result (and_then (converted_token self at unit (token_of token.now))
+            (λ piece. Ok (text.old.items ++ piece)) ≡ Ok text.new.items) }
+        ensures fault { IfErr result (λ fault.
+            Refuses fault (converted_token self at unit (token_of token.now))) }
     {
         match (token, unit) {
             (Token::Number(literal), Some(unit)) => {
@@ -141,7 +148,9 @@ impl Conversion {
     /// Converts the token in front of these bytes, which stand at this place. Answers what follows it.
     fn step<'a>(&mut self, bytes: &'a [u8], at: usize) -> Result<&'a [u8], ImportFault>
         requires { 0 < length bytes.now }
-        ensures ok { IfOk result (λ rest. outcome self.new (at + (length bytes.now - length rest.now)) rest.now ≡ outcome self.old at bytes.now) }
+        ensures ok { IfOk result (λ rest.
+            outcome self.new (at + (length bytes.now - length rest.now)) rest.now
+            ≡ outcome self.old at bytes.now) }
         ensures shorter { IfOk result (λ rest. length rest.now < length bytes.now) }
         ensures fault { IfErr result (λ fault. Refuses fault (outcome self.old at bytes.now)) }
     {

@@ -24,7 +24,8 @@ pub(crate) struct Exponent<'a> {
 
 /// The longest number literal in front, and what follows it.
 pub(crate) fn split_literal(bytes: &[u8]) -> Option<(Literal<'_>, &[u8])>
-    ensures some { IfSome result (λ p. literal_in_front bytes.now ≡ Some (literal_of p.0, p.1.now)) }
+    ensures some { IfSome result (λ p. literal_in_front bytes.now
+        ≡ Some (literal_of p.0, p.1.now)) }
     ensures none { IfNone result (literal_in_front bytes.now ≡ None) }
 {
     let (is_negative, unsigned) = split_minus(bytes);

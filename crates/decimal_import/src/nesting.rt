@@ -96,8 +96,11 @@ impl Nesting {
         rest: &[u8],
         at: usize,
     ) -> Result<(), ImportFault>
-        ensures ok { OnOk result (nested self.old (token_of token.now) (cut rest.now).0 ≡ Some self.new) }
-        ensures fault { IfErr result (λ fault. Refuses fault (ok_or (nested self.old (token_of token.now) (cut rest.now).0) (ImportFault.Token at))) }
+        ensures ok { OnOk result (nested self.old (token_of token.now) (cut rest.now).0
+            ≡ Some self.new) }
+        ensures fault { IfErr result (λ fault.
+            Refuses fault (ok_or (nested self.old (token_of token.now) (cut rest.now).0)
+            (ImportFault.Token at))) }
     {
         match token {
             Token::Opening(bracket) => match self.open(*bracket) {

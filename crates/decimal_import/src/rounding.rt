@@ -46,7 +46,8 @@ impl<'a> Literal<'a> {
         requires whole { list_all is_digit self.now.whole.now ≡ true }
         requires fraction { list_all is_digit self.now.fraction.now ≡ true }
         requires some { 0 < coefficient (literal_of self.now) }
-        ensures some { IfSome result (λ n. (n ≡ least_whole digits (literal_of self.now)) × (n ≤ 10 ^ 18)) }
+        ensures some { IfSome result (λ n. (n ≡ least_whole digits (literal_of self.now)) × (n
+            ≤ 10 ^ 18)) }
         ensures none { IfNone result (10 ^ 18 < least_whole digits (literal_of self.now)) }
     {
         round_at(self.point(digits), self.whole, self.fraction)
@@ -84,7 +85,8 @@ fn capped_number(digits: &[u8]) -> u128
 /// The digits before and behind the point of a literal, with the point behind the first `point` of them,
 /// rounded up. `None` where the number is past the limit.
 fn round_at(point: u128, whole: &[u8], fraction: &[u8]) -> Option<u64>
-    ensures some { IfSome result (λ n. (n ≡ rounded_at point (whole.now ++ fraction.now)) × (n ≤ 10 ^ 18)) }
+    ensures some { IfSome result (λ n. (n ≡ rounded_at point (whole.now ++ fraction.now)) × (n
+        ≤ 10 ^ 18)) }
     ensures none { IfNone result (10 ^ 18 < rounded_at point (whole.now ++ fraction.now)) }
     // No slice is longer, so that no exponent of `MAX_EXPONENT` is outweighed.
     ensures short { length whole.now + length fraction.now < 2 ^ 65 }
@@ -106,7 +108,8 @@ fn round_at(point: u128, whole: &[u8], fraction: &[u8]) -> Option<u64>
 
 /// The number before the point. `None` where it is past the limit.
 fn whole_part(point: u128, whole: &[u8], fraction: &[u8]) -> Option<u64>
-    ensures some { IfSome result (λ n. (n ≡ whole_part point (whole.now ++ fraction.now)) × (n ≤ 10 ^ 18)) }
+    ensures some { IfSome result (λ n. (n ≡ whole_part point (whole.now ++ fraction.now)) × (n
+        ≤ 10 ^ 18)) }
     ensures none { IfNone result (10 ^ 18 < whole_part point (whole.now ++ fraction.now)) }
     ensures short { length whole.now + length fraction.now < 2 ^ 65 }
 {

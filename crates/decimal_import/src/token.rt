@@ -68,7 +68,8 @@ pub(crate) fn split_token(bytes: &[u8]) -> Option<(Token<'_>, &[u8])>
 
 /// The word, where it stands in front.
 fn split_word(bytes: &[u8], word: Word) -> Option<(Token<'_>, &[u8])>
-    ensures some { IfSome result (λ p. word_in_front word bytes.now ≡ Some (token_of p.0, p.1.now)) }
+    ensures some { IfSome result (λ p. word_in_front word bytes.now
+        ≡ Some (token_of p.0, p.1.now)) }
     ensures none { IfNone result (word_in_front word bytes.now ≡ None) }
 {
     let text = word.text();

@@ -6,12 +6,14 @@ use Rattle.dominance.specs.LevelTimes.{IsLevel, LevelTimes, time_at}
 -- w is v after an arc: what is left is each level that the energy leaves at or above 0 and the time within the limit
 pub record IsShift (energy time limit : ℕ) (v w : LevelTimes) : Type 0 where
   pub lowered : w.first ≡ v.first - energy
-  pub left : (level : ℕ) → IsLevel w level ↔ (IsLevel v (level + energy) × (time_at v (level + energy) + time ≤ limit))
+  pub left : (level : ℕ) → IsLevel w level ↔
+      (IsLevel v (level + energy) × (time_at v (level + energy) + time ≤ limit))
   pub later : (level : ℕ) → IsLevel w level → time_at w level ≡ time_at v (level + energy) + time
 
 -- no level of v is left after an arc
 abbrev pub NothingLeft : ℕ → ℕ → ℕ → LevelTimes → Type 0
-NothingLeft energy time limit v = (level : ℕ) → IsLevel v level → energy ≤ level → limit < time_at v level + time
+NothingLeft energy time limit v =
+    (level : ℕ) → IsLevel v level → energy ≤ level → limit < time_at v level + time
 
 -- the time of a charge from one level to another, on a curve given by its points (level, time)
 abbrev pub charged : LevelTimes → List (ℕ × ℕ) → ℕ → ℕ → ℕ
@@ -29,5 +31,6 @@ pub record IsCharge (v : LevelTimes) (curve : List (ℕ × ℕ)) (limit level ti
 -- w is what becomes of v by charging from one of its levels, up to a full battery or the limit
 pub record IsChargeFrom (v : LevelTimes) (curve : List (ℕ × ℕ)) (limit from : ℕ) (w : LevelTimes) : Type 0 where
   pub begins : w.first ≡ from
-  pub levels : (level : ℕ) → IsLevel w level ↔ ((from ≤ level) × (level ≤ last_level curve) × (charged v curve from level ≤ limit))
+  pub levels : (level : ℕ) → IsLevel w level ↔
+      ((from ≤ level) × (level ≤ last_level curve) × (charged v curve from level ≤ limit))
   pub later : (level : ℕ) → IsLevel w level → time_at w level ≡ charged v curve from level

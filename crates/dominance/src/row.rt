@@ -153,11 +153,13 @@ impl Row {
         requires some { index < length self.now.times }
         requires full { full ≡ last_level curve.now }
         requires small { full ≤ 10 ^ 9 }
-        requires rises { (low high : ℕ) → low ≤ high → time_on curve.now low ≤ time_on curve.now high }
+        requires rises { (low high : ℕ) → low ≤ high →
+            time_on curve.now low ≤ time_on curve.now high }
         requires levels { (level : ℕ) → IsLevel self.now level → level ≤ last_level curve.now }
         requires times { (level : ℕ) → IsLevel self.now level → time_at self.now level ≤ limit }
         ensures valid { IfOk result IsValue }
-        ensures charge { IfOk result (λ row. IsChargeFrom self.now curve.now limit (self.now.first + index) row) }
+        ensures charge { IfOk result (λ row.
+            IsChargeFrom self.now curve.now limit (self.now.first + index) row) }
     {
         let first = self.first + index as u64;
         let before = u128::from(self.times[index]);

@@ -20,7 +20,8 @@ pub trait Covers {
 
     ghost reflexive: { (x : Self) → dominates x x ≡ true };
 
-    ghost transitive: { (x y z : Self) → dominates x y ≡ true → dominates y z ≡ true → dominates x z ≡ true };
+    ghost transitive: { (x y z : Self) → dominates x y ≡ true → dominates y z ≡ true →
+        dominates x z ≡ true };
 }
 
 /// The least time at each battery level that a partial route may have.
@@ -42,10 +43,16 @@ pub trait LabelValue: Covers {
     fn shift(&self, energy: u64, time: u64, limit: u64) -> Result<Option<Self>, AllocError>
     where
         Self: Sized,
-        ensures none { IfOk result (λ shifted. IfNone shifted (NothingLeft energy time limit (meaning self.now))) }
-        ensures some { IfOk result (λ shifted. IfSome shifted (λ value. IsShift energy time limit (meaning self.now) (meaning value))) }
+        ensures none { IfOk result (λ shifted.
+            IfNone shifted (NothingLeft energy time limit (meaning self.now))) }
+        ensures some { IfOk result (λ shifted.
+            IfSome shifted (λ value.
+            IsShift energy time limit (meaning self.now) (meaning value))) }
         ensures valid { IfOk result (λ shifted. IfSome shifted (λ value. IsValue (meaning value))) }
-        ensures keeps { IfOk result (λ shifted. (other left : LevelTimes) (extra : ℕ) → CoversEach (meaning self.now) other extra → IsShift energy time limit other left → MatchOption shifted ((level : ℕ) → IsLevel left level → ⊥) (λ value. CoversEach (meaning value) left extra)) };
+        ensures keeps { IfOk result (λ shifted. (other left : LevelTimes) (extra : ℕ) →
+            CoversEach (meaning self.now) other extra → IsShift energy time limit other left →
+            MatchOption shifted ((level : ℕ) → IsLevel left level → ⊥)
+            (λ value. CoversEach (meaning value) left extra)) };
 
     /// The values after a charge: a vehicle may charge from any of the levels to any level up to a full
     /// battery, which takes the time between them on the curve. Times past `limit` are dropped.
@@ -56,12 +63,21 @@ pub trait LabelValue: Covers {
     fn charge(&self, curve: &Scaled, limit: u64) -> Result<Vec<Self>, AllocError>
     where
         Self: Sized,
-        requires levels { (level : ℕ) → IsLevel (meaning self.now) level → level ≤ last_level curve.now }
-        requires times { (level : ℕ) → IsLevel (meaning self.now) level → time_at (meaning self.now) level ≤ limit }
-        ensures every { IfOk result (λ values. (level time : ℕ) → IsCharge (meaning self.now) curve.now limit level time → SomeReaches meaning values.items 0 level time) }
-        ensures only { IfOk result (λ values. All (λ value. (level : ℕ) → IsLevel (meaning value) level → IsCharge (meaning self.now) curve.now limit level (time_at (meaning value) level)) values.items) }
-        ensures valid { IfOk result (λ values. All (λ value. IsValue (meaning value)) values.items) }
-        ensures keeps { IfOk result (λ values. (other : LevelTimes) (extra level time : ℕ) → CoversEach (meaning self.now) other extra → IsCharge other curve.now limit level time → SomeReaches meaning values.items extra level time) };
+        requires levels { (level : ℕ) → IsLevel (meaning self.now) level →
+            level ≤ last_level curve.now }
+        requires times { (level : ℕ) → IsLevel (meaning self.now) level →
+            time_at (meaning self.now) level ≤ limit }
+        ensures every { IfOk result (λ values. (level time : ℕ) →
+            IsCharge (meaning self.now) curve.now limit level time →
+            SomeReaches meaning values.items 0 level time) }
+        ensures only { IfOk result (λ values. All (λ value. (level : ℕ) →
+            IsLevel (meaning value) level → IsCharge (meaning self.now) curve.now limit level
+            (time_at (meaning value) level)) values.items) }
+        ensures valid { IfOk result (λ values.
+            All (λ value. IsValue (meaning value)) values.items) }
+        ensures keeps { IfOk result (λ values. (other : LevelTimes) (extra level time : ℕ) →
+            CoversEach (meaning self.now) other extra → IsCharge other curve.now limit level time →
+            SomeReaches meaning values.items extra level time) };
 
     /// The first level and its time, which is the least of all. It takes no memory.
     fn least(&self) -> (u64, u64)
@@ -70,9 +86,11 @@ pub trait LabelValue: Covers {
         ensures valid { IsValue (meaning self.now) };
 
     // one value dominates another where it covers it with nothing extra
-    ghost whole: { (x y : Self) → (Self.dominates x y ≡ true) ↔ CoversEach (meaning x) (meaning y) 0 };
+    ghost whole: { (x y : Self) → (Self.dominates x y ≡ true) ↔
+        CoversEach (meaning x) (meaning y) 0 };
 
     ghost covers_itself: { (x : Self) → CoversEach (meaning x) (meaning x) 0 };
 
-    ghost adds_extras: { (x y z : Self) (a b : ℕ) → CoversEach (meaning x) (meaning y) a → CoversEach (meaning y) (meaning z) b → CoversEach (meaning x) (meaning z) (a + b) };
+    ghost adds_extras: { (x y z : Self) (a b : ℕ) → CoversEach (meaning x) (meaning y) a →
+        CoversEach (meaning y) (meaning z) b → CoversEach (meaning x) (meaning z) (a + b) };
 }

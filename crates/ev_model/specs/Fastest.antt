@@ -11,9 +11,11 @@ use Rattle.ev_model.specs.declared.Stop.{Stop}
 pub record IsFastest (g : Network) (route : List ℕ) (start : ℕ) (stops : List Stop) : Type 0 where
   pub feasible : IsFeasible g 1 start stops
   pub follows : FollowsRoute route stops
-  pub fastest : (k : ℕ) (others : List Stop) → IsFeasible g k start others → FollowsRoute route others
+  pub fastest : (k : ℕ) (others : List Stop) → IsFeasible g k start others →
+      FollowsRoute route others
       → k * time_of g 1 start stops ≤ time_of g k start others
 
 -- no plan of the route is feasible, in any fraction of a unit
 abbrev pub HasNoPlan : Network → List ℕ → ℕ → Type 0
-HasNoPlan g route start = (k : ℕ) (stops : List Stop) → IsFeasible g k start stops → FollowsRoute route stops → ⊥
+HasNoPlan g route start =
+    (k : ℕ) (stops : List Stop) → IsFeasible g k start stops → FollowsRoute route stops → ⊥

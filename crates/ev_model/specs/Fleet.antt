@@ -31,7 +31,8 @@ pub record IsFleetPlan (g : Network) (k : ℕ) (plans : List (List Stop)) : Type
   pub feasible : All (IsFeasible g k g.capacity) plans
   pub some : All (λ stops. customers_of g stops ≢ []) plans
   pub only : All (ServesOnly g) plans
-  pub once : (node : ℕ) → node < node_count g → is_customer g node ≡ true → times_in (all_customers g plans) node ≡ 1
+  pub once : (node : ℕ) → node < node_count g → is_customer g node ≡ true →
+      times_in (all_customers g plans) node ≡ 1
 
 -- the cost of a fleet plan: the sum of its plans' scaled times, in kths
 abbrev pub cost_of : Network → ℕ → List (List Stop) → ℕ

@@ -36,7 +36,8 @@ level_after g k from level (s ∷ ss) = level_after g k s.node (leaving_level g 
 abbrev pub KeepsBatteryFrom : Network → ℕ → ℕ → ℕ → List Stop → Type 0
 KeepsBatteryFrom g k from level [] = Unit {0}
 KeepsBatteryFrom g k from level (s ∷ ss) =
-    (k * energy g from s.node + k * g.reserve ≤ level) × (leaving_level g k from level s ≤ k * g.capacity)
+    (k * energy g from s.node + k * g.reserve ≤ level) ×
+    (leaving_level g k from level s ≤ k * g.capacity)
     × KeepsBatteryFrom g k s.node (leaving_level g k from level s) ss
 
 -- the battery of a plan that begins with a whole level: it arrives nowhere below the reserve, leaves no stop above full,
@@ -44,4 +45,5 @@ KeepsBatteryFrom g k from level (s ∷ ss) =
 abbrev pub KeepsBattery : Network → ℕ → ℕ → List Stop → Type 0
 KeepsBattery g k start [] = Unit {0}
 KeepsBattery g k start (first ∷ stops) =
-    KeepsBatteryFrom g k first.node (k * start) stops × (k * g.home_level ≤ level_after g k first.node (k * start) stops)
+    KeepsBatteryFrom g k first.node (k * start) stops ×
+    (k * g.home_level ≤ level_after g k first.node (k * start) stops)

@@ -25,7 +25,8 @@ AreStopsFrom g from (s ∷ ss) = (s.node ≢ from) × IsStop g s × AreStopsFrom
 -- a plan in kths: at least two stops, from the depot to the depot
 abbrev pub IsPlanIn : Network → ℕ → List Stop → Type 0
 IsPlanIn g k [] = ⊥
-IsPlanIn g k (first ∷ stops) = (1 ≤ k) × IsEnd first × EndsAtDepot stops × AreStopsFrom g first.node stops
+IsPlanIn g k (first ∷ stops) =
+    (1 ≤ k) × IsEnd first × EndsAtDepot stops × AreStopsFrom g first.node stops
 
 -- a whole plan
 abbrev pub IsPlan : Network → List Stop → Type 0

@@ -8,7 +8,8 @@ use Rattle.ev_model.specs.declared.Stop.{Stop}
 -- the time of charging from one level to another on a node's curve, both levels in kths
 abbrev pub charging_time : ℕ → ℕ → Option (List (ℕ × ℕ)) → ℕ → ℕ → ℕ
 charging_time k d None before after = 0
-charging_time k d (Some points) before after = charge_time_in k d points after - charge_time_in k d points before
+charging_time k d (Some points) before after =
+    charge_time_in k d points after - charge_time_in k d points before
 
 -- the time of plugging in at a stop, in units of time: paid where something is charged, not where a vehicle passes through
 abbrev pub plugging_time : Network → Stop → ℕ
@@ -18,7 +19,8 @@ plugging_time g s = if nat_lt 0 s.added then plug_time g s.node else 0
 abbrev pub stop_time : Network → ℕ → ℕ → ℕ → Stop → ℕ
 stop_time g k from level s =
     k * (g.denominator * (travel_time g from s.node + process_time g s.node + plugging_time g s))
-    + charging_time k g.denominator (curve_at g s.node) (arriving_level g k from level s) (leaving_level g k from level s)
+    + charging_time k g.denominator (curve_at g s.node)
+    (arriving_level g k from level s) (leaving_level g k from level s)
 
 -- the time of the stops that follow the node `from`, which is left with `level`
 abbrev pub time_from : Network → ℕ → ℕ → ℕ → List Stop → ℕ

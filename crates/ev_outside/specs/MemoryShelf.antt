@@ -40,7 +40,8 @@ told_by shelf = record {
 
 -- no file and no call yet, where the calls with these numbers are to fail
 abbrev pub empty_with : List ℕ → MemoryState
-empty_with fails = record { files = λ name. None; failed_reads = []; failed_writes = []; calls = 0; fails = fails }
+empty_with fails =
+    record { files = λ name. None; failed_reads = []; failed_writes = []; calls = 0; fails = fails }
 
 -- one call was counted
 abbrev pub one_call_more : MemoryState → MemoryState
@@ -48,11 +49,13 @@ one_call_more shelf = record shelf { calls = one_more shelf.calls }
 
 -- one call was counted, a read of this name that failed
 abbrev pub read_failed : List ℕ → MemoryState → MemoryState
-read_failed name shelf = record (one_call_more shelf) { failed_reads = shelf.failed_reads ++ name ∷ [] }
+read_failed name shelf =
+    record (one_call_more shelf) { failed_reads = shelf.failed_reads ++ name ∷ [] }
 
 -- the same of a write
 abbrev pub write_failed : List ℕ → MemoryState → MemoryState
-write_failed name shelf = record (one_call_more shelf) { failed_writes = shelf.failed_writes ++ name ∷ [] }
+write_failed name shelf =
+    record (one_call_more shelf) { failed_writes = shelf.failed_writes ++ name ∷ [] }
 
 -- The next call is one of those that are to fail.
 abbrev pub IsNextToFail : MemoryState → Type 0

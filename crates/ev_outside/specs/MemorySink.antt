@@ -16,7 +16,8 @@ after_put bytes sink = record sink { bytes = sink.bytes ++ bytes; calls = one_mo
 
 -- the first half of the bytes was kept, rounded down, and one call and one fault were counted
 abbrev pub after_fault : List ℕ → MemoryOutput → MemoryOutput
-after_fault bytes sink = record (after_put (take (length bytes / 2) bytes) sink) { faults = one_more sink.faults }
+after_fault bytes sink =
+    record (after_put (take (length bytes / 2) bytes) sink) { faults = one_more sink.faults }
 
 -- The next call is one of those that are to fail.
 abbrev pub IsNextToFail : MemoryOutput → Type 0

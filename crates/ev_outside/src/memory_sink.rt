@@ -27,7 +27,12 @@ impl Model for MemorySink {
     ghost Value = { MemoryOutput };
 
     ghost view = { λ sink.
-        record { bytes = sink.bytes.items; calls = sink.calls; faults = sink.faults; fails = sink.fails.items } };
+        record {
+          bytes = sink.bytes.items;
+          calls = sink.calls;
+          faults = sink.faults;
+          fails = sink.fails.items;
+        } };
 }
 
 impl MemorySink {

@@ -20,7 +20,8 @@ then_reads read next s = and_then (read s) (λ found. next found.0 found.1)
 abbrev pub behind_word : {A : Type 0} → List ℕ → Reader A → Reader A
 behind_word word read s = and_then (word_at word s) read
 
-abbrev pub if_taken : List ℕ × ℕ → Result (List ℕ × ℕ) TextFault → Result (Bool × (List ℕ × ℕ)) TextFault
+abbrev pub if_taken : List ℕ × ℕ → Result (List ℕ × ℕ) TextFault →
+    Result (Bool × (List ℕ × ℕ)) TextFault
 if_taken s (Ok t) = Ok (true, t)
 if_taken s (Err fault) = Ok (false, s)
 
@@ -28,7 +29,8 @@ if_taken s (Err fault) = Ok (false, s)
 abbrev pub optional_at : List ℕ → Reader Bool
 optional_at word s = if_taken s (word_at word s)
 
-abbrev pub unless_cut : List ℕ × ℕ → Result (List ℕ × ℕ) TextFault → Result (Bool × (List ℕ × ℕ)) TextFault
+abbrev pub unless_cut : List ℕ × ℕ → Result (List ℕ × ℕ) TextFault →
+    Result (Bool × (List ℕ × ℕ)) TextFault
 unless_cut s (Ok t) = Ok (true, t)
 unless_cut s (Err (End at)) = Err (End at)
 unless_cut s (Err (NotWhole at)) = Ok (false, s)
@@ -41,14 +43,16 @@ choice_at word s = unless_cut s (word_at word s)
 
 -- a number from 1 to limit
 abbrev pub positive_at : ℕ → Reader ℕ
-positive_at limit s = and_then (whole_at limit s) (λ found. if nat_eq found.0 0 then Err (NotWhole s.1) else Ok found)
+positive_at limit s =
+    and_then (whole_at limit s) (λ found. if nat_eq found.0 0 then Err (NotWhole s.1) else Ok found)
 
 -- items, each behind a mark, up to the word that ends them, and at most so many
 abbrev pub few_behind : {A : Type 0} → List ℕ → List ℕ → Reader A → ℕ → Reader (List A)
 few_behind mark end read zero s = Err (End s.1)
 few_behind mark end read (suc most) s =
     and_then (optional_at mark s) (λ marked.
-    if marked.0 then and_then (read marked.1) (λ item. and_then (few_behind mark end read most item.1) (λ items. Ok (item.0 ∷ items.0, items.1)))
+    if marked.0 then and_then (read marked.1) (λ item.
+    and_then (few_behind mark end read most item.1) (λ items. Ok (item.0 ∷ items.0, items.1)))
     else and_then (word_at end marked.1) (λ t. Ok ([], t)))
 
 -- items, each behind a mark, up to the word that ends them; no text has more of them than bytes
@@ -57,12 +61,15 @@ each_behind mark end read s = few_behind mark end read (length s.0) s
 
 -- one item at least, parted by marks, up to the word that ends them
 abbrev pub list_at : {A : Type 0} → List ℕ → List ℕ → Reader A → Reader (List A)
-list_at mark end read = then_reads read (λ first. then_reads (each_behind mark end read) (λ others. answer (first ∷ others)))
+list_at mark end read =
+    then_reads read (λ first.
+    then_reads (each_behind mark end read) (λ others. answer (first ∷ others)))
 
 -- so many items
 abbrev pub so_many : {A : Type 0} → ℕ → Reader A → Reader (List A)
 so_many zero read = answer []
-so_many (suc count) read = then_reads read (λ first. then_reads (so_many count read) (λ others. answer (first ∷ others)))
+so_many (suc count) read =
+    then_reads read (λ first. then_reads (so_many count read) (λ others. answer (first ∷ others)))
 
 -- the text ends behind the value
 abbrev pub whole_text : {A : Type 0} → A × (List ℕ × ℕ) → Result A TextFault

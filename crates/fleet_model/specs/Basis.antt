@@ -12,7 +12,9 @@ covering (k ∷ ks) (b ∷ bs) c = cond (serves b c) k (pos 0) +ℤ covering ks 
 
 -- only zeros take the columns together so that each of n customers is covered 0 times
 abbrev pub AreIndependent : ℕ → List Column → Type 0
-AreIndependent n columns = (ks : List ℤ) → length ks ≡ length columns → ((c : ℕ) → c < n → covering ks columns c ≡ pos 0) → (j : ℕ) → get_or ks j (pos 0) ≡ pos 0
+AreIndependent n columns =
+    (ks : List ℤ) → length ks ≡ length columns → ((c : ℕ) → c < n → covering ks columns c ≡ pos 0) →
+    (j : ℕ) → get_or ks j (pos 0) ≡ pos 0
 
 -- a basis: as many independent columns as there are customers
 pub record IsBasis (n : ℕ) (basis : List Column) : Type 0 where
@@ -21,7 +23,9 @@ pub record IsBasis (n : ℕ) (basis : List Column) : Type 0 where
 
 -- a combination of master equations is determined by its coefficients at the basis: only zeros give 0 at each column
 abbrev pub IsDetermined : ℕ → List Column → Type 0
-IsDetermined n basis = (ms : List ℤ) → length ms ≡ n → ((j : ℕ) → j < n → entry ms (column_at basis j) ≡ pos 0) → (c : ℕ) → get_or ms c (pos 0) ≡ pos 0
+IsDetermined n basis =
+    (ms : List ℤ) → length ms ≡ n → ((j : ℕ) → j < n → entry ms (column_at basis j) ≡ pos 0) →
+    (c : ℕ) → get_or ms c (pos 0) ≡ pos 0
 
 -- the body equation of the basis column at place i: above 0 there, 0 at the rest of the basis, and without a common divisor.
 -- (Each coefficient and the right side are sums of the multipliers, so a common divisor of these divides all.)
@@ -52,7 +56,9 @@ IsHelperList n basis v numbers = PaysLeast (λ b. pos (help_of b)) n basis v num
 
 -- W times the right side, over the own coefficient, is whole for each column of the basis
 abbrev pub MakesSharesWhole : ℕ → List Column → ℕ → Type 0
-MakesSharesWhole n basis W = (i : ℕ) (ms : List ℤ) → i < n → IsBody n basis i ms → unsigned_abs (entry ms (column_at basis i)) ∣ (W * unsigned_abs (right_side ms))
+MakesSharesWhole n basis W =
+    (i : ℕ) (ms : List ℤ) → i < n → IsBody n basis i ms →
+    unsigned_abs (entry ms (column_at basis i)) ∣ (W * unsigned_abs (right_side ms))
 
 -- the share weight: the least such W
 pub record IsShareWeight (n : ℕ) (basis : List Column) (W : ℕ) : Type 0 where

@@ -11,9 +11,11 @@ use Rattle.fleet_model.specs.Steps.{start, time_at, at_customer, IsCustomerStep,
 -- takes
 pub record IsClosed (g : Network) (s : Section) : Type 0 where
   pub begins : IsCovered s (start g)
-  pub customer : (l : Label) (y x : ℕ) → Contains s.labels l → IsLevel l y → IsCustomerStep g s (state_at l y) x
+  pub customer : (l : Label) (y x : ℕ) → Contains s.labels l → IsLevel l y →
+      IsCustomerStep g s (state_at l y) x
       → IsCovered s (at_customer g s (state_at l y) x)
-  pub station : (l : Label) (y x z : ℕ) → Contains s.labels l → IsLevel l y → IsStationStep g (state_at l y) x z
+  pub station : (l : Label) (y x z : ℕ) → Contains s.labels l → IsLevel l y →
+      IsStationStep g (state_at l y) x z
       → IsCovered s (at_station g (state_at l y) x z)
   pub home : (l : Label) (y : ℕ) → Contains s.labels l → IsLevel l y → IsHomeStep g s (state_at l y)
       → l.paid ≤ℤ pos (s.weight * time_at g (state_at l y) 0)

@@ -18,13 +18,15 @@ abbrev pub ReachesUncovered : Network → Section → Label → ℕ → Type 0
 ReachesUncovered g s l x =
     (y : ℕ) × (IsLevel l y) × (
     (IsCustomerStep g s (state_at l y) x × (IsCovered s (at_customer g s (state_at l y) x) → ⊥))
-    ⊎ ((z : ℕ) × IsStationStep g (state_at l y) x z × (IsCovered s (at_station g (state_at l y) x z) → ⊥))
+    ⊎ ((z : ℕ) × IsStationStep g (state_at l y) x z ×
+    (IsCovered s (at_station g (state_at l y) x z) → ⊥))
     )
 
 -- some step home takes, times the weight, less than the label has paid
 abbrev pub EarnsAtHome : Network → Section → Label → Type 0
 EarnsAtHome g s l =
-    (y : ℕ) × (IsLevel l y) × IsHomeStep g s (state_at l y) × (pos (s.weight * time_at g (state_at l y) 0) <ℤ l.paid)
+    (y : ℕ) × (IsLevel l y) × IsHomeStep g s (state_at l y) ×
+    (pos (s.weight * time_at g (state_at l y) 0) <ℤ l.paid)
 
 -- a rule is broken there; labels are told by their numbers in the list
 abbrev pub IsFault : Network → Section → ClosedFault → Type 0

@@ -25,19 +25,22 @@ pub record Share : Type 0 where
 -- the shares of the plans that serve a customer
 abbrev pub shares_of : Network → List Share → ℕ → ℕ
 shares_of g [] node = 0
-shares_of g (x ∷ shares) node = x.share * times_in (customers_of g x.plan) node + shares_of g shares node
+shares_of g (x ∷ shares) node =
+    x.share * times_in (customers_of g x.plan) node + shares_of g shares node
 
 -- the sum of share times time, in kths
 abbrev pub cost_of_shares : Network → ℕ → List Share → ℕ
 cost_of_shares g k [] = 0
-cost_of_shares g k (x ∷ shares) = x.share * time_of g k g.capacity x.plan + cost_of_shares g k shares
+cost_of_shares g k (x ∷ shares) =
+    x.share * time_of g k g.capacity x.plan + cost_of_shares g k shares
 
 -- a fractional cover in kths with a weight: it costs the sum of share times time over k times the weight
 pub record IsFractionalCover (g : Network) (k weight : ℕ) (shares : List Share) : Type 0 where
   pub some_weight : 1 ≤ weight
   pub some_share : All (λ x. 1 ≤ x.share) shares
   pub routes : All (λ x. IsFleetRoute g k x.plan) shares
-  pub covers : (node : ℕ) → node < node_count g → is_customer g node ≡ true → shares_of g shares node ≡ weight
+  pub covers : (node : ℕ) → node < node_count g → is_customer g node ≡ true →
+      shares_of g shares node ≡ weight
 
 abbrev pub CoverKeepsPairs : Network → (ℕ → ℕ → Bool) → List Share → Type 0
 CoverKeepsPairs g allows shares = All (λ x. PlanKeepsPairs g allows x.plan) shares

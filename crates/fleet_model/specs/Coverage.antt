@@ -18,4 +18,5 @@ pub record IsAsGood (weight : ℕ) (a b : State) : Type 0 where
 -- some label of the section is as good as the state, at one of its levels
 abbrev pub IsCovered : Section → State → Type 0
 IsCovered s b =
-    (l : Label) × (Contains s.labels l) × ((y : ℕ) × (IsLevel l y) × (IsAsGood s.weight (state_at l y) b))
+    (l : Label) × (Contains s.labels l) ×
+    ((y : ℕ) × (IsLevel l y) × (IsAsGood s.weight (state_at l y) b))

@@ -24,14 +24,17 @@ pub record IsAsGoodByPrices (s : Section) (a b : State) : Type 0 where
 
 abbrev pub IsCoveredByPrices : Section → State → Type 0
 IsCoveredByPrices s b =
-    (l : Label) × (Contains s.labels l) × ((y : ℕ) × (IsLevel l y) × (IsAsGoodByPrices s (state_at l y) b))
+    (l : Label) × (Contains s.labels l) ×
+    ((y : ℕ) × (IsLevel l y) × (IsAsGoodByPrices s (state_at l y) b))
 
 -- closed lists with price sums of sets in place of paid sums
 pub record IsClosedByPrices (g : Network) (s : Section) : Type 0 where
   pub begins : IsCoveredByPrices s (start g)
-  pub customer : (l : Label) (y x : ℕ) → Contains s.labels l → IsLevel l y → IsCustomerStep g s (state_at l y) x
+  pub customer : (l : Label) (y x : ℕ) → Contains s.labels l → IsLevel l y →
+      IsCustomerStep g s (state_at l y) x
       → IsCoveredByPrices s (at_customer g s (state_at l y) x)
-  pub station : (l : Label) (y x z : ℕ) → Contains s.labels l → IsLevel l y → IsStationStep g (state_at l y) x z
+  pub station : (l : Label) (y x z : ℕ) → Contains s.labels l → IsLevel l y →
+      IsStationStep g (state_at l y) x z
       → IsCoveredByPrices s (at_station g (state_at l y) x z)
   pub home : (l : Label) (y : ℕ) → Contains s.labels l → IsLevel l y → IsHomeStep g s (state_at l y)
       → price_sum s.prices l.served ≤ℤ pos (s.weight * time_at g (state_at l y) 0)

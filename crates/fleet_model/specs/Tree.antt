@@ -25,7 +25,8 @@ IsBranchTree g (split i j apart together) =
 abbrev pub KeepsSomeLeaf : Network → (ℕ → ℕ → Bool) → BranchTree → List (List Stop) → Type 0
 KeepsSomeLeaf g allows (leaf n) plans = FleetKeepsPairs g allows plans
 KeepsSomeLeaf g allows (split i j apart together) plans =
-    KeepsSomeLeaf g (forbid i j allows) apart plans ⊎ KeepsSomeLeaf g (require i j allows) together plans
+    KeepsSomeLeaf g (forbid i j allows) apart plans ⊎
+    KeepsSomeLeaf g (require i j allows) together plans
 
 -- a bound is at most that of a section; `None` says that there is no plan, which is above every number
 abbrev pub IsBoundedBy : Section → Option ℕ → Type 0
@@ -41,7 +42,8 @@ pub record IsUnder (allows : ℕ → ℕ → Bool) (s : Section) (bound : Option
 -- each leaf names a section that holds under it, where `allows` tells the pairs that are allowed at the
 -- tree's root
 abbrev pub LeavesAreUnder : List Section → Option ℕ → (ℕ → ℕ → Bool) → BranchTree → Type 0
-LeavesAreUnder sections bound allows (leaf n) = (s : Section) × (slice_get sections n ≡ Some s) × IsUnder allows s bound
+LeavesAreUnder sections bound allows (leaf n) =
+    (s : Section) × (slice_get sections n ≡ Some s) × IsUnder allows s bound
 LeavesAreUnder sections bound allows (split i j apart together) =
     LeavesAreUnder sections bound (forbid i j allows) apart
     × LeavesAreUnder sections bound (require i j allows) together

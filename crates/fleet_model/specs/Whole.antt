@@ -15,4 +15,5 @@ pub record HasWhole (g : Network) (k : ℕ) (plan : List Stop) : Type 0 where
 
 -- no fraction of a unit is faster: each feasible plan from full has such a whole plan
 abbrev pub NoFractionIsFaster : Network → Type 0
-NoFractionIsFaster g = (k : ℕ) (plan : List Stop) → IsFeasible g k g.capacity plan → HasWhole g k plan
+NoFractionIsFaster g =
+    (k : ℕ) (plan : List Stop) → IsFeasible g k g.capacity plan → HasWhole g k plan

@@ -25,7 +25,8 @@ SameLinked old new = (j : ℕ) → (IsLinked new j → IsLinked old j) × (IsLin
 pub record IsHeap (keys : List (Option ℕ)) (children : Lists) (root : Option ℕ) : Type 0 where
   pub forest : IsForest keys children
   pub rooted : (i key : ℕ) → HasPair keys key i → (root ≡ Some i) ⊎ IsLinked children.lists i
-  pub top : (r : ℕ) → root ≡ Some r → ((key : ℕ) × HasPair keys key r) × (IsLinked children.lists r → ⊥)
+  pub top : (r : ℕ) → root ≡ Some r →
+      ((key : ℕ) × HasPair keys key r) × (IsLinked children.lists r → ⊥)
 
 -- the trees under i were melded into one with the root c, and that one was taken off
 pub record IsCut (keys : List (Option ℕ)) (old new : List (List ℕ)) (i : ℕ) (c : Option ℕ) : Type 0 where

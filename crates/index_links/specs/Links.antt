@@ -28,7 +28,8 @@ last_of b (x ∷ xs) = last_of (Some x) xs
 abbrev pub IsChain : List Slot → ℕ → Option ℕ → Option ℕ → List ℕ → Option ℕ → Type 0
 IsChain s k b from [] to = from ≡ to
 IsChain s k b from (x ∷ xs) to =
-    (from ≡ Some x) × (x < length s) × ((slot_at s x).list ≡ Some k) × ((slot_at s x).prev ≡ b) × IsChain s k (Some x) (slot_at s x).next xs to
+    (from ≡ Some x) × (x < length s) × ((slot_at s x).list ≡ Some k) × ((slot_at s x).prev ≡ b) ×
+    IsChain s k (Some x) (slot_at s x).next xs to
 
 -- the list k with these ends has the items xs
 pub record IsRing (s : List Slot) (k : ℕ) (e : Ends) (xs : List ℕ) : Type 0 where
@@ -55,12 +56,14 @@ spelled_lists es s = map (λ e. items_from s (length s) e.first) es
 -- the slots with the forward link of an item set, where there is that item
 abbrev pub slots_with_next : List Slot → Option ℕ → Option ℕ → List Slot
 slots_with_next s None to = s
-slots_with_next s (Some p) to = set s p (record { list = (slot_at s p).list; prev = (slot_at s p).prev; next = to })
+slots_with_next s (Some p) to =
+    set s p (record { list = (slot_at s p).list; prev = (slot_at s p).prev; next = to })
 
 -- the slots with the back link of an item set, where there is that item
 abbrev pub slots_with_prev : List Slot → Option ℕ → Option ℕ → List Slot
 slots_with_prev s None to = s
-slots_with_prev s (Some p) to = set s p (record { list = (slot_at s p).list; prev = to; next = (slot_at s p).next })
+slots_with_prev s (Some p) to =
+    set s p (record { list = (slot_at s p).list; prev = to; next = (slot_at s p).next })
 
 -- the ends with the first item of list k set, where no item stands before
 abbrev pub ends_with_first : List Ends → ℕ → Option ℕ → Option ℕ → List Ends

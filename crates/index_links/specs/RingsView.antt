@@ -6,8 +6,14 @@ use Rattle.index_links.specs.declared.rings.Rings.TheInside.{Inside}
 
 -- the lists that the links spell
 abbrev pub lists_of : Inside → Lists
-lists_of r = record { lists = spelled_lists r.links.ends.items r.links.slots.items; items = length r.links.slots.items }
+lists_of r =
+    record {
+      lists = spelled_lists r.links.ends.items r.links.slots.items;
+      items = length r.links.slots.items;
+    }
 
 -- the links spell lists
 abbrev pub IsSound : Inside → Type 0
-IsSound r = Spells r.links.ends.items r.links.slots.items (spelled_lists r.links.ends.items r.links.slots.items)
+IsSound r =
+    Spells r.links.ends.items r.links.slots.items
+    (spelled_lists r.links.ends.items r.links.slots.items)

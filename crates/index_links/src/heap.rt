@@ -164,7 +164,9 @@ fn neighbours(children: &Rings, parent: usize, at: usize) -> Option<(usize, usiz
     requires at { IsIn at (list_at children.now.lists parent) }
     ensures one { IsNone result → length (list_at children.now.lists parent) ≤ 1 }
     ensures disjoint { AreDisjoint children.now }
-    ensures two { IfSome result (λ pair. (IsIn pair.0 (list_at children.now.lists parent)) × (IsIn pair.1 (list_at children.now.lists parent)) × (pair.0 ≢ pair.1)) }
+    ensures two { IfSome result (λ pair.
+        (IsIn pair.0 (list_at children.now.lists parent)) ×
+        (IsIn pair.1 (list_at children.now.lists parent)) × (pair.0 ≢ pair.1)) }
 {
     if let Some(next) = children.next(at) {
         return Some((at, next));
@@ -187,7 +189,8 @@ fn meld(keys: &[Option<u64>], children: &mut Rings, parent: usize, a: usize, b: 
     requires apart { a ≢ b }
     ensures forest { IsForest keys.now children.new }
     ensures same { SameLinked children.old.lists children.new.lists }
-    ensures shorter { length (list_at children.new.lists parent) < length (list_at children.old.lists parent) }
+    ensures shorter { length (list_at children.new.lists parent)
+        < length (list_at children.old.lists parent) }
     ensures winner { IsIn result (list_at children.new.lists parent) }
 {
     let (winner, loser) = ranked(keys, a, b);

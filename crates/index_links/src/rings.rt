@@ -108,7 +108,11 @@ impl Rings {
     /// Makes room for list numbers below `lists` and item numbers below `items`. New lists are empty,
     /// and new items stand in no list. It never shrinks, and after an `Err` nothing has changed.
     pub fn grow(&mut self, lists: usize, items: usize) -> Result<(), AllocError>
-        ensures ok { OnOk result (self.new ≡ record { lists = lists_padded self.old.lists lists; items = max items self.old.items }) }
+        ensures ok { OnOk result (self.new
+            ≡ record {
+              lists = lists_padded self.old.lists lists;
+              items = max items self.old.items;
+            }) }
         ensures err { OnErr result (self.new ≡ self.old) }
     {
         let lists = lists.max(self.links.ends.len());
@@ -181,7 +185,8 @@ impl Rings {
     /// The item behind `i` in its list. `None` comes exactly where `i` is the last item.
     pub fn next(&self, i: usize) -> Option<usize>
         requires { IsLinked self.now.lists i }
-        ensures next { (k : ℕ) (before after : List ℕ) → list_at self.now.lists k ≡ before ++ i ∷ after → result ≡ slice_get after 0 }
+        ensures next { (k : ℕ) (before after : List ℕ) →
+            list_at self.now.lists k ≡ before ++ i ∷ after → result ≡ slice_get after 0 }
         ensures linked { IfSome result (IsLinked self.now.lists) }
         ensures disjoint { AreDisjoint self.now }
     {

@@ -35,19 +35,25 @@ type_of station = if station % 2 == 0 then codes "fast" else codes "slow"
 
 -- the entry of the station with this number at this node
 abbrev pub station_value : ℕ → ℕ → Data
-station_value station node = object (member (codes "cs_type") (string (type_of station)) (member (codes "node_id") (whole node) no_members))
+station_value station node =
+    object (member (codes "cs_type") (string (type_of station))
+    (member (codes "node_id") (whole node) no_members))
 
 -- The stations are the nodes after the depot and the customers.
 abbrev pub stations_value : ℕ → ℕ → Data
-stations_value customers stations = array_of (tabulate (λ station. station_value station (1 + customers + station)) stations)
+stations_value customers stations =
+    array_of (tabulate (λ station. station_value station (1 + customers + station)) stations)
 
 -- the matrix of distances: one row for each location
 abbrev pub distances_value : List Location → Data
-distances_value locations = array_of (map (λ from. array_of (map (λ to. whole (distance_between from to)) locations)) locations)
+distances_value locations =
+    array_of (map (λ from.
+    array_of (map (λ to. whole (distance_between from to)) locations)) locations)
 
 -- Serving a customer takes 5, and nothing is done at the depot and at stations.
 abbrev pub process_times_value : ℕ → ℕ → Data
-process_times_value customers stations = array_of (whole 0 ∷ replicate customers (whole 5) ++ replicate stations (whole 0))
+process_times_value customers stations =
+    array_of (whole 0 ∷ replicate customers (whole 5) ++ replicate stations (whole 0))
 
 -- The value of a made instance. Driving takes as much time and energy as the distance.
 unfoldable pub made_value : ℕ → ℕ → ℕ → Data
@@ -68,4 +74,5 @@ made_text seed customers stations = compact_text (made_value seed customers stat
 
 -- No instance is made of these numbers.
 abbrev pub IsOutOfRange : ℕ → ℕ → ℕ → Type 0
-IsOutOfRange seed customers stations = (seed ≡ 0) ⊎ (2147483646 < seed) ⊎ (customers ≡ 0) ⊎ (399 < customers + stations)
+IsOutOfRange seed customers stations =
+    (seed ≡ 0) ⊎ (2147483646 < seed) ⊎ (customers ≡ 0) ⊎ (399 < customers + stations)

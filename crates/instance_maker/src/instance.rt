@@ -100,7 +100,8 @@ fn distances_from(
     from: &Location,
     locations: &[Location],
 ) -> Result<Value, AllocError>
-    ensures { IfOk result (λ value. view value ≡ array_of (map (λ to. whole (distance_between from.now to)) locations.now)) }
+    ensures { IfOk result (λ value. view value
+        ≡ array_of (map (λ to. whole (distance_between from.now to)) locations.now)) }
 {
     let mut items = Vec::new(alloc);
     for to in locations {
@@ -122,7 +123,8 @@ fn distances(alloc: Global, locations: &[Location]) -> Result<Value, AllocError>
 
 /// Adds a whole number so many times.
 fn push_times(items: &mut Vec<Value>, number: u64, times: u32) -> Result<(), AllocError>
-    ensures { OnOk result (map view items.new.items ≡ map view items.old.items ++ replicate times (whole number)) }
+    ensures { OnOk result (map view items.new.items
+        ≡ map view items.old.items ++ replicate times (whole number)) }
 {
     for _ in 0..times {
         items.push(Value::from(number))?;

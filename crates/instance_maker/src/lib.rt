@@ -41,7 +41,8 @@ pub fn make_instance(
 ) -> Result<Vec<u8>, MakerFault>
     ensures range { IsErrOf result MakerFault.Range ↔ IsOutOfRange seed customers stations }
     ensures text { IfOk result (λ text. text.items ≡ made_text seed customers stations) }
-    ensures reads_back { IfOk result (λ text. read text.items ≡ Some (made_value seed customers stations)) }
+    ensures reads_back { IfOk result (λ text. read text.items
+        ≡ Some (made_value seed customers stations)) }
     ensures utf8 { IfOk result (λ text. IsUtf8 text.items) }
     ensures short { IfOk result (λ text. vec_len text < 2 ^ 22) }
 {
@@ -62,7 +63,8 @@ fn instance_text(
     requires seed { seed < MODULUS }
     requires nodes { 1 + customers + stations ≤ MOST_NODES }
     ensures text { IfOk result (λ text. text.items ≡ made_text seed customers stations) }
-    ensures reads_back { IfOk result (λ text. read text.items ≡ Some (made_value seed customers stations)) }
+    ensures reads_back { IfOk result (λ text. read text.items
+        ≡ Some (made_value seed customers stations)) }
     ensures utf8 { IfOk result (λ text. IsUtf8 text.items) }
     ensures short { IfOk result (λ text. vec_len text < 2 ^ 22) }
 {

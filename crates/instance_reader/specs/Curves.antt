@@ -18,7 +18,8 @@ abbrev pub cut_curve : ℕ → CurveOfType → CutCurve
 cut_curve capacity curve = record { points = points_of curve; full = capacity }
 
 abbrev pub bad_curve : ℕ → ℕ → CurveOfType → Option ReadFault
-bad_curve capacity number curve = option_map (BadCurve number) (curve_fault capacity (points_of curve))
+bad_curve capacity number curve =
+    option_map (BadCurve number) (curve_fault capacity (points_of curve))
 
 -- the first entry whose breakpoints are no curve up to the capacity
 abbrev pub bad_curve_in : ℕ → List CurveOfType → Option ReadFault

@@ -9,10 +9,12 @@ has_customer curves node = not (nat_eq node 0) && is_none (slice_index_or curves
 -- the index of a node in the list of customers
 abbrev pub IsIndexOf : List (Option ℕ) → List ℕ → ℕ → Option ℕ → Type 0
 IsIndexOf curves customers node None = has_customer curves node ≡ false
-IsIndexOf curves customers node (Some number) = (has_customer curves node ≡ true) × (slice_get customers number ≡ Some node)
+IsIndexOf curves customers node (Some number) =
+    (has_customer curves node ≡ true) × (slice_get customers number ≡ Some node)
 
 -- the customers among the first nodes, and their indices by node
 pub record AreCustomers (curves : List (Option ℕ)) (nodes : ℕ) (customers : List ℕ) (numbers : List (Option ℕ)) : Type 0 where
   pub list : customers ≡ filter (has_customer curves) (range_with_len 0 nodes)
   pub all : length numbers ≡ nodes
-  pub each : (node : ℕ) → node < nodes → IsIndexOf curves customers node (slice_index_or numbers node None)
+  pub each : (node : ℕ) → node < nodes →
+      IsIndexOf curves customers node (slice_index_or numbers node None)

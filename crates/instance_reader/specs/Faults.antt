@@ -60,7 +60,8 @@ value_fault top = first
 -- the fault is found before the denominator is needed; or none is, and it is the first of the others for the denominator of the curves
 abbrev pub IsFirstOf : Contents → Option ReadFault → ReadFault → Type 0
 IsFirstOf c early e =
-    (early ≡ Some e) ⊎ ((early ≡ None) × ((d : ℕ) × IsDenominatorOf c d × (late_fault d c ≡ Some e)))
+    (early ≡ Some e) ⊎
+    ((early ≡ None) × ((d : ℕ) × IsDenominatorOf c d × (late_fault d c ≡ Some e)))
 
 -- the fault is the first broken rule of the contents
 abbrev pub IsFirstFaultIn : Contents → ReadFault → Type 0

@@ -27,13 +27,15 @@ network_inside a = record {
 -- the numbers of the customers, by node
 pub record AreCustomerNumbers (g : Network) (numbers : List (Option ℕ)) : Type 0 where
   pub all : length numbers ≡ node_count g
-  pub each : (node : ℕ) → node < node_count g → IsCustomerNumber g node (slice_index_or numbers node None)
+  pub each : (node : ℕ) → node < node_count g →
+      IsCustomerNumber g node (slice_index_or numbers node None)
 
 pub record IsInstance (a : Inside) : Type 0 where
   pub network : IsNetwork (network_inside a)
   pub energy_rows : All (λ row. length row.items ≡ length a.energies.items) a.energies.items
   pub time_rows : All (λ row. length row.items ≡ length a.energies.items) a.times.items
   pub known : All (λ o. IfSome o (λ number. number < length a.curves.items)) a.curve_numbers.items
-  pub scaled : All (λ c. TellsChargeTime a.max_q a.denominator c.curve.points c.scaled) a.curves.items
+  pub scaled : All (λ c.
+      TellsChargeTime a.max_q a.denominator c.curve.points c.scaled) a.curves.items
   pub customers : a.customers.items ≡ customer_nodes (network_inside a)
   pub numbers : AreCustomerNumbers (network_inside a) a.customer_numbers.items

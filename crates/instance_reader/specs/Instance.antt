@@ -13,15 +13,18 @@ customer_nodes g = filter (is_customer g) (range_with_len 0 (node_count g))
 -- the number of the customer at a node; None exactly where no customer is there
 abbrev pub IsCustomerNumber : Network → ℕ → Option ℕ → Type 0
 IsCustomerNumber g node None = is_customer g node ≡ false
-IsCustomerNumber g node (Some number) = (is_customer g node ≡ true) × (slice_get (customer_nodes g) number ≡ Some node)
+IsCustomerNumber g node (Some number) =
+    (is_customer g node ≡ true) × (slice_get (customer_nodes g) number ≡ Some node)
 
 -- a scaled curve tells the charge times on breakpoints (time, charge), up to a battery of `capacity`
 pub record TellsChargeTime (capacity denominator : ℕ) (points scaled : List (ℕ × ℕ)) : Type 0 where
-  pub times : (level : ℕ) → level ≤ capacity → time_on scaled level ≡ charge_time denominator points level
+  pub times : (level : ℕ) → level ≤ capacity →
+      time_on scaled level ≡ charge_time denominator points level
   pub breaks : scaled ≡ breaks_of denominator capacity points
   pub full : last_level scaled ≡ capacity
 
 -- the scaled curve is that of the station at the node
 abbrev pub IsCurveAt : Network → ℕ → List (ℕ × ℕ) → Type 0
 IsCurveAt g node scaled =
-    (points : List (ℕ × ℕ)) × (curve_at g node ≡ Some points) × TellsChargeTime g.capacity g.denominator points scaled
+    (points : List (ℕ × ℕ)) × (curve_at g node ≡ Some points) ×
+    TellsChargeTime g.capacity g.denominator points scaled

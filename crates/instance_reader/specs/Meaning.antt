@@ -13,7 +13,8 @@ curve_of_type curves name = find (λ curve. same_name name curve.type_name) curv
 
 -- the entry for the type of the station at a node
 abbrev pub type_at : Contents → ℕ → Option CurveOfType
-type_at c node = option_and_then (λ s. curve_of_type c.curves s.type_name) (station_at c.stations node)
+type_at c node =
+    option_and_then (λ s. curve_of_type c.curves s.type_name) (station_at c.stations node)
 
 -- the breakpoints of the curve of the station at a node
 abbrev pub curve_at_node : Contents → ℕ → Option (List (ℕ × ℕ))
@@ -71,4 +72,5 @@ plug_time_of_number curves (Some number) = plug_time_of (slice_get curves number
 -- the numbers of the curves, by node
 pub record AreCurveNumbers (c : Contents) (numbers : List (Option ℕ)) : Type 0 where
   pub all : length numbers ≡ nodes_of c
-  pub each : (node : ℕ) → node < nodes_of c → IsCurveNumber c node (slice_index_or numbers node None)
+  pub each : (node : ℕ) → node < nodes_of c →
+      IsCurveNumber c node (slice_index_or numbers node None)

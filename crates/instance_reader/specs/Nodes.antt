@@ -35,9 +35,11 @@ station_at stations node = find (λ s. nat_eq s.node node) stations
 -- the number of the station at a node, if there is one
 abbrev pub IsStationNumber : List Station → ℕ → Option ℕ → Type 0
 IsStationNumber stations node None = station_at stations node ≡ None
-IsStationNumber stations node (Some number) = (number < length stations) × (station_at stations node ≡ slice_get stations number)
+IsStationNumber stations node (Some number) =
+    (number < length stations) × (station_at stations node ≡ slice_get stations number)
 
 -- the numbers of the stations, by node
 pub record AreStationNumbers (stations : List Station) (nodes : ℕ) (numbers : List (Option ℕ)) : Type 0 where
   pub all : length numbers ≡ nodes
-  pub each : (node : ℕ) → node < nodes → IsStationNumber stations node (slice_index_or numbers node None)
+  pub each : (node : ℕ) → node < nodes →
+      IsStationNumber stations node (slice_index_or numbers node None)

@@ -22,7 +22,8 @@ odd_row_in nodes place rows = look_along (odd_row nodes) place rows
 
 -- a curve with as many charges as times has breakpoints
 abbrev pub uneven : Place → CurveOfType → Option Place
-uneven place curve = then_some (not (nat_eq (length curve.times) (length curve.charges))) (part_of place part.Charge)
+uneven place curve =
+    then_some (not (nat_eq (length curve.times) (length curve.charges))) (part_of place part.Charge)
 
 -- the first place of a list or a matrix that has a wrong length
 unfoldable pub first_wrong_shape : Contents → Option Place

@@ -23,14 +23,16 @@ module _ {V : Type 0} where
     pub lives : lives_in bucket label ≡ true
 
   -- a live label of the bucket covers the value
-  pub record IsCovered (covers : V → V → Bool) (labels : List (Label V)) (bucket : ℕ) (value : V) : Type 0 where
+  pub record IsCovered (covers : V → V →
+      Bool) (labels : List (Label V)) (bucket : ℕ) (value : V) : Type 0 where
     pub by : ℕ
     pub is : IsLive labels bucket by
     pub covered : covers is.label.value value ≡ true
 
   -- the label once a value has come to the bucket: live no longer where it is of that bucket and covered
   abbrev pub beside : (V → V → Bool) → ℕ → V → Label V → Label V
-  beside covers bucket value l = record l { live = l.live && not (nat_eq l.bucket bucket && covers value l.value) }
+  beside covers bucket value l =
+      record l { live = l.live && not (nat_eq l.bucket bucket && covers value l.value) }
 
   -- the labels and a new one behind them
   abbrev pub labels_with : (V → V → Bool) → List (Label V) → Label V → List (Label V)
@@ -40,16 +42,20 @@ module _ {V : Type 0} where
   pub record IsNext (labels : List (Label V)) (i : ℕ) (label : Label V) : Type 0 where
     pub here : slice_get labels i ≡ Some label
     pub waits : is_waiting label ≡ true
-    pub least : (j : ℕ) (other : Label V) → slice_get labels j ≡ Some other → is_waiting other ≡ true → (label.key < other.key) ⊎ ((label.key ≡ other.key) × (i ≤ j))
+    pub least : (j : ℕ) (other : Label V) → slice_get labels j ≡ Some other →
+        is_waiting other ≡ true → (label.key < other.key) ⊎ ((label.key ≡ other.key) × (i ≤ j))
 
   -- no label waits
   abbrev pub NoneWaits : List (Label V) → Type 0
-  NoneWaits labels = (i : ℕ) (label : Label V) → slice_get labels i ≡ Some label → is_waiting label ≡ true → ⊥
+  NoneWaits labels =
+      (i : ℕ) (label : Label V) → slice_get labels i ≡ Some label → is_waiting label ≡ true → ⊥
 
   -- the first number from `from` on of a live label of the bucket, or none where there is none
   abbrev pub IsFirstLive : List (Label V) → ℕ → ℕ → Option ℕ → Type 0
   IsFirstLive labels bucket from found =
-      MatchOption found ((j : ℕ) → from ≤ j → IsLive labels bucket j → ⊥) (λ i. (from ≤ i) × IsLive labels bucket i × ((j : ℕ) → from ≤ j → IsLive labels bucket j → i ≤ j))
+      MatchOption found ((j : ℕ) → from ≤ j → IsLive labels bucket j → ⊥)
+      (λ i. (from ≤ i) × IsLive labels bucket i ×
+      ((j : ℕ) → from ≤ j → IsLive labels bucket j → i ≤ j))
 
   -- label i has that parent, or none
   pub record HasParent (labels : List (Label V)) (i : ℕ) (parent : Option ℕ) : Type 0 where

@@ -28,4 +28,5 @@ module _ {V : Type 0} where
     pub queued : (i : ℕ) → key_at queue i ≡ queue_key (slice_get labels i)
     pub room : length labels ≤ live.items
     pub queue_room : length labels ≤ length queue
-    pub parents : (i : ℕ) (label : Label V) → slice_get labels i ≡ Some label → IfSome label.parent (λ p. p < i)
+    pub parents : (i : ℕ) (label : Label V) → slice_get labels i ≡ Some label →
+        IfSome label.parent (λ p. p < i)

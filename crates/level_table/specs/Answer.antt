@@ -16,7 +16,8 @@ pub record IsFastestWhole (g : Network) (route : List ℕ) (start : ℕ) (stops 
 
 -- no whole plan of the route is feasible
 abbrev pub HasNoWholePlan : Network → List ℕ → ℕ → Type 0
-HasNoWholePlan g route start = (stops : List Stop) → IsFeasible g 1 start stops → FollowsRoute route stops → ⊥
+HasNoWholePlan g route start =
+    (stops : List Stop) → IsFeasible g 1 start stops → FollowsRoute route stops → ⊥
 
 -- the nodes that have a curve, in rising order
 unfoldable pub stations : Network → List ℕ

@@ -23,7 +23,8 @@ next_node g route from slot = node_at g route (passed_after from.passed slot) sl
 
 -- a level on arriving that is enough: the reserve, and at the end of the route the level at home too
 abbrev pub IsEnough : Network → List ℕ → ℕ → ℕ → Type 0
-IsEnough g route passed level = (g.reserve ≤ level) × (passed ≡ length route - 1 → g.home_level ≤ level)
+IsEnough g route passed level =
+    (g.reserve ≤ level) × (passed ≡ length route - 1 → g.home_level ≤ level)
 
 -- a drive to another node that arrives there with enough
 pub record CanDrive (g : Network) (route : List ℕ) (slot : ℕ) (from : Place) : Type 0 where
@@ -36,7 +37,8 @@ pub record CanDrive (g : Network) (route : List ℕ) (slot : ℕ) (from : Place)
 -- a unit is charged at a station below full, but not at the first stop; the vehicle is unplugged before it drives
 abbrev pub CanMove : Network → List ℕ → Move → Place → Type 0
 CanMove g route Charge from =
-    (0 < from.passed + from.slot) × (from.level < g.capacity) × IsSome (curve_at g (node_of g route from))
+    (0 < from.passed + from.slot) × (from.level < g.capacity) ×
+    IsSome (curve_at g (node_of g route from))
 CanMove g route Unplug from = from.plugged ≡ true
 CanMove g route (Drive slot) from = (from.plugged ≡ false) × CanDrive g route slot from
 
@@ -51,7 +53,8 @@ move_time g route Charge from =
     + charging_time 1 g.denominator (curve_at g (node_of g route from)) from.level (from.level + 1)
 move_time g route Unplug from = 0
 move_time g route (Drive slot) from =
-    g.denominator * (travel_time g (node_of g route from) (next_node g route from slot) + process_time g (next_node g route from slot))
+    g.denominator * (travel_time g (node_of g route from) (next_node g route from slot)
+    + process_time g (next_node g route from slot))
 
 -- the place that a move leads to
 abbrev pub place_after : Network → List ℕ → Move → Place → Place

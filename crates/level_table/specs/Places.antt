@@ -14,7 +14,8 @@ pub record IsTrip (g : Network) (route : List ℕ) : Type 0 where
 
 -- the node of a slot: slot 0 is the node of the route that was served last, slot j + 1 the station number j
 abbrev pub node_at : Network → List ℕ → ℕ → ℕ → ℕ
-node_at g route passed slot = if nat_eq slot 0 then slice_index route passed else slice_index (stations g) (slot - 1)
+node_at g route passed slot =
+    if nat_eq slot 0 then slice_index route passed else slice_index (stations g) (slot - 1)
 
 -- a place on the way
 pub record IsPlace (g : Network) (route : List ℕ) (place : Place) : Type 0 where
@@ -35,7 +36,8 @@ entry_count g route = cell_count g route * 2
 
 -- the number of the cell of a place; those for the end of the route come last
 abbrev pub cell_of : Network → Place → ℕ
-cell_of g place = (place.passed * (length (stations g) + 1) + place.slot) * (g.capacity + 1) + place.level
+cell_of g place =
+    (place.passed * (length (stations g) + 1) + place.slot) * (g.capacity + 1) + place.level
 
 -- the number of the entry that stands for a place
 abbrev pub index_of : Network → Place → ℕ

@@ -15,7 +15,8 @@ start_place level = record { passed = 0; slot = 0; level = level; plugged = fals
 abbrev pub stop_after : Network → List ℕ → Move → Place → Stop → Stop
 stop_after g route Charge to stop = record stop { added = stop.added + 1 }
 stop_after g route Unplug to stop = stop
-stop_after g route (Drive slot) to stop = record { node = node_of g route to; added = 0; via = nat_lt 0 to.slot }
+stop_after g route (Drive slot) to stop =
+    record { node = node_of g route to; added = 0; via = nat_lt 0 to.slot }
 
 -- the stops that the vehicle has left after a move
 abbrev pub stops_after : Move → Stop → List Stop → List Stop

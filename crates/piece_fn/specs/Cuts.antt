@@ -37,12 +37,15 @@ point_is_reached own extra p = nat_le (time_on own p.0 + extra) p.1
 
 -- a point among the levels from low to high reaches the other value there
 abbrev pub point_reaches : ℕ → ℕ → List (ℕ × ℕ) → ℕ → ℕ × ℕ → Bool
-point_reaches low high other extra p = not (nat_le low p.0 && nat_le p.0 high) || nat_le (p.1 + extra) (time_on other p.0)
+point_reaches low high other extra p =
+    not (nat_le low p.0 && nat_le p.0 high) || nat_le (p.1 + extra) (time_on other p.0)
 
 -- the test of coverage at the supporting points of both
 abbrev pub covers_at_points : List (ℕ × ℕ) → List (ℕ × ℕ) → ℕ → Bool
 covers_at_points own other extra =
-    nat_le (last_level other) (last_level own) && (list_all (point_is_reached own extra) other && list_all (point_reaches (first_level other) (last_level other) other extra) own)
+    nat_le (last_level other) (last_level own)
+    && (list_all (point_is_reached own extra) other
+    && list_all (point_reaches (first_level other) (last_level other) other extra) own)
 
 -- points with one at a level in place of those below it, where the level is on their first piece
 abbrev pub begun_at : ℕ → List (ℕ × ℕ) → List (ℕ × ℕ)

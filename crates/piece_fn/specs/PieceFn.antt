@@ -12,7 +12,12 @@ first_level (p ∷ ps) = p.0
 
 -- the time at each level from the first to the last
 unfoldable pub level_times : List (ℕ × ℕ) → LevelTimes
-level_times points = record { first = first_level points; times = map (time_on points) (range_with_len (first_level points) (last_level points + 1 - first_level points)) }
+level_times points =
+    record {
+      first = first_level points;
+      times = map (time_on points)
+          (range_with_len (first_level points) (last_level points + 1 - first_level points));
+    }
 
 -- a supporting point is at this level
 abbrev pub is_support : List (ℕ × ℕ) → ℕ → Bool
@@ -20,23 +25,29 @@ is_support points level = list_any (λ p. nat_eq p.0 level) points
 
 -- the levels of a value, in rising order, at which it or the curve has a supporting point
 unfoldable pub starts : List (ℕ × ℕ) → List (ℕ × ℕ) → List ℕ
-starts points curve = filter (λ level. is_support points level || is_support curve level) (levels_of (level_times points))
+starts points curve =
+    filter (λ level. is_support points level
+    || is_support curve level) (levels_of (level_times points))
 
 -- the value unchanged, and then for each of some levels what becomes of the value by charging from there
 abbrev pub IsChargedFrom : List (ℕ × ℕ) → List (ℕ × ℕ) → ℕ → List ℕ → List (List (ℕ × ℕ)) → Type 0
 IsChargedFrom points curve limit levels [] = ⊥
 IsChargedFrom points curve limit levels (unchanged ∷ charged) =
-    (unchanged ≡ points) × AllZip (λ from after. IsChargeFrom (level_times points) curve limit from (level_times after)) levels charged
+    (unchanged ≡ points) ×
+    AllZip (λ from after.
+    IsChargeFrom (level_times points) curve limit from (level_times after)) levels charged
 
 -- where these levels are all that `starts` names
 abbrev pub IsChargeList : List (ℕ × ℕ) → List (ℕ × ℕ) → ℕ → List (List (ℕ × ℕ)) → Type 0
-IsChargeList points curve limit values = IsChargedFrom points curve limit (starts points curve) values
+IsChargeList points curve limit values =
+    IsChargedFrom points curve limit (starts points curve) values
 
 -- the greatest level up to which each level of the other value is reached
 pub record IsReach (own other : LevelTimes) (extra from to : ℕ) : Type 0 where
   pub up : from ≤ to
   pub ends : IsLevel other to
-  pub reached : (level : ℕ) → from ≤ level → level ≤ to → Reaches own extra level (time_at other level)
+  pub reached : (level : ℕ) → from ≤ level → level ≤ to →
+      Reaches own extra level (time_at other level)
   pub stops : IsLevel other (to + 1) → Reaches own extra (to + 1) (time_at other (to + 1)) → ⊥
 
 -- w is v without its levels below one

@@ -39,7 +39,8 @@ pub(crate) fn carried(
     requires down { by.down ≤ max from (first_level points.now) }
     requires early { by.zero ≤ time_on points.now from }
     requires limit { by.base + (time_on points.now from - by.zero) ≤ limit }
-    ensures { IfOk result (λ v. v.items ≡ up_to limit (moved by.down by.zero by.base (begun_at from (from_piece from points.now)))) }
+    ensures { IfOk result (λ v. v.items
+        ≡ up_to limit (moved by.down by.zero by.base (begun_at from (from_piece from points.now)))) }
 {
     let rest = piece_at(points, from);
     let first = (
@@ -64,7 +65,9 @@ fn push_moved(
     requires points { ArePoints (first ∷ moved by.down by.zero by.base (drop 1 rest.now)) }
     requires above { AreAbove by.down by.zero (drop 1 rest.now) }
     requires limit { first.1 ≤ limit }
-    ensures { OnOk result (points.new.items ≡ points.old.items ++ tail_to limit first (moved by.down by.zero by.base (drop 1 rest.now))) }
+    ensures { OnOk result (points.new.items
+        ≡ points.old.items
+        ++ tail_to limit first (moved by.down by.zero by.base (drop 1 rest.now))) }
 {
     let mut last = first;
     for index in 1..rest.len() {

@@ -75,7 +75,8 @@ impl PieceFn {
 
     /// The time at a level, or `None` where it is no level of the value. It takes no memory.
     pub fn at(&self, q: u64) -> Option<u64>
-        ensures some { IfSome result (λ time. IsLevel (level_times self.now) q × (time ≡ time_at (level_times self.now) q)) }
+        ensures some { IfSome result (λ time. IsLevel (level_times self.now) q ×
+            (time ≡ time_at (level_times self.now) q)) }
         ensures none { IfNone result (IsLevel (level_times self.now) q → ⊥) }
     {
         let points = self.points();
@@ -89,8 +90,10 @@ impl PieceFn {
     /// `None` comes where it does not cover `from`. It takes no memory.
     pub fn reach(&self, other: &PieceFn, extra: u64, from: u64) -> Option<u64>
         requires { IsLevel (level_times other.now) from }
-        ensures some { IfSome result (λ to. IsReach (level_times self.now) (level_times other.now) extra from to) }
-        ensures none { IfNone result (Reaches (level_times self.now) extra from (time_at (level_times other.now) from) → ⊥) }
+        ensures some { IfSome result (λ to.
+            IsReach (level_times self.now) (level_times other.now) extra from to) }
+        ensures none { IfNone result (Reaches (level_times self.now) extra from
+            (time_at (level_times other.now) from) → ⊥) }
     {
         let (own, others) = (self.points(), other.points());
         let end = last_level(own).min(last_level(others));
@@ -139,7 +142,8 @@ impl PieceFn {
         requires fits { level ≤ last_level curve.now }
         requires time { time_at (level_times self.now) level ≤ limit }
         ensures valid { IfOk result ArePoints }
-        ensures charge { IfOk result (λ value. IsChargeFrom (level_times self.now) curve.now limit level (level_times value)) }
+        ensures charge { IfOk result (λ value.
+            IsChargeFrom (level_times self.now) curve.now limit level (level_times value)) }
     {
         let by = Move {
             down: 0,
@@ -198,13 +202,24 @@ impl LabelValue for PieceFn {
     }
 
     fn charge(&self, curve: &Scaled, limit: u64) -> Result<Vec<PieceFn>, AllocError>
-        requires levels { (level : ℕ) → IsLevel (level_times self.now) level → level ≤ last_level curve.now }
-        requires times { (level : ℕ) → IsLevel (level_times self.now) level → time_at (level_times self.now) level ≤ limit }
-        ensures answers { IfOk result (λ values. IsChargeList self.now curve.now limit values.items) }
-        ensures every { IfOk result (λ values. (level time : ℕ) → IsCharge (level_times self.now) curve.now limit level time → SomeReaches level_times values.items 0 level time) }
-        ensures only { IfOk result (λ values. All (λ value. (level : ℕ) → IsLevel (level_times value) level → IsCharge (level_times self.now) curve.now limit level (time_at (level_times value) level)) values.items) }
-        ensures valid { IfOk result (λ values. All (λ value. IsValue (level_times value)) values.items) }
-        ensures keeps { IfOk result (λ values. (other : LevelTimes) (extra level time : ℕ) → CoversEach (level_times self.now) other extra → IsCharge other curve.now limit level time → SomeReaches level_times values.items extra level time) }
+        requires levels { (level : ℕ) → IsLevel (level_times self.now) level →
+            level ≤ last_level curve.now }
+        requires times { (level : ℕ) → IsLevel (level_times self.now) level →
+            time_at (level_times self.now) level ≤ limit }
+        ensures answers { IfOk result (λ values.
+            IsChargeList self.now curve.now limit values.items) }
+        ensures every { IfOk result (λ values. (level time : ℕ) →
+            IsCharge (level_times self.now) curve.now limit level time →
+            SomeReaches level_times values.items 0 level time) }
+        ensures only { IfOk result (λ values. All (λ value. (level : ℕ) →
+            IsLevel (level_times value) level → IsCharge (level_times self.now) curve.now limit level
+            (time_at (level_times value) level)) values.items) }
+        ensures valid { IfOk result (λ values.
+            All (λ value. IsValue (level_times value)) values.items) }
+        ensures keeps { IfOk result (λ values. (other : LevelTimes) (extra level time : ℕ) →
+            CoversEach (level_times self.now) other extra →
+            IsCharge other curve.now limit level time →
+            SomeReaches level_times values.items extra level time) }
     {
         let alloc = *self.points.allocator();
         let points = self.points();

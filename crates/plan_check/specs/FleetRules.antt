@@ -35,10 +35,12 @@ IsRouteAt plans route p = slice_get plans route ≡ Some p
 
 -- the fault is a broken rule of the plans
 abbrev pub IsBroken : Network → List RoutePlan → PlanFault → Type 0
-IsBroken g plans (Walk route fault) = (p : RoutePlan) × IsRouteAt plans route p × (walk_along g g.capacity p.stops ≡ Err fault)
+IsBroken g plans (Walk route fault) =
+    (p : RoutePlan) × IsRouteAt plans route p × (walk_along g g.capacity p.stops ≡ Err fault)
 IsBroken g plans (Twice customer) = IsCustomer g customer × (1 < times_served g plans customer)
 IsBroken g plans (Unserved customer) = IsCustomer g customer × (times_served g plans customer ≡ 0)
-IsBroken g plans (EmptyRoute route) = (p : RoutePlan) × IsRouteAt plans route p × (customers_of g p.stops ≡ [])
+IsBroken g plans (EmptyRoute route) =
+    (p : RoutePlan) × IsRouteAt plans route p × (customers_of g p.stops ≡ [])
 IsBroken g plans (Stray route at) = (p : RoutePlan) × IsRouteAt plans route p × IsStray g p.stops at
 
 -- the rules in the order in which they are tried

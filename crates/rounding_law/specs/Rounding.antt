@@ -14,7 +14,8 @@ whole_level k j z = (z + j) / k
 abbrev pub rounded_stop : Network → ℕ → ℕ → ℕ → ℕ → Stop → Stop
 rounded_stop g k j from level s = record {
   node = s.node;
-  added = whole_level k j (leaving_level g k from level s) - whole_level k j (arriving_level g k from level s);
+  added = whole_level k j (leaving_level g k from level s)
+      - whole_level k j (arriving_level g k from level s);
   via = s.via;
 }
 

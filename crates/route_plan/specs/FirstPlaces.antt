@@ -2,7 +2,8 @@
 use Rattle.std.specs.Prelude.{ℕ, ◌+◌, Bool, false, ◌&&◌, List, [], ◌∷◌, Option, None, Some, if◌then◌else◌}
 
 -- a fault at a place, if there is one, else the later rules
-abbrev pub or_later : {Place Fault : Type 0} → Option Place → (Place → Fault) → Option Fault → Option Fault
+abbrev pub or_later : {Place Fault : Type 0} → Option Place → (Place → Fault) → Option Fault →
+    Option Fault
 or_later None fault later = later
 or_later (Some place) fault later = Some (fault place)
 
@@ -15,7 +16,8 @@ behind_first (x ∷ xs) = xs
 abbrev pub first_before_last : {A : Type 0} → (A → Bool) → ℕ → List A → Option ℕ
 first_before_last test at [] = None
 first_before_last test at (x ∷ []) = None
-first_before_last test at (x ∷ y ∷ xs) = if test x then Some at else first_before_last test (at + 1) (y ∷ xs)
+first_before_last test at (x ∷ y ∷ xs) =
+    if test x then Some at else first_before_last test (at + 1) (y ∷ xs)
 
 -- the last item passes a test
 abbrev pub last_passes : {A : Type 0} → (A → Bool) → List A → Bool

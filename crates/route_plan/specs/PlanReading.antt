@@ -47,7 +47,9 @@ plans_behind true = answer None
 plans_behind false = behind_word (codes "routes ") routes_at
 
 abbrev pub file_at : Reader (Option FleetPlan)
-file_at = behind_word (codes "evroute plan 1" ++ 10 ∷ []) (then_reads (choice_at (codes "none" ++ 10 ∷ [])) plans_behind)
+file_at =
+    behind_word (codes "evroute plan 1" ++ 10 ∷ [])
+    (then_reads (choice_at (codes "none" ++ 10 ∷ [])) plans_behind)
 
 abbrev pub or_bad : {A : Type 0} → Result A TextFault → Result A PlanText
 or_bad (Ok value) = Ok value
@@ -55,7 +57,8 @@ or_bad (Err fault) = Err (Bad fault)
 
 -- a text of too many bytes is not read
 abbrev pub unless_too_long : {A : Type 0} → List ℕ → Result A TextFault → Result A PlanText
-unless_too_long bytes found = if nat_lt most_bytes (length bytes) then Err (TooLong (length bytes)) else or_bad found
+unless_too_long bytes found =
+    if nat_lt most_bytes (length bytes) then Err (TooLong (length bytes)) else or_bad found
 
 -- the plan of the bytes, or their first fault
 abbrev pub plan_in : List ℕ → Result (List Stop) PlanText

@@ -26,7 +26,8 @@ plan_lines routes = joined_texts (λ p. plan_text p.stops) routes
 abbrev pub fleet_plan_text : Option FleetPlan → List ℕ
 fleet_plan_text None = codes "evroute plan 1" ++ 10 ∷ codes "none" ++ 10 ∷ []
 fleet_plan_text (Some plan) =
-    codes "evroute plan 1" ++ 10 ∷ codes "routes " ++ decimal (length plan.routes) ++ 10 ∷ plan_lines plan.routes
+    codes "evroute plan 1" ++ 10 ∷ codes "routes " ++ decimal (length plan.routes) ++ 10 ∷
+    plan_lines plan.routes
 
 -- the numbers of a stop may stand in a text
 pub record IsSmallStop (s : Stop) : Type 0 where

@@ -10,7 +10,8 @@ use Rattle.route_plan.specs.declared.route.RouteFault.TheVariants.{Again, Ends, 
 -- the first position, counted from `at`, whose node is not below the number of nodes
 abbrev pub first_unknown : ℕ → ℕ → List ℕ → Option ℕ
 first_unknown count at [] = None
-first_unknown count at (n ∷ ns) = if nat_lt n count then first_unknown count (at + 1) ns else Some at
+first_unknown count at (n ∷ ns) =
+    if nat_lt n count then first_unknown count (at + 1) ns else Some at
 
 abbrev pub is_depot : ℕ → Bool
 is_depot node = nat_eq node 0
@@ -41,7 +42,8 @@ or_ends nodes = if has_ends nodes then or_inner_depot nodes else Some Ends
 -- the first broken rule of nodes, in a network of `count` nodes
 abbrev pub route_fault : ℕ → List ℕ → Option RouteFault
 route_fault count nodes =
-    if nat_le (length nodes) most_route_nodes then or_later (first_unknown count 0 nodes) (λ at. Unknown at) (or_ends nodes)
+    if nat_le (length nodes) most_route_nodes
+    then or_later (first_unknown count 0 nodes) (λ at. Unknown at) (or_ends nodes)
     else Some TooLong
 
 abbrev pub unless_fault : List ℕ → Option RouteFault → Result (List ℕ) RouteFault
@@ -50,4 +52,5 @@ unless_fault nodes (Some fault) = Err fault
 
 -- the route of a word in a network of `count` nodes, or the first broken rule: the text is tried first
 abbrev pub route_in : ℕ → List ℕ → Result (List ℕ) RouteFault
-route_in count word = and_then (nodes_in word) (λ nodes. unless_fault nodes (route_fault count nodes))
+route_in count word =
+    and_then (nodes_in word) (λ nodes. unless_fault nodes (route_fault count nodes))

@@ -50,7 +50,9 @@ more_nodes (suc most) s =
 
 -- the nodes of a word, or where its first number or comma is missing
 abbrev pub nodes_in : List ℕ → Result (List ℕ) RouteFault
-nodes_in word = and_then (read_node (word, 0)) (λ found. with_nodes (found.0 ∷ []) (more_nodes (length word) found.1))
+nodes_in word =
+    and_then (read_node (word, 0))
+    (λ found. with_nodes (found.0 ∷ []) (more_nodes (length word) found.1))
 
 -- the bytes begin the word of a route: they are one, or can be continued to one
 abbrev pub BeginsRouteWord : List ℕ → Type 0

@@ -18,17 +18,20 @@ is_end s = nat_eq s.node 0 && not s.via && nat_eq s.added 0
 -- the scaled time of charging between two whole levels
 abbrev pub charge_between : ℕ → Option (List (ℕ × ℕ)) → ℕ → ℕ → ℕ
 charge_between d None before after = 0
-charge_between d (Some points) before after = charge_time d points after - charge_time d points before
+charge_between d (Some points) before after =
+    charge_time d points after - charge_time d points before
 
 -- the scaled time of an arc and of the visit at its end, without charging
 abbrev pub driving_time : Network → ℕ → Stop → ℕ
-driving_time g from s = g.denominator * (travel_time g from s.node + process_time g s.node + plugging_time g s)
+driving_time g from s =
+    g.denominator * (travel_time g from s.node + process_time g s.node + plugging_time g s)
 
 -- the scaled time on leaving a stop
 abbrev pub time_after : Network → ℕ → ℕ → ℕ → Stop → ℕ
 time_after g from level time s =
     time + driving_time g from s
-    + charge_between g.denominator (curve_at g s.node) (level - energy g from s.node) (level - energy g from s.node + s.added)
+    + charge_between g.denominator (curve_at g s.node)
+    (level - energy g from s.node) (level - energy g from s.node + s.added)
 
 -- a stop is at a station where it was inserted or charges
 abbrev pub has_station : Network → Stop → Bool
@@ -53,14 +56,18 @@ step_at g last from level time at s =
     else if not (has_station g s) then Err (NotStation at)
     else if nat_lt g.capacity (level - energy g from s.node + s.added) then Err (Full at)
     else if nat_lt (scaled_limit g) (time_after g from level time s) then Err (Late at)
-    else Ok (record { time = time_after g from level time s; last = level - energy g from s.node + s.added })
+    else Ok (record {
+      time = time_after g from level time s;
+      last = level - energy g from s.node + s.added;
+    })
 
 -- the stops from here on: `from` is the node before them, left with this level at this time, and `at` is the position of the
 -- next stop
 abbrev pub walk_behind : Network → ℕ → ℕ → ℕ → ℕ → List Stop → Result Walk WalkFault
 walk_behind g from level time at [] = Ok (record { time = time; last = level })
 walk_behind g from level time at (s ∷ ss) =
-    and_then (step_at g (is_last ss) from level time at s) (λ next. walk_behind g s.node next.last next.time (at + 1) ss)
+    and_then (step_at g (is_last ss) from level time at s) (λ next.
+    walk_behind g s.node next.last next.time (at + 1) ss)
 
 abbrev pub walk_on : Network → ℕ → List Stop → Result Walk WalkFault
 walk_on g start [] = Err Ends

@@ -12,7 +12,8 @@ with_home_level level = record one_station { home_level = level }
 
 -- the depot is a station too
 abbrev pub with_depot_station : ℕ → Network
-with_depot_station level = record one_station { home_level = level; curves = Some curve ∷ None ∷ Some curve ∷ [] }
+with_depot_station level =
+    record one_station { home_level = level; curves = Some curve ∷ None ∷ Some curve ∷ [] }
 
 -- the depot is reached empty in the middle of the route, which is not its end
 abbrev pub over_depot : List Stop

@@ -27,7 +27,8 @@ section price charged reached = record {
   weight = 1;
   prices = pos price ∷ [];
   allows = any_pair;
-  labels = label price 0 0 [] 10 (0 ∷ []) ∷ label price 1 1 (0 ∷ []) 4 (20 ∷ []) ∷ label price 0 2 [] 7 charged
+  labels = label price 0 0 [] 10 (0 ∷ []) ∷ label price 1 1 (0 ∷ []) 4 (20 ∷ []) ∷
+      label price 0 2 [] 7 charged
       ∷ label price 1 2 (0 ∷ []) 2 (26 ∷ 27 ∷ 28 ∷ 29 ∷ 30 ∷ 31 ∷ 32 ∷ 38 ∷ 44 ∷ [])
       ∷ label price 1 1 (0 ∷ []) 5 reached ∷ [];
 }
