@@ -9,7 +9,8 @@ use Rattle.fleet_model.specs.Equations.{Column, column_at, entry, help_of, right
 use Rattle.fleet_model.specs.Basis.{IsBody, IsDetermined, IsHelperList, IsPriceList}
 use Rattle.master_table.specs.Tableau.{Equation, IsRowWithin, IsSpelled, IsTableau, IsWithinCaps, Limits, Tableau, basis_columns, charge, entry_cap, multipliers, prices_of, row_at, size}
 use Rattle.master_table.specs.Adding.{extended_row, extended_rows, first_past_row, new_entries, new_entry, past_row, with_column}
-use Rattle.master_table.proofs.Facts.{below_cap, not_past, spelled_length}
+use Rattle.master_table.proofs.Combinations.{spelled_length}
+use Rattle.master_table.proofs.Facts.{below_cap, not_past}
 
 -- ---- sums
 pub total_step : (s : ℕ → Bool) (c : ℕ) (xs : List ℤ) (acc part all : ℤ) → c < length xs → part ≡ cond (s c) (get_or xs c (pos 0)) (pos 0)

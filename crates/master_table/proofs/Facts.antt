@@ -1,14 +1,13 @@
 -- Sizes and lengths in a table within its caps.
-use Rattle.std.proofs.Common.{◌≡◌, ◌∙◌, ℕ, zero, suc, ◌+◌, ◌<◌, ◌≤◌, arith, refl, sym, ap, subst, le_trans, ℤ, pos, ◌+ℤ◌, ◌*ℤ◌, neg_ℤ, unsigned_abs, List, [], ◌∷◌, map, length, get_or, Bool, true, false, cond, nat_lt, lt-ltb, le-ltb, Option, Some, None, ◌⊎◌, inl, inr}
+use Rattle.std.proofs.Common.{◌≡◌, ℕ, zero, suc, ◌+◌, ◌<◌, ◌≤◌, arith, refl, sym, ap, subst, le_trans, ℤ, pos, neg_ℤ, unsigned_abs, List, [], ◌∷◌, map, length, get_or, Bool, true, false, cond, nat_lt, lt-ltb, le-ltb, Option, Some, None, ◌⊎◌, inl, inr}
 use Rattle.std.proofs.lemmas.Int.{ints}
 use Rattle.std.proofs.lemmas.Bool.{cases_lt}
 use Rattle.std.proofs.lemmas.List.{get_or-map}
-use Rattle.fleet_model.specs.Equations.{Column, entry}
-use Rattle.master_table.specs.Tableau.{Equation, IsRowWithin, IsSpelled, Limits, charge, entry_cap, multipliers, weight_cap}
+use Rattle.master_table.specs.Tableau.{Equation, IsRowWithin, Limits, entry_cap, weight_cap}
 use Rattle.master_table.specs.Pivoting.{is_below, turned_row}
 use Rattle.master_table.specs.FirstPast.{or_later, or_place, past_from, past_in, past_of}
 use Rattle.master_table.specs.RowView.{IsSmallRow}
-use Rattle.master_table.proofs.Tableaus.{length_map}
+use Rattle.master_table.proofs.Combinations.{length_map}
 
 -- ---- no number past its cap
 some_is_some : {A : Type 0} (x : A) → Some x ≡ None → ⊥
@@ -114,6 +113,3 @@ turn_length col row = by_cases (is_below (get_or row.entries col (pos 0)))
     by_cases : (t : Bool) → length (cond t (record { weight = row.weight; right = neg_ℤ row.right; entries = map neg_ℤ row.entries }) row).entries ≡ length row.entries
     by_cases false = refl
     by_cases true = length_map neg_ℤ row.entries
-
-pub spelled_length : (n i : ℕ) (columns : List Column) (row : Equation) → IsSpelled n i columns row → length row.entries ≡ length columns
-spelled_length n i columns row s = ap length s.entries ∙ length_map (λ b. row.weight *ℤ charge n i b +ℤ entry (multipliers n row) b) columns

@@ -16,7 +16,8 @@ use Rattle.fleet_model.proofs.Signs.{same_or_not}
 use Rattle.fleet_model.proofs.Unique.{pays_least}
 use Rattle.master_table.specs.Tableau.{Equation, IsRowWithin, IsSpelled, IsTableau, IsTableauOf, IsWithinCaps, Limits, Tableau, basis_columns, charge, entry_cap, multipliers, prices_of, row_at, size, weight_cap}
 use Rattle.master_table.specs.Fresh.{fresh, fresh_entry, fresh_row}
-use Rattle.master_table.proofs.Tableaus.{gcd_negated_rest, length_map, length_neg}
+use Rattle.master_table.proofs.Combinations.{length_map}
+use Rattle.master_table.proofs.Tableaus.{gcd_negated_rest, length_neg}
 
 -- ---- sums over ranges
 all_from : (z : ℤ) (f : ℕ → ℤ) (j a k : ℕ) → ((c : ℕ) → a ≤ c → c < a + k → f c ≡ z) → total_from (λ c. true) j (map f (range_with_len a k)) ≡ pos k *ℤ z

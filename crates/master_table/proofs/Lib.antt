@@ -10,3 +10,7 @@ pub mod Facts
 pub mod TableFacts
 pub mod FreshFacts
 pub mod Added
+pub mod Independence
+pub mod PastCaps
+pub mod Combinations
+pub mod SameSolutions

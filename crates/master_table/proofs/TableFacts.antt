@@ -6,7 +6,7 @@ use Rattle.std.specs.Global.{Global}
 use Rattle.std.specs.List.{range_with_len}
 use Rattle.fleet_model.specs.Equations.{Column, helper, helpers, route}
 use Rattle.master_table.specs.Tableau.{Equation, IsRowWithin, IsTableau, IsWithinCaps, Limits, Tableau, row_at, size, weight_cap}
-use Rattle.master_table.specs.Pivoting.{combined_row, divisor, excess, pivoted, rows_after, turned_row}
+use Rattle.master_table.specs.Pivoting.{IsPivotOf, combined_row, divisor, excess, pivoted, rows_after, turned_row}
 use Rattle.master_table.specs.FirstPast.{first_past, past_of}
 use Rattle.master_table.specs.RowView.{IsSmallRow, equation_of, limits_of}
 use Rattle.master_table.specs.TableView.{IsTable, column_of, tableau_of}
@@ -14,11 +14,14 @@ use Rattle.master_table.specs.declared.rows.Row.{Row}
 use Rattle.master_table.specs.declared.table.Table.TheInside.{Inside}
 use Rattle.master_table.specs.Adding.{extended_rows, first_past_row, new_entries, past_row, with_column}
 use Rattle.master_table.specs.declared.table.AddedColumn.{AddedColumn}
+use Rattle.master_table.proofs.Combinations.{length_map, spelled_length}
 use Rattle.master_table.proofs.Added.{added_tableau, added_within, length_new}
 use Rattle.master_table.specs.Fresh.{fresh, fresh_row}
 use Rattle.master_table.proofs.FreshFacts.{fresh_tableau, fresh_within}
-use Rattle.master_table.proofs.Facts.{body_small, row_small, spelled_length, turn_length, turn_small, within_of}
-use Rattle.master_table.proofs.Tableaus.{length_after, length_map, pivoted_tableau, some_divisor}
+use Rattle.master_table.proofs.Facts.{body_small, row_small, turn_length, turn_small, within_of}
+use Rattle.master_table.proofs.Tableaus.{length_after, pivot_of, pivoted_tableau, some_divisor}
+use Rattle.master_table.proofs.SameSolutions.{same_solutions}
+use Rattle.master_table.specs.Solutions.{HaveSameSolutions}
 
 abbrev made : List Equation → List ℕ → List Column → Limits → Tableau
 made rows basis columns caps = record { rows = rows; basis = basis; columns = columns; caps = caps }
@@ -53,10 +56,10 @@ module _ (s : Inside) (t : Tableau) (view : tableau_of s ≡ t) (inv : IsTable s
   pub row_is : (i : ℕ) (d : Row) → i < length s.rows.items → equation_of (get_or s.rows.items i d) ≡ row_at t i
   row_is i d lt = sym (get_or-map equation_of s.rows.items i d (record { weight = pos 0; right = pos 0; entries = [] }) lt) ∙ ap (λ rows. get_or rows i (record { weight = pos 0; right = pos 0; entries = [] })) rows_are
 
-  body_cap : t.caps.body ≤ 2 ^ 40
+  pub body_cap : t.caps.body ≤ 2 ^ 40
   body_cap = subst (λ (u : Tableau). u.caps.body ≤ 2 ^ 40) view inv.body
 
-  cost_cap : t.caps.cost ≤ 2 ^ 84
+  pub cost_cap : t.caps.cost ≤ 2 ^ 84
   cost_cap = subst (λ (u : Tableau). u.caps.cost ≤ 2 ^ 84) view inv.cost
 
   pub rows_small : (i : ℕ) (d : Row) → i < length s.rows.items → IsSmallRow (2 ^ 84) (equation_of (get_or s.rows.items i d))
@@ -87,6 +90,12 @@ module _ (s : Inside) (t : Tableau) (view : tableau_of s ≡ t) (inv : IsTable s
 
     pub pivot_tableau : IsTableau (pivoted r col t)
     pivot_tableau = pivoted_tableau t tableau r col below inside some
+
+    pub pivot_rows : IsPivotOf r col t (pivoted r col t)
+    pivot_rows = pivot_of t tableau r col below inside some
+
+    pub pivot_solutions : HaveSameSolutions t (pivoted r col t)
+    pivot_solutions = same_solutions r col t (pivoted r col t) tableau pivot_tableau below pivot_rows
 
     turn_of : (row : Row) → row ≡ get_or s.rows.items r row → turned_row col (equation_of row) ≡ turn
     turn_of row e = ap (turned_row col) (ap equation_of e ∙ row_is r row (omega (arith, count_rows)))

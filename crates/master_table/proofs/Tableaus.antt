@@ -14,18 +14,15 @@ use Rattle.fleet_model.proofs.Totals.{total_combined}
 use Rattle.fleet_model.proofs.Signs.{factor_pos, same_or_not, zero_times}
 use Rattle.fleet_model.proofs.Unique.{pays_least}
 use Rattle.master_table.specs.Tableau.{Equation, IsSpelled, IsTableauOf, IsTableau, Tableau, basis_columns, charge, multipliers, prices_of, row_at, size}
-use Rattle.master_table.specs.Pivoting.{combined_row, divided_row, divisor, excess, is_below, pivoted, quotients, row_after, rows_after, turned_row}
+use Rattle.master_table.specs.Pivoting.{IsCombinationOf, IsPivotOf, combined_row, divided_row, divisor, excess, is_below, pivoted, quotients, row_after, rows_after, turned_row}
 use Rattle.master_table.proofs.Quotients.{IsReducedOf, divides_total, gcd_pos, reduced_quotients, reduced_rest, reduced_same}
 use Rattle.master_table.proofs.Spelling.{spelled_combined, spelled_divided, spelled_negated, take_combined, total_neg}
+use Rattle.master_table.proofs.Combinations.{combination_divided, combination_same, length_map, spelled_length}
 use Rattle.master_table.proofs.Pivots.{IsPivoted, IsRows, pays_after, turned_zero}
 use Rattle.master_table.proofs.Pivots as pivots
 use Rattle.master_table.proofs.Reduced.{row_after-other, row_after-pivot, row_after-same}
 
 -- ---- lists
-pub length_map : {A B : Type 0} (f : A → B) (xs : List A) → length (map f xs) ≡ length xs
-length_map f [] = refl
-length_map f (x ∷ xs) = ap suc (length_map f xs)
-
 pub map_set : {A B : Type 0} (f : A → B) (xs : List A) (i : ℕ) (x : A) → map f (set xs i x) ≡ set (map f xs) i (f x)
 map_set f [] i x = refl
 map_set f (y ∷ ys) zero x = refl
@@ -410,3 +407,33 @@ module _ (t : Tableau) (h : IsTableau t) (r col : ℕ) (below : r < size t) (ins
 
   pub pivoted_tableau : IsTableau (pivoted r col t)
   pivoted_tableau = subst (λ m. IsTableauOf m after) (sym (length-set t.basis r col)) tableau_of_size
+
+  -- ---- the rows as combinations
+  brought : (i : ℕ) → i < n + 2 → i ≢ r → IsCombinationOf own (by i) (row i) turn (next_row i)
+  brought i lt apart = by_cases (zero_or_not (by i))
+    where
+      by_cases : (by i ≡ pos 0) ⊎ (by i ≢ pos 0) → IsCombinationOf own (by i) (row i) turn (next_row i)
+      by_cases (inl none) =
+          subst (λ line. IsCombinationOf own (by i) (row i) turn line) (sym (row_after-same n r col i turn (row i) apart none))
+          (combination_same own (by i) (row i) turn turns.above none)
+      by_cases (inr more) =
+          subst (λ line. IsCombinationOf own (by i) (row i) turn line) (sym (row_after-other n r col i turn (row i) apart more))
+          (combination_divided n i t.columns own (by i) (row i) turn
+          (spelled_length n i t.columns (row i) (h.spelled i lt) ∙ sym (spelled_length n r t.columns turn turns.spelled))
+          (some_divisor i lt apart)
+          (spelled_combined n i r t.columns own (by i) (row i) turn (same_lengths i lt) turns.weight (h.spelled i lt) turns.spelled))
+
+  turned_after : row_at after r ≡ turn
+  turned_after = after_row r (omega arith) ∙ turn_next
+
+  pub pivot_of : IsPivotOf r col t (pivoted r col t)
+  pivot_of = record {
+    columns = refl;
+    caps = refl;
+    basis = refl;
+    turned = turned_after;
+    above = subst (λ (line : Equation). pos 0 <ℤ get_or line.entries col (pos 0)) (sym turned_after) turns.above;
+    others = λ i lt apart.
+        subst (λ (line : Equation). IsCombinationOf (get_or line.entries col (pos 0)) (by i) (row i) line (row_at after i)) (sym turned_after)
+        (subst (λ line. IsCombinationOf own (by i) (row i) turn line) (sym (after_row i lt)) (brought i lt apart));
+  }

@@ -14,7 +14,8 @@ new_entries n column i (row ∷ rows) = new_entry n column i row ∷ new_entries
 
 -- the row with an entry behind the others
 abbrev pub extended_row : Equation → ℤ → Equation
-extended_row row z = record { weight = row.weight; right = row.right; entries = row.entries ++ z ∷ [] }
+extended_row row z =
+    record { weight = row.weight; right = row.right; entries = row.entries ++ z ∷ [] }
 
 abbrev pub extended_rows : List Equation → List ℤ → List Equation
 extended_rows [] zs = []
@@ -33,7 +34,8 @@ with_column column t = record {
 -- the first of the rows from i on whose entry is past its cap
 abbrev pub past_row : Limits → ℕ → ℕ → List ℤ → Option ℕ
 past_row caps n i [] = None
-past_row caps n i (z ∷ zs) = cond (nat_lt (entry_cap caps n i) (unsigned_abs z)) (Some i) (past_row caps n (i + 1) zs)
+past_row caps n i (z ∷ zs) =
+    cond (nat_lt (entry_cap caps n i) (unsigned_abs z)) (Some i) (past_row caps n (i + 1) zs)
 
 -- the first row whose entry at the new column is past its cap
 abbrev pub first_past_row : Column → Tableau → Option ℕ

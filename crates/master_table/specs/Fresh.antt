@@ -6,7 +6,8 @@ use Rattle.master_table.specs.Tableau.{Equation, Limits, Tableau}
 
 -- the entry of row i at the helper of customer c: 1 in the customer's own row, 0 in the cost row, 1 in the helper row
 abbrev pub fresh_entry : ℕ → ℕ → ℕ → ℤ
-fresh_entry n i c = cond (nat_lt i n) (cond (nat_eq c i) (pos 1) (pos 0)) (cond (nat_eq i n) (pos 0) (pos 1))
+fresh_entry n i c =
+    cond (nat_lt i n) (cond (nat_eq c i) (pos 1) (pos 0)) (cond (nat_eq i n) (pos 0) (pos 1))
 
 abbrev pub fresh_row : ℕ → ℕ → Equation
 fresh_row n i = record {

@@ -5,3 +5,4 @@ pub mod Fresh
 pub mod Adding
 pub mod RowView
 pub mod TableView
+pub mod Solutions

@@ -3,6 +3,7 @@ use Rattle.std.specs.Prelude.{◌≡◌, ℕ, ◌+◌, ◌<◌, ◌≤◌, ℤ, 
 use Rattle.fleet_model.specs.Divisors.{IsGcdOf}
 use Rattle.fleet_model.specs.Equations.{Column, column_at, cost_of, entry, help_of, helper, right_side}
 use Rattle.fleet_model.specs.Basis.{IsBody, IsDetermined, IsHelperList, IsPriceList}
+use Rattle.fleet_model.specs.Wide.{IsPast}
 
 -- a row: its weight (0 for a body equation), its right side, and its entry at each column
 pub record Equation : Type 0 where
@@ -52,7 +53,8 @@ charge n i column = cond (nat_lt n i) (pos 0) (pos (cost_of column))
 -- the row has at each column its weight times what the column costs, and the sum of its multipliers over the column's
 -- customers; its right side is the sum of all of them
 pub record IsSpelled (n i : ℕ) (columns : List Column) (row : Equation) : Type 0 where
-  pub entries : row.entries ≡ map (λ column. row.weight *ℤ charge n i column +ℤ entry (multipliers n row) column) columns
+  pub entries : row.entries
+      ≡ map (λ column. row.weight *ℤ charge n i column +ℤ entry (multipliers n row) column) columns
   pub right : row.right ≡ right_side (multipliers n row)
 
 -- the columns of n customers: first their helpers, then routes
@@ -96,3 +98,7 @@ pub record IsRowWithin (caps : Limits) (n i : ℕ) (row : Equation) : Type 0 whe
 -- no number of the table is past its cap
 abbrev pub IsWithinCaps : Tableau → Type 0
 IsWithinCaps t = (i : ℕ) → i < size t + 2 → IsRowWithin t.caps (size t) i (row_at t i)
+
+-- the table's basis is past its caps
+abbrev pub IsBasisPast : Tableau → Type 0
+IsBasisPast t = IsPast t.caps.body t.caps.cost (size t) t.columns (basis_columns t)

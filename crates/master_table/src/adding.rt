@@ -68,8 +68,10 @@ pub fn new_entries(
     requires count { n ≤ 128 }
     requires helpers { All (λ row. n ≤ vec_len row.entries) rows.now }
     requires rows { All (λ row. IsSmallRow (2 ^ 84) (equation_of row)) rows.now }
-    requires weights { (i : ℕ) (d : Row) → i < length rows.now → i ≤ n → unsigned_abs (get_or rows.now i d).weight ≤ 2 ^ 40 }
-    ensures { IfOk result (λ v. v.items ≡ new_entries n (route set cost) 0 (map equation_of rows.now)) }
+    requires weights { (i : ℕ) (d : Row) → i < length rows.now → i ≤ n →
+        unsigned_abs (get_or rows.now i d).weight ≤ 2 ^ 40 }
+    ensures { IfOk result (λ v. v.items
+        ≡ new_entries n (route set cost) 0 (map equation_of rows.now)) }
 {
     let mut entries = Vec::with_capacity(alloc, rows.len())?;
     for (i, row) in rows.iter().enumerate() {
@@ -102,7 +104,8 @@ fn make_room_in(row: &mut Row) -> Result<(), AllocError>
 /// Makes room for one more entry in each row.
 pub fn make_room(rows: &mut Vec<Row>) -> Result<(), AllocError>
     ensures same { map equation_of rows.new.items ≡ map equation_of rows.old.items }
-    ensures room { OnOk result (All (λ row. vec_len row.entries < vec_capacity row.entries) rows.new.items) }
+    ensures room { OnOk result (All (λ row.
+        vec_len row.entries < vec_capacity row.entries) rows.new.items) }
 {
     for i in 0..rows.len() {
         make_room_in(&mut rows[i])?;
@@ -123,7 +126,8 @@ fn push_entry(row: &mut Row, entry: i128)
 pub fn push_entries(rows: &mut Vec<Row>, entries: &[i128])
     requires same { length rows.old.items ≡ length entries.now }
     requires room { All (λ row. vec_len row.entries < vec_capacity row.entries) rows.old.items }
-    ensures { map equation_of rows.new.items ≡ extended_rows (map equation_of rows.old.items) entries.now }
+    ensures { map equation_of rows.new.items
+        ≡ extended_rows (map equation_of rows.old.items) entries.now }
 {
     for i in 0..rows.len() {
         push_entry(&mut rows[i], entries[i]);

@@ -52,7 +52,8 @@ fn fresh_row(alloc: Global, n: usize, i: usize) -> Result<Row, AllocError>
 /// The rows of `n` customers, the cost row and the helper row.
 pub fn fresh_rows(alloc: Global, n: usize) -> Result<Vec<Row>, AllocError>
     requires { n ≤ 128 }
-    ensures { IfOk result (λ v. map equation_of v.items ≡ map (fresh_row n) (range_with_len 0 (n + 2))) }
+    ensures { IfOk result (λ v. map equation_of v.items
+        ≡ map (fresh_row n) (range_with_len 0 (n + 2))) }
 {
     let mut rows = Vec::with_capacity(alloc, n + 2)?;
     for i in 0..n + 2 {

@@ -131,7 +131,8 @@ fn combined_with(
     requires same { length row.now.entries.items ≡ length turned.now.entries.items }
     requires row { IsSmallRow (2 ^ 84) (equation_of row.now) }
     requires turned { IsSmallRow (2 ^ 40) (equation_of turned.now) }
-    ensures { IfOk result (λ v. equation_of v ≡ combined_row own by (equation_of row.now) (equation_of turned.now)) }
+    ensures { IfOk result (λ v. equation_of v
+        ≡ combined_row own by (equation_of row.now) (equation_of turned.now)) }
 {
     let entries = combine(
         alloc,
@@ -171,7 +172,8 @@ fn next_row(
     requires row { IsSmallRow (2 ^ 84) (equation_of row.now) }
     requires turned { IsSmallRow (2 ^ 40) (equation_of turned.now) }
     requires some { 0 < divisor n (combined_row own by (equation_of row.now) (equation_of turned.now)) }
-    ensures { IfOk result (λ v. equation_of v ≡ reduced_row n (combined_row own by (equation_of row.now) (equation_of turned.now))) }
+    ensures { IfOk result (λ v. equation_of v
+        ≡ reduced_row n (combined_row own by (equation_of row.now) (equation_of turned.now))) }
 {
     let next = combined_with(alloc, own, by, row, turned)?;
     let divisor = divisor_of(&next, n);
@@ -248,8 +250,10 @@ fn row_after(
     requires row { IsSmallRow (2 ^ 84) (equation_of row.now) }
     requires turned { IsSmallRow (2 ^ 40) (equation_of turned.now) }
     requires some { i ≢ r → excess n col i (equation_of row.now) ≢ pos 0 →
-        0 < divisor n (combined_row (get_or turned.now.entries.items col (pos 0)) (excess n col i (equation_of row.now)) (equation_of row.now) (equation_of turned.now)) }
-    ensures { IfOk result (λ v. equation_of v ≡ row_after n r col (equation_of turned.now) i (equation_of row.now)) }
+        0 < divisor n (combined_row (get_or turned.now.entries.items col (pos 0))
+        (excess n col i (equation_of row.now)) (equation_of row.now) (equation_of turned.now)) }
+    ensures { IfOk result (λ v. equation_of v
+        ≡ row_after n r col (equation_of turned.now) i (equation_of row.now)) }
 {
     if i == r {
         return copied(alloc, turned);
@@ -335,15 +339,23 @@ pub fn rows_after(
 ) -> Result<Vec<Row>, TableFault>
     requires col { col < vec_len turned.now.entries }
     requires helpers { n ≤ vec_len turned.now.entries }
-    requires same { All (λ row. length row.entries.items ≡ length turned.now.entries.items) rows.now }
+    requires same { All (λ row. length row.entries.items
+        ≡ length turned.now.entries.items) rows.now }
     requires rows { All (λ row. IsSmallRow (2 ^ 84) (equation_of row)) rows.now }
     requires turned { IsSmallRow (2 ^ 40) (equation_of turned.now) }
-    requires some { (i : ℕ) (row : Row) → i < length rows.now → i ≢ r → excess n col i (equation_of (get_or rows.now i row)) ≢ pos 0 →
-        0 < divisor n (combined_row (get_or turned.now.entries.items col (pos 0)) (excess n col i (equation_of (get_or rows.now i row))) (equation_of (get_or rows.now i row)) (equation_of turned.now)) }
-    ensures rows { IfOk result (λ v. map equation_of v.items ≡ rows_after n r col (equation_of turned.now) 0 (map equation_of rows.now)) }
-    ensures within { OnOk result (past_of (limits_of caps) n 0 (rows_after n r col (equation_of turned.now) 0 (map equation_of rows.now)) ≡ None) }
+    requires some { (i : ℕ) (row : Row) → i < length rows.now → i ≢ r →
+        excess n col i (equation_of (get_or rows.now i row)) ≢ pos 0 →
+        0 < divisor n (combined_row (get_or turned.now.entries.items col (pos 0))
+        (excess n col i (equation_of (get_or rows.now i row)))
+        (equation_of (get_or rows.now i row)) (equation_of turned.now)) }
+    ensures rows { IfOk result (λ v. map equation_of v.items
+        ≡ rows_after n r col (equation_of turned.now) 0 (map equation_of rows.now)) }
+    ensures within { OnOk result (past_of (limits_of caps) n 0
+        (rows_after n r col (equation_of turned.now) 0 (map equation_of rows.now)) ≡ None) }
     ensures wide { (row past : ℕ) → IsErrOf result (TableFault.Wide row past) →
-        past_of (limits_of caps) n 0 (rows_after n r col (equation_of turned.now) 0 (map equation_of rows.now)) ≡ Some (row, past) }
+        past_of (limits_of caps) n 0
+        (rows_after n r col (equation_of turned.now) 0 (map equation_of rows.now))
+        ≡ Some (row, past) }
 {
     let mut out = Vec::new(alloc);
     for (i, row) in rows.iter().enumerate() {

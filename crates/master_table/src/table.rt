@@ -1,13 +1,15 @@
 //! The table: what it is, what its calls tell, and pivots.
 
 ghost use Rattle.std.specs.Prelude.{◌≡◌, ◌≢◌, ◌+◌, ◌<◌, ◌≤◌, ◌^◌, ℕ, ℤ, pos, IfOk, IfErr, OnOk, OnErr, IsErrOf, Some, None, length, get_or};
+ghost use Rattle.fleet_model.specs.Basis.{IsBasis};
 ghost use Rattle.fleet_model.specs.Equations.{route};
 ghost use Rattle.master_table.specs.Adding.{first_past_row, with_column};
 ghost use Rattle.master_table.specs.FirstPast.{first_past};
 ghost use Rattle.master_table.specs.Fresh.{fresh};
-ghost use Rattle.master_table.specs.Pivoting.{pivoted};
+ghost use Rattle.master_table.specs.Pivoting.{pivoted, IsPivotOf};
 ghost use Rattle.master_table.specs.RowView.{limits_of};
-ghost use Rattle.master_table.specs.Tableau.{entry_at, row_at, size, IsTableau, IsWithinCaps};
+ghost use Rattle.master_table.specs.Solutions.{HaveSameSolutions};
+ghost use Rattle.master_table.specs.Tableau.{basis_columns, entry_at, row_at, size, IsBasisPast, IsTableau, IsWithinCaps};
 
 use crate::adding::{make_room, new_entries, past_row, push_entries};
 use crate::caps::{Caps, TableFault};
@@ -84,7 +86,8 @@ impl Table {
         ensures ok { OnOk result (self.new ≡ with_column (route set cost) self.old) }
         ensures within { OnOk result (first_past_row (route set cost) self.old ≡ None) }
         ensures wide { (row col : ℕ) → IsErrOf result (TableFault.Wide row col) →
-            (first_past_row (route set cost) self.old ≡ Some row) × (col ≡ length self.old.columns) }
+            (first_past_row (route set cost) self.old ≡ Some row) ×
+            (col ≡ length self.old.columns) }
         ensures unchanged { OnErr result (self.new ≡ self.old) }
         ensures tableau { IsTableau (with_column (route set cost) self.old) }
     {
@@ -161,6 +164,7 @@ impl Table {
         ensures value { result ≡ size self.now }
         ensures small { result ≤ 128 }
         ensures tableau { IsTableau self.now }
+        ensures basis { IsBasis (size self.now) (basis_columns self.now) }
         ensures within { IsWithinCaps self.now }
     {
         self.basis.len()
@@ -168,7 +172,9 @@ impl Table {
 
     /// The caps that the table was made with. It takes no memory.
     pub fn caps(&self) -> Caps
-        ensures { limits_of result ≡ self.now.caps }
+        ensures value { limits_of result ≡ self.now.caps }
+        ensures body { self.now.caps.body ≤ 2 ^ 40 }
+        ensures cost { self.now.caps.cost ≤ 2 ^ 84 }
     {
         self.caps
     }
@@ -184,10 +190,16 @@ impl Table {
         requires entry { entry_at self.old row col ≢ pos 0 }
         ensures ok { OnOk result (self.new ≡ pivoted row col self.old) }
         ensures within { OnOk result (first_past (pivoted row col self.old) ≡ None) }
-        ensures wide { (past_row past_col : ℕ) → IsErrOf result (TableFault.Wide past_row past_col) →
+        ensures wide { (past_row past_col : ℕ) →
+            IsErrOf result (TableFault.Wide past_row past_col) →
             first_past (pivoted row col self.old) ≡ Some (past_row, past_col) }
+        ensures past { (past_row past_col : ℕ) →
+            IsErrOf result (TableFault.Wide past_row past_col) →
+            IsBasisPast (pivoted row col self.old) }
         ensures unchanged { OnErr result (self.new ≡ self.old) }
         ensures tableau { IsTableau (pivoted row col self.old) }
+        ensures rows { IsPivotOf row col self.old (pivoted row col self.old) }
+        ensures solutions { HaveSameSolutions self.old (pivoted row col self.old) }
     {
         let alloc = *self.basis.allocator();
         let n = self.basis.len();

@@ -1,6 +1,8 @@
 use Rattle.std.proofs.Common.{◌≡◌, ◌∙◌, arith, sym, refl, length, rules, IsErrOf}
 use Rattle.master_table.specs.declared.caps.TableFault.TheVariants.{Wide}
-use Rattle.master_table.proofs.TableFacts.{all_small, all_some, first_same, index_small, new_table, pivot_same, pivot_tableau, turned_length, turned_small}
+use Rattle.master_table.proofs.TableFacts.{all_small, all_some, first_same, index_small, new_table, pivot_rows, pivot_same, pivot_solutions, pivot_tableau, turned_length, turned_small}
+use Rattle.master_table.specs.Pivoting.{pivoted}
+use Rattle.master_table.proofs.PastCaps.{is_past}
 use Rattle.master_table.proofs.table.Table.pivot.Goals as goal
 
 pub turned-requires-clause-small : goal.turned-requires-clause-small
@@ -36,6 +38,15 @@ returns-in_err-rows-clause-wide c p q e =
     sym (first_same c.self.inside c.args.self.now c.self.view_is c.self.invariant c.args.row c.args.col c.requires.row c.requires.col c.requires.entry c.index.result.now c.index.ensures c.in-Ok.turn c.in-Ok.ensures c.as_slice.result.now c.as_slice.ensures.value c.len-n.result n)
     ∙ c.rows_after.ensures.wide p q found
 
+pub returns-in_err-rows-clause-past : goal.returns-in_err-rows-clause-past
+returns-in_err-rows-clause-past c p q e =
+    let n : c.len-n.result ≡ length c.self.inside.basis.items = omega arith in
+    let found : IsErrOf c.rows_after.result (Wide p q) = search (rules, e) in
+    let table = pivot_tableau c.self.inside c.args.self.now c.self.view_is c.self.invariant c.args.row c.args.col c.requires.row c.requires.col c.requires.entry in
+    is_past (pivoted c.args.row c.args.col c.args.self.now) table (p, q)
+    (sym (first_same c.self.inside c.args.self.now c.self.view_is c.self.invariant c.args.row c.args.col c.requires.row c.requires.col c.requires.entry c.index.result.now c.index.ensures c.in-Ok.turn c.in-Ok.ensures c.as_slice.result.now c.as_slice.ensures.value c.len-n.result n)
+    ∙ c.rows_after.ensures.wide p q found)
+
 pub returns-in_err-rows-clause-tableau : goal.returns-in_err-rows-clause-tableau
 returns-in_err-rows-clause-tableau c = pivot_tableau c.self.inside c.args.self.now c.self.view_is c.self.invariant c.args.row c.args.col c.requires.row c.requires.col c.requires.entry
 
@@ -48,3 +59,21 @@ invariant_of-self c =
 
 pub returns-clause-tableau : goal.returns-clause-tableau
 returns-clause-tableau c = pivot_tableau c.self.inside c.args.self.now c.self.view_is c.self.invariant c.args.row c.args.col c.requires.row c.requires.col c.requires.entry
+
+pub returns-in_default-clause-rows : goal.returns-in_default-clause-rows
+returns-in_default-clause-rows c = pivot_rows c.self.inside c.args.self.now c.self.view_is c.self.invariant c.args.row c.args.col c.requires.row c.requires.col c.requires.entry
+
+pub returns-in_default-clause-solutions : goal.returns-in_default-clause-solutions
+returns-in_default-clause-solutions c = pivot_solutions c.self.inside c.args.self.now c.self.view_is c.self.invariant c.args.row c.args.col c.requires.row c.requires.col c.requires.entry
+
+pub returns-in_err-rows-clause-rows : goal.returns-in_err-rows-clause-rows
+returns-in_err-rows-clause-rows c = pivot_rows c.self.inside c.args.self.now c.self.view_is c.self.invariant c.args.row c.args.col c.requires.row c.requires.col c.requires.entry
+
+pub returns-in_err-rows-clause-solutions : goal.returns-in_err-rows-clause-solutions
+returns-in_err-rows-clause-solutions c = pivot_solutions c.self.inside c.args.self.now c.self.view_is c.self.invariant c.args.row c.args.col c.requires.row c.requires.col c.requires.entry
+
+pub returns-clause-rows : goal.returns-clause-rows
+returns-clause-rows c = pivot_rows c.self.inside c.args.self.now c.self.view_is c.self.invariant c.args.row c.args.col c.requires.row c.requires.col c.requires.entry
+
+pub returns-clause-solutions : goal.returns-clause-solutions
+returns-clause-solutions c = pivot_solutions c.self.inside c.args.self.now c.self.view_is c.self.invariant c.args.row c.args.col c.requires.row c.requires.col c.requires.entry
