@@ -1,0 +1,16 @@
+pub mod Falling
+pub mod Expansion
+pub mod Lex
+pub mod Gains
+pub mod Choice
+pub mod Tables
+pub mod Phases
+pub mod Factors
+pub mod Leaving
+pub mod Starts
+pub mod Returns
+pub mod Sums
+pub mod Sharing
+pub mod Optimum
+pub mod Ray
+pub mod Duality
