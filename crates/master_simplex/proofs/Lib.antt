@@ -14,3 +14,4 @@ pub mod Sharing
 pub mod Optimum
 pub mod Ray
 pub mod Duality
+pub mod Entering

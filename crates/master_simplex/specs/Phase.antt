@@ -43,6 +43,12 @@ gain_height goal places t =
 abbrev pub HasNoGain : Goal → Tableau → Type 0
 HasNoGain goal t = (j : ℕ) → size t ≤ j → j < length t.columns → gain goal t j ≤ℤ pos 0
 
+-- an added column that lets the row fall, or none where none of those before column k does
+abbrev pub IsGaining : Goal → Tableau → ℕ → Option ℕ → Type 0
+IsGaining goal t k None = (j : ℕ) → size t ≤ j → j < k → gain goal t j ≤ℤ pos 0
+IsGaining goal t k (Some col) =
+    (size t ≤ col) × (col < length t.columns) × (pos 0 <ℤ gain goal t col)
+
 -- whether the number is below 0, unless it is 0
 abbrev pub less : ℤ → Option Bool
 less (pos zero) = None

@@ -13,8 +13,8 @@ use std::alloc::Global;
 /// The first added column at which the row has an entry.
 fn some_entry(t: &Table, row: usize) -> Option<usize>
     requires { row < size t.now }
-    ensures some { IfSome result (λ col. (size t.now
-        ≤ col) × (col < length t.now.columns) × (entry_at t.now row col ≢ pos 0)) }
+    ensures some { IfSome result (λ col. (size t.now ≤ col) × (col < length t.now.columns) ×
+        (entry_at t.now row col ≢ pos 0)) }
     ensures none { IsNone result → (j : ℕ) → size t.now ≤ j → j < length t.now.columns →
         entry_at t.now row j ≡ pos 0 }
 {

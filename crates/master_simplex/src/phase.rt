@@ -3,10 +3,11 @@
 ghost use Rattle.std.specs.Prelude.{◌≡◌, ◌+◌, ◌<◌, ◌≤◌, ◌↔◌, ℕ, ℤ, pos, ◌<ℤ◌, ◌≤ℤ◌, ◌*ℤ◌, ◌-ℤ◌, IsTrue, IsFalse, IfSome, IsNone, IfOk, OnOk, IsErrOf, Vec, All, length, get_or};
 ghost use Rattle.std.specs.Global.{Global};
 ghost use Rattle.master_table.specs.Tableau.{entry_at, row_at, size};
-ghost use Rattle.master_simplex.specs.Phase.{gain, gain_height, AreHelpersIdle, HasNoGain, IsPhase, IsReached, IsRefused};
+ghost use Rattle.master_simplex.specs.Phase.{gain, gain_height, AreHelpersIdle, HasNoGain, IsGaining, IsPhase, IsReached, IsRefused};
 
 use crate::basis::exchange;
 use crate::fault::LpFault;
+use crate::prices::opposite;
 use crate::ratio::leaving;
 use master_table::Table;
 use std::alloc::Global;
@@ -20,31 +21,49 @@ pub enum Goal {
     Cost,
 }
 
-/// Whether bringing the added column into the basis lets the phase's row fall.
-fn gains(t: &Table, goal: Goal, col: usize) -> bool
+/// What the phase's row has of the added column: above 0 where bringing it into the basis lets the row fall.
+fn gain(t: &Table, goal: Goal, col: usize) -> i128
     requires added { size t.now ≤ col }
     requires inside { col < length t.now.columns }
-    ensures { IsTrue result ↔ (pos 0 <ℤ gain goal t.now col) }
+    ensures { result ≡ gain goal t.now col }
 {
     let n = t.rows();
+    let caps = t.caps();
+    prove!(n <= 128 && caps.cost <= 1 << 84);
     match goal {
-        Goal::Helpers => t.entry(n + 1, col) > 0,
-        Goal::Cost => t.entry(n, col) < 0,
+        Goal::Helpers => t.entry(n + 1, col),
+        Goal::Cost => opposite(t.entry(n, col)),
     }
 }
 
-/// The first added column that lets the phase's row fall.
-pub fn entering(t: &Table, goal: Goal) -> Option<usize>
-    ensures some { IfSome result (λ col. (size t.now
-        ≤ col) × (col < length t.now.columns) × (pos 0 <ℤ gain goal t.now col)) }
-    ensures none { IsNone result → HasNoGain goal t.now }
+/// The best of the added columns before this one, or this one where that gains more.
+fn better(t: &Table, goal: Goal, col: usize, best: Option<usize>) -> Option<usize>
+    requires added { size t.now ≤ col }
+    requires inside { col < length t.now.columns }
+    requires before { IsGaining goal t.now col best }
+    ensures { IsGaining goal t.now (col + 1) result }
 {
-    for col in t.rows()..t.columns() {
-        if gains(t, goal, col) {
-            return Some(col);
-        }
+    if gain(t, goal, col) <= 0 {
+        return best;
     }
-    None
+    let Some(other) = best else {
+        return Some(col);
+    };
+    if gain(t, goal, col) > gain(t, goal, other) {
+        return Some(col);
+    }
+    Some(other)
+}
+
+/// The added column of greatest gain (Dantzig's rule), if one lets the phase's row fall.
+pub fn entering(t: &Table, goal: Goal) -> Option<usize>
+    ensures { IsGaining goal t.now (length t.now.columns) result }
+{
+    let mut best = None;
+    for col in t.rows()..t.columns() {
+        best = better(t, goal, col, best);
+    }
+    best
 }
 
 /// One pivot of the phase, and whether there was one to make.

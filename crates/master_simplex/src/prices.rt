@@ -23,7 +23,7 @@ pub struct Lp {
 }
 
 /// The number with the other sign.
-fn opposite(x: i128) -> i128
+pub fn opposite(x: i128) -> i128
     requires { unsigned_abs x ≤ 2 ^ 84 }
     ensures { result ≡ neg_ℤ x }
 {

@@ -39,8 +39,8 @@ fn row_of(t: &Table, col: usize) -> Option<usize>
 fn added_row(t: &Table, col: usize) -> Option<usize>
     requires helper { col < size t.now }
     requires inside { col < length t.now.columns }
-    ensures some { IfSome result (λ row. (row < size t.now) × (size t.now
-        ≤ get_or t.now.basis row 0) × (entry_at t.now row col ≢ pos 0)) }
+    ensures some { IfSome result (λ row. (row < size t.now) ×
+        (size t.now ≤ get_or t.now.basis row 0) × (entry_at t.now row col ≢ pos 0)) }
     ensures none { IsNone result → (i : ℕ) → i < size t.now → size t.now ≤ get_or t.now.basis i 0 →
         entry_at t.now i col ≡ pos 0 }
 {
