@@ -15,3 +15,4 @@ pub mod Optimum
 pub mod Ray
 pub mod Duality
 pub mod Entering
+pub mod Apart

@@ -1,9 +1,10 @@
 use Rattle.std.proofs.Common.{◌≡◌, ◌<◌, ◌≤◌, ℕ, pos, List, arith, rules, sym, subst, All, inl, unsigned_abs}
 use Rattle.fleet_model.specs.Basis.{IsPriceList}
 use Rattle.master_table.specs.Tableau.{basis_columns, size}
-use Rattle.master_simplex.specs.Answer.{IsOptimum}
+use Rattle.master_simplex.specs.Answer.{AreApart, IsOptimum}
 use Rattle.master_simplex.specs.Sharing.{given, numbers}
 use Rattle.master_simplex.specs.declared.phase.Goal.TheVariants.{Cost}
+use Rattle.master_simplex.proofs.Apart.{given_apart}
 use Rattle.master_simplex.proofs.Optimum.{numbers_small, optimum, share_small, shares_within, weight_small}
 use Rattle.master_simplex.proofs.Sharing.{weight_is}
 use Rattle.master_simplex.proofs.method.optimum.Goals as goal
@@ -32,6 +33,7 @@ returns-clause-within c =
       prices = subst (λ p. All (λ x. unsigned_abs x ≤ t.caps.cost) p) (sym prices) (numbers_small t c.rows-n.ensures.tableau c.rows-n.ensures.within Cost);
       over = c.in-Some.ensures.within;
       shares = subst (λ (s : List (ℕ × ℕ)). All (λ x. (0 < x.1) × (x.1 ≤ over)) s) (sym shares) (shares_within t c.rows-n.ensures.tableau c.requires.feasible over c.in-Some.ensures.some);
+      apart = subst (λ s. AreApart s) (sym shares) (given_apart t c.rows-n.ensures.tableau over);
     }
 
 pub returns-clause-basis : goal.returns-clause-basis

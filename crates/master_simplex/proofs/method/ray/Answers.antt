@@ -1,5 +1,5 @@
 use Rattle.std.proofs.Common.{◌≡◌, ◌<◌, ◌≤◌, ℕ, List, [], arith, rules, sym, subst, All, inr, unsigned_abs}
-use Rattle.master_simplex.specs.Answer.{IsRay}
+use Rattle.master_simplex.specs.Answer.{AreApart, IsRay}
 use Rattle.master_simplex.specs.Sharing.{numbers}
 use Rattle.master_simplex.specs.declared.phase.Goal.TheVariants.{Helpers}
 use Rattle.master_simplex.proofs.Optimum.{numbers_small}
@@ -23,4 +23,5 @@ returns-in-Ok-clause-within c =
       prices = subst (λ p. All (λ x. unsigned_abs x ≤ t.caps.cost) p) (sym prices) (numbers_small t c.rows-n.ensures.tableau c.rows-n.ensures.within Helpers);
       over = omega arith;
       shares = subst (λ (s : List (ℕ × ℕ)). All (λ x. (0 < x.1) × (x.1 ≤ 0)) s) (sym empty) (λ i d lt. absurd (omega arith));
+      apart = subst (λ s. AreApart s) (sym empty) (λ i j d e less inside. absurd (omega arith));
     }
