@@ -1,0 +1,8 @@
+use Rattle.std.proofs.Common.{rules}
+use Rattle.master_simplex.proofs.Leaving.{same_order}
+use Rattle.master_simplex.proofs.ratio.precedes.Goals as goal
+
+pub returns : goal.returns
+returns c =
+    let same = same_order c.args.t.now c.args.col c.args.i c.args.r c.args.places.now in
+    search rules

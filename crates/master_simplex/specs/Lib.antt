@@ -1,0 +1,5 @@
+pub mod Falling
+pub mod Cover
+pub mod Phase
+pub mod Answer
+pub mod Sharing
