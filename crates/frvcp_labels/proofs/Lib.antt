@@ -1,0 +1,15 @@
+pub mod Rests
+pub mod Plans
+pub mod OneLevel
+pub mod Arriving
+pub mod StationList
+pub mod Growing
+pub mod Searching
+mod Spreading
+mod Turning
+mod Solving
+pub mod Points
+pub mod Leaving
+pub mod Charging
+pub mod Plugging
+pub mod Tracing

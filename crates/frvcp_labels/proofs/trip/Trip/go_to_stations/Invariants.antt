@@ -1,0 +1,10 @@
+use Rattle.frvcp_labels.specs.Search.{IsGrown, IsSoundPool}
+use Rattle.frvcp_labels.proofs.Spreading.{SpreadsBelow}
+use Rattle.frvcp_labels.proofs.trip.Trip.go_to_stations.Given as goal
+
+abbrev pub invariant-loop-station : goal.invariant-loop-station
+invariant-loop-station l = record {
+  pool : IsSoundPool l.self l.pool;
+  grown : IsGrown l.fn.pool.labels l.pool.labels;
+  below : SpreadsBelow l.self l.fn.pool.labels l.pool.labels l.i l.passed l.station-index;
+}
