@@ -26,7 +26,7 @@ reaches_on x y level time covers r =
     let high = covers r.0 r.1 in
     (high.0, high.1, (omega (arith, high.2.0, r.2.0), omega (arith, high.2.1, r.2.1)))
 
-same_place : (n p q a b : ℕ) → p * n + a ≡ q * n + b → a < n → b < n → (p ≡ q) × (a ≡ b)
+pub same_place : (n p q a b : ℕ) → p * n + a ≡ q * n + b → a < n → b < n → (p ≡ q) × (a ≡ b)
 same_place n p q a b e la lb =
     let same : p ≡ q = sym (div-mul-add p n a la) ∙ ap (λ x. x / n) e ∙ div-mul-add q n b lb in
     let there : q * n + a ≡ q * n + b = subst (λ x. x * n + a ≡ q * n + b) same e in

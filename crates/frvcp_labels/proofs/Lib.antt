@@ -5,6 +5,7 @@ pub mod Arriving
 pub mod StationList
 pub mod Growing
 pub mod Searching
+mod FullBattery
 mod Spreading
 mod Turning
 mod Solving

@@ -7,11 +7,13 @@ use Rattle.label_pool.specs.Labels.{IsNext, Labels}
 use Rattle.label_pool.specs.declared.label.Label.{Label}
 use Rattle.label_pool.proofs.Elements.{set_here}
 use Rattle.frvcp_labels.specs.Answers.{IsHome}
-use Rattle.frvcp_labels.specs.Search.{AreSound, IsGrown, IsSoundPool, IsSpread, Spreads, settled_count}
+use Rattle.frvcp_labels.specs.Full.{AreFull}
+use Rattle.frvcp_labels.specs.Search.{AreSound, IsGrown, IsSoundPool, IsSpread, Reached, Spreads, settled_count}
 use Rattle.frvcp_labels.specs.Trips.{Journey}
 use Rattle.frvcp_labels.specs.Ways.{begin}
 use Rattle.frvcp_labels.specs.declared.state.State.{State}
-use Rattle.frvcp_labels.proofs.Searching.{count_most, falls, least_home, now_count, now_sound, settled_now, turn}
+use Rattle.frvcp_labels.proofs.FullBattery.{full_grown}
+use Rattle.frvcp_labels.proofs.Searching.{count_most, falls, least_home, now_count, now_reached, now_sound, settled_now, turn}
 
 -- the label that was next is settled now
 pub record IsTaken (old now : Labels State) (i : ℕ) : Type 0 where
@@ -42,6 +44,10 @@ module _ (t : Journey) (old now : Labels State) (i : ℕ) (taken : IsTaken old n
     buckets = ap (λ (p : Labels State). p.buckets) taken.is ∙ sound.buckets;
     few = sound.few;
   }
+
+  pub taken_full : (full : List (Option ℕ)) → AreFull t old.labels full → AreFull t now.labels full
+  taken_full full is = full_grown t old.labels now.labels full
+      (λ v r. subst (λ (ls : List (Label State)). Reached ls v) (sym labels_are) (now_reached t old.labels i taken.label taken.next.here taken.next.waits v r)) is
 
   -- short of the end there is a next node
   pub taken_on_way : (state : State) (end : ℕ) → IsSoundPool t old → end ≡ length t.route - 1 → (state.passed ≡ end → ⊥) → ((label : Label State) → slice_get now.labels i ≡ Some label → state ≡ label.value)

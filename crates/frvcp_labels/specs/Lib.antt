@@ -6,4 +6,5 @@ pub mod Stations
 pub mod TripView
 pub mod Leaves
 pub mod Search
+pub mod Full
 pub mod Answers

@@ -3,10 +3,12 @@
 //!
 //! A label stands at a node once some of the route's nodes were passed. The label of least key is taken next,
 //! and from it the vehicle goes on to the next node of the route or to a station. The first label at the
-//! route's end that is taken has the least time, since keys never fall.
+//! route's end that is taken has the least time, since keys never fall. Where a full battery was had by some
+//! time, a vehicle that arrives later is needless, whatever it may charge; so no value is made for it.
 #![tactic(auto)]
 
 mod arrival;
+mod full;
 mod search;
 mod solve;
 mod state;

@@ -35,8 +35,8 @@ pub fn solve_route(
         stations: &stations,
         start,
     };
-    let mut pool = trip.begin(alloc)?;
-    let Some(home) = trip.first_home(alloc, &mut pool)? else {
+    let (mut pool, mut full) = trip.begin(alloc)?;
+    let Some(home) = trip.first_home(alloc, &mut pool, full.as_mut_slice())? else {
         return Ok(None);
     };
     let stops = trip.stops_to(alloc, &pool, home)?;

@@ -45,6 +45,13 @@ impl<'a> Trip<'a> {
         self.route.len() - 1
     }
 
+    /// The level of a full battery.
+    pub(crate) fn capacity(&self) -> u64
+        ensures { result ≡ self.now.network.capacity }
+    {
+        self.inst.max_q()
+    }
+
     /// The node of the route with an index.
     pub(crate) fn node_at(&self, index: usize) -> usize
         requires { index < length self.now.route }
