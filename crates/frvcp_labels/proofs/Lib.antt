@@ -1,0 +1,16 @@
+pub mod Rests
+pub mod Plans
+pub mod OneLevel
+pub mod Arriving
+pub mod StationList
+pub mod Growing
+pub mod Searching
+mod FullBattery
+mod Spreading
+mod Turning
+mod Solving
+pub mod Points
+pub mod Leaving
+pub mod Charging
+pub mod Plugging
+pub mod Tracing

@@ -1,0 +1,21 @@
+use Rattle.std.proofs.Common.{◌≡◌, ◌∙◌, ◌∷◌, [], ◌++◌, ℕ, List, Bor, Vec, Global, is_some, ap, sym, arith}
+use Rattle.ev_model.specs.Network.{curve_at}
+use Rattle.frvcp_labels.proofs.StationList.{has_curve, stations_below-all, stations_below-other, stations_below-station}
+use Rattle.frvcp_labels.proofs.stations.station_nodes.Goals as goal
+use Rattle.frvcp_labels.proofs.stations.station_nodes.Goals.{then-is_some+in_ok-push, else-is_some}
+
+pub loop-node-preserved : goal.loop-node-preserved
+loop-node-preserved c =
+    let g = c.args.inst.now in
+    let node = c.loop-node.node in
+    let told : is_some (curve_at g node) ≡ is_some c.curve_at.result = has_curve (λ (s : Bor (List (ℕ × ℕ))). s.now) g node c.curve_at.result c.curve_at.ensures in
+    elim c.if-is_some.branch [
+      | then-is_some+in_ok-push w ↦
+          ap (λ (v : Vec ℕ Global). v.items) w.nodes-is ∙ w.in_ok-push.ensures.items ∙ ap (λ xs. xs ++ node ∷ []) c.loop-node.invariant
+          ∙ sym (stations_below-station g node (told ∙ sym w.if-is_some.ensures))
+      | else-is_some w ↦
+          ap (λ (v : Vec ℕ Global). v.items) w.nodes-is ∙ c.loop-node.invariant ∙ sym (stations_below-other g node (told ∙ sym w.if-is_some.ensures))
+    ]
+
+pub returns-clause-nodes : goal.returns-clause-nodes
+returns-clause-nodes c = c.loop-node.invariant ∙ stations_below-all c.args.inst.now c.loop-node.node (omega arith)

@@ -1,0 +1,10 @@
+pub mod Ways
+pub mod OneLevel
+pub mod Arrivals
+pub mod Trips
+pub mod Stations
+pub mod TripView
+pub mod Leaves
+pub mod Search
+pub mod Full
+pub mod Answers

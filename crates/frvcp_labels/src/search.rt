@@ -1,0 +1,203 @@
+//! The search by labels.
+
+ghost use Rattle.std.specs.Prelude.{◌≡◌, ◌<◌, ◌*◌, ◌+◌, ℕ, Some, IfOk, IfSome, OnOk, length, slice_get};
+ghost use Rattle.label_pool.specs.declared.label.Label.{Label};
+ghost use Rattle.ev_model.specs.Network.{node_count};
+ghost use Rattle.frvcp_labels.specs.Answers.{IsHomeOrNone};
+ghost use Rattle.frvcp_labels.specs.Full.{AreFull};
+ghost use Rattle.frvcp_labels.specs.Search.{AreReached, AreSteps, HasOrigin, Holds, IsGrown, IsSoundPool, IsSoundState, IsSpread, MayGo, Reached, Spreads, SpreadsTo, SpreadsToStations};
+ghost use Rattle.frvcp_labels.specs.Ways.{Leaving, begin};
+ghost use Rattle.frvcp_labels.specs.declared.state.State.{State};
+
+use crate::full::none_yet;
+use crate::state::State;
+use crate::trip::Trip;
+use dominance::LabelValue;
+use label_pool::Pool;
+use piece_fn::PieceFn;
+use std::alloc::{AllocError, Global};
+
+impl<'a> Trip<'a> {
+    /// A pool with the label of the start, and for each bucket by when a full battery was had there.
+    pub(crate) fn begin(&self, alloc: Global) -> Result<(Pool<State>, Vec<Option<u64>>), AllocError>
+        ensures pool { IfOk result (λ found. IsSoundPool self.now found.0) }
+        ensures full { IfOk result (λ found. AreFull self.now found.0.labels found.1.items) }
+        ensures spread { IfOk result (λ found.
+            IsSpread self.now found.0.labels (begin self.now.start)) }
+    {
+        let Some(buckets) = self.buckets() else {
+            return Err(AllocError);
+        };
+        let mut pool = Pool::new(alloc, buckets)?;
+        let mut full = none_yet(alloc, buckets)?;
+        let start = State {
+            passed: 0,
+            node: 0,
+            charged: false,
+            value: PieceFn::point(alloc, self.start, 0),
+        };
+        self.add_noted(&mut pool, full.as_mut_slice(), None, start)?;
+        Ok((pool, full))
+    }
+
+    /// The first label at the route's end that is taken, `None` where no label is left to be taken.
+    pub(crate) fn first_home(
+        &self,
+        alloc: Global,
+        pool: &mut Pool<State>,
+        full: &mut [Option<u64>],
+    ) -> Result<Option<usize>, AllocError>
+        requires pool { IsSoundPool self.now pool.old }
+        requires full { AreFull self.now pool.old.labels full.old }
+        requires spread { IsSpread self.now pool.old.labels (begin self.now.start) }
+        ensures pool { OnOk result (IsSoundPool self.now pool.new) }
+        ensures full { OnOk result (AreFull self.now pool.new.labels full.new) }
+        ensures home { IfOk result (IsHomeOrNone self.now pool.new.labels) }
+    {
+        while let Some(i) = pool.take_next() {
+            if pool.value(i).passed == self.end() {
+                return Ok(Some(i));
+            }
+            self.spread(alloc, pool, full, i)?;
+        }
+        Ok(None)
+    }
+
+    /// Adds the labels that one step from a label leads to.
+    fn spread(
+        &self,
+        alloc: Global,
+        pool: &mut Pool<State>,
+        full: &mut [Option<u64>],
+        i: usize,
+    ) -> Result<(), AllocError>
+        requires pool { IsSoundPool self.now pool.old }
+        requires full { AreFull self.now pool.old.labels full.old }
+        requires from { i < length pool.old.labels }
+        requires on_way { (label : Label State) → slice_get pool.old.labels i ≡ Some label →
+            label.value.passed + 1 < length self.now.route }
+        ensures pool { OnOk result (IsSoundPool self.now pool.new) }
+        ensures full { OnOk result (AreFull self.now pool.new.labels full.new) }
+        ensures grown { OnOk result (IsGrown pool.old.labels pool.new.labels) }
+        ensures spreads { OnOk result ((label : Label State) →
+            slice_get pool.old.labels i ≡ Some label →
+            Spreads self.now pool.new.labels label.value) }
+    {
+        let passed = pool.value(i).passed;
+        self.go(alloc, pool, full, i, passed + 1, self.node_at(passed + 1))?;
+        self.go_to_stations(alloc, pool, full, i, passed)
+    }
+
+    /// Adds the labels at the stations that a step from a label leads to, `passed` being its own.
+    fn go_to_stations(
+        &self,
+        alloc: Global,
+        pool: &mut Pool<State>,
+        full: &mut [Option<u64>],
+        i: usize,
+        passed: usize,
+    ) -> Result<(), AllocError>
+        requires pool { IsSoundPool self.now pool.old }
+        requires full { AreFull self.now pool.old.labels full.old }
+        requires from { i < length pool.old.labels }
+        requires on_way { (label : Label State) → slice_get pool.old.labels i ≡ Some label →
+            (passed ≡ label.value.passed) × (passed + 1 < length self.now.route) }
+        ensures pool { OnOk result (IsSoundPool self.now pool.new) }
+        ensures full { OnOk result (AreFull self.now pool.new.labels full.new) }
+        ensures grown { OnOk result (IsGrown pool.old.labels pool.new.labels) }
+        ensures spreads { OnOk result ((label : Label State) →
+            slice_get pool.old.labels i ≡ Some label →
+            SpreadsToStations self.now pool.new.labels label.value) }
+    {
+        for station in self.stations {
+            self.go(alloc, pool, full, i, passed, *station)?;
+        }
+        Ok(())
+    }
+
+    /// Adds the labels at one node that a step from a label leads to.
+    fn go(
+        &self,
+        alloc: Global,
+        pool: &mut Pool<State>,
+        full: &mut [Option<u64>],
+        i: usize,
+        passed: usize,
+        to: usize,
+    ) -> Result<(), AllocError>
+        requires pool { IsSoundPool self.now pool.old }
+        requires full { AreFull self.now pool.old.labels full.old }
+        requires from { i < length pool.old.labels }
+        requires next { (label : Label State) → slice_get pool.old.labels i ≡ Some label →
+            MayGo self.now label.value.passed passed to }
+        ensures pool { OnOk result (IsSoundPool self.now pool.new) }
+        ensures full { OnOk result (AreFull self.now pool.new.labels full.new) }
+        ensures grown { OnOk result (IsGrown pool.old.labels pool.new.labels) }
+        ensures spreads { OnOk result ((label : Label State) →
+            slice_get pool.old.labels i ≡ Some label →
+            SpreadsTo self.now pool.new.labels label.value passed to) }
+    {
+        let from = pool.value(i);
+        if from.node == to {
+            return Ok(());
+        }
+        if self.is_full_by(full, from, passed, to) {
+            return Ok(());
+        }
+        let values = self.values_at(alloc, from, passed, to)?;
+        self.add_all(pool, full, i, passed, to, values)
+    }
+
+    /// Adds the labels of the values at a node: the first is passed through with, the others are charged.
+    fn add_all(
+        &self,
+        pool: &mut Pool<State>,
+        full: &mut [Option<u64>],
+        i: usize,
+        passed: usize,
+        to: usize,
+        mut values: Vec<PieceFn>,
+    ) -> Result<(), AllocError>
+        requires pool { IsSoundPool self.now pool.old }
+        requires full { AreFull self.now pool.old.labels full.old }
+        requires from { i < length pool.old.labels }
+        requires steps { (label : Label State) → slice_get pool.old.labels i ≡ Some label →
+            AreSteps self.now label.value passed to values.items }
+        ensures pool { OnOk result (IsSoundPool self.now pool.new) }
+        ensures full { OnOk result (AreFull self.now pool.new.labels full.new) }
+        ensures grown { OnOk result (IsGrown pool.old.labels pool.new.labels) }
+        ensures reached { OnOk result (AreReached pool.new.labels passed to values.items) }
+    {
+        while let Some(value) = values.pop() {
+            let state = State {
+                passed,
+                node: to,
+                charged: !values.is_empty(),
+                value,
+            };
+            self.add_noted(pool, full, Some(i), state)?;
+        }
+        Ok(())
+    }
+
+    /// Adds a label, where no live one covers it.
+    pub(crate) fn add(
+        &self,
+        pool: &mut Pool<State>,
+        parent: Option<usize>,
+        state: State,
+    ) -> Result<(), AllocError>
+        requires pool { IsSoundPool self.now pool.old }
+        requires state { IsSoundState self.now state }
+        requires origin { HasOrigin self.now pool.old.labels parent state }
+        ensures pool { OnOk result (IsSoundPool self.now pool.new) }
+        ensures grown { OnOk result (IsGrown pool.old.labels pool.new.labels) }
+        ensures reached { OnOk result ((v : Leaving) → Holds state v →
+            Reached pool.new.labels v) }
+    {
+        let (_, key) = state.value.least();
+        let bucket = self.bucket(state.passed, state.node);
+        pool.add(bucket, state, key, parent)?;
+        Ok(())
+    }
+}

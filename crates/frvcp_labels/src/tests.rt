@@ -1,0 +1,112 @@
+//! Worked instances: the plan of one route from a charge, within a limit.
+
+use crate::solve_route;
+use ev_model::Stop;
+use instance_reader::{Instance, read_instance};
+use route_plan::read_route;
+use std::alloc::Global;
+use std::test::Fail;
+
+const ONE_STATION: &str =
+    r#"{"max_q":10,"css":[{"node_id":2,"cs_type":"fast"}],"breakpoints_by_type":[{"cs_type":"fast","time":[0,4,10],"charge":[0,8,10]}],"process_times":[0,0,0],"energy_matrix":[[0,6,3],[6,0,2],[5,2,0]],"time_matrix":[[0,10,8],[10,0,3],[8,3,0]]}"#;
+
+/// The same with energies, the battery and charges times 10^8.
+const FINE_UNITS: &str =
+    r#"{"max_q":1000000000,"css":[{"node_id":2,"cs_type":"fast"}],"breakpoints_by_type":[{"cs_type":"fast","time":[0,4,10],"charge":[0,800000000,1000000000]}],"process_times":[0,0,0],"energy_matrix":[[0,600000000,300000000],[600000000,0,200000000],[500000000,200000000,0]],"time_matrix":[[0,10,8],[10,0,3],[8,3,0]]}"#;
+
+const TWO_STATIONS: &str =
+    r#"{"max_q":10,"css":[{"node_id":2,"cs_type":"fast"},{"node_id":3,"cs_type":"fast"}],"breakpoints_by_type":[{"cs_type":"fast","time":[0,4,10],"charge":[0,8,10]}],"process_times":[0,0,0,0],"energy_matrix":[[0,11,8,11],[11,0,11,4],[8,11,0,8],[11,4,8,0]],"time_matrix":[[0,11,8,11],[11,0,11,4],[8,11,0,8],[11,4,8,0]]}"#;
+
+/// The first with a time to plug in, and so the two stations.
+const PLUG_TIME: &str =
+    r#"{"max_q":10,"css":[{"node_id":2,"cs_type":"fast"}],"breakpoints_by_type":[{"cs_type":"fast","time":[0,4,10],"charge":[0,8,10],"plug_time":1}],"process_times":[0,0,0],"energy_matrix":[[0,6,3],[6,0,2],[5,2,0]],"time_matrix":[[0,10,8],[10,0,3],[8,3,0]]}"#;
+
+const TWO_PLUG_TIMES: &str =
+    r#"{"max_q":10,"css":[{"node_id":2,"cs_type":"fast"},{"node_id":3,"cs_type":"fast"}],"breakpoints_by_type":[{"cs_type":"fast","time":[0,4,10],"charge":[0,8,10],"plug_time":1}],"process_times":[0,0,0,0],"energy_matrix":[[0,11,8,11],[11,0,11,4],[8,11,0,8],[11,4,8,0]],"time_matrix":[[0,11,8,11],[11,0,11,4],[8,11,0,8],[11,4,8,0]]}"#;
+
+/// The first with a reserve, and with levels at home that can and that can't be had.
+const RESERVE: &str =
+    r#"{"max_q":10,"css":[{"node_id":2,"cs_type":"fast"}],"breakpoints_by_type":[{"cs_type":"fast","time":[0,4,10],"charge":[0,8,10]}],"process_times":[0,0,0],"energy_matrix":[[0,6,3],[6,0,2],[5,2,0]],"time_matrix":[[0,10,8],[10,0,3],[8,3,0]],"min_q":1}"#;
+
+const HOME_LEVEL: &str =
+    r#"{"max_q":10,"css":[{"node_id":2,"cs_type":"fast"}],"breakpoints_by_type":[{"cs_type":"fast","time":[0,4,10],"charge":[0,8,10]}],"process_times":[0,0,0],"energy_matrix":[[0,6,3],[6,0,2],[5,2,0]],"time_matrix":[[0,10,8],[10,0,3],[8,3,0]],"home_q":5}"#;
+
+const HOME_LEVEL_TOO_HIGH: &str =
+    r#"{"max_q":10,"css":[{"node_id":2,"cs_type":"fast"}],"breakpoints_by_type":[{"cs_type":"fast","time":[0,4,10],"charge":[0,8,10]}],"process_times":[0,0,0],"energy_matrix":[[0,6,3],[6,0,2],[5,2,0]],"time_matrix":[[0,10,8],[10,0,3],[8,3,0]],"home_q":6}"#;
+
+const NO_STATION: &str =
+    r#"{"max_q":10,"css":[],"breakpoints_by_type":[],"process_times":[0,0],"energy_matrix":[[0,1],[1,0]],"time_matrix":[[0,4],[4,0]]}"#;
+
+/// The instance of a file, with another limit if one is given.
+fn instance(alloc: Global, file: &str, limit: Option<u64>) -> Option<Instance> {
+    let inst = read_instance(alloc, file.as_bytes()).ok()?;
+    match limit {
+        Some(limit) => inst.with_limit(limit).ok(),
+        None => Some(inst),
+    }
+}
+
+/// Its stops as text: the node of each, with `v` before an inserted one and the amount charged after
+/// `+`.
+fn text(alloc: Global, stops: &[Stop]) -> Option<String> {
+    let mut text = String::new(alloc);
+    for stop in stops {
+        let mark = if stop.via { "v" } else { "" };
+        let (node, added) = (stop.node, stop.added);
+        let word = format!(in alloc; "{mark}{node}+{added} ").ok()?;
+        text.push_str(word.as_str()).ok()?;
+    }
+    Some(text)
+}
+
+/// The answer as text.
+fn answer_text(
+    alloc: Global,
+    file: &str,
+    word: &str,
+    start: u64,
+    limit: Option<u64>,
+) -> Option<String> {
+    let inst = instance(alloc, file, limit)?;
+    let Ok(route) = read_route(alloc, word, &inst) else {
+        return None;
+    };
+    if start > inst.max_q() {
+        return None;
+    }
+    match solve_route(alloc, &inst, route.as_slice(), start).ok()? {
+        Some(plan) => text(alloc, plan.stops.as_slice()),
+        None => format!(in alloc; "infeasible").ok(),
+    }
+}
+
+#[test]
+fn worked_instances_are_solved(rt: HostRuntime) -> Result<(), Fail> {
+    let alloc = rt.alloc();
+    for (file, start, limit, want) in [
+        (ONE_STATION, 10, None, "0+0 v2+1 1+0 0+0 "),
+        (ONE_STATION, 5, None, "0+0 v2+6 1+0 0+0 "),
+        (ONE_STATION, 2, None, "infeasible"),
+        (ONE_STATION, 10, Some(21), "infeasible"),
+        (ONE_STATION, 10, Some(22), "0+0 v2+1 1+0 0+0 "),
+        (TWO_STATIONS, 10, None, "0+0 v2+6 v3+8 1+0 v3+8 v2+8 0+0 "),
+        (NO_STATION, 10, None, "0+0 1+0 0+0 "),
+        (PLUG_TIME, 10, Some(22), "infeasible"),
+        (PLUG_TIME, 10, Some(23), "0+0 v2+1 1+0 0+0 "),
+        (TWO_PLUG_TIMES, 10, Some(58), "infeasible"),
+        (
+            TWO_PLUG_TIMES,
+            10,
+            Some(59),
+            "0+0 v2+6 v3+8 1+0 v3+8 v2+8 0+0 ",
+        ),
+        (RESERVE, 10, None, "0+0 1+0 v2+4 0+0 "),
+        (HOME_LEVEL, 10, None, "0+0 1+0 v2+8 0+0 "),
+        (HOME_LEVEL_TOO_HIGH, 10, None, "infeasible"),
+        (FINE_UNITS, 1000000000, None, "0+0 v2+100000000 1+0 0+0 "),
+    ] {
+        let answer = answer_text(alloc, file, "0,1,0", start, limit).expect(&rt, "memory");
+        assert_eq!(rt; answer.as_str(), want, "{file} from {start}");
+    }
+    Ok(())
+}

@@ -1,0 +1,121 @@
+//! A route to be driven.
+ghost use Rattle.std.specs.Prelude.{◌≡◌, ◌+◌, ◌-◌, ◌*◌, ◌^◌, ◌<◌, ◌≤◌, length, slice_index, IfSome};
+ghost use Rattle.ev_model.specs.Network.{energy, node_count, plug_time, scaled_limit};
+ghost use Rattle.frvcp_labels.specs.Trips.{IsTrip, drive_time, least_level};
+
+use instance_reader::Instance;
+use std::marker::Model;
+
+/// A route on an instance, with the nodes that have a curve and the charge that the vehicle starts with.
+/// Contracts see the network, the route and that charge.
+#[derive(Drop)]
+pub(crate) struct Trip<'a> {
+    pub(crate) inst: &'a Instance,
+    pub(crate) route: &'a [usize],
+    pub(crate) stations: &'a [usize],
+    pub(crate) start: u64,
+}
+
+impl<'a> Model for Trip<'a> {
+    ghost use Rattle.frvcp_labels.specs.Trips.{Journey};
+
+    ghost Value = { Journey };
+
+    ghost use Rattle.frvcp_labels.specs.TripView.{journey, IsSoundTrip};
+
+    ghost view = { journey };
+
+    ghost invariant = { IsSoundTrip };
+}
+
+impl<'a> Trip<'a> {
+    /// The scaled limit on the time of the route.
+    pub(crate) fn limit(&self) -> u64
+        ensures value { result ≡ scaled_limit self.now.network }
+        ensures small { result ≤ 10 ^ 18 }
+    {
+        self.inst.denominator() * self.inst.limit()
+    }
+
+    /// The index in the route of its end.
+    pub(crate) fn end(&self) -> usize
+        ensures value { result ≡ length self.now.route - 1 }
+        ensures trip { IsTrip self.now.network self.now.route }
+    {
+        self.route.len() - 1
+    }
+
+    /// The level of a full battery.
+    pub(crate) fn capacity(&self) -> u64
+        ensures { result ≡ self.now.network.capacity }
+    {
+        self.inst.max_q()
+    }
+
+    /// The node of the route with an index.
+    pub(crate) fn node_at(&self, index: usize) -> usize
+        requires { index < length self.now.route }
+        ensures { result ≡ slice_index self.now.route index }
+    {
+        let route = self.route;
+        route[index]
+    }
+
+    /// The scaled time of an arc and of the visit at its end, without plugging in and charging.
+    pub(crate) fn drive_time(&self, from: usize, to: usize) -> u64
+        requires left { from < node_count self.now.network }
+        requires reached { to < node_count self.now.network }
+        ensures value { result ≡ drive_time self.now.network from to }
+        ensures small { result ≤ 2 * 10 ^ 18 }
+    {
+        self.inst.denominator() * (self.inst.time(from, to) + self.inst.service(to))
+    }
+
+    /// The energy that an arc takes.
+    pub(crate) fn energy(&self, from: usize, to: usize) -> u64
+        requires left { from < node_count self.now.network }
+        requires reached { to < node_count self.now.network }
+        ensures { result ≡ energy self.now.network from to }
+    {
+        self.inst.energy(from, to)
+    }
+
+    /// The scaled time of plugging in at a node.
+    pub(crate) fn plugging_time(&self, node: usize) -> u64
+        requires { node < node_count self.now.network }
+        ensures value { result ≡ self.now.network.denominator * plug_time self.now.network node }
+        ensures small { result ≤ 10 ^ 18 }
+    {
+        self.inst.denominator() * self.inst.plug_at(node)
+    }
+
+    /// The least level on arriving somewhere once so much of the route was passed.
+    pub(crate) fn least_level(&self, passed: usize) -> u64
+        ensures value { result ≡ least_level self.now.network self.now.route passed }
+    {
+        if passed == self.end() {
+            self.inst.min_q().max(self.inst.home_q())
+        } else {
+            self.inst.min_q()
+        }
+    }
+
+    /// How many buckets there are, `None` where there are too many for any memory.
+    pub(crate) fn buckets(&self) -> Option<usize>
+        ensures { IfSome result (λ count.
+            (count ≡ length self.now.route * node_count self.now.network) × (count < 2 ^ 64)) }
+    {
+        self.route.len().checked_mul(self.inst.nodes())
+    }
+
+    /// The bucket of the labels at a node once so much of the route was passed.
+    pub(crate) fn bucket(&self, passed: usize, node: usize) -> usize
+        requires passed { passed < length self.now.route }
+        requires node { node < node_count self.now.network }
+        requires few { length self.now.route * node_count self.now.network < 2 ^ 64 }
+        ensures value { result ≡ passed * node_count self.now.network + node }
+        ensures within { result < length self.now.route * node_count self.now.network }
+    {
+        passed * self.inst.nodes() + node
+    }
+}
