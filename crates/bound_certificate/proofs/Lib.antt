@@ -1,0 +1,3 @@
+pub mod Tests
+pub mod TreeLines
+pub mod Entries

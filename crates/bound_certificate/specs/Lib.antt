@@ -1,0 +1,5 @@
+pub mod Limits
+pub mod Trees
+pub mod Ranges
+pub mod Written
+pub mod CertificateTexts
