@@ -1,3 +1,6 @@
 pub mod Tests
 pub mod TreeLines
 pub mod Entries
+pub mod Pairs
+pub mod Sections
+pub mod Meanings

@@ -3,3 +3,4 @@ pub mod Trees
 pub mod Ranges
 pub mod Written
 pub mod CertificateTexts
+pub mod Meaning
