@@ -1,4 +1,4 @@
-pub mod Tests
+pub mod EachItem
 pub mod TreeLines
 pub mod Entries
 pub mod Pairs

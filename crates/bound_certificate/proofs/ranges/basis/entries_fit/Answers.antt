@@ -1,6 +1,6 @@
 use Rattle.std.proofs.lemmas.List.Elements.{All-more}
 use Rattle.bound_certificate.specs.Ranges.{EntryFits}
-use Rattle.bound_certificate.proofs.Tests.{all_hold}
+use Rattle.bound_certificate.proofs.EachItem.{all_hold}
 use Rattle.bound_certificate.proofs.ranges.basis.entries_fit.Goals as goal
 
 pub loop-entry-preserved : goal.loop-entry-preserved

@@ -1,6 +1,6 @@
 use Rattle.std.proofs.lemmas.List.Elements.{All-more}
 use Rattle.bound_certificate.specs.Ranges.{PointFits}
-use Rattle.bound_certificate.proofs.Tests.{all_hold}
+use Rattle.bound_certificate.proofs.EachItem.{all_hold}
 use Rattle.bound_certificate.proofs.ranges.label.points_fit.Goals as goal
 
 pub loop-point-preserved : goal.loop-point-preserved

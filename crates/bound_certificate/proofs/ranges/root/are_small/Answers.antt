@@ -1,6 +1,6 @@
 use Rattle.std.proofs.lemmas.List.Elements.{All-more}
 use Rattle.route_plan.specs.PlanTexts.{IsSmallStop}
-use Rattle.bound_certificate.proofs.Tests.{all_hold}
+use Rattle.bound_certificate.proofs.EachItem.{all_hold}
 use Rattle.bound_certificate.proofs.ranges.root.are_small.Goals as goal
 
 pub loop-stop-preserved : goal.loop-stop-preserved

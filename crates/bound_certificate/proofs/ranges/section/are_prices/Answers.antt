@@ -1,6 +1,6 @@
 use Rattle.std.proofs.lemmas.List.Elements.{All-more}
 use Rattle.bound_certificate.specs.Ranges.{IsPrice}
-use Rattle.bound_certificate.proofs.Tests.{all_hold}
+use Rattle.bound_certificate.proofs.EachItem.{all_hold}
 use Rattle.bound_certificate.proofs.ranges.section.are_prices.Goals as goal
 
 pub loop-price-preserved : goal.loop-price-preserved

@@ -1,5 +1,5 @@
 use Rattle.bound_certificate.specs.Ranges.{LabelFits}
-use Rattle.bound_certificate.proofs.Tests.{all_hold, item_holds}
+use Rattle.bound_certificate.proofs.EachItem.{all_hold, item_holds}
 use Rattle.bound_certificate.proofs.ranges.section.labels_fit.Goals as goal
 
 pub loop-label-preserved : goal.loop-label-preserved
