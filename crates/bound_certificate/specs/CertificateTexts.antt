@@ -78,7 +78,8 @@ point_text p = decimal p.0 ++ (codes ":" ++ decimal p.1)
 
 -- the line of a label, up to its set
 abbrev pub label_head : ℕ → ℕ → List ℕ
-label_head last node = codes "label " ++ (decimal last ++ (codes " " ++ (decimal node ++ codes " ")))
+label_head last node =
+    codes "label " ++ (decimal last ++ (codes " " ++ (decimal node ++ codes " ")))
 
 abbrev pub label_text : WrittenLabel → List ℕ
 label_text l =

@@ -64,7 +64,8 @@ pub record SharesFit (over : ℕ) (shares : List Share) : Type 0 where
   pub few : length shares ≤ most_items
   pub each : All ShareFits shares
 
-pub record ColumnsFit (customers : ℕ) (columns : List RoutePlan) (basis : List BasisEntry) : Type 0 where
+pub record ColumnsFit (customers : ℕ) (columns : List RoutePlan)
+    (basis : List BasisEntry) : Type 0 where
   pub few : length columns ≤ most_items
   pub each : All ColumnFits columns
   pub basis_fits : BasisFits customers (length columns) basis
