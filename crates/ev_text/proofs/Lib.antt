@@ -11,3 +11,9 @@ pub mod WholeLaws
 pub mod ListLaws
 pub mod MarkedLaws
 pub mod Loops
+pub mod ReadingLaws
+pub mod RangedNumbers
+pub mod RunLaws
+pub mod EachFromLaws
+pub mod WholeReads
+pub mod SignedLaws

@@ -18,14 +18,14 @@ whole_text-end value t none = rw none refl
 pub whole_text-more : {A : Type 0} (value : A) (t : List ℕ × ℕ) → rest_of t ≢ [] → whole_text (value, t) ≡ Err (Word t.1)
 whole_text-more value t some = ap (λ (b : Bool). if b then Ok value else Err (Word t.1)) (ne_eqb (length (rest_of t)) 0 (λ none. some (no_bytes (rest_of t) none)))
 
-whole_text-ok : {A : Type 0} (found : A × (List ℕ × ℕ)) (value : A) → whole_text found ≡ Ok value → (rest_of found.1 ≡ []) × (found.0 ≡ value)
+pub whole_text-ok : {A : Type 0} (found : A × (List ℕ × ℕ)) (value : A) → whole_text found ≡ Ok value → (rest_of found.1 ≡ []) × (found.0 ≡ value)
 whole_text-ok {A} found value = by (nat_eq (length (rest_of found.1)) 0) refl
   where
     by : (none : Bool) → nat_eq (length (rest_of found.1)) 0 ≡ none → (if none then Ok found.0 else Err (Word found.1.1)) ≡ Ok value → (rest_of found.1 ≡ []) × (found.0 ≡ value)
     by true is same = (no_bytes (rest_of found.1) (eqb-true (length (rest_of found.1)) 0 is), Ok-injective found.0 value same)
     by false is same = absurd (Err-ne-Ok (Word found.1.1) value same)
 
-something_behind : {A : Type 0} (value : A) (t : List ℕ × ℕ) (fault : TextFault) → whole_text (value, t) ≡ Err fault → (Word t.1 ≡ fault) × (rest_of t ≢ [])
+pub something_behind : {A : Type 0} (value : A) (t : List ℕ × ℕ) (fault : TextFault) → whole_text (value, t) ≡ Err fault → (Word t.1 ≡ fault) × (rest_of t ≢ [])
 something_behind {A} value t fault is = (by (nat_eq (length (rest_of t)) 0) is, λ none. Err-ne-Ok fault value (sym is ∙ whole_text-end value t none))
   where
     by : (none : Bool) → (if none then Ok value else Err (Word t.1)) ≡ Err fault → Word t.1 ≡ fault

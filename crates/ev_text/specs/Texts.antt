@@ -1,5 +1,6 @@
 -- Texts of values, put together from few, and what a fault from the left says of a text.
-use Rattle.std.specs.Prelude.{◌≡◌, ℕ, Bool, List, [], ◌∷◌, ◌++◌, if◌then◌else◌}
+use Rattle.std.specs.Prelude.{◌≡◌, ◌⊎◌, ℕ, Bool, true, List, [], ◌∷◌, ◌++◌, drop, if◌then◌else◌}
+use Rattle.std.specs.Char.{is_ascii_digit}
 use Rattle.ev_text.specs.declared.TextFault.{TextFault}
 use Rattle.ev_text.specs.declared.TextFault.TheVariants.{NotWhole, TooLarge, Word, End}
 
@@ -43,3 +44,28 @@ IsNoEnd (NotWhole at) = Unit {0}
 IsNoEnd (TooLarge at) = Unit {0}
 IsNoEnd (Word at) = Unit {0}
 IsNoEnd (End at) = ⊥
+
+-- each item is as the state before it asks; the state goes from item to item
+abbrev pub AllFrom : {A S : Type 0} → (S → A → Type 0) → (S → A → S) → S → List A → Type 0
+AllFrom Fits next state [] = Unit {0}
+AllFrom Fits next state (a ∷ others) = Fits state a × AllFrom Fits next (next state a) others
+
+abbrev pub BeginsWithDigit : List ℕ → Type 0
+BeginsWithDigit [] = ⊥
+BeginsWithDigit (b ∷ bs) = is_ascii_digit b ≡ true
+
+-- digits and signs alone
+abbrev pub AreOfNumber : List ℕ → Type 0
+AreOfNumber [] = Unit {0}
+AreOfNumber (b ∷ bs) = ((is_ascii_digit b ≡ true) ⊎ (b ≡ 45)) × AreOfNumber bs
+
+-- a number with which the text ends, at a place, is made longer by what the text goes on with
+abbrev pub IsLonger : ℕ → List ℕ → List ℕ → Type 0
+IsLonger at text more = AreOfNumber (drop at text) × BeginsWithDigit more
+
+-- however the text goes on the fault stands, unless it is a number out of range that is made longer
+abbrev pub StandsUnlessLonger : TextFault → List ℕ → List ℕ → Type 0
+StandsUnlessLonger (NotWhole at) text more = Unit {0}
+StandsUnlessLonger (TooLarge at) text more = IsLonger at text more → ⊥
+StandsUnlessLonger (Word at) text more = Unit {0}
+StandsUnlessLonger (End at) text more = Unit {0}

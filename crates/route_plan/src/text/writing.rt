@@ -81,7 +81,7 @@ fn write_plan(alloc: Global, text: &mut Vec<u8>, stops: &[Stop]) -> Result<(), A
 }
 
 /// Appends stops parted by single spaces. After an `Err` a part of them may stand there.
-fn write_stops(alloc: Global, text: &mut Vec<u8>, stops: &[Stop]) -> Result<(), AllocError>
+pub fn write_stops(alloc: Global, text: &mut Vec<u8>, stops: &[Stop]) -> Result<(), AllocError>
     ensures { OnOk result (text.new.items ≡ text.old.items
         ++ parted_texts (codes " ") stop_text stops.now) }
 {

@@ -1,0 +1,6 @@
+pub mod EachItem
+pub mod TreeLines
+pub mod Entries
+pub mod Pairs
+pub mod Sections
+pub mod Meanings

@@ -1,0 +1,10 @@
+use Rattle.bound_certificate.specs.Ranges.{ShareFits}
+use Rattle.bound_certificate.proofs.EachItem.{all_hold, item_holds}
+use Rattle.bound_certificate.proofs.ranges.root.each_share_fits.Goals as goal
+
+pub loop-share-preserved : goal.loop-share-preserved
+loop-share-preserved c =
+    item_holds (ShareFits) c.args.shares.now c.loop-share.share-index c.share-item.result c.loop-share-test.true c.loop-share.invariant c.share-item.is (c.share_fits.ensures.0 c.if-not-share_fits.false)
+
+pub returns : goal.returns
+returns c = all_hold (ShareFits) c.args.shares.now c.loop-share.share-index c.loop-share.auto.share-index-end c.loop-share-test.false c.loop-share.invariant

@@ -1,0 +1,6 @@
+pub mod Limits
+pub mod Trees
+pub mod Ranges
+pub mod Written
+pub mod CertificateTexts
+pub mod Meaning

@@ -1,0 +1,71 @@
+//! Whether a certificate is in the ranges of an instance. No call here takes memory.
+
+ghost use Rattle.std.specs.Prelude.{◌≡◌, ◌↔◌, ◌≤◌, IfSome, IsTrue, length};
+ghost use Rattle.std.specs.List.{All};
+ghost use Rattle.instance_reader.specs.Instance.{customer_nodes};
+ghost use Rattle.bound_certificate.specs.Limits.{greatest_bound};
+ghost use Rattle.bound_certificate.specs.Ranges.{Fits, LineFits, RootFits, SectionFits, customer_count};
+ghost use Rattle.bound_certificate.specs.Trees.{IsWholeTree};
+
+mod basis;
+mod label;
+mod root;
+mod section;
+mod tree;
+
+use crate::certificate::{Certificate, Section};
+use instance_reader::Instance;
+use root::root_fits;
+use section::section_fits;
+use tree::{is_whole_tree, lines_fit};
+
+/// The greatest bound.
+const GREATEST_BOUND: u128 = 1 << 96;
+
+impl Certificate {
+    /// Whether the certificate is in the ranges of an instance of at most 128 customers, and its tree is one whole
+    /// tree in preorder. It takes no memory.
+    ///
+    /// The bound is at most 2^96. `over` and shares are from 1 to 2^40, weights at most 2^40, prices from -2^84 to
+    /// 2^84. Each section has one price for each customer, and its pairs are made for as many customers. There is at
+    /// least one section. A label is at a node of the instance, its last node is 0 or a customer, its set holds
+    /// customers, its levels are at most a full battery and its times at most the scaled limit. A split is on two
+    /// different customers, a leaf names a section. A basis has as many entries as there are customers, no two of
+    /// them the same, each a customer's helper or a listed column. Routes have a stop, and numbers that may stand in
+    /// the text of a plan.
+    pub fn fits(&self, inst: &Instance) -> bool
+        requires { length (customer_nodes inst.now) ≤ 128 }
+        ensures { IsTrue result ↔ Fits inst.now self.now }
+    {
+        let customers = inst.customers().len();
+        bound_fits(self.bound)
+            && root_fits(customers, &self.root)
+            && !self.sections.is_empty()
+            && sections_fit(inst, self.sections.as_slice())
+            && lines_fit(customers, self.sections.len(), self.tree.as_slice())
+            && is_whole_tree(self.tree.as_slice())
+    }
+}
+
+/// Whether a bound is at most 2^96.
+fn bound_fits(bound: Option<u128>) -> bool
+    ensures { IsTrue result ↔ IfSome bound (λ b. b ≤ greatest_bound) }
+{
+    match bound {
+        Some(number) => number <= GREATEST_BOUND,
+        None => true,
+    }
+}
+
+/// Whether each section is in its ranges.
+fn sections_fit(inst: &Instance, sections: &[Section]) -> bool
+    requires { length (customer_nodes inst.now) ≤ 128 }
+    ensures { IsTrue result ↔ All (SectionFits inst.now) sections.now }
+{
+    for section in sections {
+        if !section_fits(inst, section) {
+            return false;
+        }
+    }
+    true
+}

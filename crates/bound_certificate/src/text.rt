@@ -1,0 +1,5 @@
+//! The text of certificates.
+
+mod writing;
+
+pub use writing::push_certificate;
