@@ -2,7 +2,7 @@
 use Rattle.std.proofs.Common.{◌≡◌, ◌≢◌, List, [], ◌∷◌, length, None, refl}
 use Rattle.std.specs.Borrow.{Bor}
 use Rattle.clap.specs.Walk.{Row, Text, texts}
-use Rattle.command_line.specs.Words.{check_of, fixed_of}
+use Rattle.command_line.specs.Words.{check_of, convert_of, fixed_of}
 
 pub no_fixed : (rest : List (Bor Text)) (rows : List Row) → length rest ≢ 2 → None ≡ fixed_of (texts rest) rows
 no_fixed [] rows other = refl
@@ -15,3 +15,9 @@ no_check [] rows other = refl
 no_check (a ∷ []) rows other = refl
 no_check (a ∷ b ∷ []) rows other = absurd (other refl)
 no_check (a ∷ b ∷ c ∷ rest) rows other = refl
+
+pub no_convert : (rest : List (Bor Text)) (rows : List Row) → length rest ≢ 2 → None ≡ convert_of (texts rest) rows
+no_convert [] rows other = refl
+no_convert (a ∷ []) rows other = refl
+no_convert (a ∷ b ∷ []) rows other = absurd (other refl)
+no_convert (a ∷ b ∷ c ∷ rest) rows other = refl

@@ -34,7 +34,8 @@ with_bounds app =
 
 abbrev pub with_digits : App → App
 with_digits app =
-    with_rule (with_rule app (option_rule (codes "time-digits"))) (option_rule (codes "energy-digits"))
+    with_rule (with_rule app (option_rule (codes "time-digits")))
+    (option_rule (codes "energy-digits"))
 
 unfoldable pub evroute : App
 evroute = with_digits (with_bounds (with_positionals without_arguments))

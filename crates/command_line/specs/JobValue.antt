@@ -1,14 +1,17 @@
 -- The job that a value of the program stands for.
 use Rattle.std.specs.Prelude.{◌≡◌, IfOk, Option, Result, option_map, string_bytes}
-use Rattle.command_line.specs.Words.{FixedRoute, CheckPlan, job_with}
+use Rattle.command_line.specs.Words.{FixedRoute, CheckPlan, ConvertFile, convert_job_of, job_with}
 use Rattle.command_line.specs.Words as words
 use Rattle.command_line.specs.declared.Job.{Job}
-use Rattle.command_line.specs.declared.Job.TheVariants.{Fixed, Check}
+use Rattle.command_line.specs.declared.Job.TheVariants.{Fixed, Check, Convert}
 
 abbrev pub job_value : Job → words.Job
 job_value (Fixed w) = FixedRoute (job_with (string_bytes w.file) (string_bytes w.route) w.options)
 job_value (Check w) =
     CheckPlan (record { file = string_bytes w.file; plan = string_bytes w.plan; limit = w.limit })
+job_value (Convert w) =
+    ConvertFile (convert_job_of (string_bytes w.file) (string_bytes w.outfile)
+    w.time_digits w.energy_digits)
 
 -- the answer stands for the job, unless it is want of memory
 abbrev pub AnswersJob : {E : Type 0} → Result (Option Job) E → Option words.Job → Type 0

@@ -12,4 +12,5 @@ rows_in matches = rows_of (found_of matches)
 -- refuses them
 abbrev pub IsMatched : List Text → Option ArgMatches → Type 0
 IsMatched words None = fault_of evroute words ≢ []
-IsMatched words (Some matches) = (fault_of evroute words ≡ []) × (rows_in matches ≡ matches_of evroute words)
+IsMatched words (Some matches) =
+    (fault_of evroute words ≡ []) × (rows_in matches ≡ matches_of evroute words)

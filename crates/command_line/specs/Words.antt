@@ -20,14 +20,26 @@ pub record CheckJob : Type 0 where
   pub plan : Text
   pub limit : Option ℕ
 
+-- the job of making the decimals of a file whole: the names of the files, and how many digits are kept
+pub record ConvertJob : Type 0 where
+  pub file : Text
+  pub outfile : Text
+  pub time_digits : ℕ
+  pub energy_digits : ℕ
+
 -- a job of the program
 pub data Job : Type 0 where
   FixedRoute : FixedJob → Job
   CheckPlan : CheckJob → Job
+  ConvertFile : ConvertJob → Job
 
 -- the greatest limit, level and number of nodes
 abbrev pub most_value : ℕ
 most_value = 10 ^ 18
+
+-- the greatest number of digits
+abbrev pub most_digits : ℕ
+most_digits = 10 ^ 9
 
 -- the whole word is a number in its one spelling, at most `most`
 abbrev pub all_taken : Result (ℕ × (List ℕ × ℕ)) TextFault → Option ℕ
@@ -41,6 +53,10 @@ number_of most word = all_taken (whole_at most (word, 0))
 abbrev pub optional_number : ℕ → Option Text → Option (Option ℕ)
 optional_number most None = Some None
 optional_number most (Some word) = option_map (λ n. Some n) (number_of most word)
+
+-- an option that has to be given
+abbrev pub required_number : ℕ → Option Text → Option ℕ
+required_number most word = option_and_then (number_of most) word
 
 -- the text is one of the names
 abbrev pub is_listed : Text → List Text → Bool
@@ -56,12 +72,15 @@ abbrev pub rest_in : List Row → List Text
 rest_in rows = unwrap_or (all_of (codes "rest") rows) []
 
 abbrev pub option_names : List Text
-option_names = codes "limit" ∷ codes "charge" ∷ codes "nodes" ∷ codes "time-digits" ∷ codes "energy-digits" ∷ []
+option_names =
+    codes "limit" ∷ codes "charge" ∷ codes "nodes"
+    ∷ codes "time-digits" ∷ codes "energy-digits" ∷ []
 
 -- of these options none is given that is not a command's own
 abbrev pub gives_own : List Text → List Row → List Text → Bool
 gives_own own rows [] = true
-gives_own own rows (name ∷ names) = (is_listed name own || is_none (first_of name rows)) && gives_own own rows names
+gives_own own rows (name ∷ names) =
+    (is_listed name own || is_none (first_of name rows)) && gives_own own rows names
 
 -- no option is given but some of these
 abbrev pub gives_only : List Text → List Row → Bool
@@ -72,6 +91,15 @@ limit_in rows = optional_number most_value (first_of (codes "limit") rows)
 
 abbrev pub charge_in : List Row → Option (Option ℕ)
 charge_in rows = optional_number most_value (first_of (codes "charge") rows)
+
+abbrev pub digits_in : Text → List Row → Option ℕ
+digits_in name rows = required_number most_digits (first_of name rows)
+
+abbrev pub time_digits_in : List Row → Option ℕ
+time_digits_in rows = digits_in (codes "time-digits") rows
+
+abbrev pub energy_digits_in : List Row → Option ℕ
+energy_digits_in rows = digits_in (codes "energy-digits") rows
 
 -- the job of these words with these options
 abbrev pub job_with : Text → Text → Options → FixedJob
@@ -102,16 +130,40 @@ check_of (file ∷ plan ∷ []) rows =
     else None
 check_of rest rows = None
 
+-- the job of these words with these digits
+abbrev pub convert_job_of : Text → Text → ℕ → ℕ → ConvertJob
+convert_job_of file outfile time energy =
+    record { file = file; outfile = outfile; time_digits = time; energy_digits = energy }
+
+-- `convert FILE OUTFILE --time-digits N --energy-digits N`
+abbrev pub convert_with : Text → Text → Option ℕ → Option ℕ → Option Job
+convert_with file outfile (Some time) (Some energy) =
+    Some (ConvertFile (convert_job_of file outfile time energy))
+convert_with file outfile time energy = None
+
+abbrev pub digits_names : List Text
+digits_names = codes "time-digits" ∷ codes "energy-digits" ∷ []
+
+abbrev pub convert_of : List Text → List Row → Option Job
+convert_of (file ∷ outfile ∷ []) rows =
+    if gives_only digits_names rows && are_different (file ∷ outfile ∷ [])
+    then convert_with file outfile (time_digits_in rows) (energy_digits_in rows)
+    else None
+convert_of rest rows = None
+
 -- the job of a command, of the words behind it and of the options
 abbrev pub job_of_command : Text → List Text → List Row → Option Job
 job_of_command command rest rows =
     if bytes_eq command (codes "fixed") then fixed_of rest rows
     else if bytes_eq command (codes "check") then check_of rest rows
+    else if bytes_eq command (codes "convert") then convert_of rest rows
     else None
 
 -- the job of what the command finds
 abbrev pub job_in : List Row → Option Job
-job_in rows = option_and_then (λ command. job_of_command command (rest_in rows) rows) (first_of (codes "command") rows)
+job_in rows =
+    option_and_then (λ command. job_of_command command (rest_in rows) rows)
+    (first_of (codes "command") rows)
 
 -- the job where the command takes the words: no error of it comes
 abbrev pub job_unless : Kinds → Option Job → Option Job
@@ -124,4 +176,5 @@ named words = codes "evroute" ∷ words
 
 -- the job of the words, if they name one
 abbrev pub job_of : List Text → Option Job
-job_of words = job_unless (fault_of evroute (named words)) (job_in (matches_of evroute (named words)))
+job_of words =
+    job_unless (fault_of evroute (named words)) (job_in (matches_of evroute (named words)))

@@ -8,6 +8,7 @@ ghost use Rattle.command_line.specs.Words.{job_of};
 
 mod arguments;
 mod check;
+mod convert;
 mod fixed;
 mod laws;
 mod matches;
@@ -44,6 +45,16 @@ pub struct CheckWords {
     pub limit: Option<u64>,
 }
 
+/// The words of the job `convert`: the file that is read, another one that is written, and how many decimal
+/// digits of times and of energies become whole.
+#[derive(Debug, Drop, PartialEq, Eq)]
+pub struct ConvertWords {
+    pub file: String,
+    pub outfile: String,
+    pub time_digits: u32,
+    pub energy_digits: u32,
+}
+
 /// A job of the program.
 #[derive(Debug, Drop, PartialEq, Eq)]
 pub enum Job {
@@ -51,15 +62,17 @@ pub enum Job {
     Fixed(FixedWords),
     /// The plan of a file is judged.
     Check(CheckWords),
+    /// The decimals of a file become whole.
+    Convert(ConvertWords),
 }
 
 /// The job of the words, which stand behind the program's name, read by one `clap` command:
-/// `fixed FILE ROUTE [--limit N] [--charge N]` or `check FILE PLAN [--limit N]`. `None` comes exactly where the
-/// words are no such job.
+/// `fixed FILE ROUTE [--limit N] [--charge N]`, `check FILE PLAN [--limit N]` or
+/// `convert FILE OUTFILE --time-digits N --energy-digits N`. `None` comes exactly where the words are no such job.
 ///
 /// Options stand anywhere before a word `--`, each at most once; the value is the next word or follows a `=`.
 /// A name that begins with `-` and has more behind it is given after `--`. Numbers are written without
-/// leading zeros, at most 10^18. The names of files are different texts.
+/// leading zeros: at most 10^18 for a limit or a charge, 10^9 for digits. The names of files are different texts.
 pub fn job_words(alloc: Global, words: &[String]) -> Result<Option<Job>, AllocError>
     ensures { IfOk result (λ job. option_map job_value job ≡ job_of (map string_bytes words.now)) }
 {

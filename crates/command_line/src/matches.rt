@@ -5,12 +5,13 @@ ghost use Rattle.clap.specs.Words.{first_of};
 ghost use Rattle.clap.specs.Walk.{texts};
 ghost use Rattle.command_line.specs.JobValue.{AnswersJob};
 ghost use Rattle.command_line.specs.Matches.{rows_in};
-ghost use Rattle.command_line.specs.Words.{charge_in, gives_only, gives_own, job_in, job_of_command, limit_in, rest_in};
+ghost use Rattle.command_line.specs.Words.{charge_in, digits_in, gives_only, gives_own, job_in, job_of_command, limit_in, rest_in};
 
 use crate::Job;
 use crate::check::check_job;
+use crate::convert::convert_job;
 use crate::fixed::fixed_job;
-use crate::words::{GREATEST_VALUE, is_listed, optional_number};
+use crate::words::{GREATEST_DIGITS, GREATEST_VALUE, is_listed, number_of, optional_number};
 use clap::ArgMatches;
 use std::alloc::{AllocError, Global};
 
@@ -57,6 +58,15 @@ pub(crate) fn charge_in(matches: &ArgMatches<'_>) -> Option<Option<u64>>
     optional_number(first_of(matches, "charge"), GREATEST_VALUE)
 }
 
+/// The number of digits that has to be given by an option.
+pub(crate) fn digits_in(matches: &ArgMatches<'_>, name: &str) -> Option<u32>
+    ensures { result ≡ digits_in name.now (rows_in matches.now) }
+{
+    let word = first_of(matches, name)?;
+    let number = number_of(word, GREATEST_DIGITS)?;
+    Some(number as u32)
+}
+
 /// The job of what the command finds.
 pub(crate) fn job_in(alloc: Global, matches: &ArgMatches<'_>) -> Result<Option<Job>, AllocError>
     ensures { AnswersJob result (job_in (rows_in matches.now)) }
@@ -77,11 +87,13 @@ fn job_of_command(
     rest: &[&str],
     matches: &ArgMatches<'_>,
 ) -> Result<Option<Job>, AllocError>
-    ensures { AnswersJob result (job_of_command command.now (texts rest.now) (rows_in matches.now)) }
+    ensures { AnswersJob result
+        (job_of_command command.now (texts rest.now) (rows_in matches.now)) }
 {
     match command {
         "fixed" => fixed_job(alloc, rest, matches),
         "check" => check_job(alloc, rest, matches),
+        "convert" => convert_job(alloc, rest, matches),
         _ => Ok(None),
     }
 }

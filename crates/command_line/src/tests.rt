@@ -24,6 +24,12 @@ fn job_text(alloc: Global, line: &str) -> Result<String, AllocError> {
         Some(Job::Check(job)) => {
             format!(in alloc; "check {} {} {:?}", job.file, job.plan, job.limit)
         }
+        Some(Job::Convert(job)) => {
+            format!(in alloc;
+                "convert {} {} {} {}",
+                job.file, job.outfile, job.time_digits, job.energy_digits
+            )
+        }
         None => String::from_str(alloc, "none"),
     }
 }
@@ -60,6 +66,17 @@ fn words_name_jobs(rt: HostRuntime) {
         ("check A A", "none"),
         ("check A P Q", "none"),
         ("fleet A P Q", "none"),
+        (
+            "convert A W --time-digits 2 --energy-digits=1000000000",
+            "convert A W 2 1000000000",
+        ),
+        (
+            "convert A W --time-digits 2 --energy-digits 1000000001",
+            "none",
+        ),
+        ("convert A W --time-digits 2", "none"),
+        ("convert A A --time-digits 2 --energy-digits 0", "none"),
+        ("make 1 1 0 M", "none"),
         ("--help", "none"),
         ("fixed A 0,1,0 -h", "none"),
         ("help", "none"),

@@ -9,8 +9,11 @@ use ev_text::Scan;
 /// The greatest limit and the greatest charge.
 pub(crate) const GREATEST_VALUE: u64 = 1_000_000_000_000_000_000;
 
+/// The greatest number of digits.
+pub(crate) const GREATEST_DIGITS: u64 = 1_000_000_000;
+
 /// The whole word as a number of at most `most`.
-fn number_of(word: &str, most: u64) -> Option<u64>
+pub(crate) fn number_of(word: &str, most: u64) -> Option<u64>
     ensures number { result ≡ number_of most word.now }
     ensures within { IfSome result (λ number. number ≤ most) }
 {

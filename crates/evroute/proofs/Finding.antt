@@ -1,15 +1,20 @@
 -- What a command reads, and what it finds.
-use Rattle.std.proofs.Common.{◌≡◌, ◌∙◌, ℕ, List, [], ◌++◌, length, take, Option, None, Some, Result, Ok, Err, IfOk, IfErr, IsErrOf, ap, arith, inl, inr, refl, subst, sym}
-use Rattle.command_line.specs.Words.{CheckJob, CheckPlan, FixedJob, FixedRoute, Job}
+use Rattle.std.proofs.Common.{◌≡◌, ◌≢◌, ◌∙◌, ℕ, List, [], ◌++◌, length, take, Option, None, Some, Result, Ok, Err, IfOk, IfErr, IsErrOf, ap, arith, inl, inr, refl, subst, sym}
+use Rattle.command_line.specs.Words.{CheckJob, CheckPlan, ConvertFile, ConvertJob, FixedJob, FixedRoute, Job}
+use Rattle.decimal_import.specs.Conversion.{Refuses, conversion_of}
+use Rattle.decimal_import.specs.Converted.{IsConverted}
+use Rattle.decimal_import.specs.declared.fault.ImportFault.{ImportFault}
+use Rattle.decimal_import.specs.declared.fault.ImportFault.TheVariants as faults
 use Rattle.ev_outside.specs.Counts.{Rose}
-use Rattle.ev_outside.specs.Shelf.{AppendsFile, CountsNeverFall, CountsStay, Files, ShelfState, bytes_under}
+use Rattle.ev_outside.specs.Shelf.{AppendsFile, CountsNeverFall, CountsStay, Files, HoldsUnder, KeepsOthers, ShelfState, bytes_under}
 use Rattle.ev_outside.specs.declared.shelf.ShelfFault.{ShelfFault}
 use Rattle.ev_outside.specs.declared.shelf.ShelfFault.TheVariants.{Failed, Memory}
 use Rattle.evroute.specs.CheckAnswer.{CheckAnswers}
+use Rattle.evroute.specs.ConvertAnswer.{BecomesWhole, IsConvertRefused}
 use Rattle.evroute.specs.Ended.{IsCheckEnded}
 use Rattle.evroute.specs.FixedAnswer.{FixedAnswers}
-use Rattle.evroute.specs.Found.{Finds}
-use Rattle.evroute.specs.Run.{AreRead, ComesToPlan, HasFailedRead, HasFileFault, IsAnswered, JobAnswers, most_bytes}
+use Rattle.evroute.specs.Found.{Finds, status_of}
+use Rattle.evroute.specs.Run.{AreRead, ComesToPlan, ComesToWrite, HasFailedRead, HasFailedWrite, HasFileFault, HasWriteFault, IsAnswered, JobAnswers, LeavesFiles, LeavesWhole, most_bytes}
 use Rattle.evroute.specs.declared.answer.Answer.{Answer}
 use Rattle.evroute.specs.declared.answer.Ended.{Ended}
 use Rattle.evroute.specs.declared.answer.Ended.TheVariants.{Refused}
@@ -17,6 +22,7 @@ use Rattle.evroute.specs.declared.status.Status.{Status}
 use Rattle.evroute.specs.declared.status.Status.TheVariants as status
 use Rattle.plan_writer.specs.RefusalText.{refusal_text}
 use Rattle.plan_writer.specs.declared.refusal.Refusal.{Refusal}
+use Rattle.plan_writer.specs.declared.refusal.Refusal.TheVariants as refusal
 
 -- a read into an empty buffer
 pub are_read : (files : Option Files) (name old new : List ℕ) → old ≡ [] → AppendsFile files name most_bytes old new → AreRead files name new
@@ -71,11 +77,44 @@ failed_since before later after name stays failed =
 comes_since : (job : CheckJob) (files later : Option Files) → later ≡ files → ComesToPlan job later → ComesToPlan job files
 comes_since job files later same comes = subst (λ (fs : Option Files). ComesToPlan job fs) same comes
 
+write_fault_since : (job : ConvertJob) (before later after : ShelfState) → later.files ≡ before.files → CountsStay before later → HasWriteFault job later after → HasWriteFault job before after
+write_fault_since job before later after same stays (failed, comes) = (
+  subst (λ (n : ℕ). Rose n (after.failed_writes job.outfile)) (stays.writes job.outfile) failed,
+  subst (λ (fs : Option Files). ComesToWrite job fs) same comes,
+)
+
 fault_since : (job : Job) (before later after : ShelfState) → later.files ≡ before.files → CountsStay before later → HasFileFault job later after → HasFileFault job before after
 fault_since (FixedRoute job) before later after same stays failed = failed_since before later after job.file stays failed
 fault_since (CheckPlan job) before later after same stays (inl failed) = inl (failed_since before later after job.file stays failed)
 fault_since (CheckPlan job) before later after same stays (inr (failed, comes)) =
     inr (failed_since before later after job.plan stays failed, comes_since job before.files later.files same comes)
+fault_since (ConvertFile job) before later after same stays (inl failed) = inl (failed_since before later after job.file stays failed)
+fault_since (ConvertFile job) before later after same stays (inr failed) = inr (write_fault_since job before later after same stays failed)
+
+leaves_whole_since : (job : ConvertJob) (before later after : ShelfState) (ended : Status) → later.files ≡ before.files → CountsStay before later →
+    LeavesWhole job later after ended → LeavesWhole job before after ended
+leaves_whole_since job before later after status.Done same stays leaves = record {
+  bytes = leaves.bytes;
+  read = subst (λ (fs : Option Files). AreRead fs job.file leaves.bytes) same leaves.read;
+  whole = leaves.whole;
+  becomes = leaves.becomes;
+  written = leaves.written;
+  others = subst (λ (fs : Option Files). KeepsOthers job.outfile fs after.files) same leaves.others;
+}
+leaves_whole_since job before later after status.Fault same stays (inl is) = inl (is ∙ same)
+leaves_whole_since job before later after status.Fault same stays (inr (failed, others)) =
+    inr (write_fault_since job before later after same stays failed, subst (λ (fs : Option Files). KeepsOthers job.outfile fs after.files) same others)
+leaves_whole_since job before later after status.Negative same stays is = is ∙ same
+leaves_whole_since job before later after status.Words same stays is = is ∙ same
+leaves_whole_since job before later after status.Refused same stays is = is ∙ same
+leaves_whole_since job before later after status.Memory same stays is = is ∙ same
+leaves_whole_since job before later after status.Stopped same stays is = is ∙ same
+
+leaves_since : (job : Job) (before later after : ShelfState) (ended : Status) → later.files ≡ before.files → CountsStay before later →
+    LeavesFiles job later after ended → LeavesFiles job before after ended
+leaves_since (FixedRoute job) before later after ended same stays is = is ∙ same
+leaves_since (CheckPlan job) before later after ended same stays is = is ∙ same
+leaves_since (ConvertFile job) before later after ended same stays leaves = leaves_whole_since job before later after ended same stays leaves
 
 counts_since : (before later after : ShelfState) → CountsStay before later → CountsStay later after → CountsStay before after
 counts_since before later after p q = record {
@@ -97,7 +136,7 @@ finds_since job before later after found same stays falls finds = record {
   fault = λ failed. fault_since job before later after same stays (finds.fault failed);
   stays = λ none. counts_since before later after stays (finds.stays none);
   falls = never_fall_since before later after falls finds.falls;
-  files = finds.files ∙ same;
+  files = leaves_since job before later after (status_of found) same stays finds.files;
 }
 
 pub ok_is_no_error : {A E : Type 0} {a : A} {e : E} → ◌≡◌ {A = Result A E} (Ok a) (Err e) → ⊥
@@ -111,6 +150,13 @@ same_error : {A E : Type 0} (e other : E) → ◌≡◌ {A = Result A E} (Err e)
 unfolding error_or
 same_error {A} {E} e other same = ap (λ (r : Result A E). error_or e r) same
 
+-- a step that failed or was refused memory leaves all files
+leaves_unread : (job : Job) (before after : ShelfState) (fault : ShelfFault) → after.files ≡ before.files → LeavesFiles job before after (status_of (Err fault))
+leaves_unread (FixedRoute job) before after fault same = same
+leaves_unread (CheckPlan job) before after fault same = same
+leaves_unread (ConvertFile job) before after Failed same = inl same
+leaves_unread (ConvertFile job) before after Memory same = same
+
 -- a job whose read was refused
 pub finds_none : {A : Type 0} (job : Job) (before after : ShelfState) (fault : ShelfFault) →
     (◌≡◌ {A = Result A ShelfFault} (Err fault) (Err Failed) → HasFileFault job before after)
@@ -122,7 +168,7 @@ finds_none {A} job before after fault failed stays falls files = record {
   fault = λ is. failed (ap {B = Result A ShelfFault} (λ (e : ShelfFault). Err e) (same_error fault Failed is));
   stays = λ none. stays (λ is. none (ap {B = Result Answer ShelfFault} (λ (e : ShelfFault). Err e) (same_error fault Failed is)));
   falls = falls;
-  files = files;
+  files = leaves_unread job before after fault files;
 }
 
 memory_is_no_failure : {A : Type 0} (made : Result A ShelfFault) → IfErr made (λ fault. fault ≡ Memory) → IsErrOf made Failed → ⊥
@@ -134,16 +180,85 @@ refused_is_answered : {E : Type 0} (made : Result Answer E) → IfOk made (λ a.
 refused_is_answered (Ok a) is = subst (λ (s : Status). IsAnswered s) (sym is) tt
 refused_is_answered (Err none) is = tt
 
+leaves_refused : (job : Job) (before after : ShelfState) (made : Result Answer ShelfFault) → IfOk made (λ a. a.status ≡ status.Refused) →
+    after.files ≡ before.files → LeavesFiles job before after (status_of made)
+leaves_refused (FixedRoute job) before after made answered same = same
+leaves_refused (CheckPlan job) before after made answered same = same
+leaves_refused (ConvertFile job) before after (Ok a) answered same = subst (λ (s : Status). LeavesWhole job before after s) (sym answered) same
+leaves_refused (ConvertFile job) before after (Err fault) answered same = leaves_unread (ConvertFile job) before after fault same
+
 -- a job that ends with the line of a refusal, behind a read that did not fail
+finds_refused : (job : Job) (before after : ShelfState) (made : Result Answer ShelfFault) →
+    IfOk made (λ a. JobAnswers job before.files a.status a.text.items)
+    → IfOk made (λ a. a.status ≡ status.Refused) → IfErr made (λ fault. fault ≡ Memory)
+    → CountsStay before after → CountsNeverFall before after → after.files ≡ before.files → Finds job before after made
+finds_refused job before after made answers answered memory stays falls files = record {
+  answered = refused_is_answered made answered;
+  answers = answers;
+  fault = λ failed. absurd (memory_is_no_failure made memory failed);
+  stays = λ none. stays;
+  falls = falls;
+  files = leaves_refused job before after made answered files;
+}
+
 pub finds_refusal : (job : CheckJob) (before after : ShelfState) (bytes given : List ℕ) (ended : Ended) (refusal : Refusal) (made : Result Answer ShelfFault) →
     AreRead before.files job.file bytes → given ≡ bytes → ended ≡ Refused refusal → ((plan_bytes : List ℕ) → IsCheckEnded job.limit given plan_bytes ended)
     → IfOk made (λ a. a.status ≡ status.Refused) → IfOk made (λ a. a.text.items ≡ refusal_text refusal) → IfErr made (λ fault. fault ≡ Memory)
     → CountsStay before after → CountsNeverFall before after → after.files ≡ before.files → Finds (CheckPlan job) before after made
-finds_refusal job before after bytes given ended refusal made read same is refused answered text memory stays falls files = record {
-  answered = refused_is_answered made answered;
-  answers = refusal_answers job before.files bytes given ended refusal made read same is refused answered text;
-  fault = λ failed. absurd (memory_is_no_failure made memory failed);
+finds_refusal job before after bytes given ended refusal made read same is refused answered text memory stays falls files =
+    finds_refused (CheckPlan job) before after made (refusal_answers job before.files bytes given ended refusal made read same is refused answered text)
+    answered memory stays falls files
+
+-- ---- `convert`
+
+-- what was converted is what the bytes become, wherever they lie
+pub becomes_whole : (job : ConvertJob) (bytes given whole passed : List ℕ) → given ≡ bytes → passed ≡ whole →
+    conversion_of given job.time_digits job.energy_digits ≡ Ok whole → IsConverted job.time_digits job.energy_digits given whole → BecomesWhole job bytes passed
+becomes_whole job bytes given whole passed same kept unbroken converted =
+    subst (λ (ws : List ℕ). BecomesWhole job bytes ws) (sym kept)
+    (subst (λ (bs : List ℕ). BecomesWhole job bs whole) same (record { unbroken = unbroken; converted = converted }))
+
+-- a fault that isn't want of memory is the first broken rule
+refused_with : (fault : ImportFault) (made : Result (List ℕ) ImportFault) → fault ≢ faults.Memory → Refuses fault made → made ≡ Err fault
+refused_with (faults.Token at) made rule is = is
+refused_with (faults.Negative at) made rule is = is
+refused_with (faults.TooLarge at) made rule is = is
+refused_with faults.Digits made rule is = is
+refused_with (faults.TooLong len) made rule is = is
+refused_with faults.Memory made rule is = absurd (rule refl)
+
+-- the line of the refusal is the answer to the job
+literal_answers : (job : ConvertJob) (files : Option Files) (bytes : List ℕ) (fault : ImportFault) (made : Result Answer ShelfFault) →
+    AreRead files job.file bytes → fault ≢ faults.Memory → IsConvertRefused job bytes (refusal.Literal fault)
+    → IfOk made (λ a. a.status ≡ status.Refused) → IfOk made (λ a. a.text.items ≡ refusal_text (refusal.Literal fault))
+    → IfOk made (λ a. JobAnswers (ConvertFile job) files a.status a.text.items)
+literal_answers job files bytes fault (Err none) read rule refused answered text = tt
+literal_answers job files bytes fault (Ok a) read rule refused answered text =
+    subst (λ (s : Status). JobAnswers (ConvertFile job) files s a.text.items) (sym answered)
+    (bytes, read, record { refusal = refusal.Literal fault; rule = rule; refused = refused; text_is = text })
+
+pub finds_literal : (job : ConvertJob) (before after : ShelfState) (bytes given : List ℕ) (fault : ImportFault) (made : Result Answer ShelfFault) →
+    AreRead before.files job.file bytes → given ≡ bytes → fault ≢ faults.Memory → Refuses fault (conversion_of given job.time_digits job.energy_digits)
+    → IfOk made (λ a. a.status ≡ status.Refused) → IfOk made (λ a. a.text.items ≡ refusal_text (refusal.Literal fault)) → IfErr made (λ e. e ≡ Memory)
+    → CountsStay before after → CountsNeverFall before after → after.files ≡ before.files → Finds (ConvertFile job) before after made
+finds_literal job before after bytes given fault made read same rule refuses answered text memory stays falls files =
+    let refused : conversion_of bytes job.time_digits job.energy_digits ≡ Err fault =
+    subst (λ (bs : List ℕ). conversion_of bs job.time_digits job.energy_digits ≡ Err fault) same
+    (refused_with fault (conversion_of given job.time_digits job.energy_digits) rule refuses) in
+    finds_refused (ConvertFile job) before after made (literal_answers job before.files bytes fault made read rule refused answered text)
+    answered memory stays falls files
+
+pub finds_written : (job : ConvertJob) (before after : ShelfState) (bytes whole : List ℕ) (answer : Answer) →
+    AreRead before.files job.file bytes → BecomesWhole job bytes whole → answer.status ≡ status.Done → answer.text.items ≡ []
+    → HoldsUnder after.files job.outfile whole → KeepsOthers job.outfile before.files after.files
+    → CountsStay before after → CountsNeverFall before after → Finds (ConvertFile job) before after (Ok answer)
+finds_written job before after bytes whole answer read becomes done empty written others stays falls = record {
+  answered = subst (λ (s : Status). IsAnswered s) (sym done) tt;
+  answers = subst (λ (s : Status). JobAnswers (ConvertFile job) before.files s answer.text.items) (sym done)
+      (bytes, read, record { whole = whole; becomes = becomes; text_is = empty });
+  fault = λ failed. absurd (ok_is_no_error failed);
   stays = λ none. stays;
   falls = falls;
-  files = files;
+  files = subst (λ (s : Status). LeavesWhole job before after s) (sym done)
+      (record { bytes = bytes; read = read; whole = whole; becomes = becomes; written = written; others = others });
 }

@@ -97,3 +97,4 @@ refused_has_none limit bytes (refusal.Charge level) g rule is has = absurd is
 refused_has_none limit bytes (refusal.Route e) g rule is has = absurd is
 refused_has_none limit bytes (refusal.Levels cells) g rule is has = absurd is
 refused_has_none limit bytes (refusal.Plan e) g rule is has = absurd is
+refused_has_none limit bytes (refusal.Literal e) g rule is has = absurd is

@@ -1,6 +1,6 @@
 -- The causes of the statuses exclude each other.
 use Rattle.std.proofs.Common.{◌≡◌, ◌∙◌, ℕ, ◌<◌, ◌≤◌, List, Option, None, Some, Ok, Err, take, ap, arith, refl, subst, sym}
-use Rattle.command_line.specs.Words.{CheckJob, CheckPlan, FixedJob, FixedRoute, Job}
+use Rattle.command_line.specs.Words.{CheckJob, CheckPlan, ConvertFile, ConvertJob, FixedJob, FixedRoute, Job}
 use Rattle.command_line.specs.declared.Options.{Options}
 use Rattle.ev_model.specs.Fastest.{HasNoPlan}
 use Rattle.ev_model.specs.Network.{Network, node_count}
@@ -20,6 +20,7 @@ use Rattle.route_plan.specs.RouteWords.{nodes_in}
 use Rattle.route_plan.specs.declared.plan.FleetPlan.{FleetPlan}
 use Rattle.evroute.proofs.Instances.{one_limited, refused_has_none}
 use Rattle.evroute.specs.CheckAnswer.{CheckAnswers, HasFleetNetwork, IsCheckRefused, IsValid, PutsAccepted, PutsRejected, customer_count}
+use Rattle.evroute.specs.ConvertAnswer.{BecomesWhole, ConvertAnswers, IsConvertRefused}
 use Rattle.evroute.specs.FixedAnswer.{FixedAnswers, IsRefused, IsSmallTask, IsTask, PutsInfeasible, PutsPlan, start_of}
 use Rattle.evroute.specs.Run.{HasCause, IsAnswered, IsTold, most_bytes}
 use Rattle.evroute.specs.declared.status.Status.{Status}
@@ -99,6 +100,7 @@ refused_is_no_task options word bytes g route (refusal.Levels cells) small rule 
     omega (arith, is, past, count, small.small)
 refused_is_no_task options word bytes g route (refusal.Customers count) small rule is = absurd is
 refused_is_no_task options word bytes g route (refusal.Plan e) small rule is = absurd is
+refused_is_no_task options word bytes g route (refusal.Literal e) small rule is = absurd is
 
 plan_is_some : (options : Options) (word bytes text other : List ℕ) → PutsPlan options word bytes text → PutsInfeasible options word bytes other → ⊥
 plan_is_some options word bytes text other p q =
@@ -154,6 +156,7 @@ refused_is_no_plan limit bytes plan_bytes g plan (refusal.Plan e) fleet spelled 
 refused_is_no_plan limit bytes plan_bytes g plan (refusal.Charge level) fleet spelled rule is = absurd is
 refused_is_no_plan limit bytes plan_bytes g plan (refusal.Route e) fleet spelled rule is = absurd is
 refused_is_no_plan limit bytes plan_bytes g plan (refusal.Levels cells) fleet spelled rule is = absurd is
+refused_is_no_plan limit bytes plan_bytes g plan (refusal.Literal e) fleet spelled rule is = absurd is
 
 accepted_is_unbroken : (limit : Option ℕ) (bytes plan_bytes text other : List ℕ) → PutsAccepted limit bytes plan_bytes text → PutsRejected limit bytes plan_bytes other → ⊥
 accepted_is_unbroken limit bytes plan_bytes text other p q =
@@ -185,6 +188,40 @@ check_exclude limit bytes plan_bytes = record {
   negative_refused = λ p q. refused_is_no_plan limit bytes plan_bytes p.1.network (Some p.1.plan) q.1.refusal p.1.fleet p.1.spelled q.1.rule q.1.refused;
 }
 
+-- ---- `convert`
+
+refused_becomes_nothing : (job : ConvertJob) (bytes whole : List ℕ) (r : Refusal) → BecomesWhole job bytes whole → IsConvertRefused job bytes r → ⊥
+refused_becomes_nothing job bytes whole (refusal.Literal e) becomes is = Err-ne-Ok e whole (sym is ∙ becomes.unbroken)
+refused_becomes_nothing job bytes whole (refusal.Instance e) becomes is = absurd is
+refused_becomes_nothing job bytes whole (refusal.Limit given) becomes is = absurd is
+refused_becomes_nothing job bytes whole (refusal.Customers count) becomes is = absurd is
+refused_becomes_nothing job bytes whole (refusal.Charge level) becomes is = absurd is
+refused_becomes_nothing job bytes whole (refusal.Route e) becomes is = absurd is
+refused_becomes_nothing job bytes whole (refusal.Levels cells) becomes is = absurd is
+refused_becomes_nothing job bytes whole (refusal.Plan e) becomes is = absurd is
+
+ConvertCause : ConvertJob → List ℕ → Status → Type 0
+ConvertCause job bytes s = (text : List ℕ) × ConvertAnswers job bytes s text
+
+convert_answered : (job : ConvertJob) (bytes : List ℕ) (s : Status) → ConvertCause job bytes s → IsAnswered s
+unfolding ConvertCause
+convert_answered job bytes status.Done p = tt
+convert_answered job bytes status.Refused p = tt
+convert_answered job bytes status.Negative p = absurd p.1
+convert_answered job bytes status.Words p = absurd p.1
+convert_answered job bytes status.Fault p = absurd p.1
+convert_answered job bytes status.Memory p = absurd p.1
+convert_answered job bytes status.Stopped p = absurd p.1
+
+convert_exclude : (job : ConvertJob) (bytes : List ℕ) → ExcludeEachOther (ConvertCause job bytes)
+unfolding ConvertCause
+convert_exclude job bytes = record {
+  answered = convert_answered job bytes;
+  done_negative = λ p q. absurd q.1;
+  done_refused = λ p q. refused_becomes_nothing job bytes p.1.whole q.1.refusal p.1.becomes q.1.refused;
+  negative_refused = λ p q. absurd p.1;
+}
+
 -- ---- a job whose files are told
 
 abbrev take_under : Files → List ℕ → List ℕ
@@ -203,6 +240,11 @@ told_check job files s (text, (bytes, read, (plan_bytes, read_plan, answers))) =
       (subst (λ (bs : List ℕ). CheckAnswers job.limit bs plan_bytes s text) read answers),
 )
 
+told_convert : (job : ConvertJob) (files : Files) (s : Status) → HasCause (ConvertFile job) (Some files) s → ConvertCause job (take_under files job.file) s
+unfolding ConvertCause
+told_convert job files s (text, (bytes, read, answers)) =
+    (text, subst (λ (bs : List ℕ). ConvertAnswers job bs s text) read answers)
+
 pub one_status : (job : Job) (files : Option Files) (s t : Status) → IsTold files → HasCause job files s → HasCause job files t → s ≡ t
 one_status (FixedRoute job) (Some files) s t told p q =
     one_of (FixedCause job.options job.route (take_under files job.file)) (fixed_exclude job.options job.route (take_under files job.file)) s t
@@ -210,5 +252,9 @@ one_status (FixedRoute job) (Some files) s t told p q =
 one_status (CheckPlan job) (Some files) s t told p q =
     one_of (CheckCause job.limit (take_under files job.file) (take_under files job.plan)) (check_exclude job.limit (take_under files job.file) (take_under files job.plan)) s t
     (told_check job files s p) (told_check job files t q)
+one_status (ConvertFile job) (Some files) s t told p q =
+    one_of (ConvertCause job (take_under files job.file)) (convert_exclude job (take_under files job.file)) s t
+    (told_convert job files s p) (told_convert job files t q)
+one_status (ConvertFile job) None s t told p q = absurd told
 one_status (FixedRoute job) None s t told p q = absurd told
 one_status (CheckPlan job) None s t told p q = absurd told

@@ -1,16 +1,16 @@
 -- A job whose answer was found is performed.
-use Rattle.std.proofs.Common.{◌≡◌, ◌≢◌, ℕ, ◌⊎◌, List, [], Option, None, Some, IfSome, ap, inl, inr, refl, subst, sym}
+use Rattle.std.proofs.Common.{◌≡◌, ◌≢◌, ◌∙◌, ℕ, ◌⊎◌, List, [], Option, None, Some, IfSome, ap, inl, inr, refl, subst, sym}
 use Rattle.std.proofs.lemmas.List.{append-nil}
 use Rattle.std.specs.Option.{option_map}
 use Rattle.command_line.specs.Usage.{usage_text}
 use Rattle.command_line.specs.JobValue.{job_value}
-use Rattle.command_line.specs.Words.{Job}
+use Rattle.command_line.specs.Words.{CheckPlan, ConvertFile, ConvertJob, FixedRoute, Job}
 use Rattle.command_line.specs.declared.Job as values
 use Rattle.ev_outside.specs.Counts.{Rose}
 use Rattle.ev_outside.specs.Shelf.{Files, ShelfState}
 use Rattle.ev_outside.specs.Sink.{Adds, AddsPrefix, SinkState}
 use Rattle.evroute.proofs.OneStatus.{one_status}
-use Rattle.evroute.specs.Run.{BreakNoRule, EndsUnlessHindered, HasCause, HasFaultCause, HasFileFault, IsAnswered, IsTold, JobAnswers, Performs, PutsAnswer, PutsPart, TellsUsage}
+use Rattle.evroute.specs.Run.{BreakNoRule, EndsUnlessHindered, HasCause, HasFaultCause, HasFileFault, HasOutputFault, IsAnswered, IsTold, JobAnswers, LeavesFiles, LeavesWhole, Performs, PutsAnswer, PutsPart, TellsUsage}
 use Rattle.evroute.specs.declared.status.Status.{Status}
 use Rattle.evroute.specs.declared.status.Status.TheVariants as status
 
@@ -47,7 +47,7 @@ memory_is_no_fault is = cc
 
 performs : (job : Job) (before after : ShelfState) (old new : SinkState) (ended : Status) → ended ≢ status.Words → ended ≢ status.Stopped →
     (IsAnswered ended → PutsAnswer job before.files old.written new.written ended) → PutsPart job before.files old.written new.written →
-    (ended ≡ status.Fault → HasFaultCause job before after old new) → after.files ≡ before.files → Performs job before after old new ended
+    (ended ≡ status.Fault → HasFaultCause job before after old new) → LeavesFiles job before after ended → Performs job before after old new ended
 performs job before after old new ended words stopped answer part fault files = record {
   answer = answer;
   part = part;
@@ -57,23 +57,69 @@ performs job before after old new ended words stopped answer part fault files = 
   files = files;
 }
 
+-- the output fails where the answer has a text alone
+output_fault : (job : Job) (files : Option Files) (old new : SinkState) (answered : Status) (text : List ℕ) → JobAnswers job files answered text →
+    (text ≡ [] → ⊥) → Rose old.faults new.faults → HasOutputFault job files old new
+output_fault (FixedRoute job) files old new answered text answers some rose = rose
+output_fault (CheckPlan job) files old new answered text answers some rose = rose
+output_fault (ConvertFile job) files old new status.Done text (bytes, read, puts) some rose = absurd (some puts.text_is)
+output_fault (ConvertFile job) files old new status.Refused text answers some rose = (rose, (text, answers))
+output_fault (ConvertFile job) files old new status.Negative text (bytes, read, puts) some rose = absurd puts
+output_fault (ConvertFile job) files old new status.Words text (bytes, read, puts) some rose = absurd puts
+output_fault (ConvertFile job) files old new status.Fault text (bytes, read, puts) some rose = absurd puts
+output_fault (ConvertFile job) files old new status.Memory text (bytes, read, puts) some rose = absurd puts
+output_fault (ConvertFile job) files old new status.Stopped text (bytes, read, puts) some rose = absurd puts
+
+done_is_no_refusal : status.Done ≡ status.Refused → ⊥
+done_is_no_refusal is = cc
+
+-- files stay, whatever becomes of the line of a refusal
+leaves_put_refusal : (job : ConvertJob) (before after : ShelfState) (ended : Status) → (IsAnswered ended → ended ≡ status.Refused) →
+    after.files ≡ before.files → LeavesWhole job before after ended
+leaves_put_refusal job before after status.Done is same = absurd (done_is_no_refusal (is tt))
+leaves_put_refusal job before after status.Fault is same = inl same
+leaves_put_refusal job before after status.Negative is same = same
+leaves_put_refusal job before after status.Words is same = same
+leaves_put_refusal job before after status.Refused is same = same
+leaves_put_refusal job before after status.Memory is same = same
+leaves_put_refusal job before after status.Stopped is same = same
+
+-- putting the answer changes no file
+leaves_put : (job : Job) (before after : ShelfState) (answered ended : Status) (text : List ℕ) → JobAnswers job before.files answered text →
+    (text ≡ [] → ended ≡ answered) → (IsAnswered ended → ended ≡ answered) → LeavesFiles job before after answered → LeavesFiles job before after ended
+leaves_put (FixedRoute job) before after answered ended text answers empty is leaves = leaves
+leaves_put (CheckPlan job) before after answered ended text answers empty is leaves = leaves
+leaves_put (ConvertFile job) before after status.Done ended text (bytes, read, puts) empty is leaves =
+    subst (λ (s : Status). LeavesWhole job before after s) (sym (empty puts.text_is)) leaves
+leaves_put (ConvertFile job) before after status.Refused ended text answers empty is leaves = leaves_put_refusal job before after ended is leaves
+leaves_put (ConvertFile job) before after status.Negative ended text (bytes, read, puts) empty is leaves = absurd puts
+leaves_put (ConvertFile job) before after status.Words ended text (bytes, read, puts) empty is leaves = absurd puts
+leaves_put (ConvertFile job) before after status.Fault ended text (bytes, read, puts) empty is leaves = absurd puts
+leaves_put (ConvertFile job) before after status.Memory ended text (bytes, read, puts) empty is leaves = absurd puts
+leaves_put (ConvertFile job) before after status.Stopped ended text (bytes, read, puts) empty is leaves = absurd puts
+
+fault_is_unanswered : (answered : Status) → IsAnswered answered → answered ≡ status.Fault → ⊥
+fault_is_unanswered answered is same = subst (λ (s : Status). IsAnswered s) same is
+
 -- the answer was put, or a part of it
 pub performs_put : (job : Job) (before after : ShelfState) (old new : SinkState) (answered ended : Status) (text : List ℕ) →
-    JobAnswers job before.files answered text → after.files ≡ before.files → ended ≢ status.Words → ended ≢ status.Stopped →
+    IsAnswered answered → JobAnswers job before.files answered text → LeavesFiles job before after answered → (text ≡ [] → ended ≡ answered) → ended ≢ status.Words → ended ≢ status.Stopped →
     (IsAnswered ended → (ended ≡ answered) × Adds old.written new.written text) → AddsPrefix old.written new.written text →
     (ended ≡ status.Fault → Rose old.faults new.faults) → Performs job before after old new ended
-performs_put job before after old new answered ended text answers files words stopped put part fault =
+performs_put job before after old new answered ended text is_answered answers files empty words stopped put part fault =
     performs job before after old new ended words stopped
     (λ is. record { text = text; answers = subst (λ (s : Status). JobAnswers job before.files s text) (sym (put is).0) answers; put = (put is).1 })
-    (inr (answered, (text, answers, part))) (λ is. inr (fault is)) files
+    (inr (answered, (text, answers, part)))
+    (λ is. inr (output_fault job before.files old new answered text answers (λ none. fault_is_unanswered answered is_answered (sym (empty none) ∙ is)) (fault is)))
+    (leaves_put job before after answered ended text answers empty (λ is. (put is).0) files)
 
 -- a file failed
-pub performs_fault : (job : Job) (before after : ShelfState) (old : SinkState) → HasFileFault job before after → after.files ≡ before.files → Performs job before after old old status.Fault
+pub performs_fault : (job : Job) (before after : ShelfState) (old : SinkState) → HasFileFault job before after → LeavesFiles job before after status.Fault → Performs job before after old old status.Fault
 performs_fault job before after old cause files =
     performs job before after old old status.Fault (λ is. cc) (λ is. cc) (λ none. absurd none) (inl refl) (λ is. inl cause) files
 
 -- memory was refused
-pub performs_nothing : (job : Job) (before after : ShelfState) (old : SinkState) → after.files ≡ before.files → Performs job before after old old status.Memory
+pub performs_nothing : (job : Job) (before after : ShelfState) (old : SinkState) → LeavesFiles job before after status.Memory → Performs job before after old old status.Memory
 performs_nothing job before after old files =
     performs job before after old old status.Memory (λ is. cc) (λ is. cc) (λ none. absurd none) (inl refl) (λ is. absurd (memory_is_no_fault is)) files
 
@@ -92,9 +138,14 @@ tells_nothing shelf old = record {
   shelf = refl;
 }
 
+leaves_all : (job : Job) (shelf : ShelfState) → LeavesFiles job shelf shelf status.Memory
+leaves_all (FixedRoute job) shelf = refl
+leaves_all (CheckPlan job) shelf = refl
+leaves_all (ConvertFile job) shelf = refl
+
 pub whatever_named : (named : Option Job) (shelf : ShelfState) (old : SinkState) → IfSome named (λ job. Performs job shelf shelf old old status.Memory)
 whatever_named None shelf old = tt
-whatever_named (Some job) shelf old = performs_nothing job shelf shelf old refl
+whatever_named (Some job) shelf old = performs_nothing job shelf shelf old (leaves_all job shelf)
 
 -- ---- what holds of the job that was read, of the job that the words name
 

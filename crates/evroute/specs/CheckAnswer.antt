@@ -76,5 +76,6 @@ pub record PutsCheckRefusal (limit : Option ℕ) (bytes plan_bytes text : List �
 abbrev pub CheckAnswers : Option ℕ → List ℕ → List ℕ → Status → List ℕ → Type 0
 CheckAnswers limit bytes plan_bytes status.Done text = PutsAccepted limit bytes plan_bytes text
 CheckAnswers limit bytes plan_bytes status.Negative text = PutsRejected limit bytes plan_bytes text
-CheckAnswers limit bytes plan_bytes status.Refused text = PutsCheckRefusal limit bytes plan_bytes text
+CheckAnswers limit bytes plan_bytes status.Refused text =
+    PutsCheckRefusal limit bytes plan_bytes text
 CheckAnswers limit bytes plan_bytes other text = ⊥

@@ -25,5 +25,6 @@ IsEnded options word bytes Memory = Unit {0}
 
 -- of `check`
 abbrev pub IsCheckEnded : Option ℕ → List ℕ → List ℕ → Ended → Type 0
-IsCheckEnded limit bytes plan_bytes (Refused refusal) = IsRule refusal × IsCheckRefused limit bytes plan_bytes refusal
+IsCheckEnded limit bytes plan_bytes (Refused refusal) =
+    IsRule refusal × IsCheckRefused limit bytes plan_bytes refusal
 IsCheckEnded limit bytes plan_bytes Memory = Unit {0}

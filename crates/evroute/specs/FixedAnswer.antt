@@ -30,14 +30,16 @@ pub record HasStart (options : Options) (bytes : List ℕ) (g : Network) : Type 
   pub within : start_of g options.charge ≤ g.capacity
 
 -- besides, the word spells this route
-pub record IsTask (options : Options) (word bytes : List ℕ) (g : Network) (route : List ℕ) : Type 0 where
+pub record IsTask
+    (options : Options) (word bytes : List ℕ) (g : Network) (route : List ℕ) : Type 0 where
   pub start : HasStart options bytes g
   pub spelled : SpellsRoute word route
   pub is_route : IsRoute g route
   pub short : length route ≤ most_route_nodes
 
 -- besides, its table is not too large
-pub record IsSmallTask (options : Options) (word bytes : List ℕ) (g : Network) (route : List ℕ) : Type 0 where
+pub record IsSmallTask
+    (options : Options) (word bytes : List ℕ) (g : Network) (route : List ℕ) : Type 0 where
   pub task : IsTask options word bytes g route
   pub small : cell_count g route ≤ most_cells
 
@@ -46,11 +48,13 @@ abbrev pub IsRefused : Options → List ℕ → List ℕ → Refusal → Type 0
 IsRefused options word bytes (refusal.Instance fault) = IsFirstFault bytes fault
 IsRefused options word bytes (refusal.Limit limit) = IsPastLimit options.limit bytes limit
 IsRefused options word bytes (refusal.Charge level) =
-    (g : Network) × HasNetwork options.limit bytes g × (options.charge ≡ Some level) × (g.capacity < level)
+    (g : Network) × HasNetwork options.limit bytes g
+    × (options.charge ≡ Some level) × (g.capacity < level)
 IsRefused options word bytes (refusal.Route fault) =
     (g : Network) × HasStart options bytes g × (route_in (node_count g) word ≡ Err fault)
 IsRefused options word bytes (refusal.Levels cells) =
-    (g : Network) × ((route : List ℕ) × IsTask options word bytes g route × (cells ≡ cell_count g route) × (most_cells < cells))
+    (g : Network) × ((route : List ℕ) × IsTask options word bytes g route
+    × (cells ≡ cell_count g route) × (most_cells < cells))
 IsRefused options word bytes other = ⊥
 
 -- a plan of the route than which none is faster in any fraction of a unit, with its time
@@ -60,7 +64,8 @@ pub record PutsPlan (options : Options) (word bytes text : List ℕ) : Type 0 wh
   pub task : IsSmallTask options word bytes network route
   pub stops : List Stop
   pub fastest : IsFastest network route (start_of network options.charge) stops
-  pub text_is : text ≡ fixed_text network.denominator (Some (stops, time_of network 1 (start_of network options.charge) stops))
+  pub text_is : text ≡ fixed_text network.denominator
+      (Some (stops, time_of network 1 (start_of network options.charge) stops))
 
 -- no plan of the route is feasible, in any fraction of a unit
 pub record PutsInfeasible (options : Options) (word bytes text : List ℕ) : Type 0 where

@@ -2,12 +2,13 @@
 use Rattle.std.specs.Prelude.{◌≡◌, ℕ, ◌+◌, ◌^◌, ◌≤◌, ◌⊎◌, List, length, map, take, Option, None, Some, String, string_bytes}
 use Rattle.std.specs.declared.alloc.Global.{Global}
 use Rattle.command_line.specs.Usage.{usage_text}
-use Rattle.command_line.specs.Words.{CheckJob, CheckPlan, FixedRoute, Job, job_of}
+use Rattle.command_line.specs.Words.{CheckJob, CheckPlan, ConvertFile, ConvertJob, FixedRoute, Job, job_of}
 use Rattle.ev_model.specs.Network.{Network}
 use Rattle.ev_outside.specs.Counts.{Rose}
-use Rattle.ev_outside.specs.Shelf.{CountsStay, Files, ShelfState, bytes_under}
+use Rattle.ev_outside.specs.Shelf.{CountsStay, Files, HoldsUnder, KeepsOthers, ShelfState, bytes_under}
 use Rattle.ev_outside.specs.Sink.{Adds, AddsPrefix, SinkState}
 use Rattle.evroute.specs.CheckAnswer.{CheckAnswers, HasFleetNetwork}
+use Rattle.evroute.specs.ConvertAnswer.{BecomesWhole, ConvertAnswers}
 use Rattle.evroute.specs.FixedAnswer.{FixedAnswers}
 use Rattle.evroute.specs.declared.status.Status.{Status}
 use Rattle.evroute.specs.declared.status.Status.TheVariants as status
@@ -28,10 +29,14 @@ AreRead (Some files) name bytes = bytes ≡ take most_bytes (bytes_under files n
 -- the status and the text that a job answers to the bytes of its files
 abbrev pub JobAnswers : Job → Option Files → Status → List ℕ → Type 0
 JobAnswers (FixedRoute job) files answered text =
-    (bytes : List ℕ) × AreRead files job.file bytes × FixedAnswers job.options job.route bytes answered text
+    (bytes : List ℕ) × AreRead files job.file bytes
+    × FixedAnswers job.options job.route bytes answered text
 JobAnswers (CheckPlan job) files answered text =
     (bytes : List ℕ) × AreRead files job.file bytes
-    × ((plan_bytes : List ℕ) × AreRead files job.plan plan_bytes × CheckAnswers job.limit bytes plan_bytes answered text)
+    × ((plan_bytes : List ℕ) × AreRead files job.plan plan_bytes
+    × CheckAnswers job.limit bytes plan_bytes answered text)
+JobAnswers (ConvertFile job) files answered text =
+    (bytes : List ℕ) × AreRead files job.file bytes × ConvertAnswers job bytes answered text
 
 -- the cause of a status holds of the job's files: some text is its answer to them
 abbrev pub HasCause : Job → Option Files → Status → Type 0
@@ -50,7 +55,9 @@ IsAnswered status.Refused = Unit {0}
 IsAnswered other = ⊥
 
 -- the text of the status was put
-pub record PutsAnswer (job : Job) (files : Option Files) (old new : Option (List ℕ)) (answered : Status) : Type 0 where
+pub record PutsAnswer
+    (job : Job) (files : Option Files) (old new : Option (List ℕ)) (answered : Status)
+    : Type 0 where
   pub text : List ℕ
   pub answers : JobAnswers job files answered text
   pub put : Adds old new text
@@ -58,7 +65,9 @@ pub record PutsAnswer (job : Job) (files : Option Files) (old new : Option (List
 -- nothing was put, or a prefix of a text that the job may put
 abbrev pub PutsPart : Job → Option Files → Option (List ℕ) → Option (List ℕ) → Type 0
 PutsPart job files old new =
-    (new ≡ old) ⊎ ((answered : Status) × ((text : List ℕ) × JobAnswers job files answered text × AddsPrefix old new text))
+    (new ≡ old)
+    ⊎ ((answered : Status) × ((text : List ℕ)
+    × JobAnswers job files answered text × AddsPrefix old new text))
 
 -- a read of the name failed
 abbrev pub HasFailedRead : ShelfState → ShelfState → List ℕ → Type 0
@@ -67,42 +76,95 @@ HasFailedRead before after name = Rose (before.failed_reads name) (after.failed_
 -- `check` comes to its plan file: no rule of a step before it is broken
 abbrev pub ComesToPlan : CheckJob → Option Files → Type 0
 ComesToPlan job files =
-    (bytes : List ℕ) × AreRead files job.file bytes × ((g : Network) × HasFleetNetwork job.limit bytes g)
+    (bytes : List ℕ) × AreRead files job.file bytes
+    × ((g : Network) × HasFleetNetwork job.limit bytes g)
 
--- a read of one of the job's files failed when its step came
+-- a write of the name failed
+abbrev pub HasFailedWrite : ShelfState → ShelfState → List ℕ → Type 0
+HasFailedWrite before after name = Rose (before.failed_writes name) (after.failed_writes name)
+
+-- `convert` comes to the file that it writes: no rule of its file and its digits is broken
+abbrev pub ComesToWrite : ConvertJob → Option Files → Type 0
+ComesToWrite job files =
+    (bytes : List ℕ) × AreRead files job.file bytes
+    × ((whole : List ℕ) × BecomesWhole job bytes whole)
+
+-- the file that `convert` writes failed when its step came
+abbrev pub HasWriteFault : ConvertJob → ShelfState → ShelfState → Type 0
+HasWriteFault job before after =
+    HasFailedWrite before after job.outfile × ComesToWrite job before.files
+
+-- a read or a write of one of the job's files failed when its step came
 abbrev pub HasFileFault : Job → ShelfState → ShelfState → Type 0
 HasFileFault (FixedRoute job) before after = HasFailedRead before after job.file
 HasFileFault (CheckPlan job) before after =
-    HasFailedRead before after job.file ⊎ (HasFailedRead before after job.plan × ComesToPlan job before.files)
+    HasFailedRead before after job.file
+    ⊎ (HasFailedRead before after job.plan × ComesToPlan job before.files)
+HasFileFault (ConvertFile job) before after =
+    HasFailedRead before after job.file ⊎ HasWriteFault job before after
+
+-- the output failed when its step came: `convert` puts nothing but a refusal
+abbrev pub HasOutputFault : Job → Option Files → SinkState → SinkState → Type 0
+HasOutputFault (FixedRoute job) files old new = Rose old.faults new.faults
+HasOutputFault (CheckPlan job) files old new = Rose old.faults new.faults
+HasOutputFault (ConvertFile job) files old new =
+    Rose old.faults new.faults × HasCause (ConvertFile job) files status.Refused
 
 -- one of the job's files failed, or the output did
 abbrev pub HasFaultCause : Job → ShelfState → ShelfState → SinkState → SinkState → Type 0
-HasFaultCause job before after old new = HasFileFault job before after ⊎ Rose old.faults new.faults
+HasFaultCause job before after old new =
+    HasFileFault job before after ⊎ HasOutputFault job before.files old new
 
 -- the job ends with this status, unless a file or the output failed or memory was refused
 abbrev pub EndsUnlessHindered : Status → Status → Type 0
-EndsUnlessHindered wanted ended = (ended ≡ wanted) ⊎ (ended ≡ status.Fault) ⊎ (ended ≡ status.Memory)
+EndsUnlessHindered wanted ended =
+    (ended ≡ wanted) ⊎ (ended ≡ status.Fault) ⊎ (ended ≡ status.Memory)
 
 -- the job's files break no rule
 pub record BreakNoRule (job : Job) (files : Option Files) : Type 0 where
   pub told : IsTold files
   pub unbroken : HasCause job files status.Refused → ⊥
 
+-- the file that `convert` writes holds exactly what the file that it reads becomes, and every other file what it held
+pub record WritesWhole (job : ConvertJob) (old new : Option Files) : Type 0 where
+  pub bytes : List ℕ
+  pub read : AreRead old job.file bytes
+  pub whole : List ℕ
+  pub becomes : BecomesWhole job bytes whole
+  pub written : HoldsUnder new job.outfile whole
+  pub others : KeepsOthers job.outfile old new
+
+-- what `convert` leaves under its names: nothing is known of the written one alone, where its write failed
+abbrev pub LeavesWhole : ConvertJob → ShelfState → ShelfState → Status → Type 0
+LeavesWhole job before after status.Done = WritesWhole job before.files after.files
+LeavesWhole job before after status.Fault =
+    (after.files ≡ before.files)
+    ⊎ (HasWriteFault job before after × KeepsOthers job.outfile before.files after.files)
+LeavesWhole job before after other = after.files ≡ before.files
+
+-- what a job that ends with this status leaves under all names
+abbrev pub LeavesFiles : Job → ShelfState → ShelfState → Status → Type 0
+LeavesFiles (FixedRoute job) before after ended = after.files ≡ before.files
+LeavesFiles (CheckPlan job) before after ended = after.files ≡ before.files
+LeavesFiles (ConvertFile job) before after ended = LeavesWhole job before after ended
+
 -- what the program owes for a job: from the shelf before to the shelf after, from the old output to the new one
-pub record Performs (job : Job) (before after : ShelfState) (old new : SinkState) (ended : Status) : Type 0 where
+pub record Performs
+    (job : Job) (before after : ShelfState) (old new : SinkState) (ended : Status) : Type 0 where
   -- what the status says is true of the job's files, and its text was put
   pub answer : IsAnswered ended → PutsAnswer job before.files old.written new.written ended
   -- however the job ends, nothing else is put than a text that it may put, or a prefix of one
   pub part : PutsPart job before.files old.written new.written
   -- a status comes exactly where its cause holds
-  pub exact : IsTold before.files → (wanted : Status) → HasCause job before.files wanted → EndsUnlessHindered wanted ended
+  pub exact : IsTold before.files → (wanted : Status) → HasCause job before.files wanted →
+      EndsUnlessHindered wanted ended
   -- a fault comes only where one of the job's files failed in its turn, or the output did
   pub fault : ended ≡ status.Fault → HasFaultCause job before after old new
   -- where no rule is broken and nothing failed, the job is done, or its answer is negative, or memory was refused
   pub complete : BreakNoRule job before.files → (HasFaultCause job before after old new → ⊥)
       → (ended ≡ status.Done) ⊎ (ended ≡ status.Negative) ⊎ (ended ≡ status.Memory)
-  -- files are read alone
-  pub files : after.files ≡ before.files
+  -- files are read alone, but for the one that `convert` writes
+  pub files : LeavesFiles job before after ended
 
 -- no count of failed calls is what it was not before
 pub record NothingFailed (before after : ShelfState) (old new : SinkState) : Type 0 where
@@ -110,7 +172,8 @@ pub record NothingFailed (before after : ShelfState) (old new : SinkState) : Typ
   pub sink : new.faults ≡ old.faults
 
 -- what the program owes where its words name no job: it tells how it is called
-pub record TellsUsage (before after : ShelfState) (old new : SinkState) (ended : Status) : Type 0 where
+pub record TellsUsage
+    (before after : ShelfState) (old new : SinkState) (ended : Status) : Type 0 where
   -- the status tells that, unless the output failed or memory was refused
   pub ends : EndsUnlessHindered status.Words ended
   -- then the usage text was put

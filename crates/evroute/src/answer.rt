@@ -1,9 +1,10 @@
 //! What a job puts, and why one of its steps may be the last.
 
-ghost use Rattle.std.specs.Prelude.{◌≡◌, IfOk};
+ghost use Rattle.std.specs.Prelude.{◌≡◌, IfErr, IfOk};
 ghost use Rattle.plan_writer.specs.RefusalText.{IsRule, refusal_text};
 
 use crate::status::Status;
+use ev_outside::ShelfFault;
 use plan_writer::{Refusal, push_refusal};
 use std::alloc::{AllocError, Global};
 
@@ -35,4 +36,17 @@ pub fn refused(alloc: Global, refusal: Refusal) -> Result<Answer, AllocError>
         status: Status::Refused,
         text,
     })
+}
+
+/// The line of a refusal as the answer to a job.
+pub fn refused_job(alloc: Global, refusal: Refusal) -> Result<Answer, ShelfFault>
+    requires { IsRule refusal }
+    ensures status { IfOk result (λ a. a.status ≡ Status.Refused) }
+    ensures text { IfOk result (λ a. a.text.items ≡ refusal_text refusal) }
+    ensures memory { IfErr result (λ fault. fault ≡ ShelfFault.Memory) }
+{
+    match refused(alloc, refusal) {
+        Ok(answer) => Ok(answer),
+        Err(AllocError) => Err(ShelfFault::Memory),
+    }
 }

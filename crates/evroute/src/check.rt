@@ -12,7 +12,7 @@ ghost use Rattle.plan_writer.specs.declared.check.Judgement.TheVariants as judge
 ghost use Rattle.plan_writer.specs.RefusalText.{IsRule, refusal_text};
 ghost use Rattle.route_plan.specs.PlanTexts.{SpellsFleetPlan};
 
-use crate::answer::{Answer, Ended, refused};
+use crate::answer::{Answer, Ended, refused, refused_job};
 use crate::instance::limited_instance;
 use crate::status::Status;
 use crate::steps::read_file;
@@ -45,19 +45,6 @@ pub fn check<S: Shelf>(
         Ok(inst) => check_on(alloc, &inst, plan, shelf),
         Err(Ended::Refused(refusal)) => refused_job(alloc, refusal),
         Err(Ended::Memory) => Err(ShelfFault::Memory),
-    }
-}
-
-/// The line of a refusal as the answer to a job.
-fn refused_job(alloc: Global, refusal: Refusal) -> Result<Answer, ShelfFault>
-    requires { IsRule refusal }
-    ensures status { IfOk result (λ a. a.status ≡ Status.Refused) }
-    ensures text { IfOk result (λ a. a.text.items ≡ refusal_text refusal) }
-    ensures memory { IfErr result (λ fault. fault ≡ ShelfFault.Memory) }
-{
-    match refused(alloc, refusal) {
-        Ok(answer) => Ok(answer),
-        Err(AllocError) => Err(ShelfFault::Memory),
     }
 }
 

@@ -10,6 +10,7 @@ ghost use Rattle.evroute.specs.declared.status.Status.{Status};
 
 use crate::answer::Answer;
 use crate::check::check;
+use crate::convert::convert;
 use crate::fixed::fixed;
 use crate::status::Status;
 use crate::steps::put_answer;
@@ -23,9 +24,14 @@ use std::alloc::{AllocError, Global};
 /// `fixed FILE ROUTE [--limit N] [--charge N]` reads FILE as an instance and puts a fastest plan of the route
 /// ([`Status::Done`]), or that none is feasible ([`Status::Negative`]). `check FILE PLAN [--limit N]` reads PLAN
 /// as a fleet plan on the instance of FILE and puts that it is accepted and its cost ([`Status::Done`]), or the
-/// first rule that the plan breaks ([`Status::Negative`]). Both put the line of the first broken rule of their
-/// files and words ([`Status::Refused`]). Other words put the usage text ([`Status::Words`]). After
-/// [`Status::Fault`] and [`Status::Memory`] a part of such a text may have been put. Files are read alone.
+/// first rule that the plan breaks ([`Status::Negative`]).
+/// `convert FILE OUTFILE --time-digits N --energy-digits N` reads FILE, writes it into OUTFILE with the numbers under
+/// the keys of times and energies as whole ones, each rounded up, and puts nothing ([`Status::Done`]).
+///
+/// All put the line of the first broken rule of their files and words ([`Status::Refused`]). Other words put the usage
+/// text ([`Status::Words`]). After [`Status::Fault`] and [`Status::Memory`] a part of such a text may have been put.
+/// No file but OUTFILE is written, and that one only where no rule is broken; what it holds after a failed write isn't
+/// known.
 pub fn run<S: Shelf, K: Sink>(alloc: Global, words: &[String], shelf: &mut S, out: &mut K) -> Status
     ensures words { result ≡ Status.Words → IsNone (job_named words.now) }
     ensures usage { IsNone (job_named words.now)
@@ -102,6 +108,14 @@ fn find_answer<S: Shelf>(alloc: Global, job: &Job, shelf: &mut S) -> Result<Answ
             job.file.as_str(),
             job.plan.as_str(),
             job.limit,
+            shelf,
+        ),
+        Job::Convert(job) => convert(
+            alloc,
+            job.file.as_str(),
+            job.outfile.as_str(),
+            job.time_digits,
+            job.energy_digits,
             shelf,
         ),
     }

@@ -4,6 +4,7 @@
 mod answer;
 mod check;
 mod command;
+mod convert;
 mod fixed;
 mod instance;
 mod status;

@@ -1,6 +1,6 @@
 //! The steps at the edge: reading a file, putting an answer.
 
-ghost use Rattle.std.specs.Prelude.{◌≡◌, ◌≢◌, IfOk, IsErrOf};
+ghost use Rattle.std.specs.Prelude.{◌≡◌, ◌≢◌, IfOk, IsErrOf, []};
 ghost use Rattle.ev_outside.specs.Shelf.{CountsNeverFall, CountsStay};
 ghost use Rattle.ev_outside.specs.Counts.{Rose};
 ghost use Rattle.ev_outside.specs.Sink.{Adds, AddsPrefix};
@@ -32,6 +32,7 @@ pub fn read_file<S: Shelf>(alloc: Global, name: &str, shelf: &mut S) -> Result<V
 }
 
 /// Puts the text of an answer. The status is that of the answer, unless the output fails or memory is refused.
+/// Where the text is empty the output isn't called.
 pub fn put_answer<K: Sink>(answer: &Answer, out: &mut K) -> Status
     requires { IsAnswered answer.now.status }
     ensures answer { IsAnswered result → (result ≡ answer.now.status)
@@ -40,9 +41,14 @@ pub fn put_answer<K: Sink>(answer: &Answer, out: &mut K) -> Status
         (K.state out.new).written answer.now.text.items }
     ensures fault { result ≡ Status.Fault → Rose (K.state out.old).faults (K.state out.new).faults }
     ensures stays { result ≢ Status.Fault → (K.state out.new).faults ≡ (K.state out.old).faults }
+    ensures empty { answer.now.text.items ≡ []
+        → (result ≡ answer.now.status) × (K.state out.new ≡ K.state out.old) }
     ensures words { result ≢ Status.Words }
     ensures stopped { result ≢ Status.Stopped }
 {
+    if answer.text.is_empty() {
+        return answer.status;
+    }
     match out.put(answer.text.as_slice()) {
         Ok(()) => answer.status,
         Err(SinkFault::Failed) => Status::Fault,

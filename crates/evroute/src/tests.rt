@@ -15,6 +15,39 @@ const WITH_RESERVE: &str =
 const FINE_LEVELS: &str =
     r#"{"max_q":1000000000,"css":[{"node_id":2,"cs_type":"fast"}],"breakpoints_by_type":[{"cs_type":"fast","time":[0,4,10],"charge":[0,800000000,1000000000]}],"process_times":[0,0,0],"energy_matrix":[[0,600000000,300000000],[600000000,0,200000000],[500000000,200000000,0]],"time_matrix":[[0,10,8],[10,0,3],[8,3,0]]}"#;
 
+/// A file with decimals.
+const DECIMALS: &str =
+    r#"{"max_q":16000.0,"t_max":10.0,"css":[{"node_id":2,"cs_type":"normal"}],"breakpoints_by_type":[{"cs_type":"normal","time":[0.0,0.62,0.77,1.01],"charge":[0.0,13600.0,15200.0,16000.0]}],"process_times":[0.0,0.5,0.0],"energy_matrix":[[0.0,9000.4,5000.0],[9000.4,0.0,4100.5],[5000.0,4100.5,0.0]],"time_matrix":[[0.0,1.8,1.0],[1.8,0.0,0.82],[1.01,0.82,0.0]]}"#;
+
+/// Files in memory where `A` holds an instance and `P` a plan, and the calls with these numbers fail.
+fn shelf_with(
+    alloc: Global,
+    instance: &str,
+    plan: &str,
+    failing: &[u64],
+) -> Result<MemoryShelf, AllocError> {
+    let mut shelf = MemoryShelf::new(alloc, Vec::from_slice(alloc, failing)?);
+    shelf.set("A", instance.as_bytes())?;
+    shelf.set("P", plan.as_bytes())?;
+    Ok(shelf)
+}
+
+/// How the program ends on these files, and what it puts, where the calls of the output with these numbers fail.
+fn run_with(
+    alloc: Global,
+    line: &str,
+    shelf: &mut MemoryShelf,
+    failing_puts: &[u64],
+) -> Result<(Status, Vec<u8>), AllocError> {
+    let mut words = Vec::new(alloc);
+    for word in line.split(' ') {
+        words.push(String::from_str(alloc, word)?)?;
+    }
+    let mut out = MemorySink::new(alloc, Vec::from_slice(alloc, failing_puts)?);
+    let status = run(alloc, words.as_slice(), shelf, &mut out);
+    Ok((status, Vec::from_slice(alloc, out.bytes())?))
+}
+
 /// How the program ends, and what it puts, where `A` holds an instance and `P` a plan, and the calls of the shelf and
 /// of the output with these numbers fail.
 fn run_on(
@@ -22,19 +55,11 @@ fn run_on(
     line: &str,
     instance: &str,
     plan: &str,
-    failing_reads: &[u64],
+    failing_calls: &[u64],
     failing_puts: &[u64],
 ) -> Result<(Status, Vec<u8>), AllocError> {
-    let mut words = Vec::new(alloc);
-    for word in line.split(' ') {
-        words.push(String::from_str(alloc, word)?)?;
-    }
-    let mut shelf = MemoryShelf::new(alloc, Vec::from_slice(alloc, failing_reads)?);
-    shelf.set("A", instance.as_bytes())?;
-    shelf.set("P", plan.as_bytes())?;
-    let mut out = MemorySink::new(alloc, Vec::from_slice(alloc, failing_puts)?);
-    let status = run(alloc, words.as_slice(), &mut shelf, &mut out);
-    Ok((status, Vec::from_slice(alloc, out.bytes())?))
+    let mut shelf = shelf_with(alloc, instance, plan, failing_calls)?;
+    run_with(alloc, line, &mut shelf, failing_puts)
 }
 
 #[test]
@@ -202,9 +227,86 @@ fn the_reserve_is_kept(rt: HostRuntime) {
 }
 
 #[test]
+fn decimals_become_whole_in_another_file(rt: HostRuntime) {
+    let alloc = rt.alloc();
+    let whole = "convert A W --time-digits 0 --energy-digits 0";
+    let cases = [
+        (
+            whole,
+            r#"{"max_q":2.5}"#,
+            Status::Done,
+            "",
+            r#"{"max_q":3}"#,
+        ),
+        (
+            "convert A W --time-digits 3 --energy-digits 0",
+            r#"{"time":[1e-05]}"#,
+            Status::Done,
+            "",
+            r#"{"time":[1]}"#,
+        ),
+        (
+            whole,
+            r#"{"max_q":-0.5}"#,
+            Status::Refused,
+            "refused literal 2 at 9\n",
+            "not there",
+        ),
+        (
+            "convert A W --time-digits 10 --energy-digits 0",
+            "{}",
+            Status::Refused,
+            "refused literal 4\n",
+            "not there",
+        ),
+        (
+            "convert B W --time-digits 10 --energy-digits 0",
+            "{}",
+            Status::Fault,
+            "",
+            "not there",
+        ),
+        (
+            "convert A A --time-digits 0 --energy-digits 0",
+            "{}",
+            Status::Words,
+            usage(),
+            "not there",
+        ),
+    ];
+    for (line, text, status, put, written) in cases {
+        let mut shelf = shelf_with(alloc, text, "", &[]).expect(&rt, "memory");
+        let ended = run_with(alloc, line, &mut shelf, &[]).expect(&rt, "memory");
+        assert_eq!(rt; ended.0, status, "{line}");
+        assert_eq!(rt; ended.1.as_slice(), put.as_bytes());
+        let under = shelf.get("W").unwrap_or(b"not there".as_slice());
+        assert_eq!(rt; under, written.as_bytes());
+    }
+}
+
+#[test]
+fn a_file_with_decimals_is_converted_and_then_charged(rt: HostRuntime) {
+    let alloc = rt.alloc();
+    let mut shelf = shelf_with(alloc, DECIMALS, "", &[]).expect(&rt, "memory");
+    let lines = [
+        ("convert A W --time-digits 2 --energy-digits 0", ""),
+        (
+            "fixed W 0,1,0",
+            "time 11467048/27200\nat 0\nvia 2 charge 2102\nat 1\nat 0\n",
+        ),
+    ];
+    for (line, put) in lines {
+        let ended = run_with(alloc, line, &mut shelf, &[]).expect(&rt, "memory");
+        assert_eq!(rt; ended.0, Status::Done, "{line}");
+        assert_eq!(rt; ended.1.as_slice(), put.as_bytes());
+    }
+}
+
+#[test]
 fn a_failing_file_or_output_is_a_fault(rt: HostRuntime) {
     let alloc = rt.alloc();
     let half_usage = &usage()[..usage().len() / 2];
+    let whole = "convert A W --time-digits 0 --energy-digits 0";
     let cases = [
         (
             "fixed A 0,1,0",
@@ -240,15 +342,18 @@ fn a_failing_file_or_output_is_a_fault(rt: HostRuntime) {
             Status::Fault,
             "accepted\n",
         ),
+        (whole, ONE_STATION, Some(1), None, Status::Fault, ""),
+        (whole, ONE_STATION, None, Some(0), Status::Done, ""),
+        (whole, "{", None, Some(0), Status::Fault, "refused lit"),
         ("check", "", None, Some(0), Status::Fault, half_usage),
     ];
-    for (line, instance, failing_read, failing_put, status, put) in cases {
+    for (line, instance, failing_call, failing_put, status, put) in cases {
         let ended = run_on(
             alloc,
             line,
             instance,
             CHARGED,
-            failing_read.as_slice(),
+            failing_call.as_slice(),
             failing_put.as_slice(),
         )
         .expect(&rt, "memory");

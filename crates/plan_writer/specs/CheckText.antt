@@ -25,12 +25,14 @@ walk_text (walk.Late at) = codes "7 at " ++ decimal at
 
 -- the number of the rule that a plan breaks, and the route, the customer or the stop that breaks it
 abbrev pub rule_text : PlanFault → List ℕ
-rule_text (plan.Walk route fault) = codes "1 route " ++ decimal route ++ codes " walk " ++ walk_text fault
+rule_text (plan.Walk route fault) =
+    codes "1 route " ++ decimal route ++ codes " walk " ++ walk_text fault
 rule_text (plan.Twice customer) = codes "2 customer " ++ decimal customer
 rule_text (plan.Unserved customer) = codes "3 customer " ++ decimal customer
 rule_text (plan.EmptyRoute route) = codes "4 route " ++ decimal route
 rule_text (plan.Stray route at) = codes "5 route " ++ decimal route ++ codes " at " ++ decimal at
 
 abbrev pub check_text : ℕ → Judgement → List ℕ
-check_text denominator (Accepted cost) = codes "accepted" ++ 10 ∷ codes "cost " ++ cost_text denominator cost ++ 10 ∷ []
+check_text denominator (Accepted cost) =
+    codes "accepted" ++ 10 ∷ codes "cost " ++ cost_text denominator cost ++ 10 ∷ []
 check_text denominator (Plan fault) = codes "rejected plan " ++ rule_text fault ++ 10 ∷ []

@@ -11,7 +11,9 @@ amount_text added = if nat_lt 0 added then codes " charge " ++ decimal added els
 
 -- a stop that was inserted is `via` its node, another is `at` it
 abbrev pub stop_line : Stop → List ℕ
-stop_line s = (if s.via then codes "via " else codes "at ") ++ decimal s.node ++ amount_text s.added ++ 10 ∷ []
+stop_line s =
+    (if s.via then codes "via " else codes "at ")
+    ++ decimal s.node ++ amount_text s.added ++ 10 ∷ []
 
 abbrev pub stop_lines : List Stop → List ℕ
 stop_lines [] = []
@@ -20,4 +22,5 @@ stop_lines (s ∷ ss) = stop_line s ++ stop_lines ss
 -- a plan with its scaled time, or none
 abbrev pub fixed_text : ℕ → Option (List Stop × ℕ) → List ℕ
 fixed_text denominator None = codes "infeasible" ++ 10 ∷ []
-fixed_text denominator (Some plan) = codes "time " ++ over denominator plan.1 ++ 10 ∷ [] ++ stop_lines plan.0
+fixed_text denominator (Some plan) =
+    codes "time " ++ over denominator plan.1 ++ 10 ∷ [] ++ stop_lines plan.0

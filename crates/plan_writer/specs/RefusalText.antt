@@ -3,6 +3,8 @@
 use Rattle.std.specs.Prelude.{◌≢◌, ℕ, ◌++◌, ◌∷◌, [], List, Option, None, Some, decimal, codes}
 use Rattle.charge_curve.specs.declared.fault.CurveFault.{CurveFault}
 use Rattle.charge_curve.specs.declared.fault.CurveFault.TheVariants as curve
+use Rattle.decimal_import.specs.declared.fault.ImportFault.{ImportFault}
+use Rattle.decimal_import.specs.declared.fault.ImportFault.TheVariants as literal
 use Rattle.ev_text.specs.declared.TextFault.{TextFault}
 use Rattle.ev_text.specs.declared.TextFault.TheVariants as text
 use Rattle.instance_reader.specs.Places.{key_text, part_text}
@@ -15,7 +17,7 @@ use Rattle.route_plan.specs.declared.text.plan_text.PlanText.TheVariants as plan
 use Rattle.route_plan.specs.declared.route.RouteFault.{RouteFault}
 use Rattle.route_plan.specs.declared.route.RouteFault.TheVariants as route
 use Rattle.plan_writer.specs.declared.refusal.Refusal.{Refusal}
-use Rattle.plan_writer.specs.declared.refusal.Refusal.TheVariants.{Instance, Limit, Charge, Route, Levels, Customers, Plan}
+use Rattle.plan_writer.specs.declared.refusal.Refusal.TheVariants.{Instance, Limit, Charge, Route, Levels, Customers, Plan, Literal}
 
 -- the fault of an instance is a rule: neither it nor the fault of a curve in it is want of memory
 pub record IsInstanceRule (fault : ReadFault) : Type 0 where
@@ -27,6 +29,7 @@ abbrev pub IsRule : Refusal → Type 0
 IsRule (Instance fault) = IsInstanceRule fault
 IsRule (Route fault) = fault ≢ route.Memory
 IsRule (Plan fault) = fault ≢ plan.Memory
+IsRule (Literal fault) = fault ≢ literal.Memory
 IsRule other = Unit {0}
 
 -- an index behind a slash, where there is one
@@ -40,7 +43,8 @@ slash_part (Some part) = codes "/" ++ part_text part
 
 -- keys and indices joined by slashes
 abbrev pub place_text : Place → List ℕ
-place_text place = key_text place.key ++ slash_index place.i ++ slash_part place.part ++ slash_index place.j
+place_text place =
+    key_text place.key ++ slash_index place.i ++ slash_part place.part ++ slash_index place.j
 
 abbrev pub curve_text : CurveFault → List ℕ
 curve_text curve.Start = codes "start"
@@ -52,7 +56,8 @@ curve_text curve.Memory = []
 
 -- the entry of a curve and its broken rule
 abbrev pub curve_fault_text : ℕ → CurveFault → List ℕ
-curve_fault_text index fault = codes "9 breakpoints_by_type/" ++ decimal index ++ codes " " ++ curve_text fault
+curve_fault_text index fault =
+    codes "9 breakpoints_by_type/" ++ decimal index ++ codes " " ++ curve_text fault
 
 abbrev pub instance_text : ReadFault → List ℕ
 instance_text (instance.TooLong len) = codes "1 " ++ decimal len
@@ -90,6 +95,15 @@ plan_fault_text (plan.Bad fault) = fault_text fault
 plan_fault_text (plan.TooLong len) = codes "5 " ++ decimal len
 plan_fault_text plan.Memory = []
 
+-- a place is a byte of the file that is converted
+abbrev pub literal_text : ImportFault → List ℕ
+literal_text (literal.Token at) = codes "1 at " ++ decimal at
+literal_text (literal.Negative at) = codes "2 at " ++ decimal at
+literal_text (literal.TooLarge at) = codes "3 at " ++ decimal at
+literal_text literal.Digits = codes "4"
+literal_text (literal.TooLong len) = codes "5 " ++ decimal len
+literal_text literal.Memory = []
+
 abbrev pub cause_text : Refusal → List ℕ
 cause_text (Instance fault) = codes "instance " ++ instance_text fault
 cause_text (Limit limit) = codes "limit " ++ decimal limit
@@ -98,6 +112,7 @@ cause_text (Route fault) = codes "route " ++ route_text fault
 cause_text (Levels cells) = codes "levels " ++ decimal cells
 cause_text (Customers count) = codes "customers " ++ decimal count
 cause_text (Plan fault) = codes "plan " ++ plan_fault_text fault
+cause_text (Literal fault) = codes "literal " ++ literal_text fault
 
 abbrev pub refusal_text : Refusal → List ℕ
 refusal_text refusal = codes "refused " ++ cause_text refusal ++ 10 ∷ []

@@ -2,10 +2,11 @@
 
 ghost use Rattle.std.specs.Prelude.{◌≡◌, ◌≢◌, ◌++◌, OnErr, OnOk, codes, decimal};
 ghost use Rattle.ev_text.specs.Scans.{IsPrefixOf};
-ghost use Rattle.plan_writer.specs.RefusalText.{IsInstanceRule, IsRule, cause_text, curve_fault_text, curve_text, fault_text, instance_text, place_text, plan_fault_text, refusal_text, route_text, slash_index, slash_part};
+ghost use Rattle.plan_writer.specs.RefusalText.{IsInstanceRule, IsRule, cause_text, curve_fault_text, curve_text, fault_text, instance_text, literal_text, place_text, plan_fault_text, refusal_text, route_text, slash_index, slash_part};
 
 use crate::words::{push_numbered, push_word};
 use charge_curve::CurveFault;
+use decimal_import::ImportFault;
 use ev_text::TextFault;
 use instance_reader::{Part, Place, ReadFault};
 use route_plan::{PlanText, RouteFault};
@@ -28,6 +29,8 @@ pub enum Refusal {
     Customers(usize),
     /// The bytes of the plan's file are no text of a fleet plan.
     Plan(PlanText),
+    /// The bytes of the file aren't converted to whole units.
+    Literal(ImportFault),
 }
 
 /// Appends the line of a refusal: its kind, the number of the broken rule, and the place or the
@@ -66,6 +69,10 @@ fn push_cause(alloc: Global, out: &mut Vec<u8>, refusal: &Refusal) -> Result<(),
         Refusal::Plan(fault) => {
             out.extend_from_slice(b"plan ")?;
             push_plan_fault(alloc, out, fault)
+        }
+        Refusal::Literal(fault) => {
+            out.extend_from_slice(b"literal ")?;
+            push_literal_fault(alloc, out, fault)
         }
     }
 }
@@ -226,5 +233,26 @@ fn push_text_fault(alloc: Global, out: &mut Vec<u8>, fault: &TextFault) -> Resul
         TextFault::TooLarge { at } => push_numbered(alloc, out, b"2 at ", *at as u128),
         TextFault::Word { at } => push_numbered(alloc, out, b"3 at ", *at as u128),
         TextFault::End { at } => push_numbered(alloc, out, b"4 at ", *at as u128),
+    }
+}
+
+/// Appends the number of a broken rule of a conversion, and its place or the length of the file.
+fn push_literal_fault(
+    alloc: Global,
+    out: &mut Vec<u8>,
+    fault: &ImportFault,
+) -> Result<(), AllocError>
+    requires { fault.now ≢ ImportFault.Memory }
+    ensures ok { OnOk result (out.new.items ≡ out.old.items ++ literal_text fault.now) }
+    ensures err { OnErr result (IsPrefixOf out.old.items out.new.items) }
+{
+    match fault {
+        ImportFault::Token { at } => push_numbered(alloc, out, b"1 at ", *at as u128),
+        ImportFault::Negative { at } => push_numbered(alloc, out, b"2 at ", *at as u128),
+        ImportFault::TooLarge { at } => push_numbered(alloc, out, b"3 at ", *at as u128),
+        ImportFault::Digits => push_word(out, b"4"),
+        ImportFault::TooLong { len } => push_numbered(alloc, out, b"5 ", *len as u128),
+        // No rule, and excluded by the condition.
+        ImportFault::Memory => Ok(()),
     }
 }

@@ -1,5 +1,6 @@
 use crate::{Judgement, Refusal, push_check_report, push_fixed, push_refusal};
 use charge_curve::CurveFault;
+use decimal_import::ImportFault;
 use ev_list::Listed;
 use ev_model::Stop;
 use ev_text::TextFault;
@@ -87,6 +88,23 @@ fn refusals_have_their_lines(rt: HostRuntime) {
         (Refusal::Route(RouteFault::Ends), "refused route 4\n"),
         (Refusal::Levels(4000000004), "refused levels 4000000004\n"),
         (Refusal::Customers(129), "refused customers 129\n"),
+        (
+            Refusal::Literal(ImportFault::Token { at: 12 }),
+            "refused literal 1 at 12\n",
+        ),
+        (
+            Refusal::Literal(ImportFault::Negative { at: 9 }),
+            "refused literal 2 at 9\n",
+        ),
+        (
+            Refusal::Literal(ImportFault::TooLarge { at: 10 }),
+            "refused literal 3 at 10\n",
+        ),
+        (Refusal::Literal(ImportFault::Digits), "refused literal 4\n"),
+        (
+            Refusal::Literal(ImportFault::TooLong { len: 67108865 }),
+            "refused literal 5 67108865\n",
+        ),
     ];
     for (refusal, line) in cases {
         let mut out = Vec::new(alloc);
