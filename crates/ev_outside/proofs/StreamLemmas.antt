@@ -1,10 +1,9 @@
 -- How far a loop over the reads or writes of std has come.
-use Rattle.std.proofs.Common.{◌≡◌, ◌∙◌, sym, ap, ℕ, ◌+◌, ◌-◌, ◌≤◌, List, ◌++◌, length, take, Option, Some, None, IfSome, arith, append_assoc, length-append, length-drop, subst, drop}
+use Rattle.std.proofs.Common.{◌≡◌, ◌∙◌, sym, ap, ℕ, ◌+◌, ◌-◌, ◌≤◌, List, ◌++◌, length, take, Option, Some, None, IfSome, arith, append_assoc, length-append, length-drop, drop}
 use Rattle.std.proofs.lemmas.List.{append-nil, take_all, take-append-drop, take_rest}
 use Rattle.std.proofs.Math.Seq.{take-append_seam, take-add}
-use Rattle.std.specs.Io.KnownBytes.{Consumes, Appends, Keeps, IsAtEnd}
+use Rattle.std.specs.Io.KnownBytes.{Consumes, IsAtEnd}
 use Rattle.ev_text.specs.Scans.{IsPrefixOf}
-use Rattle.ev_outside.specs.Sink.{AppendsPrefix}
 
 -- A part of what the source had was appended, and `left` bytes of `most` are still wanted.
 pub record HasRead (before now : Option (List ℕ)) (old new : List ℕ) (most left : ℕ) : Type 0 where
@@ -46,33 +45,14 @@ HasRead-end (Some whole) (Some rest) old new most left h end =
     let taken : take most whole ≡ whole = take_all most whole short in
     h.appended ∙ ap (λ xs. old ++ xs) (sym all ∙ sym taken)
 
-pub Appends-append : (a b c : Option (List ℕ)) (xs ys : List ℕ) → Appends a b xs → Appends b c ys → Appends a c (xs ++ ys)
-Appends-append None b c xs ys p q = p
-Appends-append (Some a) None c xs ys p q = absurd p
-Appends-append (Some a) (Some b) None xs ys p q = absurd q
-Appends-append (Some a) (Some b) (Some c) xs ys p q = q ∙ ap (λ n. n ++ ys) p ∙ append_assoc a xs ys
-
--- A write that took the next `count` bytes.
-pub Appends-take-more : (a b c : Option (List ℕ)) (bytes : List ℕ) (at count : ℕ) → Appends a b (take at bytes) → Appends b c (take count (take (length bytes - at) (drop at bytes))) → Appends a c (take (at + count) bytes)
-Appends-take-more a b c bytes at count p q =
-    let e : take at bytes ++ take count (take (length bytes - at) (drop at bytes)) ≡ take (at + count) bytes = ap (λ xs. take at bytes ++ take count xs) (take_rest bytes at) ∙ sym (take-add at count bytes) in
-    let P : List ℕ → Type 0 = λ xs. Appends a c xs in
-    subst P e (Appends-append a b c (take at bytes) (take count (take (length bytes - at) (drop at bytes))) p q)
+-- The next `count` bytes stand behind the first ones.
+pub next_pieces : (bytes : List ℕ) (at count : ℕ) → take at bytes ++ take count (take (length bytes - at) (drop at bytes)) ≡ take (at + count) bytes
+next_pieces bytes at count = ap (λ xs. take at bytes ++ take count xs) (take_rest bytes at) ∙ sym (take-add at count bytes)
 
 -- A write takes no more than is left.
 pub within-rest : (bytes : List ℕ) (at count : ℕ) → at ≤ length bytes → count ≤ length (take (length bytes - at) (drop at bytes)) → at + count ≤ length bytes
 within-rest bytes at count h k = omega (arith, length-drop at bytes, ap length (take_rest bytes at))
 
--- A write that was refused.
-pub Appends-Keeps : (a b c : Option (List ℕ)) (xs : List ℕ) → Appends a b xs → Keeps b c → Appends a c xs
-Appends-Keeps None b c xs p q = tt
-Appends-Keeps (Some a) None c xs p q = absurd p
-Appends-Keeps (Some a) (Some b) None xs p q = absurd q
-Appends-Keeps (Some a) (Some b) (Some c) xs p q = q ∙ p
-
 -- The first bytes are a prefix.
 pub take-IsPrefixOf : (count : ℕ) (bytes : List ℕ) → IsPrefixOf (take count bytes) bytes
 take-IsPrefixOf count bytes = (drop count bytes, sym (take-append-drop count bytes))
-
-pub AppendsPrefix-take : (a c : Option (List ℕ)) (bytes : List ℕ) (count : ℕ) → Appends a c (take count bytes) → AppendsPrefix a c bytes
-AppendsPrefix-take a c bytes count p = (take count bytes, take-IsPrefixOf count bytes, p)

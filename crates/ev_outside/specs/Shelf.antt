@@ -14,11 +14,6 @@ pub record ShelfState : Type 0 where
   pub failed_reads : List ℕ → ℕ
   pub failed_writes : List ℕ → ℕ
 
--- a shelf that doesn't tell its files, with one count for all reads and writes of all names
-abbrev pub untold : ℕ → ShelfState
-untold faults =
-    record { files = None; failed_reads = λ name. faults; failed_writes = λ name. faults }
-
 -- No count is below what it was.
 pub record CountsNeverFall (before now : ShelfState) : Type 0 where
   pub reads : NeverFalls before.failed_reads now.failed_reads

@@ -1,6 +1,5 @@
 -- What calls on the output do. A sink that doesn't tell its bytes has `None` in their place.
 use Rattle.std.specs.Prelude.{◌≡◌, ℕ, List, ◌++◌, Option, Some, None}
-use Rattle.std.specs.Io.KnownBytes.{Appends}
 use Rattle.ev_text.specs.Scans.{IsPrefixOf}
 
 -- what holds of an output: the bytes that were written, where it tells them, and how many calls have failed
@@ -16,7 +15,3 @@ Adds (Some old) new bytes = new ≡ Some (old ++ bytes)
 -- A prefix of the bytes stands at the end of what was written.
 abbrev pub AddsPrefix : Option (List ℕ) → Option (List ℕ) → List ℕ → Type 0
 AddsPrefix old new bytes = (part : List ℕ) × IsPrefixOf part bytes × Adds old new part
-
--- A writer of std took a prefix of the bytes.
-abbrev pub AppendsPrefix : Option (List ℕ) → Option (List ℕ) → List ℕ → Type 0
-AppendsPrefix old new bytes = (part : List ℕ) × IsPrefixOf part bytes × Appends old new part

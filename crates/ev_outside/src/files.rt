@@ -1,97 +1,83 @@
-//! The files of the system.
-ghost use Rattle.std.specs.Prelude.{◌≡◌, ◌≤◌, ℕ, OnOk, OnErr, IsErrOf};
-ghost use Rattle.ev_outside.specs.Counts.{one_more, Rose};
+//! Named files of a system.
+ghost use Rattle.std.specs.Prelude.{◌≡◌, ◌≤◌, OnOk, OnErr, IsErrOf};
+ghost use Rattle.ev_outside.specs.Counts.{CountsOne, Rose};
 ghost use Rattle.ev_text.specs.Scans.{IsPrefixOf};
-ghost use Rattle.ev_outside.specs.Shelf.{untold, AppendsFile, CountsNeverFall, CountsStay, HoldsUnder, KeepsOthers};
+ghost use Rattle.ev_outside.specs.Shelf.{AppendsFile, CountsNeverFall, CountsStay, HoldsUnder, KeepsOthers};
+ghost use Rattle.ev_outside.specs.Storage.{files_of, shelf_of};
 
 use super::shelf::{Shelf, ShelfFault};
+use super::storage::Storage;
 use super::streams::{read_up_to, write_whole};
-use std::fs;
-use std::marker::Model;
-use std::rt::Files;
 
-/// The files of the system as a shelf, which doesn't tell their bytes. One count stands for all
-/// reads and writes of all names.
+/// The files of a storage as a shelf. All bytes are read and written, once and in order. One count, that
+/// of the storage, stands for all reads and writes of all names.
 #[derive(Drop)]
-pub struct FileShelf<'a, R: Files> {
-    rt: &'a R,
-    faults: u64,
+pub struct FileShelf<S: Storage> {
+    storage: S,
 }
 
-// A shelf of files is seen as its count of faults.
-impl<'a, R: Files> Model for FileShelf<'a, R> {
-    ghost Value = { ℕ };
-
-    ghost view = { λ shelf. shelf.faults };
-}
-
-impl<'a, R: Files> FileShelf<'a, R> {
-    /// The files that the runtime reaches. No call has failed yet.
-    pub fn new(rt: &'a R) -> Self
-        ensures { result ≡ 0 }
+impl<S: Storage> FileShelf<S> {
+    /// The files that the storage reaches.
+    pub fn new(storage: S) -> Self
+        ensures { result.storage ≡ storage }
     {
-        FileShelf { rt, faults: 0 }
-    }
-
-    /// Counts a fault, up to the last value of the count.
-    fn count_fault(&mut self)
-        ensures counted { self.new ≡ one_more self.old }
-        ensures later { self.old ≤ self.new }
-    {
-        self.faults = self.faults.saturating_add(1);
+        FileShelf { storage }
     }
 }
 
-impl<'a, R: Files> Shelf for FileShelf<'a, R> {
-    ghost state = { untold };
+impl<S: Storage> Shelf for FileShelf<S> {
+    ghost state = { λ shelf. shelf_of (S.told shelf.storage) (S.failed shelf.storage) };
 
     fn read(&mut self, name: &str, most: usize, into: &mut Vec<u8>) -> Result<(), ShelfFault>
         ensures bytes { OnOk result
-            (AppendsFile (untold self.old).files name.now most into.old.items into.new.items) }
+            (AppendsFile (files_of (S.told self.old.storage)) name.now most
+            into.old.items into.new.items) }
         ensures prefix { OnErr result (IsPrefixOf into.old.items into.new.items) }
-        ensures files { (untold self.new).files ≡ (untold self.old).files }
-        ensures failed { IsErrOf result ShelfFault.Failed → Rose self.old self.new }
-        ensures falls { CountsNeverFall (untold self.old) (untold self.new) }
-        ensures stays { (IsErrOf result ShelfFault.Failed → ⊥)
-            → CountsStay (untold self.old) (untold self.new) }
+        ensures files { files_of (S.told self.new.storage) ≡ files_of (S.told self.old.storage) }
+        ensures failed { IsErrOf result ShelfFault.Failed →
+            Rose (S.failed self.old.storage) (S.failed self.new.storage) }
+        ensures falls { CountsNeverFall
+            (shelf_of (S.told self.old.storage) (S.failed self.old.storage))
+            (shelf_of (S.told self.new.storage) (S.failed self.new.storage)) }
+        ensures stays { (IsErrOf result ShelfFault.Failed → ⊥) → CountsStay
+            (shelf_of (S.told self.old.storage) (S.failed self.old.storage))
+            (shelf_of (S.told self.new.storage) (S.failed self.new.storage)) }
 
-        // Exactly what this shelf counts.
-        ensures counted { IsErrOf result ShelfFault.Failed → self.new ≡ one_more self.old }
-        ensures uncounted { (IsErrOf result ShelfFault.Failed → ⊥) → self.new ≡ self.old }
+        // `Failed` comes exactly where a call of the storage failed.
+        ensures counted { IsErrOf result ShelfFault.Failed →
+            CountsOne (S.failed self.old.storage) (S.failed self.new.storage) }
+        ensures uncounted { (IsErrOf result ShelfFault.Failed → ⊥) →
+            S.failed self.new.storage ≡ S.failed self.old.storage }
     {
-        let result = match fs::open(self.rt, name) {
-            Ok(mut file) => read_up_to(&mut file, most, into),
-            Err(_) => Err(ShelfFault::Failed),
-        };
-        if result == Err(ShelfFault::Failed) {
-            self.count_fault();
-        }
-        result
+        self.storage.open(name)?;
+        read_up_to(&mut self.storage, most, into)
     }
 
     fn write(&mut self, name: &str, bytes: &[u8]) -> Result<(), ShelfFault>
-        ensures bytes { OnOk result (HoldsUnder (untold self.new).files name.now bytes.now) }
-        ensures others { KeepsOthers name.now (untold self.old).files (untold self.new).files }
-        ensures memory { IsErrOf result ShelfFault.Memory
-            → (untold self.new).files ≡ (untold self.old).files }
-        ensures failed { IsErrOf result ShelfFault.Failed → Rose self.old self.new }
-        ensures falls { CountsNeverFall (untold self.old) (untold self.new) }
-        ensures stays { (IsErrOf result ShelfFault.Failed → ⊥)
-            → CountsStay (untold self.old) (untold self.new) }
+        ensures bytes { OnOk result
+            (HoldsUnder (files_of (S.told self.new.storage)) name.now bytes.now) }
+        ensures others { KeepsOthers name.now (files_of (S.told self.old.storage))
+            (files_of (S.told self.new.storage)) }
+        ensures memory { IsErrOf result ShelfFault.Memory →
+            files_of (S.told self.new.storage) ≡ files_of (S.told self.old.storage) }
+        ensures failed { IsErrOf result ShelfFault.Failed →
+            Rose (S.failed self.old.storage) (S.failed self.new.storage) }
+        ensures falls { CountsNeverFall
+            (shelf_of (S.told self.old.storage) (S.failed self.old.storage))
+            (shelf_of (S.told self.new.storage) (S.failed self.new.storage)) }
+        ensures stays { (IsErrOf result ShelfFault.Failed → ⊥) → CountsStay
+            (shelf_of (S.told self.old.storage) (S.failed self.old.storage))
+            (shelf_of (S.told self.new.storage) (S.failed self.new.storage)) }
 
-        // Exactly what this shelf counts.
-        ensures counted { IsErrOf result ShelfFault.Failed → self.new ≡ one_more self.old }
+        // `Failed` comes exactly where a call of the storage failed.
+        ensures counted { IsErrOf result ShelfFault.Failed →
+            CountsOne (S.failed self.old.storage) (S.failed self.new.storage) }
+        ensures uncounted { (IsErrOf result ShelfFault.Failed → ⊥) →
+            S.failed self.new.storage ≡ S.failed self.old.storage }
         ensures never_memory { IsErrOf result ShelfFault.Memory → ⊥ }
-        ensures uncounted { (IsErrOf result ShelfFault.Failed → ⊥) → self.new ≡ self.old }
     {
-        let is_written = match fs::create(self.rt, name) {
-            Ok(mut file) => write_whole(&mut file, bytes),
-            Err(_) => false,
-        };
-        if is_written {
-            return Ok(());
-        }
-        self.count_fault();
-        Err(ShelfFault::Failed)
+        self.storage.create(name)?;
+        write_whole(&mut self.storage, bytes)?;
+        Ok(())
     }
 }

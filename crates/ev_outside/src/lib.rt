@@ -1,24 +1,35 @@
 //! What a program has outside itself: named files ([`Shelf`]) and its output ([`Sink`]).
 //!
-//! Both are traits whose calls have a written meaning. [`FileShelf`] and [`OutSink`] stand for the
-//! real files and the standard output, [`MemoryShelf`] and [`MemorySink`] are fakes in memory whose
-//! calls fail where a test wants them to.
+//! Both are traits whose calls have a written meaning. [`FileShelf`] and [`OutSink`] are proved to meet it over
+//! the calls of a system ([`Storage`], [`Stream`]), which may take or give a part. [`SystemFiles`] and
+//! [`SystemOutput`] are the real ones. [`MemoryShelf`] and [`MemorySink`] are fakes in memory whose calls fail where a
+//! test wants them to, those of [`SureShelf`] and [`SureSink`] never do.
 #![tactic(auto)]
 
 mod files;
 mod memory_shelf;
 mod memory_sink;
 mod output;
+mod piece_storage;
 mod shelf;
 mod sink;
+mod storage;
 mod streams;
+mod sure_shelf;
+mod sure_sink;
+mod system;
 
 pub use files::FileShelf;
 pub use memory_shelf::MemoryShelf;
 pub use memory_sink::MemorySink;
 pub use output::OutSink;
+pub use piece_storage::PieceStorage;
 pub use shelf::{Shelf, ShelfFault};
 pub use sink::{Sink, SinkFault};
+pub use storage::{CallFailed, Storage, Stream};
+pub use sure_shelf::SureShelf;
+pub use sure_sink::SureSink;
+pub use system::{SystemFiles, SystemOutput};
 
 #[cfg(test)]
 mod tests;

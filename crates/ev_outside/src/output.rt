@@ -1,55 +1,50 @@
-//! The standard output.
-ghost use Rattle.ev_outside.specs.Counts.{one_more, Rose};
+//! The output of a system.
+ghost use Rattle.std.specs.Prelude.{◌≡◌, ◌≤◌, OnOk, OnErr, IsErrOf};
+ghost use Rattle.ev_outside.specs.Counts.{CountsOne, Rose};
 ghost use Rattle.ev_outside.specs.Sink.{Adds, AddsPrefix};
-ghost use Rattle.std.specs.Prelude.{◌≡◌, ◌≤◌, ℕ, None, OnOk, OnErr, IsErrOf};
 
 use super::sink::{Sink, SinkFault};
+use super::storage::Stream;
 use super::streams::write_whole;
-use std::io::{self, Print};
-use std::marker::Model;
 
-/// The standard output as a sink, which doesn't tell its bytes.
+/// A stream as a sink. All bytes are written, once and in order.
 #[derive(Drop)]
-pub struct OutSink<'a, R: Print> {
-    rt: &'a R,
-    faults: u64,
+pub struct OutSink<S: Stream> {
+    stream: S,
 }
 
-// The output is seen as its count of faults.
-impl<'a, R: Print> Model for OutSink<'a, R> {
-    ghost Value = { ℕ };
-
-    ghost view = { λ sink. sink.faults };
-}
-
-impl<'a, R: Print> OutSink<'a, R> {
-    /// The standard output of the runtime. No call has failed yet.
-    pub fn new(rt: &'a R) -> Self
-        ensures { result ≡ 0 }
+impl<S: Stream> OutSink<S> {
+    /// The output that goes to the stream.
+    pub fn new(stream: S) -> Self
+        ensures { result.stream ≡ stream }
     {
-        OutSink { rt, faults: 0 }
+        OutSink { stream }
     }
 }
 
-impl<'a, R: Print> Sink for OutSink<'a, R> {
-    ghost state = { λ sink. record { written = None; faults = sink } };
+impl<S: Stream> Sink for OutSink<S> {
+    ghost state = { λ sink. record {
+      written = S.written sink.stream;
+      faults = S.failed sink.stream;
+    } };
 
     fn put(&mut self, bytes: &[u8]) -> Result<(), SinkFault>
-        ensures bytes { OnOk result (Adds None None bytes.now) }
-        ensures prefix { OnErr result (AddsPrefix None None bytes.now) }
-        ensures failed { IsErrOf result SinkFault.Failed → Rose self.old self.new }
-        ensures falls { self.old ≤ self.new }
-        ensures stays { (IsErrOf result SinkFault.Failed → ⊥) → self.new ≡ self.old }
+        ensures bytes { OnOk result
+            (Adds (S.written self.old.stream) (S.written self.new.stream) bytes.now) }
+        ensures prefix { OnErr result
+            (AddsPrefix (S.written self.old.stream) (S.written self.new.stream) bytes.now) }
+        ensures failed { IsErrOf result SinkFault.Failed →
+            Rose (S.failed self.old.stream) (S.failed self.new.stream) }
+        ensures falls { S.failed self.old.stream ≤ S.failed self.new.stream }
+        ensures stays { (IsErrOf result SinkFault.Failed → ⊥) →
+            S.failed self.new.stream ≡ S.failed self.old.stream }
 
-        // Exactly what this sink counts.
-        ensures counted { IsErrOf result SinkFault.Failed → self.new ≡ one_more self.old }
+        // `Failed` comes exactly where a call of the stream failed.
+        ensures counted { IsErrOf result SinkFault.Failed →
+            CountsOne (S.failed self.old.stream) (S.failed self.new.stream) }
         ensures never_memory { IsErrOf result SinkFault.Memory → ⊥ }
     {
-        let mut writer = io::writer(self.rt);
-        if write_whole(&mut writer, bytes) {
-            return Ok(());
-        }
-        self.faults = self.faults.saturating_add(1);
-        Err(SinkFault::Failed)
+        write_whole(&mut self.stream, bytes)?;
+        Ok(())
     }
 }

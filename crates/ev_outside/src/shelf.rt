@@ -4,6 +4,7 @@ ghost use Rattle.ev_outside.specs.Counts.{Rose};
 ghost use Rattle.ev_text.specs.Scans.{IsPrefixOf};
 ghost use Rattle.ev_outside.specs.Shelf.{ShelfState, AppendsFile, CountsNeverFall, CountsStay, HoldsUnder, KeepsOthers};
 
+use super::storage::CallFailed;
 use thiserror::Error;
 
 /// Why a call on a shelf was refused.
@@ -16,6 +17,17 @@ pub enum ShelfFault {
     /// Memory was refused.
     #[error("out of memory")]
     Memory,
+}
+
+impl From<CallFailed> for ShelfFault {
+    ghost use Rattle.std.specs.Prelude.{◌≡◌};
+    ghost use Rattle.ev_outside.specs.declared.shelf.ShelfFault.{ShelfFault};
+
+    ghost from_gives = { λ _ fault. fault ≡ ShelfFault.Failed };
+
+    fn from(_: CallFailed) -> Self {
+        ShelfFault::Failed
+    }
 }
 
 /// Named files. Names and contents are bytes.

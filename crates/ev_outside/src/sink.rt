@@ -3,6 +3,7 @@ ghost use Rattle.std.specs.Prelude.{◌≡◌, ◌≤◌, OnOk, OnErr, IsErrOf};
 ghost use Rattle.ev_outside.specs.Counts.{Rose};
 ghost use Rattle.ev_outside.specs.Sink.{SinkState, Adds, AddsPrefix};
 
+use super::storage::CallFailed;
 use thiserror::Error;
 
 /// Why a call on a sink was refused.
@@ -15,6 +16,17 @@ pub enum SinkFault {
     /// Memory was refused.
     #[error("out of memory")]
     Memory,
+}
+
+impl From<CallFailed> for SinkFault {
+    ghost use Rattle.std.specs.Prelude.{◌≡◌};
+    ghost use Rattle.ev_outside.specs.declared.sink.SinkFault.{SinkFault};
+
+    ghost from_gives = { λ _ fault. fault ≡ SinkFault.Failed };
+
+    fn from(_: CallFailed) -> Self {
+        SinkFault::Failed
+    }
 }
 
 /// The output of a program.

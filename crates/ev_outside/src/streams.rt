@@ -1,32 +1,37 @@
-//! Loops over the reads and writes of std, which may take a part of what they are asked for.
-ghost use Rattle.std.specs.Prelude.{◌≡◌, ◌+◌, ◌++◌, ◌≤◌, take, length, OnOk, OnErr, IfSome, MatchBool};
+//! Loops over the calls of a system, which may take or give a part of what they are asked for.
+ghost use Rattle.std.specs.Prelude.{◌≡◌, ◌+◌, ◌++◌, ◌≤◌, List, ℕ, take, length, OnOk, IfSome, IsErrOf, MatchResult};
 ghost use Rattle.ev_text.specs.Scans.{IsPrefixOf};
-ghost use Rattle.std.specs.Io.KnownBytes.{Appends};
-ghost use Rattle.ev_outside.specs.Sink.{AppendsPrefix};
+ghost use Rattle.ev_outside.specs.Counts.{CountsOne, IsCounted};
+ghost use Rattle.ev_outside.specs.Storage.{files_of, rest_of};
 
 use super::shelf::ShelfFault;
-use std::io::{Read, Write};
+use super::storage::{CallFailed, Storage, Stream};
 
 /// The most bytes that one read asks for.
 const CHUNK: usize = 4096;
 
-/// Appends what the source still gives, or its first `most` bytes.
-pub(crate) fn read_up_to<F: Read>(
-    source: &mut F,
+/// Appends what the open file still gives, or its first `most` bytes.
+pub(crate) fn read_up_to<S: Storage>(
+    storage: &mut S,
     most: usize,
     into: &mut Vec<u8>,
 ) -> Result<(), ShelfFault>
     ensures bytes { OnOk result
-        (IfSome (F.remaining source.old)
+        (IfSome (rest_of (S.told storage.old))
         (λ rest. into.new.items ≡ into.old.items ++ take most rest)) }
     ensures prefix { IsPrefixOf into.old.items into.new.items }
     ensures most { length into.new.items ≤ length into.old.items + most }
+    ensures files { files_of (S.told storage.new) ≡ files_of (S.told storage.old) }
+    ensures failed { IsErrOf result ShelfFault.Failed →
+        CountsOne (S.failed storage.old) (S.failed storage.new) }
+    ensures stays { (IsErrOf result ShelfFault.Failed → ⊥) →
+        S.failed storage.new ≡ S.failed storage.old }
 {
     let mut chunk = [0u8; CHUNK];
     let mut left = most;
     while left > 0 {
         let wanted = left.min(CHUNK);
-        match source.read(&mut chunk[..wanted]) {
+        match storage.read(&mut chunk[..wanted]) {
             Ok(0) => return Ok(()),
             Ok(count) => {
                 if into.extend_from_slice(&chunk[..count]).is_err() {
@@ -34,25 +39,24 @@ pub(crate) fn read_up_to<F: Read>(
                 }
                 left -= count;
             }
-            Err(_) => return Err(ShelfFault::Failed),
+            Err(CallFailed) => return Err(ShelfFault::Failed),
         }
     }
     Ok(())
 }
 
-/// Writes the bytes, and tells whether all were taken. A writer that takes nothing of what is left
-/// has failed.
-pub(crate) fn write_whole<W: Write>(writer: &mut W, bytes: &[u8]) -> bool
-    ensures { MatchBool result (Appends (W.contents writer.old) (W.contents writer.new) bytes.now)
-        (AppendsPrefix (W.contents writer.old) (W.contents writer.new) bytes.now) }
+/// Writes all the bytes, in order.
+pub(crate) fn write_whole<S: Stream>(stream: &mut S, bytes: &[u8]) -> Result<(), CallFailed>
+    ensures takes { MatchResult result (λ _. S.takes stream.old bytes.now stream.new)
+        (λ _. (part : List ℕ) × IsPrefixOf part bytes.now × S.takes stream.old part stream.new) }
+    ensures counts { IsCounted result (S.failed stream.old) (S.failed stream.new) }
 {
     let mut at = 0;
     while at < bytes.len() {
-        match writer.write(&bytes[at..]) {
-            Ok(0) => return false,
+        match stream.write(&bytes[at..]) {
             Ok(count) => at += count,
-            Err(_) => return false,
+            Err(CallFailed) => return Err(CallFailed),
         }
     }
-    true
+    Ok(())
 }

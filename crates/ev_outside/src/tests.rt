@@ -32,7 +32,7 @@ fn put_into<K: Sink>(sink: &mut K, bytes: &[u8]) -> Result<(), SinkFault> {
 fn real_files_and_the_output_take_what_is_written(rt: HostRuntime) -> Result<(), Fail> {
     let alloc = rt.alloc();
     let name = "ev_outside_real_file";
-    let mut shelf = FileShelf::new(&rt);
+    let mut shelf = FileShelf::new(SystemFiles::new(&rt));
 
     // A file of several pieces, read whole, and up to a byte inside a piece.
     let mut long = Vec::new(alloc);
@@ -73,7 +73,7 @@ fn real_files_and_the_output_take_what_is_written(rt: HostRuntime) -> Result<(),
     );
     assert_eq!(rt; write_to(&mut shelf, "/", b"text"), Err(ShelfFault::Failed));
 
-    let mut out = OutSink::new(&rt);
+    let mut out = OutSink::new(SystemOutput::new(&rt));
     put_into(&mut out, b"the output takes this line\n")?;
     put_into(&mut out, b"")?;
     Ok(())
@@ -125,5 +125,62 @@ fn a_failing_sink_in_memory_keeps_the_first_half(rt: HostRuntime) -> Result<(), 
     assert_eq!(rt; put_into(&mut sink, b"x"), Err(SinkFault::Failed));
     put_into(&mut sink, b";end")?;
     assert_eq!(rt; sink.bytes(), b"whole;12;end".as_slice());
+    Ok(())
+}
+
+#[test]
+fn files_are_read_and_written_whole_in_pieces_of_any_length(rt: HostRuntime) -> Result<(), Fail> {
+    let alloc = rt.alloc();
+    for (piece, fails, wanted) in [
+        (1usize, 100u64, None),
+        (2, 100, None),
+        (1000, 100, None),
+        (2, 0, Some(ShelfFault::Failed)),
+        (2, 2, Some(ShelfFault::Failed)),
+        (2, 6, Some(ShelfFault::Failed)),
+    ] {
+        let mut files = MemoryShelf::new(alloc, Vec::new(alloc));
+        files.set("plan", b"five!")?;
+        let storage = PieceStorage::new(alloc, files, piece, [fails].to_vec(alloc)?);
+        let mut shelf = FileShelf::new(storage);
+
+        // An open, up to five reads of pieces, and one more that gives nothing; then a create and up to five writes.
+        let read = read_from(alloc, &mut shelf, "plan", 100);
+        let written = write_to(&mut shelf, "copy", b"copy!");
+        let fault = read.as_ref().err().copied().or(written.err());
+        assert_eq!(rt; fault, wanted, "pieces of {piece}, call {fails} fails");
+        if wanted.is_none() {
+            assert_eq!(rt; read?.as_slice(), b">five!".as_slice(), "pieces of {piece}");
+            assert_eq!(rt;
+                read_from(alloc, &mut shelf, "copy", 4)?.as_slice(),
+                b">copy".as_slice(),
+                "pieces of {piece}"
+            );
+        }
+        assert_eq!(rt;
+            read_from(alloc, &mut shelf, "absent", 4).err(),
+            Some(ShelfFault::Failed)
+        );
+    }
+    Ok(())
+}
+
+#[test]
+fn sure_files_and_a_sure_output_never_fail(rt: HostRuntime) -> Result<(), Fail> {
+    let alloc = rt.alloc();
+    let mut shelf = SureShelf::new(alloc);
+    assert_eq!(rt;
+        read_from(alloc, &mut shelf, "plan", 100)?.as_slice(),
+        b">".as_slice()
+    );
+    write_to(&mut shelf, "plan", b"text")?;
+    assert_eq!(rt;
+        read_from(alloc, &mut shelf, "plan", 3)?.as_slice(),
+        b">tex".as_slice()
+    );
+    let mut sink = SureSink::new(alloc);
+    put_into(&mut sink, b"two ")?;
+    put_into(&mut sink, b"texts")?;
+    assert_eq!(rt; sink.bytes(), b"two texts".as_slice());
     Ok(())
 }

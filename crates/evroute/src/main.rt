@@ -12,7 +12,7 @@ mod steps;
 mod usage;
 
 pub use command::{exit_code, run};
-use ev_outside::{FileShelf, OutSink};
+use ev_outside::{FileShelf, OutSink, SystemFiles, SystemOutput};
 pub use status::Status;
 use std::env;
 use std::io::{Error, ErrorKind};
@@ -33,8 +33,8 @@ fn main(rt: HostRuntime) -> ExitCode {
     let Ok(words) = all.skip(1).collect::<Vec<String>>(alloc) else {
         return ExitCode::from(NO_MEMORY);
     };
-    let mut shelf = FileShelf::new(&rt);
-    let mut out = OutSink::new(&rt);
+    let mut shelf = FileShelf::new(SystemFiles::new(&rt));
+    let mut out = OutSink::new(SystemOutput::new(&rt));
     ExitCode::from(exit_code(alloc, words.as_slice(), &mut shelf, &mut out))
 }
 

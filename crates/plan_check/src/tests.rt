@@ -4,14 +4,7 @@ use ev_model::Stop;
 use instance_reader::{Instance, read_instance};
 use route_plan::{FleetPlan, RoutePlan, WalkFault};
 use std::alloc::Global;
-
-/// A depot, a customer and a station.
-const ONE_STATION: &str =
-    r#"{"max_q":10,"css":[{"node_id":2,"cs_type":"fast"}],"breakpoints_by_type":[{"cs_type":"fast","time":[0,4,10],"charge":[0,8,10]}],"process_times":[0,0,0],"energy_matrix":[[0,6,3],[6,0,2],[5,2,0]],"time_matrix":[[0,10,8],[10,0,3],[8,3,0]]}"#;
-
-/// A depot and nothing else.
-const DEPOT_ALONE: &str =
-    r#"{"max_q":10,"css":[],"breakpoints_by_type":[],"process_times":[0],"energy_matrix":[[0]],"time_matrix":[[0]]}"#;
+use worked_instances::{DEPOT_ALONE, ONE_STATION};
 
 /// A stop that was not inserted and charges nothing.
 const fn at(node: usize) -> Stop {

@@ -9,10 +9,7 @@ use ev_model::Stop;
 use instance_reader::{Instance, read_instance};
 use route_plan::{FracPlan, RoutePlan, walk};
 use std::alloc::Global;
-
-/// A depot, a customer and a station where plugging in takes a unit of time.
-const PLUG_TIME: &str =
-    r#"{"max_q":10,"css":[{"node_id":2,"cs_type":"fast"}],"breakpoints_by_type":[{"cs_type":"fast","time":[0,4,10],"charge":[0,8,10],"plug_time":1}],"process_times":[0,0,0],"energy_matrix":[[0,6,3],[6,0,2],[5,2,0]],"time_matrix":[[0,10,8],[10,0,3],[8,3,0]]}"#;
+use worked_instances::PLUG_TIME;
 
 /// The plan that charges a half of a unit before the customer and three halves after it, feasible
 /// where the instance is the one above.

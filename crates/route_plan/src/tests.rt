@@ -1,14 +1,7 @@
 use crate::{RouteFault, Stop, Walk, WalkFault, read_route, walk};
 use instance_reader::read_instance;
 use std::alloc::Global;
-
-/// A depot, a customer and a station.
-const ONE_STATION: &str =
-    r#"{"max_q":10,"css":[{"node_id":2,"cs_type":"fast"}],"breakpoints_by_type":[{"cs_type":"fast","time":[0,4,10],"charge":[0,8,10]}],"process_times":[0,0,0],"energy_matrix":[[0,6,3],[6,0,2],[5,2,0]],"time_matrix":[[0,10,8],[10,0,3],[8,3,0]]}"#;
-
-/// The same with a time to plug in of 1, a reserve of 1 and a level at home of 5.
-const LEAST_LEVELS: &str =
-    r#"{"max_q":10,"css":[{"node_id":2,"cs_type":"fast"}],"breakpoints_by_type":[{"cs_type":"fast","time":[0,4,10],"charge":[0,8,10],"plug_time":1}],"process_times":[0,0,0],"energy_matrix":[[0,6,3],[6,0,2],[5,2,0]],"time_matrix":[[0,10,8],[10,0,3],[8,3,0]],"min_q":1,"home_q":5}"#;
+use worked_instances::{LEAST_LEVELS, ONE_STATION};
 
 #[test]
 fn the_first_broken_rule_of_a_route_is_named(rt: HostRuntime) {

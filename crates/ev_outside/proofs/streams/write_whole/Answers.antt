@@ -1,15 +1,16 @@
-use Rattle.std.proofs.Common.{◌+◌}
-use Rattle.ev_outside.proofs.StreamLemmas.{Appends-take-more, Appends-Keeps, AppendsPrefix-take, within-rest}
+use Rattle.std.proofs.Common.{subst, ◌∙◌, List, ℕ, take}
+use Rattle.std.proofs.lemmas.List.{append-nil}
+use Rattle.ev_outside.proofs.StreamLemmas.{next_pieces, take-IsPrefixOf, within-rest}
 use Rattle.ev_outside.proofs.streams.write_whole.Goals as goal
 
-pub returns-in-Ok-eq0 : goal.returns-in-Ok-eq0
-returns-in-Ok-eq0 g c = AppendsPrefix-take _ _ _ (c.loop-at.at + c.in-Ok-eq0.field-0) (Appends-take-more _ _ _ c.args.bytes.now c.loop-at.at _ c.loop-at.invariant.written c.in-Ok-eq0.ensures.bytes)
+pub returns-in-Err-clause-takes : goal.returns-in-Err-clause-takes
+returns-in-Err-clause-takes g c =
+    let front = take c.loop-at.at c.args.bytes.now in
+    (front, take-IsPrefixOf c.loop-at.at c.args.bytes.now, subst (λ (xs : List ℕ). g.S.Stream.takes c.args.stream.now xs c.write.new.self) (append-nil front) (g.met.S.Stream.more c.args.stream.now c.loop-at.stream c.write.new.self front _ c.loop-at.invariant.takes c.in-Err.ensures.takes))
 
 pub loop-at-preserved : goal.loop-at-preserved
 loop-at-preserved g c = record {
-  written = Appends-take-more _ _ _ c.args.bytes.now c.loop-at.at _ c.loop-at.invariant.written c.in-Ok.ensures.bytes;
-  within = within-rest _ _ _ c.loop-at.invariant.within c.in-Ok.ensures.bound;
+  takes = subst (λ (xs : List ℕ). g.S.Stream.takes c.args.stream.now xs c.write.new.self) (next_pieces c.args.bytes.now c.loop-at.at c.in-Ok.count) (g.met.S.Stream.more c.args.stream.now c.loop-at.stream c.write.new.self _ _ c.loop-at.invariant.takes c.in-Ok.ensures.takes);
+  within = within-rest c.args.bytes.now c.loop-at.at c.in-Ok.count c.loop-at.invariant.within c.in-Ok.ensures.some.0;
+  stays = c.in-Ok.ensures.counts ∙ c.loop-at.invariant.stays;
 }
-
-pub returns-in-Err : goal.returns-in-Err
-returns-in-Err g c = AppendsPrefix-take _ _ _ c.loop-at.at (Appends-Keeps _ _ _ _ c.loop-at.invariant.written c.in-Err.ensures.bytes)

@@ -1,0 +1,24 @@
+-- What a storage in memory tells.
+use Rattle.std.specs.Prelude.{ℕ, List, Option, Some, string_bytes}
+use Rattle.ev_outside.specs.MemoryShelf.{state_of}
+use Rattle.ev_outside.specs.Storage.{Told, WritesTo}
+use Rattle.ev_outside.specs.declared.piece_storage.PieceStorage.{PieceStorage}
+
+-- its files, what is left to read, and its target
+abbrev pub told_of : PieceStorage → Told
+told_of s = record {
+  files = (state_of s.files).files;
+  rest = s.rest.items;
+  target = string_bytes s.target;
+}
+
+abbrev pub told_by : PieceStorage → Option Told
+told_by s = Some (told_of s)
+
+-- the bytes of the file that is written
+abbrev pub target_bytes : PieceStorage → Option (List ℕ)
+target_bytes s = (told_of s).files (told_of s).target
+
+-- the storage took the piece, and is the other one then
+abbrev pub TakesPiece : PieceStorage → List ℕ → PieceStorage → Type 0
+TakesPiece a piece b = WritesTo (told_by a) piece (told_by b)

@@ -1,0 +1,168 @@
+//! Named files in memory that are taken and given in pieces, for tests.
+ghost use Rattle.std.specs.Prelude.{◌≡◌, ◌<◌, ◌≤◌, ◌⊎◌, ℕ, List, [], Some, IfOk, OnErr, OnOk, MatchResult, length, take};
+ghost use Rattle.std.specs.Io.KnownBytes.{ReadConsumes};
+ghost use Rattle.ev_outside.specs.Counts.{CountsOne, IsCounted};
+ghost use Rattle.ev_outside.specs.Shelf.{KeepsOthers};
+ghost use Rattle.ev_outside.specs.Sink.{Adds};
+ghost use Rattle.ev_outside.specs.Storage.{Creates, Opens, WritesTo, files_of, rest_of};
+ghost use Rattle.ev_outside.specs.PieceStorage.{TakesPiece, target_bytes, told_by, told_of};
+
+use super::memory_shelf::MemoryShelf;
+use super::storage::{CallFailed, Storage, Stream};
+use std::alloc::{AllocError, Global};
+
+/// Named files in memory, whose calls take and give at most so many bytes, and fail where they are told to, where
+/// memory is refused, and where a name that isn't there is opened. What is written before a file was created is
+/// taken and goes nowhere.
+///
+/// All its calls are numbered together from 0. The counts stop at their last value, 2^64 - 1.
+#[derive(Drop)]
+pub struct PieceStorage {
+    files: MemoryShelf,
+    rest: Vec<u8>,
+    target: String,
+    piece: usize,
+    calls: u64,
+    failed: u64,
+    fails: Vec<u64>,
+}
+
+impl PieceStorage {
+    /// The files of a shelf, in pieces of at most `piece` bytes (of one where it is 0). The calls with the numbers in
+    /// `fails` will fail. Nothing is open yet.
+    pub fn new(alloc: Global, files: MemoryShelf, piece: usize, fails: Vec<u64>) -> PieceStorage
+        ensures count { result.failed ≡ 0 }
+    {
+        PieceStorage {
+            files,
+            rest: Vec::new(alloc),
+            target: String::new(alloc),
+            piece,
+            calls: 0,
+            failed: 0,
+            fails,
+        }
+    }
+
+    /// The bytes under a name. None comes exactly where the name isn't there.
+    pub fn get(&self, name: &str) -> Option<&[u8]> {
+        self.files.get(name)
+    }
+
+    /// Counts a call, and tells whether it is to fail.
+    fn is_to_fail(&mut self) -> bool
+        ensures told { told_of self.new ≡ told_of self.old }
+        ensures failed { self.new.failed ≡ self.old.failed }
+        ensures piece { self.new.piece ≡ self.old.piece }
+    {
+        let fails = self.fails.contains(&self.calls);
+        self.calls = self.calls.saturating_add(1);
+        fails
+    }
+
+    /// Appends the bytes to the file that is written. Nothing changes where memory is refused.
+    fn append(&mut self, bytes: &[u8]) -> Result<(), AllocError>
+        ensures ok { OnOk result (TakesPiece self.old bytes.now self.new) }
+        ensures err { OnErr result (told_of self.new ≡ told_of self.old) }
+        ensures failed { self.new.failed ≡ self.old.failed }
+    {
+        let alloc = *self.fails.allocator();
+        let Some(old) = self.files.get(self.target.as_str()) else {
+            return Ok(());
+        };
+        let mut whole = Vec::from_slice(alloc, old)?;
+        whole.extend_from_slice(bytes)?;
+        self.files.set(self.target.as_str(), whole.as_slice())?;
+        Ok(())
+    }
+
+    /// Counts a call that failed.
+    fn fail(&mut self) -> CallFailed
+        ensures told { told_of self.new ≡ told_of self.old }
+        ensures failed { CountsOne self.old.failed self.new.failed }
+    {
+        self.failed = self.failed.saturating_add(1);
+        CallFailed
+    }
+}
+
+impl Stream for PieceStorage {
+    ghost use Rattle.ev_outside.specs.PieceLaws.{writes_add, writes_more, writes_nothing};
+    ghost use Rattle.ev_outside.specs.PieceStorage.{TakesPiece, target_bytes, told_of};
+
+    ghost takes = { TakesPiece };
+
+    ghost written = { target_bytes };
+
+    ghost failed = { λ storage. storage.failed };
+
+    ghost nothing = { λ a. writes_nothing (told_of a) };
+
+    ghost more = { λ a b c xs ys first second.
+        writes_more (told_of a) (told_of b) (told_of c) xs ys first second };
+
+    ghost adds = { λ a b piece writes. writes_add (told_of a) (told_of b) piece writes };
+
+    fn write(&mut self, bytes: &[u8]) -> Result<usize, CallFailed> {
+        if self.is_to_fail() {
+            return Err(self.fail());
+        }
+        let count = bytes.len().min(self.piece.max(1));
+        match self.append(&bytes[..count]) {
+            Ok(()) => Ok(count),
+            Err(AllocError) => Err(self.fail()),
+        }
+    }
+}
+
+impl Storage for PieceStorage {
+    ghost told = { told_by };
+
+    ghost writes = { λ a b piece writes. writes };
+
+    fn open(&mut self, name: &str) -> Result<(), CallFailed> {
+        if self.is_to_fail() {
+            return Err(self.fail());
+        }
+        let alloc = *self.fails.allocator();
+        let Some(bytes) = self.files.get(name) else {
+            return Err(self.fail());
+        };
+        let Ok(rest) = Vec::from_slice(alloc, bytes) else {
+            return Err(self.fail());
+        };
+        self.rest = rest;
+        Ok(())
+    }
+
+    fn read(&mut self, into: &mut [u8]) -> Result<usize, CallFailed> {
+        if self.is_to_fail() {
+            return Err(self.fail());
+        }
+        let count = self.rest.len().min(self.piece.max(1)).min(into.len());
+        let alloc = *self.fails.allocator();
+        let Ok(rest) = Vec::from_slice(alloc, &self.rest[count..]) else {
+            return Err(self.fail());
+        };
+        into[..count].copy_from_slice(&self.rest[..count]);
+        self.rest = rest;
+        Ok(count)
+    }
+
+    fn create(&mut self, name: &str) -> Result<(), CallFailed> {
+        if self.is_to_fail() {
+            return Err(self.fail());
+        }
+        let alloc = *self.fails.allocator();
+        let Ok(target) = String::from_str(alloc, name) else {
+            return Err(self.fail());
+        };
+        match self.files.set(name, &[]) {
+            Ok(()) => {
+                self.target = target;
+                Ok(())
+            }
+            Err(AllocError) => Err(self.fail()),
+        }
+    }
+}

@@ -1,0 +1,74 @@
+//! The calls of a system on its files and its output, each of which may take or give a part.
+ghost use Rattle.std.specs.Prelude.{◌≡◌, ◌<◌, ◌≤◌, ◌++◌, ℕ, List, [], Option, take, length, IfOk, OnOk, MatchResult};
+ghost use Rattle.std.specs.Io.KnownBytes.{ReadConsumes};
+ghost use Rattle.ev_outside.specs.Counts.{IsCounted};
+ghost use Rattle.ev_outside.specs.Shelf.{KeepsOthers};
+ghost use Rattle.ev_outside.specs.Sink.{Adds};
+ghost use Rattle.ev_outside.specs.Storage.{Creates, Opens, Told, WritesTo, files_of, rest_of};
+
+use thiserror::Error;
+
+/// A call that the system refused.
+#[derive(Clone, Copy, Debug, Drop, PartialEq, Eq, Error)]
+#[error("the system refused a call")]
+pub struct CallFailed;
+
+/// Where bytes are written.
+pub trait Stream {
+    // A stream took this piece, and is the other one then.
+    ghost takes: { Self → List ℕ → Self → Type 0 };
+
+    // The bytes that were written, where they are told.
+    ghost written: { Self → Option (List ℕ) };
+
+    // How many calls have failed.
+    ghost failed: { Self → ℕ };
+
+    /// Writes the first of the bytes, one at least where there is one, and answers how many. A call that
+    /// took nothing of a piece that isn't empty has failed.
+    fn write(&mut self, bytes: &[u8]) -> Result<usize, CallFailed>
+        ensures takes { MatchResult result (λ n. takes self.old (take n bytes.now) self.new)
+            (λ _. takes self.old [] self.new) }
+        ensures some { IfOk result
+            (λ n. (n ≤ length bytes.now) × (0 < length bytes.now → 0 < n)) }
+        ensures counts { IsCounted result (failed self.old) (failed self.new) };
+
+    ghost nothing: { (a : Self) → takes a [] a };
+
+    ghost more: { (a b c : Self) (xs ys : List ℕ) → takes a xs b → takes b ys c →
+        takes a (xs ++ ys) c };
+
+    ghost adds: { (a b : Self) (piece : List ℕ) → takes a piece b →
+        Adds (written a) (written b) piece };
+}
+
+/// Named files, of which one may be open to be read and one to be written.
+pub trait Storage: Stream {
+    // The files, what is left to read of the one that is open, and the name of the one that is written,
+    // where they are told.
+    ghost told: { Self → Option Told };
+
+    /// Opens a file to be read from its beginning. A name that isn't there has no bytes, or the call
+    /// fails.
+    fn open(&mut self, name: &str) -> Result<(), CallFailed>
+        ensures opens { OnOk result (Opens (told self.old) name.now (told self.new)) }
+        ensures files { files_of (told self.new) ≡ files_of (told self.old) }
+        ensures counts { IsCounted result (Self.failed self.old) (Self.failed self.new) };
+
+    /// Reads the next bytes of the file that is open, and answers how many; none where it has no more.
+    fn read(&mut self, into: &mut [u8]) -> Result<usize, CallFailed>
+        ensures within { IfOk result (λ n. n ≤ length into.new) }
+        ensures bytes { ReadConsumes (rest_of (told self.old)) (rest_of (told self.new))
+            result into.new }
+        ensures files { files_of (told self.new) ≡ files_of (told self.old) }
+        ensures counts { IsCounted result (Self.failed self.old) (Self.failed self.new) };
+
+    /// Makes a file that is empty, to be written. Nothing is known of its bytes where the call fails.
+    fn create(&mut self, name: &str) -> Result<(), CallFailed>
+        ensures creates { OnOk result (Creates name.now (told self.new)) }
+        ensures others { KeepsOthers name.now (files_of (told self.old)) (files_of (told self.new)) }
+        ensures counts { IsCounted result (Self.failed self.old) (Self.failed self.new) };
+
+    ghost writes: { (a b : Self) (piece : List ℕ) → Self.takes a piece b →
+        WritesTo (told a) piece (told b) };
+}
