@@ -95,6 +95,5 @@ refused_has_none limit bytes (refusal.Limit given) g rule past has = past_is_non
 refused_has_none limit bytes (refusal.Customers count) g rule is has = absurd is
 refused_has_none limit bytes (refusal.Charge level) g rule is has = absurd is
 refused_has_none limit bytes (refusal.Route e) g rule is has = absurd is
-refused_has_none limit bytes (refusal.Levels cells) g rule is has = absurd is
 refused_has_none limit bytes (refusal.Plan e) g rule is has = absurd is
 refused_has_none limit bytes (refusal.Literal e) g rule is has = absurd is

@@ -6,7 +6,6 @@ use Rattle.ev_model.specs.Fastest.{HasNoPlan}
 use Rattle.ev_model.specs.Network.{Network, node_count}
 use Rattle.ev_outside.specs.Shelf.{Files, bytes_under}
 use Rattle.ev_text.proofs.Results.{Err-ne-Ok, Ok-injective}
-use Rattle.level_table.specs.Answer.{cell_count}
 use Rattle.plan_check.proofs.FleetPlans.{fleet_plan_keeps}
 use Rattle.plan_writer.specs.RefusalText.{IsRule}
 use Rattle.plan_writer.specs.declared.refusal.Refusal.{Refusal}
@@ -21,7 +20,7 @@ use Rattle.route_plan.specs.declared.plan.FleetPlan.{FleetPlan}
 use Rattle.evroute.proofs.Instances.{one_limited, refused_has_none}
 use Rattle.evroute.specs.CheckAnswer.{CheckAnswers, HasFleetNetwork, IsCheckRefused, IsValid, PutsAccepted, PutsRejected, customer_count}
 use Rattle.evroute.specs.ConvertAnswer.{BecomesWhole, ConvertAnswers, IsConvertRefused}
-use Rattle.evroute.specs.FixedAnswer.{FixedAnswers, IsRefused, IsSmallTask, IsTask, PutsInfeasible, PutsPlan, start_of}
+use Rattle.evroute.specs.FixedAnswer.{FixedAnswers, IsRefused, IsTask, PutsInfeasible, PutsPlan, start_of}
 use Rattle.evroute.specs.Run.{HasCause, IsAnswered, IsTold, most_bytes}
 use Rattle.evroute.specs.declared.status.Status.{Status}
 use Rattle.evroute.specs.declared.status.Status.TheVariants as status
@@ -81,31 +80,26 @@ charge_within_not g charge level is past within =
     omega (arith, past, fits)
 
 refused_is_no_task : (options : Options) (word bytes : List ℕ) (g : Network) (route : List ℕ) (r : Refusal) →
-    IsSmallTask options word bytes g route → IsRule r → IsRefused options word bytes r → ⊥
-refused_is_no_task options word bytes g route (refusal.Instance e) small rule first =
-    refused_has_none options.limit bytes (refusal.Instance e) g rule first small.task.start.network
-refused_is_no_task options word bytes g route (refusal.Limit limit) small rule past =
-    refused_has_none options.limit bytes (refusal.Limit limit) g rule past small.task.start.network
-refused_is_no_task options word bytes g route (refusal.Charge level) small rule (h, network, is, past) =
-    let same : h ≡ g = one_limited options.limit bytes h g network small.task.start.network in
-    charge_within_not g options.charge level is (subst (λ (x : Network). x.capacity < level) same past) small.task.start.within
-refused_is_no_task options word bytes g route (refusal.Route e) small rule (h, start, fault) =
-    let same : h ≡ g = one_limited options.limit bytes h g start.network small.task.start.network in
-    let read : route_in (node_count g) word ≡ Ok route = read_as g word route options bytes small.task in
+    IsTask options word bytes g route → IsRule r → IsRefused options word bytes r → ⊥
+refused_is_no_task options word bytes g route (refusal.Instance e) task rule first =
+    refused_has_none options.limit bytes (refusal.Instance e) g rule first task.start.network
+refused_is_no_task options word bytes g route (refusal.Limit limit) task rule past =
+    refused_has_none options.limit bytes (refusal.Limit limit) g rule past task.start.network
+refused_is_no_task options word bytes g route (refusal.Charge level) task rule (h, network, is, past) =
+    let same : h ≡ g = one_limited options.limit bytes h g network task.start.network in
+    charge_within_not g options.charge level is (subst (λ (x : Network). x.capacity < level) same past) task.start.within
+refused_is_no_task options word bytes g route (refusal.Route e) task rule (h, start, fault) =
+    let same : h ≡ g = one_limited options.limit bytes h g start.network task.start.network in
+    let read : route_in (node_count g) word ≡ Ok route = read_as g word route options bytes task in
     Err-ne-Ok e route (sym (subst (λ (x : Network). route_in (node_count x) word ≡ Err e) same fault) ∙ read)
-refused_is_no_task options word bytes g route (refusal.Levels cells) small rule (h, (other, task, is, past)) =
-    let network : h ≡ g = same_network options word bytes h g other route task small.task in
-    let nodes : other ≡ route = same_route options word bytes h g other route task small.task in
-    let count : cell_count h other ≡ cell_count g route = ap (λ (x : Network). cell_count x other) network ∙ ap (λ (r : List ℕ). cell_count g r) nodes in
-    omega (arith, is, past, count, small.small)
-refused_is_no_task options word bytes g route (refusal.Customers count) small rule is = absurd is
-refused_is_no_task options word bytes g route (refusal.Plan e) small rule is = absurd is
-refused_is_no_task options word bytes g route (refusal.Literal e) small rule is = absurd is
+refused_is_no_task options word bytes g route (refusal.Customers count) task rule is = absurd is
+refused_is_no_task options word bytes g route (refusal.Plan e) task rule is = absurd is
+refused_is_no_task options word bytes g route (refusal.Literal e) task rule is = absurd is
 
 plan_is_some : (options : Options) (word bytes text other : List ℕ) → PutsPlan options word bytes text → PutsInfeasible options word bytes other → ⊥
 plan_is_some options word bytes text other p q =
-    let network : q.network ≡ p.network = same_network options word bytes q.network p.network q.route p.route q.task.task p.task.task in
-    let nodes : q.route ≡ p.route = same_route options word bytes q.network p.network q.route p.route q.task.task p.task.task in
+    let network : q.network ≡ p.network = same_network options word bytes q.network p.network q.route p.route q.task p.task in
+    let nodes : q.route ≡ p.route = same_route options word bytes q.network p.network q.route p.route q.task p.task in
     let none : HasNoPlan p.network p.route (start_of p.network options.charge) =
     subst (λ (r : List ℕ). HasNoPlan p.network r (start_of p.network options.charge)) nodes
     (subst (λ (x : Network). HasNoPlan x q.route (start_of x options.charge)) network q.none) in
@@ -155,7 +149,6 @@ refused_is_no_plan limit bytes plan_bytes g plan (refusal.Plan e) fleet spelled 
     Err-ne-Ok e plan (sym fault ∙ (fleet_plan_is_spelled plan_bytes plan).1 spelled)
 refused_is_no_plan limit bytes plan_bytes g plan (refusal.Charge level) fleet spelled rule is = absurd is
 refused_is_no_plan limit bytes plan_bytes g plan (refusal.Route e) fleet spelled rule is = absurd is
-refused_is_no_plan limit bytes plan_bytes g plan (refusal.Levels cells) fleet spelled rule is = absurd is
 refused_is_no_plan limit bytes plan_bytes g plan (refusal.Literal e) fleet spelled rule is = absurd is
 
 accepted_is_unbroken : (limit : Option ℕ) (bytes plan_bytes text other : List ℕ) → PutsAccepted limit bytes plan_bytes text → PutsRejected limit bytes plan_bytes other → ⊥
@@ -197,7 +190,6 @@ refused_becomes_nothing job bytes whole (refusal.Limit given) becomes is = absur
 refused_becomes_nothing job bytes whole (refusal.Customers count) becomes is = absurd is
 refused_becomes_nothing job bytes whole (refusal.Charge level) becomes is = absurd is
 refused_becomes_nothing job bytes whole (refusal.Route e) becomes is = absurd is
-refused_becomes_nothing job bytes whole (refusal.Levels cells) becomes is = absurd is
 refused_becomes_nothing job bytes whole (refusal.Plan e) becomes is = absurd is
 
 ConvertCause : ConvertJob → List ℕ → Status → Type 0

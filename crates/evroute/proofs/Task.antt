@@ -9,9 +9,6 @@ use Rattle.ev_model.specs.Route.{IsRoute}
 use Rattle.ev_model.specs.Time.{time_of}
 use Rattle.ev_model.specs.declared.Stop.{Stop}
 use Rattle.ev_text.proofs.Results.{Err-ne-Ok}
-use Rattle.level_table.specs.Answer.{cell_count, most_cells}
-use Rattle.level_table.specs.declared.fault.LevelFault.{LevelFault}
-use Rattle.level_table.specs.declared.fault.LevelFault.TheVariants.{Levels}
 use Rattle.plan_writer.specs.FixedText.{fixed_text}
 use Rattle.route_plan.proofs.Routes.{is_short}
 use Rattle.route_plan.proofs.Spelled.{reads_what_is_spelled}
@@ -60,7 +57,6 @@ ended_of options word bytes (Refused (refusal.Limit limit)) is = is
 ended_of options word bytes (Refused (refusal.Customers count)) is = absurd is.1
 ended_of options word bytes (Refused (refusal.Charge level)) is = absurd is.1
 ended_of options word bytes (Refused (refusal.Route fault)) is = absurd is.1
-ended_of options word bytes (Refused (refusal.Levels cells)) is = absurd is.1
 ended_of options word bytes (Refused (refusal.Plan fault)) is = absurd is.1
 ended_of options word bytes (Refused (refusal.Literal fault)) is = absurd is.1
 
@@ -72,43 +68,31 @@ match_some {A} answer a P Q is holds = subst (λ (o : Option A). MatchOption o P
 pub match_none : {A : Type 0} (answer : Option A) (P : Type 0) (Q : A → Type 0) → answer ≡ None → MatchOption answer P Q → P
 match_none {A} answer P Q is holds = subst (λ (o : Option A). MatchOption o P Q) is holds
 
-few_unless : (count : ℕ) → (most_cells < count → ⊥) → count ≤ most_cells
-few_unless count many = elim (cases_lt most_cells count) [
-  | inl past ↦ absurd (many past)
-  | inr within ↦ within
-]
-
--- a table that was searched was not too large
-are_few : {A : Type 0} (found : A) (count : ℕ) → ((cells : ℕ) → (◌≡◌ {A = Result A LevelFault} (Ok found) (Err (Levels cells))) ↔ ((cells ≡ count) × (most_cells < cells))) → count ≤ most_cells
-are_few {A} found count levels = few_unless count (λ past. Err-ne-Ok (Levels count) found (sym ((levels count).1 (refl, past))))
-
-pub puts_plan : {A E : Type 0} (options : Options) (word bytes : List ℕ) (g : Network) (route : List ℕ) (level : ℕ) → IsTask options word bytes g route → level ≡ start_of g options.charge
-    → (found : A) → ((cells : ℕ) → (◌≡◌ {A = Result A LevelFault} (Ok found) (Err (Levels cells))) ↔ ((cells ≡ cell_count g route) × (most_cells < cells)))
+pub puts_plan : {E : Type 0} (options : Options) (word bytes : List ℕ) (g : Network) (route : List ℕ) (level : ℕ) → IsTask options word bytes g route → level ≡ start_of g options.charge
     → (stops : List Stop) → IsFastest g route level stops → (made : Result Answer E) → IfOk made (λ a. a.status ≡ status.Done)
     → IfOk made (λ a. a.text.items ≡ fixed_text g.denominator (Some (stops, time_of g 1 level stops)))
     → IfOk made (λ a. FixedAnswers options word bytes a.status a.text.items)
-puts_plan options word bytes g route level task is found levels stops fastest (Err none) answered text = tt
-puts_plan options word bytes g route level task is found levels stops fastest (Ok a) answered text =
+puts_plan options word bytes g route level task is stops fastest (Err none) answered text = tt
+puts_plan options word bytes g route level task is stops fastest (Ok a) answered text =
     subst (λ (s : Status). FixedAnswers options word bytes s a.text.items) (sym answered) (record {
       network = g;
       route = route;
-      task = record { task = task; small = are_few found (cell_count g route) levels };
+      task = task;
       stops = stops;
       fastest = subst (λ n. IsFastest g route n stops) is fastest;
       text_is = subst (λ n. a.text.items ≡ fixed_text g.denominator (Some (stops, time_of g 1 n stops))) is text;
     })
 
-pub puts_infeasible : {A E : Type 0} (options : Options) (word bytes : List ℕ) (g : Network) (route : List ℕ) (level : ℕ) → IsTask options word bytes g route → level ≡ start_of g options.charge
-    → (found : A) → ((cells : ℕ) → (◌≡◌ {A = Result A LevelFault} (Ok found) (Err (Levels cells))) ↔ ((cells ≡ cell_count g route) × (most_cells < cells)))
+pub puts_infeasible : {E : Type 0} (options : Options) (word bytes : List ℕ) (g : Network) (route : List ℕ) (level : ℕ) → IsTask options word bytes g route → level ≡ start_of g options.charge
     → HasNoPlan g route level → (made : Result Answer E) → IfOk made (λ a. a.status ≡ status.Negative)
     → IfOk made (λ a. a.text.items ≡ fixed_text g.denominator None)
     → IfOk made (λ a. FixedAnswers options word bytes a.status a.text.items)
-puts_infeasible options word bytes g route level task is found levels none (Err e) answered text = tt
-puts_infeasible options word bytes g route level task is found levels none (Ok a) answered text =
+puts_infeasible options word bytes g route level task is none (Err e) answered text = tt
+puts_infeasible options word bytes g route level task is none (Ok a) answered text =
     subst (λ (s : Status). FixedAnswers options word bytes s a.text.items) (sym answered) (record {
       network = g;
       route = route;
-      task = record { task = task; small = are_few found (cell_count g route) levels };
+      task = task;
       none = subst (λ n. HasNoPlan g route n) is none;
       text_is = text;
     })

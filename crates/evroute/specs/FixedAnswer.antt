@@ -6,7 +6,6 @@ use Rattle.ev_model.specs.declared.Stop.{Stop}
 use Rattle.command_line.specs.declared.Options.{Options}
 use Rattle.instance_reader.specs.Faults.{IsFirstFault}
 use Rattle.ev_model.specs.Fastest.{HasNoPlan, IsFastest}
-use Rattle.level_table.specs.Answer.{cell_count, most_cells}
 use Rattle.plan_writer.specs.FixedText.{fixed_text}
 use Rattle.plan_writer.specs.RefusalText.{IsRule, refusal_text}
 use Rattle.plan_writer.specs.declared.refusal.Refusal.{Refusal}
@@ -37,13 +36,7 @@ pub record IsTask
   pub is_route : IsRoute g route
   pub short : length route ≤ most_route_nodes
 
--- besides, its table is not too large
-pub record IsSmallTask
-    (options : Options) (word bytes : List ℕ) (g : Network) (route : List ℕ) : Type 0 where
-  pub task : IsTask options word bytes g route
-  pub small : cell_count g route ≤ most_cells
-
--- the first broken rule: of the instance, the limit, the charge, the route, the size of the table
+-- the first broken rule: of the instance, the limit, the charge, the route
 abbrev pub IsRefused : Options → List ℕ → List ℕ → Refusal → Type 0
 IsRefused options word bytes (refusal.Instance fault) = IsFirstFault bytes fault
 IsRefused options word bytes (refusal.Limit limit) = IsPastLimit options.limit bytes limit
@@ -52,16 +45,13 @@ IsRefused options word bytes (refusal.Charge level) =
     × (options.charge ≡ Some level) × (g.capacity < level)
 IsRefused options word bytes (refusal.Route fault) =
     (g : Network) × HasStart options bytes g × (route_in (node_count g) word ≡ Err fault)
-IsRefused options word bytes (refusal.Levels cells) =
-    (g : Network) × ((route : List ℕ) × IsTask options word bytes g route
-    × (cells ≡ cell_count g route) × (most_cells < cells))
 IsRefused options word bytes other = ⊥
 
 -- a plan of the route than which none is faster in any fraction of a unit, with its time
 pub record PutsPlan (options : Options) (word bytes text : List ℕ) : Type 0 where
   pub network : Network
   pub route : List ℕ
-  pub task : IsSmallTask options word bytes network route
+  pub task : IsTask options word bytes network route
   pub stops : List Stop
   pub fastest : IsFastest network route (start_of network options.charge) stops
   pub text_is : text ≡ fixed_text network.denominator
@@ -71,7 +61,7 @@ pub record PutsPlan (options : Options) (word bytes text : List ℕ) : Type 0 wh
 pub record PutsInfeasible (options : Options) (word bytes text : List ℕ) : Type 0 where
   pub network : Network
   pub route : List ℕ
-  pub task : IsSmallTask options word bytes network route
+  pub task : IsTask options word bytes network route
   pub none : HasNoPlan network route (start_of network options.charge)
   pub text_is : text ≡ fixed_text network.denominator None
 

@@ -21,8 +21,8 @@ use crate::status::Status;
 use crate::steps::read_file;
 use command_line::Options;
 use ev_outside::{Shelf, ShelfFault};
+use frvcp_labels::solve_route;
 use instance_reader::Instance;
-use level_table::{LevelFault, solve_levels};
 use plan_writer::{Refusal, push_fixed};
 use route_plan::{RouteFault, RoutePlan, read_route, walk};
 use std::alloc::{AllocError, Global};
@@ -143,10 +143,8 @@ fn solved(alloc: Global, inst: &Instance, route: &[usize], start: u64) -> Result
         → IfErr result (IsEnded options word bytes) }
     ensures answered { IfOk result (λ a. IsAnswered a.status) }
 {
-    let plan = match solve_levels(alloc, inst, route, start) {
-        Ok(plan) => plan,
-        Err(LevelFault::Levels { cells }) => return Err(Ended::Refused(Refusal::Levels(cells))),
-        Err(LevelFault::Memory) => return Err(Ended::Memory),
+    let Ok(plan) = solve_route(alloc, inst, route, start) else {
+        return Err(Ended::Memory);
     };
     match plan {
         Some(plan) => planned(alloc, inst, start, &plan),

@@ -119,8 +119,8 @@ fn a_route_is_charged_or_refused(rt: HostRuntime) {
         (
             "fixed A 0,1,0",
             FINE_LEVELS,
-            Status::Refused,
-            "refused levels 4000000004\n",
+            Status::Done,
+            "time 4300000000/200000000\nat 0\nvia 2 charge 100000000\nat 1\nat 0\n",
         ),
         ("fixed B 0,1,0", ONE_STATION, Status::Fault, ""),
         ("fixed A", ONE_STATION, Status::Words, usage()),

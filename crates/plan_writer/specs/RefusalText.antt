@@ -17,7 +17,7 @@ use Rattle.route_plan.specs.declared.text.plan_text.PlanText.TheVariants as plan
 use Rattle.route_plan.specs.declared.route.RouteFault.{RouteFault}
 use Rattle.route_plan.specs.declared.route.RouteFault.TheVariants as route
 use Rattle.plan_writer.specs.declared.refusal.Refusal.{Refusal}
-use Rattle.plan_writer.specs.declared.refusal.Refusal.TheVariants.{Instance, Limit, Charge, Route, Levels, Customers, Plan, Literal}
+use Rattle.plan_writer.specs.declared.refusal.Refusal.TheVariants.{Instance, Limit, Charge, Route, Customers, Plan, Literal}
 
 -- the fault of an instance is a rule: neither it nor the fault of a curve in it is want of memory
 pub record IsInstanceRule (fault : ReadFault) : Type 0 where
@@ -109,7 +109,6 @@ cause_text (Instance fault) = codes "instance " ++ instance_text fault
 cause_text (Limit limit) = codes "limit " ++ decimal limit
 cause_text (Charge level) = codes "charge " ++ decimal level
 cause_text (Route fault) = codes "route " ++ route_text fault
-cause_text (Levels cells) = codes "levels " ++ decimal cells
 cause_text (Customers count) = codes "customers " ++ decimal count
 cause_text (Plan fault) = codes "plan " ++ plan_fault_text fault
 cause_text (Literal fault) = codes "literal " ++ literal_text fault

@@ -23,8 +23,6 @@ pub enum Refusal {
     Charge(u64),
     /// The word of the route breaks a rule.
     Route(RouteFault),
-    /// The table of levels would have this many cells, which are too many.
-    Levels(u128),
     /// The instance has this many customers, which are more than the 128 that a fleet command takes.
     Customers(usize),
     /// The bytes of the plan's file are no text of a fleet plan.
@@ -64,7 +62,6 @@ fn push_cause(alloc: Global, out: &mut Vec<u8>, refusal: &Refusal) -> Result<(),
             out.extend_from_slice(b"route ")?;
             push_route_fault(alloc, out, fault)
         }
-        Refusal::Levels(cells) => push_numbered(alloc, out, b"levels ", *cells),
         Refusal::Customers(count) => push_numbered(alloc, out, b"customers ", *count as u128),
         Refusal::Plan(fault) => {
             out.extend_from_slice(b"plan ")?;

@@ -86,7 +86,6 @@ fn refusals_have_their_lines(rt: HostRuntime) {
             "refused route 3 at 1\n",
         ),
         (Refusal::Route(RouteFault::Ends), "refused route 4\n"),
-        (Refusal::Levels(4000000004), "refused levels 4000000004\n"),
         (Refusal::Customers(129), "refused customers 129\n"),
         (
             Refusal::Literal(ImportFault::Token { at: 12 }),
