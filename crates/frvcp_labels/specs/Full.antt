@@ -15,7 +15,8 @@ full_at t passed node time =
     record { passed = passed; node = node; level = t.network.capacity; time = time }
 
 -- there is a time for each bucket, or none; where one stands, the vehicle with a full battery is reached
-pub record AreFull (t : Journey) (labels : List (Label State)) (full : List (Option ℕ)) : Type 0 where
+pub record AreFull (t : Journey) (labels : List (Label State))
+    (full : List (Option ℕ)) : Type 0 where
   pub count : length full ≡ length t.route * node_count t.network
   pub reached : (passed node time : ℕ) → passed < length t.route → node < node_count t.network
       → slice_get full (passed * node_count t.network + node) ≡ Some (Some time)

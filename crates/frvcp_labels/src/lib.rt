@@ -17,6 +17,7 @@ mod trace;
 mod trip;
 
 pub use solve::solve_route;
+pub use stations::station_nodes;
 
 #[cfg(test)]
 mod tests;

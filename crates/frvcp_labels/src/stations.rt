@@ -8,7 +8,7 @@ use instance_reader::Instance;
 use std::alloc::{AllocError, Global};
 
 /// The nodes that have a curve, in rising order.
-pub(crate) fn station_nodes(alloc: Global, inst: &Instance) -> Result<Vec<usize>, AllocError>
+pub fn station_nodes(alloc: Global, inst: &Instance) -> Result<Vec<usize>, AllocError>
     ensures nodes { IfOk result (λ v. v.items ≡ stations inst.now) }
     ensures network { IsNetwork inst.now }
 {

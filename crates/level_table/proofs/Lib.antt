@@ -1,4 +1,3 @@
-pub mod StationList
 pub mod Charging
 pub mod Grid
 pub mod Filling

@@ -1,11 +1,11 @@
 -- What is answered about one route, among the plans in whole units of charge.
-use Rattle.std.specs.Prelude.{ℕ, ◌+◌, ◌-◌, ◌*◌, ◌^◌, ◌≤◌, List, length, filter, is_some}
-use Rattle.std.specs.List.{range_with_len}
-use Rattle.ev_model.specs.Network.{Network, curve_at, node_count}
+use Rattle.std.specs.Prelude.{ℕ, ◌+◌, ◌-◌, ◌*◌, ◌^◌, ◌≤◌, List, length}
+use Rattle.ev_model.specs.Network.{Network}
 use Rattle.ev_model.specs.Feasible.{IsFeasible}
 use Rattle.ev_model.specs.Route.{FollowsRoute}
 use Rattle.ev_model.specs.Time.{time_of}
 use Rattle.ev_model.specs.declared.Stop.{Stop}
+use Rattle.frvcp_labels.specs.Stations.{stations}
 
 -- a feasible whole plan of the route than which no feasible whole plan of the route is faster
 pub record IsFastestWhole (g : Network) (route : List ℕ) (start : ℕ) (stops : List Stop) : Type 0 where
@@ -18,10 +18,6 @@ pub record IsFastestWhole (g : Network) (route : List ℕ) (start : ℕ) (stops 
 abbrev pub HasNoWholePlan : Network → List ℕ → ℕ → Type 0
 HasNoWholePlan g route start =
     (stops : List Stop) → IsFeasible g 1 start stops → FollowsRoute route stops → ⊥
-
--- the nodes that have a curve, in rising order
-unfoldable pub stations : Network → List ℕ
-stations g = filter (λ node. is_some (curve_at g node)) (range_with_len 0 (node_count g))
 
 -- the cells of a table: for each arc of the route, for the node before it and each station that may be inserted there, for each whole level
 abbrev pub cell_count : Network → List ℕ → ℕ

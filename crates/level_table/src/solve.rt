@@ -7,9 +7,10 @@ ghost use Rattle.level_table.specs.Answer.{cell_count, most_cells};
 ghost use Rattle.level_table.specs.declared.fault.LevelFault.{LevelFault};
 
 use crate::fault::LevelFault;
-use crate::stations::{station_count, station_nodes};
+use crate::stations::station_count;
 use crate::trip::Trip;
 use ev_list::Listed;
+use frvcp_labels::station_nodes;
 use instance_reader::Instance;
 use route_plan::RoutePlan;
 use std::alloc::{AllocError, Global};

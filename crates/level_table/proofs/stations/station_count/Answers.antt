@@ -1,6 +1,6 @@
 use Rattle.std.proofs.Common.{◌≡◌, ◌∙◌, ◌+◌, ◌∷◌, [], ℕ, List, Bor, is_some, length, ap, sym, arith, length-append}
 use Rattle.ev_model.specs.Network.{curve_at}
-use Rattle.level_table.proofs.StationList.{has_curve, stations_below, stations_below-all, stations_below-other, stations_below-station}
+use Rattle.frvcp_labels.proofs.StationList.{has_curve, stations_below, stations_below-all, stations_below-other, stations_below-station}
 use Rattle.level_table.proofs.stations.station_count.Goals as goal
 use Rattle.level_table.proofs.stations.station_count.Goals.{then-is_some, else-is_some}
 

@@ -1,6 +1,0 @@
-use Rattle.std.proofs.Common.{◌≡◌}
-use Rattle.level_table.proofs.StationList.{stations_below}
-use Rattle.level_table.proofs.stations.station_nodes.Given as goal
-
-abbrev pub invariant-loop-node : goal.invariant-loop-node
-invariant-loop-node l = l.nodes.items ≡ stations_below l.inst l.node
