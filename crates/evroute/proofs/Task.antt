@@ -63,6 +63,7 @@ ended_of options word bytes (Refused (refusal.Route fault)) is = absurd is.1
 ended_of options word bytes (Refused (refusal.Levels cells)) is = absurd is.1
 ended_of options word bytes (Refused (refusal.Plan fault)) is = absurd is.1
 ended_of options word bytes (Refused (refusal.Literal fault)) is = absurd is.1
+ended_of options word bytes (Refused refusal.Maker) is = absurd is.1
 
 -- ---- the answer to a task
 
@@ -79,7 +80,7 @@ few_unless count many = elim (cases_lt most_cells count) [
 ]
 
 -- a table that was searched was not too large
-are_few : {A : Type 0} (found : A) (count : ℕ) → ((cells : ℕ) → (◌≡◌ {A = Result A LevelFault} (Ok found) (Err (Levels cells))) ↔ ((cells ≡ count) × (most_cells < cells))) → count ≤ most_cells
+pub are_few : {A : Type 0} (found : A) (count : ℕ) → ((cells : ℕ) → (◌≡◌ {A = Result A LevelFault} (Ok found) (Err (Levels cells))) ↔ ((cells ≡ count) × (most_cells < cells))) → count ≤ most_cells
 are_few {A} found count levels = few_unless count (λ past. Err-ne-Ok (Levels count) found (sym ((levels count).1 (refl, past))))
 
 pub puts_plan : {A E : Type 0} (options : Options) (word bytes : List ℕ) (g : Network) (route : List ℕ) (level : ℕ) → IsTask options word bytes g route → level ≡ start_of g options.charge

@@ -1,9 +1,11 @@
 -- Why a step of a job is the last: the first rule is broken, or memory was refused.
 use Rattle.std.specs.Prelude.{List, Option, ℕ}
+use Rattle.command_line.specs.Words.{MakeJob}
 use Rattle.command_line.specs.declared.Options.{Options}
 use Rattle.evroute.specs.CheckAnswer.{IsCheckRefused}
 use Rattle.evroute.specs.FixedAnswer.{IsRefused}
 use Rattle.evroute.specs.LimitedNetwork.{IsNetworkRefused}
+use Rattle.evroute.specs.MakeAnswer.{IsMakeRefused}
 use Rattle.plan_writer.specs.RefusalText.{IsRule}
 use Rattle.evroute.specs.declared.answer.Ended.{Ended}
 use Rattle.evroute.specs.declared.answer.Ended.TheVariants.{Refused, Memory}
@@ -28,3 +30,8 @@ abbrev pub IsCheckEnded : Option ℕ → List ℕ → List ℕ → Ended → Typ
 IsCheckEnded limit bytes plan_bytes (Refused refusal) =
     IsRule refusal × IsCheckRefused limit bytes plan_bytes refusal
 IsCheckEnded limit bytes plan_bytes Memory = Unit {0}
+
+-- of `make`
+abbrev pub IsMakeEnded : MakeJob → Ended → Type 0
+IsMakeEnded job (Refused refusal) = IsRule refusal × IsMakeRefused job refusal
+IsMakeEnded job Memory = Unit {0}
