@@ -2,7 +2,7 @@
 use Rattle.std.proofs.Common.{◌≡◌, ◌≢◌, List, [], ◌∷◌, length, None, refl}
 use Rattle.std.specs.Borrow.{Bor}
 use Rattle.clap.specs.Walk.{Row, Text, texts}
-use Rattle.command_line.specs.Words.{check_of, convert_of, fixed_of}
+use Rattle.command_line.specs.Words.{check_of, convert_of, fixed_of, make_of}
 
 pub no_fixed : (rest : List (Bor Text)) (rows : List Row) → length rest ≢ 2 → None ≡ fixed_of (texts rest) rows
 no_fixed [] rows other = refl
@@ -21,3 +21,11 @@ no_convert [] rows other = refl
 no_convert (a ∷ []) rows other = refl
 no_convert (a ∷ b ∷ []) rows other = absurd (other refl)
 no_convert (a ∷ b ∷ c ∷ rest) rows other = refl
+
+pub no_make : (rest : List (Bor Text)) (rows : List Row) → length rest ≢ 4 → None ≡ make_of (texts rest) rows
+no_make [] rows other = refl
+no_make (a ∷ []) rows other = refl
+no_make (a ∷ b ∷ []) rows other = refl
+no_make (a ∷ b ∷ c ∷ []) rows other = refl
+no_make (a ∷ b ∷ c ∷ d ∷ []) rows other = absurd (other refl)
+no_make (a ∷ b ∷ c ∷ d ∷ e ∷ rest) rows other = refl

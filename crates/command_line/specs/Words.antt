@@ -1,5 +1,5 @@
 -- The job that the words of a command line name: a function of what the command finds in them.
-use Rattle.std.specs.Prelude.{ℕ, ◌^◌, ◌&&◌, ◌||◌, Bool, true, not, List, [], ◌∷◌, Option, None, Some, Result, Ok, Err, is_none, codes, nat_eq, option_and_then, option_map, unwrap_or, if◌then◌else◌, length}
+use Rattle.std.specs.Prelude.{ℕ, ◌-◌, ◌^◌, ◌&&◌, ◌||◌, Bool, true, not, List, [], ◌∷◌, Option, None, Some, Result, Ok, Err, is_none, codes, nat_eq, option_and_then, option_map, unwrap_or, if◌then◌else◌, length}
 use Rattle.std.specs.List.{list_any}
 use Rattle.std.specs.Str.{bytes_eq}
 use Rattle.clap.specs.Words.{Kinds, Row, Text, all_of, fault_of, first_of, matches_of}
@@ -27,11 +27,20 @@ pub record ConvertJob : Type 0 where
   pub time_digits : ℕ
   pub energy_digits : ℕ
 
+-- the job of making an instance: the number that it is made from, how many customers and stations it has, and the name of
+-- its file
+pub record MakeJob : Type 0 where
+  pub seed : ℕ
+  pub customers : ℕ
+  pub stations : ℕ
+  pub outfile : Text
+
 -- a job of the program
 pub data Job : Type 0 where
   FixedRoute : FixedJob → Job
   CheckPlan : CheckJob → Job
   ConvertFile : ConvertJob → Job
+  MakeInstance : MakeJob → Job
 
 -- the greatest limit, level and number of nodes
 abbrev pub most_value : ℕ
@@ -40,6 +49,14 @@ most_value = 10 ^ 18
 -- the greatest number of digits
 abbrev pub most_digits : ℕ
 most_digits = 10 ^ 9
+
+-- the greatest number that an instance is made from
+abbrev pub most_seed : ℕ
+most_seed = 2 ^ 64 - 1
+
+-- the greatest count of customers or stations
+abbrev pub most_count : ℕ
+most_count = 2 ^ 32 - 1
 
 -- the whole word is a number in its one spelling, at most `most`
 abbrev pub all_taken : Result (ℕ × (List ℕ × ℕ)) TextFault → Option ℕ
@@ -151,12 +168,32 @@ convert_of (file ∷ outfile ∷ []) rows =
     else None
 convert_of rest rows = None
 
+-- the job of these words with these numbers
+abbrev pub make_job_of : ℕ → ℕ → ℕ → Text → MakeJob
+make_job_of seed customers stations outfile =
+    record { seed = seed; customers = customers; stations = stations; outfile = outfile }
+
+-- `make SEED CUSTOMERS STATIONS OUTFILE`
+abbrev pub make_with : Option ℕ → Option ℕ → Option ℕ → Text → Option Job
+make_with (Some seed) (Some customers) (Some stations) outfile =
+    Some (MakeInstance (make_job_of seed customers stations outfile))
+make_with seed customers stations outfile = None
+
+abbrev pub make_of : List Text → List Row → Option Job
+make_of (seed ∷ customers ∷ stations ∷ outfile ∷ []) rows =
+    if gives_only [] rows
+    then make_with (number_of most_seed seed) (number_of most_count customers)
+    (number_of most_count stations) outfile
+    else None
+make_of rest rows = None
+
 -- the job of a command, of the words behind it and of the options
 abbrev pub job_of_command : Text → List Text → List Row → Option Job
 job_of_command command rest rows =
     if bytes_eq command (codes "fixed") then fixed_of rest rows
     else if bytes_eq command (codes "check") then check_of rest rows
     else if bytes_eq command (codes "convert") then convert_of rest rows
+    else if bytes_eq command (codes "make") then make_of rest rows
     else None
 
 -- the job of what the command finds

@@ -11,6 +11,7 @@ mod check;
 mod convert;
 mod fixed;
 mod laws;
+mod make;
 mod matches;
 mod words;
 
@@ -55,6 +56,16 @@ pub struct ConvertWords {
     pub energy_digits: u32,
 }
 
+/// The words of the job `make`: the number that the instance is made from, how many customers and stations it has,
+/// and the file that is written.
+#[derive(Debug, Drop, PartialEq, Eq)]
+pub struct MakeWords {
+    pub seed: u64,
+    pub customers: u32,
+    pub stations: u32,
+    pub outfile: String,
+}
+
 /// A job of the program.
 #[derive(Debug, Drop, PartialEq, Eq)]
 pub enum Job {
@@ -64,15 +75,19 @@ pub enum Job {
     Check(CheckWords),
     /// The decimals of a file become whole.
     Convert(ConvertWords),
+    /// An instance is made from a number.
+    Make(MakeWords),
 }
 
 /// The job of the words, which stand behind the program's name, read by one `clap` command:
-/// `fixed FILE ROUTE [--limit N] [--charge N]`, `check FILE PLAN [--limit N]` or
-/// `convert FILE OUTFILE --time-digits N --energy-digits N`. `None` comes exactly where the words are no such job.
+/// `fixed FILE ROUTE [--limit N] [--charge N]`, `check FILE PLAN [--limit N]`,
+/// `convert FILE OUTFILE --time-digits N --energy-digits N` or `make SEED CUSTOMERS STATIONS OUTFILE`. `None` comes
+/// exactly where the words are no such job.
 ///
 /// Options stand anywhere before a word `--`, each at most once; the value is the next word or follows a `=`.
 /// A name that begins with `-` and has more behind it is given after `--`. Numbers are written without
-/// leading zeros: at most 10^18 for a limit or a charge, 10^9 for digits. The names of files are different texts.
+/// leading zeros: at most 10^18 for a limit or a charge, 10^9 for digits, 2^64 - 1 for a seed, 2^32 - 1 for counts.
+/// The names of files are different texts.
 pub fn job_words(alloc: Global, words: &[String]) -> Result<Option<Job>, AllocError>
     ensures { IfOk result (λ job. option_map job_value job ≡ job_of (map string_bytes words.now)) }
 {

@@ -11,6 +11,7 @@ use crate::Job;
 use crate::check::check_job;
 use crate::convert::convert_job;
 use crate::fixed::fixed_job;
+use crate::make::make_job;
 use crate::words::{GREATEST_DIGITS, GREATEST_VALUE, is_listed, number_of, optional_number};
 use clap::ArgMatches;
 use std::alloc::{AllocError, Global};
@@ -94,6 +95,7 @@ fn job_of_command(
         "fixed" => fixed_job(alloc, rest, matches),
         "check" => check_job(alloc, rest, matches),
         "convert" => convert_job(alloc, rest, matches),
+        "make" => make_job(alloc, rest, matches),
         _ => Ok(None),
     }
 }

@@ -30,6 +30,12 @@ fn job_text(alloc: Global, line: &str) -> Result<String, AllocError> {
                 job.file, job.outfile, job.time_digits, job.energy_digits
             )
         }
+        Some(Job::Make(job)) => {
+            format!(in alloc;
+                "make {} {} {} {}",
+                job.seed, job.customers, job.stations, job.outfile
+            )
+        }
         None => String::from_str(alloc, "none"),
     }
 }
@@ -76,7 +82,15 @@ fn words_name_jobs(rt: HostRuntime) {
         ),
         ("convert A W --time-digits 2", "none"),
         ("convert A A --time-digits 2 --energy-digits 0", "none"),
-        ("make 1 1 0 M", "none"),
+        (
+            "make 18446744073709551615 4294967295 0 M",
+            "make 18446744073709551615 4294967295 0 M",
+        ),
+        ("make 18446744073709551616 1 0 M", "none"),
+        ("make 1 4294967296 0 M", "none"),
+        ("make 1 1 00 M", "none"),
+        ("make 1 1 0 M --limit 1", "none"),
+        ("make 1 1 0", "none"),
         ("--help", "none"),
         ("fixed A 0,1,0 -h", "none"),
         ("help", "none"),

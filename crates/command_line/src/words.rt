@@ -12,6 +12,12 @@ pub(crate) const GREATEST_VALUE: u64 = 1_000_000_000_000_000_000;
 /// The greatest number of digits.
 pub(crate) const GREATEST_DIGITS: u64 = 1_000_000_000;
 
+/// The greatest number that an instance is made from.
+pub(crate) const GREATEST_SEED: u64 = u64::MAX;
+
+/// The greatest count of customers or stations.
+pub(crate) const GREATEST_COUNT: u64 = u32::MAX as u64;
+
 /// The whole word as a number of at most `most`.
 pub(crate) fn number_of(word: &str, most: u64) -> Option<u64>
     ensures number { result ≡ number_of most word.now }

@@ -1,6 +1,6 @@
 -- What a command reads, and what it finds.
 use Rattle.std.proofs.Common.{◌≡◌, ◌≢◌, ◌∙◌, ℕ, List, [], ◌++◌, length, take, Option, None, Some, Result, Ok, Err, IfOk, IfErr, IsErrOf, ap, arith, inl, inr, refl, subst, sym}
-use Rattle.command_line.specs.Words.{CheckJob, CheckPlan, ConvertFile, ConvertJob, FixedJob, FixedRoute, Job}
+use Rattle.command_line.specs.Words.{CheckJob, CheckPlan, ConvertFile, ConvertJob, FixedJob, FixedRoute, Job, MakeInstance, MakeJob}
 use Rattle.decimal_import.specs.Conversion.{Refuses, conversion_of}
 use Rattle.decimal_import.specs.Converted.{IsConverted}
 use Rattle.decimal_import.specs.declared.fault.ImportFault.{ImportFault}
@@ -13,8 +13,9 @@ use Rattle.evroute.specs.CheckAnswer.{CheckAnswers}
 use Rattle.evroute.specs.ConvertAnswer.{BecomesWhole, IsConvertRefused}
 use Rattle.evroute.specs.Ended.{IsCheckEnded}
 use Rattle.evroute.specs.FixedAnswer.{FixedAnswers}
+use Rattle.evroute.specs.MakeAnswer.{HasNoInstance, MakeAnswers, MakesNetwork, text_made}
 use Rattle.evroute.specs.Found.{Finds, status_of}
-use Rattle.evroute.specs.Run.{AreRead, ComesToPlan, ComesToWrite, HasFailedRead, HasFailedWrite, HasFileFault, HasWriteFault, IsAnswered, JobAnswers, LeavesFiles, LeavesWhole, most_bytes}
+use Rattle.evroute.specs.Run.{AreRead, ComesToPlan, ComesToWrite, HasFailedRead, HasFailedWrite, HasFileFault, HasMadeFault, HasWriteFault, IsAnswered, JobAnswers, LeavesFiles, LeavesMade, LeavesWhole, MakesNothing, WritesMade, most_bytes}
 use Rattle.evroute.specs.declared.answer.Answer.{Answer}
 use Rattle.evroute.specs.declared.answer.Ended.{Ended}
 use Rattle.evroute.specs.declared.answer.Ended.TheVariants.{Refused}
@@ -83,6 +84,10 @@ write_fault_since job before later after same stays (failed, comes) = (
   subst (λ (fs : Option Files). ComesToWrite job fs) same comes,
 )
 
+made_fault_since : (job : MakeJob) (before later after : ShelfState) → CountsStay before later → HasMadeFault job later after → HasMadeFault job before after
+made_fault_since job before later after stays (failed, within) =
+    (subst (λ (n : ℕ). Rose n (after.failed_writes job.outfile)) (stays.writes job.outfile) failed, within)
+
 fault_since : (job : Job) (before later after : ShelfState) → later.files ≡ before.files → CountsStay before later → HasFileFault job later after → HasFileFault job before after
 fault_since (FixedRoute job) before later after same stays failed = failed_since before later after job.file stays failed
 fault_since (CheckPlan job) before later after same stays (inl failed) = inl (failed_since before later after job.file stays failed)
@@ -90,6 +95,7 @@ fault_since (CheckPlan job) before later after same stays (inr (failed, comes)) 
     inr (failed_since before later after job.plan stays failed, comes_since job before.files later.files same comes)
 fault_since (ConvertFile job) before later after same stays (inl failed) = inl (failed_since before later after job.file stays failed)
 fault_since (ConvertFile job) before later after same stays (inr failed) = inr (write_fault_since job before later after same stays failed)
+fault_since (MakeInstance job) before later after same stays failed = made_fault_since job before later after stays failed
 
 leaves_whole_since : (job : ConvertJob) (before later after : ShelfState) (ended : Status) → later.files ≡ before.files → CountsStay before later →
     LeavesWhole job later after ended → LeavesWhole job before after ended
@@ -110,11 +116,35 @@ leaves_whole_since job before later after status.Refused same stays is = is ∙ 
 leaves_whole_since job before later after status.Memory same stays is = is ∙ same
 leaves_whole_since job before later after status.Stopped same stays is = is ∙ same
 
+made_since : (job : MakeJob) (old later new : Option Files) → later ≡ old → WritesMade job later new → WritesMade job old new
+made_since job old later new same made = subst (λ (fs : Option Files). WritesMade job fs new) same made
+
+nothing_since : (job : MakeJob) (old later new : Option Files) → later ≡ old → MakesNothing job later new → MakesNothing job old new
+nothing_since job old later new same nothing = subst (λ (fs : Option Files). MakesNothing job fs new) same nothing
+
+leaves_made_since : (job : MakeJob) (before later after : ShelfState) (ended : Status) → later.files ≡ before.files → CountsStay before later →
+    LeavesMade job later after ended → LeavesMade job before after ended
+leaves_made_since job before later after status.Done same stays made = made_since job before.files later.files after.files same made
+leaves_made_since job before later after status.Negative same stays made = made_since job before.files later.files after.files same made
+leaves_made_since job before later after status.Refused same stays (inl nothing) = inl (nothing_since job before.files later.files after.files same nothing)
+leaves_made_since job before later after status.Refused same stays (inr made) = inr (made_since job before.files later.files after.files same made)
+leaves_made_since job before later after status.Fault same stays (inl nothing) = inl (nothing_since job before.files later.files after.files same nothing)
+leaves_made_since job before later after status.Fault same stays (inr (inl made)) = inr (inl (made_since job before.files later.files after.files same made))
+leaves_made_since job before later after status.Fault same stays (inr (inr (failed, others))) =
+    inr (inr (made_fault_since job before later after stays failed, subst (λ (fs : Option Files). KeepsOthers job.outfile fs after.files) same others))
+leaves_made_since job before later after status.Words same stays (inl is) = inl (is ∙ same)
+leaves_made_since job before later after status.Words same stays (inr made) = inr (made_since job before.files later.files after.files same made)
+leaves_made_since job before later after status.Memory same stays (inl is) = inl (is ∙ same)
+leaves_made_since job before later after status.Memory same stays (inr made) = inr (made_since job before.files later.files after.files same made)
+leaves_made_since job before later after status.Stopped same stays (inl is) = inl (is ∙ same)
+leaves_made_since job before later after status.Stopped same stays (inr made) = inr (made_since job before.files later.files after.files same made)
+
 leaves_since : (job : Job) (before later after : ShelfState) (ended : Status) → later.files ≡ before.files → CountsStay before later →
     LeavesFiles job later after ended → LeavesFiles job before after ended
 leaves_since (FixedRoute job) before later after ended same stays is = is ∙ same
 leaves_since (CheckPlan job) before later after ended same stays is = is ∙ same
 leaves_since (ConvertFile job) before later after ended same stays leaves = leaves_whole_since job before later after ended same stays leaves
+leaves_since (MakeInstance job) before later after ended same stays leaves = leaves_made_since job before later after ended same stays leaves
 
 counts_since : (before later after : ShelfState) → CountsStay before later → CountsStay later after → CountsStay before after
 counts_since before later after p q = record {
@@ -150,25 +180,31 @@ same_error : {A E : Type 0} (e other : E) → ◌≡◌ {A = Result A E} (Err e)
 unfolding error_or
 same_error {A} {E} e other same = ap (λ (r : Result A E). error_or e r) same
 
+-- the job reads a file
+abbrev pub ReadsFile : Job → Type 0
+ReadsFile (MakeInstance job) = ⊥
+ReadsFile other = Unit {0}
+
 -- a step that failed or was refused memory leaves all files
-leaves_unread : (job : Job) (before after : ShelfState) (fault : ShelfFault) → after.files ≡ before.files → LeavesFiles job before after (status_of (Err fault))
-leaves_unread (FixedRoute job) before after fault same = same
-leaves_unread (CheckPlan job) before after fault same = same
-leaves_unread (ConvertFile job) before after Failed same = inl same
-leaves_unread (ConvertFile job) before after Memory same = same
+leaves_unread : (job : Job) (before after : ShelfState) (fault : ShelfFault) → ReadsFile job → after.files ≡ before.files → LeavesFiles job before after (status_of (Err fault))
+leaves_unread (FixedRoute job) before after fault reads same = same
+leaves_unread (CheckPlan job) before after fault reads same = same
+leaves_unread (ConvertFile job) before after Failed reads same = inl same
+leaves_unread (ConvertFile job) before after Memory reads same = same
+leaves_unread (MakeInstance job) before after fault reads same = absurd reads
 
 -- a job whose read was refused
-pub finds_none : {A : Type 0} (job : Job) (before after : ShelfState) (fault : ShelfFault) →
+pub finds_none : {A : Type 0} (job : Job) (before after : ShelfState) (fault : ShelfFault) → ReadsFile job →
     (◌≡◌ {A = Result A ShelfFault} (Err fault) (Err Failed) → HasFileFault job before after)
     → ((◌≡◌ {A = Result A ShelfFault} (Err fault) (Err Failed) → ⊥) → CountsStay before after)
     → CountsNeverFall before after → after.files ≡ before.files → Finds job before after (Err fault)
-finds_none {A} job before after fault failed stays falls files = record {
+finds_none {A} job before after fault reads failed stays falls files = record {
   answered = tt;
   answers = tt;
   fault = λ is. failed (ap {B = Result A ShelfFault} (λ (e : ShelfFault). Err e) (same_error fault Failed is));
   stays = λ none. stays (λ is. none (ap {B = Result Answer ShelfFault} (λ (e : ShelfFault). Err e) (same_error fault Failed is)));
   falls = falls;
-  files = leaves_unread job before after fault files;
+  files = leaves_unread job before after fault reads files;
 }
 
 memory_is_no_failure : {A : Type 0} (made : Result A ShelfFault) → IfErr made (λ fault. fault ≡ Memory) → IsErrOf made Failed → ⊥
@@ -180,25 +216,26 @@ refused_is_answered : {E : Type 0} (made : Result Answer E) → IfOk made (λ a.
 refused_is_answered (Ok a) is = subst (λ (s : Status). IsAnswered s) (sym is) tt
 refused_is_answered (Err none) is = tt
 
-leaves_refused : (job : Job) (before after : ShelfState) (made : Result Answer ShelfFault) → IfOk made (λ a. a.status ≡ status.Refused) →
+leaves_refused : (job : Job) (before after : ShelfState) (made : Result Answer ShelfFault) → ReadsFile job → IfOk made (λ a. a.status ≡ status.Refused) →
     after.files ≡ before.files → LeavesFiles job before after (status_of made)
-leaves_refused (FixedRoute job) before after made answered same = same
-leaves_refused (CheckPlan job) before after made answered same = same
-leaves_refused (ConvertFile job) before after (Ok a) answered same = subst (λ (s : Status). LeavesWhole job before after s) (sym answered) same
-leaves_refused (ConvertFile job) before after (Err fault) answered same = leaves_unread (ConvertFile job) before after fault same
+leaves_refused (FixedRoute job) before after made reads answered same = same
+leaves_refused (CheckPlan job) before after made reads answered same = same
+leaves_refused (MakeInstance job) before after made reads answered same = absurd reads
+leaves_refused (ConvertFile job) before after (Ok a) reads answered same = subst (λ (s : Status). LeavesWhole job before after s) (sym answered) same
+leaves_refused (ConvertFile job) before after (Err fault) reads answered same = leaves_unread (ConvertFile job) before after fault tt same
 
 -- a job that ends with the line of a refusal, behind a read that did not fail
-finds_refused : (job : Job) (before after : ShelfState) (made : Result Answer ShelfFault) →
+finds_refused : (job : Job) (before after : ShelfState) (made : Result Answer ShelfFault) → ReadsFile job →
     IfOk made (λ a. JobAnswers job before.files a.status a.text.items)
     → IfOk made (λ a. a.status ≡ status.Refused) → IfErr made (λ fault. fault ≡ Memory)
     → CountsStay before after → CountsNeverFall before after → after.files ≡ before.files → Finds job before after made
-finds_refused job before after made answers answered memory stays falls files = record {
+finds_refused job before after made reads answers answered memory stays falls files = record {
   answered = refused_is_answered made answered;
   answers = answers;
   fault = λ failed. absurd (memory_is_no_failure made memory failed);
   stays = λ none. stays;
   falls = falls;
-  files = leaves_refused job before after made answered files;
+  files = leaves_refused job before after made reads answered files;
 }
 
 pub finds_refusal : (job : CheckJob) (before after : ShelfState) (bytes given : List ℕ) (ended : Ended) (refusal : Refusal) (made : Result Answer ShelfFault) →
@@ -206,7 +243,7 @@ pub finds_refusal : (job : CheckJob) (before after : ShelfState) (bytes given : 
     → IfOk made (λ a. a.status ≡ status.Refused) → IfOk made (λ a. a.text.items ≡ refusal_text refusal) → IfErr made (λ fault. fault ≡ Memory)
     → CountsStay before after → CountsNeverFall before after → after.files ≡ before.files → Finds (CheckPlan job) before after made
 finds_refusal job before after bytes given ended refusal made read same is refused answered text memory stays falls files =
-    finds_refused (CheckPlan job) before after made (refusal_answers job before.files bytes given ended refusal made read same is refused answered text)
+    finds_refused (CheckPlan job) before after made tt (refusal_answers job before.files bytes given ended refusal made read same is refused answered text)
     answered memory stays falls files
 
 -- ---- `convert`
@@ -245,7 +282,7 @@ finds_literal job before after bytes given fault made read same rule refuses ans
     let refused : conversion_of bytes job.time_digits job.energy_digits ≡ Err fault =
     subst (λ (bs : List ℕ). conversion_of bs job.time_digits job.energy_digits ≡ Err fault) same
     (refused_with fault (conversion_of given job.time_digits job.energy_digits) rule refuses) in
-    finds_refused (ConvertFile job) before after made (literal_answers job before.files bytes fault made read rule refused answered text)
+    finds_refused (ConvertFile job) before after made tt (literal_answers job before.files bytes fault made read rule refused answered text)
     answered memory stays falls files
 
 pub finds_written : (job : ConvertJob) (before after : ShelfState) (bytes whole : List ℕ) (answer : Answer) →
@@ -261,4 +298,97 @@ finds_written job before after bytes whole answer read becomes done empty writte
   falls = falls;
   files = subst (λ (s : Status). LeavesWhole job before after s) (sym done)
       (record { bytes = bytes; read = read; whole = whole; becomes = becomes; written = written; others = others });
+}
+
+-- ---- `make`
+
+-- the line of the refusal is the answer where no instance is made
+maker_answers : (job : MakeJob) (made : Result Answer ShelfFault) → HasNoInstance job
+    → IfOk made (λ a. a.status ≡ status.Refused) → IfOk made (λ a. a.text.items ≡ refusal_text refusal.Maker)
+    → IfOk made (λ a. MakeAnswers job a.status a.text.items)
+maker_answers job (Err none) nothing answered text = tt
+maker_answers job (Ok a) nothing answered text =
+    subst (λ (s : Status). MakeAnswers job s a.text.items) (sym answered)
+    (record { refusal = refusal.Maker; rule = tt; refused = nothing; text_is = text })
+
+leaves_no_instance : (job : MakeJob) (shelf : ShelfState) (made : Result Answer ShelfFault) → HasNoInstance job
+    → IfOk made (λ a. a.status ≡ status.Refused) → IfErr made (λ e. e ≡ Memory) → LeavesMade job shelf shelf (status_of made)
+leaves_no_instance job shelf (Ok a) nothing answered memory = subst (λ (s : Status). LeavesMade job shelf shelf s) (sym answered) (inl (nothing, refl))
+leaves_no_instance job shelf (Err Memory) nothing answered memory = inl refl
+leaves_no_instance job shelf (Err Failed) nothing answered memory = inl (nothing, refl)
+
+nothing_fails : (shelf : ShelfState) → CountsStay shelf shelf
+nothing_fails shelf = record { reads = λ name. refl; writes = λ name. refl }
+
+nothing_falls : (shelf : ShelfState) → CountsNeverFall shelf shelf
+nothing_falls shelf = record { reads = λ name. omega arith; writes = λ name. omega arith }
+
+pub finds_no_instance : (job : MakeJob) (shelf : ShelfState) (made : Result Answer ShelfFault) → HasNoInstance job
+    → IfOk made (λ a. a.status ≡ status.Refused) → IfOk made (λ a. a.text.items ≡ refusal_text refusal.Maker) → IfErr made (λ e. e ≡ Memory)
+    → Finds (MakeInstance job) shelf shelf made
+finds_no_instance job shelf made nothing answered text memory = record {
+  answered = refused_is_answered made answered;
+  answers = maker_answers job made nothing answered text;
+  fault = λ failed. absurd (memory_is_no_failure made memory failed);
+  stays = λ none. nothing_fails shelf;
+  falls = nothing_falls shelf;
+  files = leaves_no_instance job shelf made nothing answered memory;
+}
+
+-- memory was refused before anything was written
+pub finds_no_memory : (job : MakeJob) (shelf : ShelfState) → Finds (MakeInstance job) shelf shelf (Err Memory)
+finds_no_memory job shelf = record {
+  answered = tt;
+  answers = tt;
+  fault = λ failed. absurd (memory_is_no_failure {A = Answer} (Err Memory) refl failed);
+  stays = λ none. nothing_fails shelf;
+  falls = nothing_falls shelf;
+  files = inl refl;
+}
+
+-- the made text was written, however the job ends
+leaves_written : (job : MakeJob) (before after : ShelfState) (ended : Status) → WritesMade job before.files after.files → LeavesMade job before after ended
+leaves_written job before after status.Done writes = writes
+leaves_written job before after status.Negative writes = writes
+leaves_written job before after status.Refused writes = inr writes
+leaves_written job before after status.Fault writes = inr (inl writes)
+leaves_written job before after status.Words writes = inr writes
+leaves_written job before after status.Memory writes = inr writes
+leaves_written job before after status.Stopped writes = inr writes
+
+pub finds_made : (job : MakeJob) (before after : ShelfState) (text : List ℕ) (found : Result Answer ShelfFault) → (HasNoInstance job → ⊥) → text ≡ text_made job
+    → HoldsUnder after.files job.outfile text → KeepsOthers job.outfile before.files after.files
+    → IfOk found (λ a. MakeAnswers job a.status a.text.items) → IfOk found (λ a. IsAnswered a.status) → IfErr found (λ e. e ≡ Memory)
+    → CountsStay before after → CountsNeverFall before after → Finds (MakeInstance job) before after found
+finds_made job before after text found within is written others answers answered memory stays falls = record {
+  answered = answered;
+  answers = answers;
+  fault = λ failed. absurd (memory_is_no_failure found memory failed);
+  stays = λ none. stays;
+  falls = falls;
+  files = leaves_written job before after (status_of found)
+      (record { within = within; written = subst (λ (bs : List ℕ). HoldsUnder after.files job.outfile bs) is written; others = others });
+}
+
+-- the write of the made text was refused
+pub finds_unwritten : {A : Type 0} (job : MakeJob) (before after : ShelfState) (fault : ShelfFault) → (HasNoInstance job → ⊥)
+    → (◌≡◌ {A = Result A ShelfFault} (Err fault) (Err Failed) → HasFailedWrite before after job.outfile)
+    → (◌≡◌ {A = Result A ShelfFault} (Err fault) (Err Memory) → after.files ≡ before.files)
+    → ((◌≡◌ {A = Result A ShelfFault} (Err fault) (Err Failed) → ⊥) → CountsStay before after)
+    → CountsNeverFall before after → KeepsOthers job.outfile before.files after.files → Finds (MakeInstance job) before after (Err fault)
+finds_unwritten {A} job before after Failed within failed memory stays falls others = record {
+  answered = tt;
+  answers = tt;
+  fault = λ is. (failed refl, within);
+  stays = λ none. absurd (none refl);
+  falls = falls;
+  files = inr (inr ((failed refl, within), others));
+}
+finds_unwritten {A} job before after Memory within failed memory stays falls others = record {
+  answered = tt;
+  answers = tt;
+  fault = λ is. absurd (memory_is_no_failure {A = Answer} (Err Memory) refl is);
+  stays = λ none. stays (λ is. cc);
+  falls = falls;
+  files = inl (memory refl);
 }

@@ -3,4 +3,5 @@ pub mod Instances
 pub mod OneStatus
 pub mod Refused
 pub mod Finding
+pub mod Making
 pub mod Performed

@@ -1,6 +1,6 @@
 -- The causes of the statuses exclude each other.
 use Rattle.std.proofs.Common.{◌≡◌, ◌∙◌, ℕ, ◌<◌, ◌≤◌, List, Option, None, Some, Ok, Err, take, ap, arith, refl, subst, sym}
-use Rattle.command_line.specs.Words.{CheckJob, CheckPlan, ConvertFile, ConvertJob, FixedJob, FixedRoute, Job}
+use Rattle.command_line.specs.Words.{CheckJob, CheckPlan, ConvertFile, ConvertJob, FixedJob, FixedRoute, Job, MakeInstance, MakeJob}
 use Rattle.command_line.specs.declared.Options.{Options}
 use Rattle.ev_model.specs.Fastest.{HasNoPlan}
 use Rattle.ev_model.specs.Network.{Network, node_count}
@@ -17,11 +17,13 @@ use Rattle.route_plan.specs.PlanTexts.{SpellsFleetPlan}
 use Rattle.route_plan.specs.RouteRules.{route_fault, route_in}
 use Rattle.route_plan.specs.RouteWords.{nodes_in}
 use Rattle.route_plan.specs.declared.plan.FleetPlan.{FleetPlan}
+use Rattle.instance_reader.proofs.LawsLemmas.{one_network}
 use Rattle.evroute.proofs.Instances.{one_limited, refused_has_none}
 use Rattle.evroute.specs.CheckAnswer.{CheckAnswers, HasFleetNetwork, IsCheckRefused, IsValid, PutsAccepted, PutsRejected, customer_count}
 use Rattle.evroute.specs.ConvertAnswer.{BecomesWhole, ConvertAnswers, IsConvertRefused}
 use Rattle.evroute.specs.FixedAnswer.{FixedAnswers, IsRefused, IsTask, PutsInfeasible, PutsPlan, start_of}
-use Rattle.evroute.specs.Run.{HasCause, IsAnswered, IsTold, most_bytes}
+use Rattle.evroute.specs.MakeAnswer.{IsMakeRefused, MakeAnswers, MakesNetwork, PutsNoTime, PutsTime, route_of_all}
+use Rattle.evroute.specs.Run.{HasCause, IsAnswered, TellsRead, most_bytes}
 use Rattle.evroute.specs.declared.status.Status.{Status}
 use Rattle.evroute.specs.declared.status.Status.TheVariants as status
 
@@ -95,6 +97,7 @@ refused_is_no_task options word bytes g route (refusal.Route e) task rule (h, st
 refused_is_no_task options word bytes g route (refusal.Customers count) task rule is = absurd is
 refused_is_no_task options word bytes g route (refusal.Plan e) task rule is = absurd is
 refused_is_no_task options word bytes g route (refusal.Literal e) task rule is = absurd is
+refused_is_no_task options word bytes g route refusal.Maker task rule is = absurd is
 
 plan_is_some : (options : Options) (word bytes text other : List ℕ) → PutsPlan options word bytes text → PutsInfeasible options word bytes other → ⊥
 plan_is_some options word bytes text other p q =
@@ -150,6 +153,7 @@ refused_is_no_plan limit bytes plan_bytes g plan (refusal.Plan e) fleet spelled 
 refused_is_no_plan limit bytes plan_bytes g plan (refusal.Charge level) fleet spelled rule is = absurd is
 refused_is_no_plan limit bytes plan_bytes g plan (refusal.Route e) fleet spelled rule is = absurd is
 refused_is_no_plan limit bytes plan_bytes g plan (refusal.Literal e) fleet spelled rule is = absurd is
+refused_is_no_plan limit bytes plan_bytes g plan refusal.Maker fleet spelled rule is = absurd is
 
 accepted_is_unbroken : (limit : Option ℕ) (bytes plan_bytes text other : List ℕ) → PutsAccepted limit bytes plan_bytes text → PutsRejected limit bytes plan_bytes other → ⊥
 accepted_is_unbroken limit bytes plan_bytes text other p q =
@@ -191,6 +195,7 @@ refused_becomes_nothing job bytes whole (refusal.Customers count) becomes is = a
 refused_becomes_nothing job bytes whole (refusal.Charge level) becomes is = absurd is
 refused_becomes_nothing job bytes whole (refusal.Route e) becomes is = absurd is
 refused_becomes_nothing job bytes whole (refusal.Plan e) becomes is = absurd is
+refused_becomes_nothing job bytes whole refusal.Maker becomes is = absurd is
 
 ConvertCause : ConvertJob → List ℕ → Status → Type 0
 ConvertCause job bytes s = (text : List ℕ) × ConvertAnswers job bytes s text
@@ -213,6 +218,54 @@ convert_exclude job bytes = record {
   done_refused = λ p q. refused_becomes_nothing job bytes p.1.whole q.1.refusal p.1.becomes q.1.refused;
   negative_refused = λ p q. absurd p.1;
 }
+
+-- ---- `make`
+
+same_made : (job : MakeJob) (g h : Network) → MakesNetwork job g → MakesNetwork job h → g ≡ h
+same_made job g h p q = one_network _ g h p.instance q.instance
+
+refused_makes_nothing : (job : MakeJob) (g : Network) (r : Refusal) → MakesNetwork job g → IsMakeRefused job r → ⊥
+refused_makes_nothing job g refusal.Maker makes none = makes.within none
+refused_makes_nothing job g (refusal.Instance e) makes is = absurd is
+refused_makes_nothing job g (refusal.Limit given) makes is = absurd is
+refused_makes_nothing job g (refusal.Customers count) makes is = absurd is
+refused_makes_nothing job g (refusal.Charge level) makes is = absurd is
+refused_makes_nothing job g (refusal.Route e) makes is = absurd is
+refused_makes_nothing job g (refusal.Plan e) makes is = absurd is
+refused_makes_nothing job g (refusal.Literal e) makes is = absurd is
+
+time_is_some : (job : MakeJob) (text other : List ℕ) → PutsTime job text → PutsNoTime job other → ⊥
+time_is_some job text other p q =
+    let same : q.network ≡ p.network = same_made job q.network p.network q.makes p.makes in
+    let none : HasNoPlan p.network (route_of_all job.customers) p.network.capacity =
+    subst (λ (x : Network). HasNoPlan x (route_of_all job.customers) x.capacity) same q.none in
+    none 1 p.stops p.fastest.feasible p.fastest.follows
+
+MakeCause : MakeJob → Status → Type 0
+MakeCause job s = (text : List ℕ) × MakeAnswers job s text
+
+make_answered : (job : MakeJob) (s : Status) → MakeCause job s → IsAnswered s
+unfolding MakeCause
+make_answered job status.Done p = tt
+make_answered job status.Negative p = tt
+make_answered job status.Refused p = tt
+make_answered job status.Words p = absurd p.1
+make_answered job status.Fault p = absurd p.1
+make_answered job status.Memory p = absurd p.1
+make_answered job status.Stopped p = absurd p.1
+
+make_exclude : (job : MakeJob) → ExcludeEachOther (MakeCause job)
+unfolding MakeCause
+make_exclude job = record {
+  answered = make_answered job;
+  done_negative = λ p q. time_is_some job p.0 q.0 p.1 q.1;
+  done_refused = λ p q. refused_makes_nothing job p.1.network q.1.refusal p.1.makes q.1.refused;
+  negative_refused = λ p q. refused_makes_nothing job p.1.network q.1.refusal p.1.makes q.1.refused;
+}
+
+told_make : (job : MakeJob) (files : Option Files) (s : Status) → HasCause (MakeInstance job) files s → MakeCause job s
+unfolding MakeCause
+told_make job files s cause = cause
 
 -- ---- a job whose files are told
 
@@ -237,7 +290,7 @@ unfolding ConvertCause
 told_convert job files s (text, (bytes, read, answers)) =
     (text, subst (λ (bs : List ℕ). ConvertAnswers job bs s text) read answers)
 
-pub one_status : (job : Job) (files : Option Files) (s t : Status) → IsTold files → HasCause job files s → HasCause job files t → s ≡ t
+pub one_status : (job : Job) (files : Option Files) (s t : Status) → TellsRead job files → HasCause job files s → HasCause job files t → s ≡ t
 one_status (FixedRoute job) (Some files) s t told p q =
     one_of (FixedCause job.options job.route (take_under files job.file)) (fixed_exclude job.options job.route (take_under files job.file)) s t
     (told_fixed job files s p) (told_fixed job files t q)
@@ -247,6 +300,8 @@ one_status (CheckPlan job) (Some files) s t told p q =
 one_status (ConvertFile job) (Some files) s t told p q =
     one_of (ConvertCause job (take_under files job.file)) (convert_exclude job (take_under files job.file)) s t
     (told_convert job files s p) (told_convert job files t q)
+one_status (MakeInstance job) files s t told p q =
+    one_of (MakeCause job) (make_exclude job) s t (told_make job files s p) (told_make job files t q)
 one_status (ConvertFile job) None s t told p q = absurd told
 one_status (FixedRoute job) None s t told p q = absurd told
 one_status (CheckPlan job) None s t told p q = absurd told

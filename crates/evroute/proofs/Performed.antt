@@ -4,13 +4,14 @@ use Rattle.std.proofs.lemmas.List.{append-nil}
 use Rattle.std.specs.Option.{option_map}
 use Rattle.command_line.specs.Usage.{usage_text}
 use Rattle.command_line.specs.JobValue.{job_value}
-use Rattle.command_line.specs.Words.{CheckPlan, ConvertFile, ConvertJob, FixedRoute, Job}
+use Rattle.command_line.specs.Words.{CheckPlan, ConvertFile, ConvertJob, FixedRoute, Job, MakeInstance, MakeJob}
 use Rattle.command_line.specs.declared.Job as values
 use Rattle.ev_outside.specs.Counts.{Rose}
 use Rattle.ev_outside.specs.Shelf.{Files, ShelfState}
 use Rattle.ev_outside.specs.Sink.{Adds, AddsPrefix, SinkState}
 use Rattle.evroute.proofs.OneStatus.{one_status}
-use Rattle.evroute.specs.Run.{BreakNoRule, EndsUnlessHindered, HasCause, HasFaultCause, HasFileFault, HasOutputFault, IsAnswered, IsTold, JobAnswers, LeavesFiles, LeavesWhole, Performs, PutsAnswer, PutsPart, TellsUsage}
+use Rattle.evroute.specs.MakeAnswer.{MakeAnswers}
+use Rattle.evroute.specs.Run.{BreakNoRule, EndsUnlessHindered, HasCause, HasFaultCause, HasFileFault, HasOutputFault, IsAnswered, JobAnswers, LeavesFiles, LeavesMade, LeavesWhole, MakesNothing, Performs, PutsAnswer, PutsPart, TellsRead, TellsUsage, WritesMade}
 use Rattle.evroute.specs.declared.status.Status.{Status}
 use Rattle.evroute.specs.declared.status.Status.TheVariants as status
 
@@ -19,7 +20,7 @@ cause_of job files old new ended puts = (puts.text, puts.answers)
 
 -- a status comes exactly where its cause holds
 exactly : (job : Job) (files : Option Files) (old new : Option (List ℕ)) (ended : Status) → ended ≢ status.Words → ended ≢ status.Stopped →
-    (IsAnswered ended → PutsAnswer job files old new ended) → IsTold files → (wanted : Status) → HasCause job files wanted → EndsUnlessHindered wanted ended
+    (IsAnswered ended → PutsAnswer job files old new ended) → TellsRead job files → (wanted : Status) → HasCause job files wanted → EndsUnlessHindered wanted ended
 exactly job files old new status.Done words stopped answer told wanted has =
     inl (one_status job files status.Done wanted told (cause_of job files old new status.Done (answer tt)) has)
 exactly job files old new status.Negative words stopped answer told wanted has =
@@ -62,6 +63,7 @@ output_fault : (job : Job) (files : Option Files) (old new : SinkState) (answere
     (text ≡ [] → ⊥) → Rose old.faults new.faults → HasOutputFault job files old new
 output_fault (FixedRoute job) files old new answered text answers some rose = rose
 output_fault (CheckPlan job) files old new answered text answers some rose = rose
+output_fault (MakeInstance job) files old new answered text answers some rose = rose
 output_fault (ConvertFile job) files old new status.Done text (bytes, read, puts) some rose = absurd (some puts.text_is)
 output_fault (ConvertFile job) files old new status.Refused text answers some rose = (rose, (text, answers))
 output_fault (ConvertFile job) files old new status.Negative text (bytes, read, puts) some rose = absurd puts
@@ -84,11 +86,52 @@ leaves_put_refusal job before after status.Refused is same = same
 leaves_put_refusal job before after status.Memory is same = same
 leaves_put_refusal job before after status.Stopped is same = same
 
+-- ---- what `make` leaves, whatever becomes of its lines
+
+made_or_nothing : (job : MakeJob) (before after : ShelfState) (answered : Status) (text : List ℕ) → MakeAnswers job answered text →
+    LeavesMade job before after answered → MakesNothing job before.files after.files ⊎ WritesMade job before.files after.files
+made_or_nothing job before after status.Done text answers leaves = inr leaves
+made_or_nothing job before after status.Negative text answers leaves = inr leaves
+made_or_nothing job before after status.Refused text answers leaves = leaves
+made_or_nothing job before after status.Words text answers leaves = absurd answers
+made_or_nothing job before after status.Fault text answers leaves = absurd answers
+made_or_nothing job before after status.Memory text answers leaves = absurd answers
+made_or_nothing job before after status.Stopped text answers leaves = absurd answers
+
+made_or_same : (job : MakeJob) (before after : ShelfState) → MakesNothing job before.files after.files ⊎ WritesMade job before.files after.files →
+    (after.files ≡ before.files) ⊎ WritesMade job before.files after.files
+made_or_same job before after (inl nothing) = inl nothing.1
+made_or_same job before after (inr made) = inr made
+
+made_or_failed : (job : MakeJob) (before after : ShelfState) → MakesNothing job before.files after.files ⊎ WritesMade job before.files after.files →
+    LeavesMade job before after status.Fault
+made_or_failed job before after (inl nothing) = inl nothing
+made_or_failed job before after (inr made) = inr (inl made)
+
+leaves_put_made : (job : MakeJob) (before after : ShelfState) (answered ended : Status) (text : List ℕ) → MakeAnswers job answered text →
+    (IsAnswered ended → ended ≡ answered) → LeavesMade job before after answered → LeavesMade job before after ended
+leaves_put_made job before after answered status.Done text answers is leaves =
+    subst (λ (s : Status). LeavesMade job before after s) (sym (is tt)) leaves
+leaves_put_made job before after answered status.Negative text answers is leaves =
+    subst (λ (s : Status). LeavesMade job before after s) (sym (is tt)) leaves
+leaves_put_made job before after answered status.Refused text answers is leaves =
+    subst (λ (s : Status). LeavesMade job before after s) (sym (is tt)) leaves
+leaves_put_made job before after answered status.Fault text answers is leaves =
+    made_or_failed job before after (made_or_nothing job before after answered text answers leaves)
+leaves_put_made job before after answered status.Words text answers is leaves =
+    made_or_same job before after (made_or_nothing job before after answered text answers leaves)
+leaves_put_made job before after answered status.Memory text answers is leaves =
+    made_or_same job before after (made_or_nothing job before after answered text answers leaves)
+leaves_put_made job before after answered status.Stopped text answers is leaves =
+    made_or_same job before after (made_or_nothing job before after answered text answers leaves)
+
 -- putting the answer changes no file
 leaves_put : (job : Job) (before after : ShelfState) (answered ended : Status) (text : List ℕ) → JobAnswers job before.files answered text →
     (text ≡ [] → ended ≡ answered) → (IsAnswered ended → ended ≡ answered) → LeavesFiles job before after answered → LeavesFiles job before after ended
 leaves_put (FixedRoute job) before after answered ended text answers empty is leaves = leaves
 leaves_put (CheckPlan job) before after answered ended text answers empty is leaves = leaves
+leaves_put (MakeInstance job) before after answered ended text answers empty is leaves =
+    leaves_put_made job before after answered ended text answers is leaves
 leaves_put (ConvertFile job) before after status.Done ended text (bytes, read, puts) empty is leaves =
     subst (λ (s : Status). LeavesWhole job before after s) (sym (empty puts.text_is)) leaves
 leaves_put (ConvertFile job) before after status.Refused ended text answers empty is leaves = leaves_put_refusal job before after ended is leaves
@@ -142,6 +185,7 @@ leaves_all : (job : Job) (shelf : ShelfState) → LeavesFiles job shelf shelf st
 leaves_all (FixedRoute job) shelf = refl
 leaves_all (CheckPlan job) shelf = refl
 leaves_all (ConvertFile job) shelf = refl
+leaves_all (MakeInstance job) shelf = inl refl
 
 pub whatever_named : (named : Option Job) (shelf : ShelfState) (old : SinkState) → IfSome named (λ job. Performs job shelf shelf old old status.Memory)
 whatever_named None shelf old = tt

@@ -3,6 +3,7 @@ pub mod LimitedNetwork
 pub mod FixedAnswer
 pub mod CheckAnswer
 pub mod ConvertAnswer
+pub mod MakeAnswer
 pub mod Ended
 pub mod Run
 pub mod Found

@@ -2,7 +2,7 @@
 use Rattle.std.specs.Prelude.{◌≡◌, ℕ, ◌+◌, ◌^◌, ◌≤◌, ◌⊎◌, List, length, map, take, Option, None, Some, String, string_bytes}
 use Rattle.std.specs.declared.alloc.Global.{Global}
 use Rattle.command_line.specs.Usage.{usage_text}
-use Rattle.command_line.specs.Words.{CheckJob, CheckPlan, ConvertFile, ConvertJob, FixedRoute, Job, job_of}
+use Rattle.command_line.specs.Words.{CheckJob, CheckPlan, ConvertFile, ConvertJob, FixedRoute, Job, MakeInstance, MakeJob, job_of}
 use Rattle.ev_model.specs.Network.{Network}
 use Rattle.ev_outside.specs.Counts.{Rose}
 use Rattle.ev_outside.specs.Shelf.{CountsStay, Files, HoldsUnder, KeepsOthers, ShelfState, bytes_under}
@@ -10,6 +10,7 @@ use Rattle.ev_outside.specs.Sink.{Adds, AddsPrefix, SinkState}
 use Rattle.evroute.specs.CheckAnswer.{CheckAnswers, HasFleetNetwork}
 use Rattle.evroute.specs.ConvertAnswer.{BecomesWhole, ConvertAnswers}
 use Rattle.evroute.specs.FixedAnswer.{FixedAnswers}
+use Rattle.evroute.specs.MakeAnswer.{HasNoInstance, MakeAnswers, text_made}
 use Rattle.evroute.specs.declared.status.Status.{Status}
 use Rattle.evroute.specs.declared.status.Status.TheVariants as status
 
@@ -37,6 +38,7 @@ JobAnswers (CheckPlan job) files answered text =
     × CheckAnswers job.limit bytes plan_bytes answered text)
 JobAnswers (ConvertFile job) files answered text =
     (bytes : List ℕ) × AreRead files job.file bytes × ConvertAnswers job bytes answered text
+JobAnswers (MakeInstance job) files answered text = MakeAnswers job answered text
 
 -- the cause of a status holds of the job's files: some text is its answer to them
 abbrev pub HasCause : Job → Option Files → Status → Type 0
@@ -46,6 +48,11 @@ HasCause job files answered = (text : List ℕ) × JobAnswers job files answered
 abbrev pub IsTold : Option Files → Type 0
 IsTold None = ⊥
 IsTold (Some files) = Unit {0}
+
+-- what the job reads is told: `make` reads nothing
+abbrev pub TellsRead : Job → Option Files → Type 0
+TellsRead (MakeInstance job) files = Unit {0}
+TellsRead other files = IsTold files
 
 -- the job did what it was asked for, or refused it
 abbrev pub IsAnswered : Status → Type 0
@@ -94,6 +101,11 @@ abbrev pub HasWriteFault : ConvertJob → ShelfState → ShelfState → Type 0
 HasWriteFault job before after =
     HasFailedWrite before after job.outfile × ComesToWrite job before.files
 
+-- the file that `make` writes failed: its step comes where an instance is made
+abbrev pub HasMadeFault : MakeJob → ShelfState → ShelfState → Type 0
+HasMadeFault job before after =
+    HasFailedWrite before after job.outfile × (HasNoInstance job → ⊥)
+
 -- a read or a write of one of the job's files failed when its step came
 abbrev pub HasFileFault : Job → ShelfState → ShelfState → Type 0
 HasFileFault (FixedRoute job) before after = HasFailedRead before after job.file
@@ -102,6 +114,7 @@ HasFileFault (CheckPlan job) before after =
     ⊎ (HasFailedRead before after job.plan × ComesToPlan job before.files)
 HasFileFault (ConvertFile job) before after =
     HasFailedRead before after job.file ⊎ HasWriteFault job before after
+HasFileFault (MakeInstance job) before after = HasMadeFault job before after
 
 -- the output failed when its step came: `convert` puts nothing but a refusal
 abbrev pub HasOutputFault : Job → Option Files → SinkState → SinkState → Type 0
@@ -109,6 +122,7 @@ HasOutputFault (FixedRoute job) files old new = Rose old.faults new.faults
 HasOutputFault (CheckPlan job) files old new = Rose old.faults new.faults
 HasOutputFault (ConvertFile job) files old new =
     Rose old.faults new.faults × HasCause (ConvertFile job) files status.Refused
+HasOutputFault (MakeInstance job) files old new = Rose old.faults new.faults
 
 -- one of the job's files failed, or the output did
 abbrev pub HasFaultCause : Job → ShelfState → ShelfState → SinkState → SinkState → Type 0
@@ -122,7 +136,7 @@ EndsUnlessHindered wanted ended =
 
 -- the job's files break no rule
 pub record BreakNoRule (job : Job) (files : Option Files) : Type 0 where
-  pub told : IsTold files
+  pub told : TellsRead job files
   pub unbroken : HasCause job files status.Refused → ⊥
 
 -- the file that `convert` writes holds exactly what the file that it reads becomes, and every other file what it held
@@ -142,11 +156,35 @@ LeavesWhole job before after status.Fault =
     ⊎ (HasWriteFault job before after × KeepsOthers job.outfile before.files after.files)
 LeavesWhole job before after other = after.files ≡ before.files
 
+-- the file that `make` writes holds the made text, and every other file what it held
+pub record WritesMade (job : MakeJob) (old new : Option Files) : Type 0 where
+  pub within : HasNoInstance job → ⊥
+  pub written : HoldsUnder new job.outfile (text_made job)
+  pub others : KeepsOthers job.outfile old new
+
+-- no instance is made, and no file changes
+abbrev pub MakesNothing : MakeJob → Option Files → Option Files → Type 0
+MakesNothing job old new = HasNoInstance job × (new ≡ old)
+
+-- what `make` leaves under its name. The file is written before its route is looked at, so it also stands
+-- where the table for the route is too large, or the output failed, or memory was refused
+abbrev pub LeavesMade : MakeJob → ShelfState → ShelfState → Status → Type 0
+LeavesMade job before after status.Done = WritesMade job before.files after.files
+LeavesMade job before after status.Negative = WritesMade job before.files after.files
+LeavesMade job before after status.Refused =
+    MakesNothing job before.files after.files ⊎ WritesMade job before.files after.files
+LeavesMade job before after status.Fault =
+    MakesNothing job before.files after.files ⊎ WritesMade job before.files after.files
+    ⊎ (HasMadeFault job before after × KeepsOthers job.outfile before.files after.files)
+LeavesMade job before after other =
+    (after.files ≡ before.files) ⊎ WritesMade job before.files after.files
+
 -- what a job that ends with this status leaves under all names
 abbrev pub LeavesFiles : Job → ShelfState → ShelfState → Status → Type 0
 LeavesFiles (FixedRoute job) before after ended = after.files ≡ before.files
 LeavesFiles (CheckPlan job) before after ended = after.files ≡ before.files
 LeavesFiles (ConvertFile job) before after ended = LeavesWhole job before after ended
+LeavesFiles (MakeInstance job) before after ended = LeavesMade job before after ended
 
 -- what the program owes for a job: from the shelf before to the shelf after, from the old output to the new one
 pub record Performs
@@ -156,14 +194,14 @@ pub record Performs
   -- however the job ends, nothing else is put than a text that it may put, or a prefix of one
   pub part : PutsPart job before.files old.written new.written
   -- a status comes exactly where its cause holds
-  pub exact : IsTold before.files → (wanted : Status) → HasCause job before.files wanted →
+  pub exact : TellsRead job before.files → (wanted : Status) → HasCause job before.files wanted →
       EndsUnlessHindered wanted ended
   -- a fault comes only where one of the job's files failed in its turn, or the output did
   pub fault : ended ≡ status.Fault → HasFaultCause job before after old new
   -- where no rule is broken and nothing failed, the job is done, or its answer is negative, or memory was refused
   pub complete : BreakNoRule job before.files → (HasFaultCause job before after old new → ⊥)
       → (ended ≡ status.Done) ⊎ (ended ≡ status.Negative) ⊎ (ended ≡ status.Memory)
-  -- files are read alone, but for the one that `convert` writes
+  -- files are read alone, but for the one that `convert` or `make` writes
   pub files : LeavesFiles job before after ended
 
 -- no count of failed calls is what it was not before

@@ -12,6 +12,7 @@ use crate::answer::Answer;
 use crate::check::check;
 use crate::convert::convert;
 use crate::fixed::fixed;
+use crate::make::make;
 use crate::status::Status;
 use crate::steps::put_answer;
 use crate::usage::put_usage;
@@ -27,11 +28,14 @@ use std::alloc::{AllocError, Global};
 /// first rule that the plan breaks ([`Status::Negative`]).
 /// `convert FILE OUTFILE --time-digits N --energy-digits N` reads FILE, writes it into OUTFILE with the numbers under
 /// the keys of times and energies as whole ones, each rounded up, and puts nothing ([`Status::Done`]).
+/// `make SEED CUSTOMERS STATIONS OUTFILE` makes an instance from SEED, writes it into OUTFILE, and puts how many nodes it
+/// has, its denominator and the time of a fastest plan of the route over all customers ([`Status::Done`]), or that none is
+/// feasible ([`Status::Negative`]).
 ///
 /// All put the line of the first broken rule of their files and words ([`Status::Refused`]). Other words put the usage
 /// text ([`Status::Words`]). After [`Status::Fault`] and [`Status::Memory`] a part of such a text may have been put.
-/// No file but OUTFILE is written, and that one only where no rule is broken; what it holds after a failed write isn't
-/// known.
+/// No file but OUTFILE is written: by `convert` only where no rule is broken, by `make` wherever an instance is made. What
+/// it holds after a failed write isn't known.
 pub fn run<S: Shelf, K: Sink>(alloc: Global, words: &[String], shelf: &mut S, out: &mut K) -> Status
     ensures words { result ≡ Status.Words → IsNone (job_named words.now) }
     ensures usage { IsNone (job_named words.now)
@@ -116,6 +120,14 @@ fn find_answer<S: Shelf>(alloc: Global, job: &Job, shelf: &mut S) -> Result<Answ
             job.outfile.as_str(),
             job.time_digits,
             job.energy_digits,
+            shelf,
+        ),
+        Job::Make(job) => make(
+            alloc,
+            job.seed,
+            job.customers,
+            job.stations,
+            job.outfile.as_str(),
             shelf,
         ),
     }

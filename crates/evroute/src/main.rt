@@ -7,6 +7,7 @@ mod command;
 mod convert;
 mod fixed;
 mod instance;
+mod make;
 mod status;
 mod steps;
 mod usage;

@@ -19,6 +19,10 @@ const FINE_LEVELS: &str =
 const DECIMALS: &str =
     r#"{"max_q":16000.0,"t_max":10.0,"css":[{"node_id":2,"cs_type":"normal"}],"breakpoints_by_type":[{"cs_type":"normal","time":[0.0,0.62,0.77,1.01],"charge":[0.0,13600.0,15200.0,16000.0]}],"process_times":[0.0,0.5,0.0],"energy_matrix":[[0.0,9000.4,5000.0],[9000.4,0.0,4100.5],[5000.0,4100.5,0.0]],"time_matrix":[[0.0,1.8,1.0],[1.8,0.0,0.82],[1.01,0.82,0.0]]}"#;
 
+/// The instance that is made of the number 1, with one customer and no station.
+const MADE: &str =
+    r#"{"breakpoints_by_type":[{"charge":[0,1360,1520,1600],"cs_type":"fast","time":[0,310,390,510]},{"charge":[0,1360,1520,1600],"cs_type":"slow","time":[0,1260,1540,2040]}],"css":[],"energy_matrix":[[0,772],[772,0]],"max_q":1600,"process_times":[0,5],"time_matrix":[[0,772],[772,0]]}"#;
+
 /// Files in memory where `A` holds an instance and `P` a plan, and the calls with these numbers fail.
 fn shelf_with(
     alloc: Global,
@@ -303,6 +307,52 @@ fn a_file_with_decimals_is_converted_and_then_charged(rt: HostRuntime) {
 }
 
 #[test]
+fn a_made_instance_is_written_and_charged(rt: HostRuntime) {
+    let alloc = rt.alloc();
+    let cases = [
+        (
+            "make 1 1 0 W",
+            Status::Done,
+            "nodes 2\ndenominator 136\ntime 210664/136\n",
+            Some(MADE),
+        ),
+        ("make 0 1 0 W", Status::Refused, "refused maker 1\n", None),
+    ];
+    for (line, status, put, written) in cases {
+        let mut shelf = shelf_with(alloc, "", "", &[]).expect(&rt, "memory");
+        let ended = run_with(alloc, line, &mut shelf, &[]).expect(&rt, "memory");
+        assert_eq!(rt; ended.0, status, "{line}");
+        assert_eq!(rt; ended.1.as_slice(), put.as_bytes());
+        let under = shelf.get("W").unwrap_or(b"not there".as_slice());
+        assert_eq!(rt; under, written.unwrap_or("not there").as_bytes());
+    }
+}
+
+#[test]
+fn a_made_instance_is_written_before_its_route_is_charged(rt: HostRuntime) {
+    let alloc = rt.alloc();
+    let cases = [
+        (
+            "make 1 5 0 W",
+            Status::Negative,
+            "nodes 6\ndenominator 136\ninfeasible\n",
+        ),
+        (
+            "make 1 200 199 W",
+            Status::Refused,
+            "refused levels 64360200\n",
+        ),
+    ];
+    for (line, status, put) in cases {
+        let mut shelf = shelf_with(alloc, "", "", &[]).expect(&rt, "memory");
+        let ended = run_with(alloc, line, &mut shelf, &[]).expect(&rt, "memory");
+        assert_eq!(rt; ended.0, status, "{line}");
+        assert_eq!(rt; ended.1.as_slice(), put.as_bytes());
+        assert!(rt; shelf.get("W").is_some());
+    }
+}
+
+#[test]
 fn a_failing_file_or_output_is_a_fault(rt: HostRuntime) {
     let alloc = rt.alloc();
     let half_usage = &usage()[..usage().len() / 2];
@@ -345,6 +395,15 @@ fn a_failing_file_or_output_is_a_fault(rt: HostRuntime) {
         (whole, ONE_STATION, Some(1), None, Status::Fault, ""),
         (whole, ONE_STATION, None, Some(0), Status::Done, ""),
         (whole, "{", None, Some(0), Status::Fault, "refused lit"),
+        ("make 1 1 0 W", "", Some(0), None, Status::Fault, ""),
+        (
+            "make 1 1 0 W",
+            "",
+            None,
+            Some(0),
+            Status::Fault,
+            "nodes 2\ndenominator ",
+        ),
         ("check", "", None, Some(0), Status::Fault, half_usage),
     ];
     for (line, instance, failing_call, failing_put, status, put) in cases {

@@ -1,3 +1,4 @@
 pub mod CheckText
 pub mod FixedText
 pub mod RefusalText
+pub mod MakeText

@@ -17,7 +17,7 @@ use Rattle.route_plan.specs.declared.text.plan_text.PlanText.TheVariants as plan
 use Rattle.route_plan.specs.declared.route.RouteFault.{RouteFault}
 use Rattle.route_plan.specs.declared.route.RouteFault.TheVariants as route
 use Rattle.plan_writer.specs.declared.refusal.Refusal.{Refusal}
-use Rattle.plan_writer.specs.declared.refusal.Refusal.TheVariants.{Instance, Limit, Charge, Route, Customers, Plan, Literal}
+use Rattle.plan_writer.specs.declared.refusal.Refusal.TheVariants.{Instance, Limit, Charge, Route, Customers, Plan, Literal, Maker}
 
 -- the fault of an instance is a rule: neither it nor the fault of a curve in it is want of memory
 pub record IsInstanceRule (fault : ReadFault) : Type 0 where
@@ -112,6 +112,7 @@ cause_text (Route fault) = codes "route " ++ route_text fault
 cause_text (Customers count) = codes "customers " ++ decimal count
 cause_text (Plan fault) = codes "plan " ++ plan_fault_text fault
 cause_text (Literal fault) = codes "literal " ++ literal_text fault
+cause_text Maker = codes "maker 1"
 
 abbrev pub refusal_text : Refusal → List ℕ
 refusal_text refusal = codes "refused " ++ cause_text refusal ++ 10 ∷ []

@@ -36,7 +36,7 @@ pub fn push_fixed(
 }
 
 /// Appends `infeasible`.
-fn push_infeasible(out: &mut Vec<u8>) -> Result<(), AllocError>
+pub(crate) fn push_infeasible(out: &mut Vec<u8>) -> Result<(), AllocError>
     ensures ok { OnOk result (out.new.items ≡ out.old.items ++ (codes "infeasible" ++ 10 ∷ [])) }
     ensures err { OnErr result (IsPrefixOf out.old.items out.new.items) }
 {
@@ -60,7 +60,7 @@ fn push_charged(
 }
 
 /// Appends the line of a scaled time.
-fn push_time(
+pub(crate) fn push_time(
     alloc: Global,
     out: &mut Vec<u8>,
     time: u64,

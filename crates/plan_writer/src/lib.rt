@@ -3,11 +3,13 @@
 
 mod check;
 mod fixed;
+mod make;
 mod refusal;
 mod words;
 
 pub use check::{Judgement, push_check_report};
 pub use fixed::push_fixed;
+pub use make::push_make_report;
 pub use refusal::{Refusal, push_refusal};
 
 #[cfg(test)]

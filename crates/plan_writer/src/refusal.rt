@@ -29,6 +29,8 @@ pub enum Refusal {
     Plan(PlanText),
     /// The bytes of the file aren't converted to whole units.
     Literal(ImportFault),
+    /// No instance is made of these numbers.
+    Maker,
 }
 
 /// Appends the line of a refusal: its kind, the number of the broken rule, and the place or the
@@ -71,6 +73,7 @@ fn push_cause(alloc: Global, out: &mut Vec<u8>, refusal: &Refusal) -> Result<(),
             out.extend_from_slice(b"literal ")?;
             push_literal_fault(alloc, out, fault)
         }
+        Refusal::Maker => push_word(out, b"maker 1"),
     }
 }
 

@@ -1,4 +1,4 @@
-use crate::{Judgement, Refusal, push_check_report, push_fixed, push_refusal};
+use crate::{Judgement, Refusal, push_check_report, push_fixed, push_make_report, push_refusal};
 use charge_curve::CurveFault;
 use decimal_import::ImportFault;
 use ev_list::Listed;
@@ -104,6 +104,7 @@ fn refusals_have_their_lines(rt: HostRuntime) {
             Refusal::Literal(ImportFault::TooLong { len: 67108865 }),
             "refused literal 5 67108865\n",
         ),
+        (Refusal::Maker, "refused maker 1\n"),
     ];
     for (refusal, line) in cases {
         let mut out = Vec::new(alloc);
@@ -198,6 +199,21 @@ fn judgements_have_their_lines(rt: HostRuntime) {
     for (judgement, lines) in cases {
         let mut out = Vec::new(alloc);
         push_check_report(alloc, &mut out, &inst, &judgement).expect(&rt, "memory");
+        assert_eq!(rt; out.as_slice(), lines.as_bytes());
+    }
+}
+
+#[test]
+fn an_instance_and_its_route_have_three_lines(rt: HostRuntime) {
+    let alloc = rt.alloc();
+    let inst = read_instance(alloc, ONE_STATION.as_bytes()).expect(&rt, "an instance");
+    let cases = [
+        (Some(43), "nodes 3\ndenominator 2\ntime 43/2\n"),
+        (None, "nodes 3\ndenominator 2\ninfeasible\n"),
+    ];
+    for (time, lines) in cases {
+        let mut out = Vec::new(alloc);
+        push_make_report(alloc, &mut out, &inst, time).expect(&rt, "memory");
         assert_eq!(rt; out.as_slice(), lines.as_bytes());
     }
 }

@@ -9,7 +9,7 @@ use Rattle.evroute.proofs.check.check.Goals as goal
 pub returns-in-Err : goal.returns-in-Err
 returns-in-Err g c =
     let job : CheckJob = record { file = c.args.file.now; plan = c.args.plan.now; limit = c.args.limit } in
-    finds_none (CheckPlan job) (g.S.Shelf.state c.args.shelf.now) (g.S.Shelf.state c.read_file.new.shelf) c.in-Err.fault
+    finds_none (CheckPlan job) (g.S.Shelf.state c.args.shelf.now) (g.S.Shelf.state c.read_file.new.shelf) c.in-Err.fault tt
     (λ failed. inl (c.in-Err.ensures.fault failed)) c.in-Err.ensures.stays c.in-Err.ensures.falls c.in-Err.ensures.files
 
 pub returns-in-Ok-fleet_instance : goal.returns-in-Ok-fleet_instance

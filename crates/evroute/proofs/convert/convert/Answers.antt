@@ -9,7 +9,7 @@ use Rattle.evroute.proofs.convert.convert.Goals as goal
 pub returns-in-Err : goal.returns-in-Err
 returns-in-Err g c =
     let job : ConvertJob = convert_job_of c.args.file.now c.args.outfile.now c.args.time_digits c.args.energy_digits in
-    finds_none (ConvertFile job) (g.S.Shelf.state c.args.shelf.now) (g.S.Shelf.state c.read_file.new.shelf) c.in-Err.fault
+    finds_none (ConvertFile job) (g.S.Shelf.state c.args.shelf.now) (g.S.Shelf.state c.read_file.new.shelf) c.in-Err.fault tt
     (λ failed. inl (c.in-Err.ensures.fault failed)) c.in-Err.ensures.stays c.in-Err.ensures.falls c.in-Err.ensures.files
 
 pub returns-in-Ok-convert : goal.returns-in-Ok-convert

@@ -1,0 +1,6 @@
+mod Along
+mod Contents
+mod Denominator
+mod Early
+mod KeysAndKinds
+pub mod Means
