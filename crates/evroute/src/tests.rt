@@ -338,9 +338,9 @@ fn a_made_instance_is_written_before_its_route_is_charged(rt: HostRuntime) {
             "nodes 6\ndenominator 136\ninfeasible\n",
         ),
         (
-            "make 1 200 199 W",
-            Status::Refused,
-            "refused levels 64360200\n",
+            "make 7 10 10 W",
+            Status::Done,
+            "nodes 21\ndenominator 136\ntime 1028557/136\n",
         ),
     ];
     for (line, status, put) in cases {
