@@ -207,7 +207,8 @@ fn next_row(
     requires helpers { n ≤ vec_len row.now.entries }
     requires row { IsSmallRow (2 ^ 84) (equation_of row.now) }
     requires turned { IsSmallRow (2 ^ 40) (equation_of turned.now) }
-    requires some { 0 < divisor n (combined_row own by (equation_of row.now) (equation_of turned.now)) }
+    requires some { 0 < divisor n
+        (combined_row own by (equation_of row.now) (equation_of turned.now)) }
     ensures { IfOk result (λ v. equation_of v
         ≡ reduced_row n (combined_row own by (equation_of row.now) (equation_of turned.now))) }
 {
