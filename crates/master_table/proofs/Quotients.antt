@@ -6,7 +6,7 @@ use Rattle.std.proofs.Math.Nat.{mul-div_cancel', dvd-zero, eq_of_mul-eq-mul_left
 use Rattle.fleet_model.specs.Divisors.{DividesAll, IsGcdOf, gcd_of}
 use Rattle.fleet_model.specs.Equations.{total, total_from, combined}
 use Rattle.fleet_model.proofs.Ring.{*ℤ_cancel, *ℤ_comm, neg_ℤ-*ℤ}
-use Rattle.fleet_model.proofs.Gcd.{dvd-+ℤ}
+use Rattle.fleet_model.proofs.Gcd.{dvd-+ℤ, dvd_from_product}
 use Rattle.fleet_model.proofs.Lists.{times_gcd, same_list_gcd, list_gcd, gcd_of-is}
 use Rattle.fleet_model.proofs.Totals.{total_times}
 use Rattle.fleet_model.proofs.Signs.{factor_pos, above_is}
@@ -97,3 +97,10 @@ gcd_pos zs z above h = by_cases (eq-zero-or-pos (gcd_of zs))
         let d = subst (λ n. n ∣ unsigned_abs z) none (h (gcd_of zs) (gcd_of-is zs).divides) in
         let nothing : unsigned_abs z ≡ 0 = eq-zero_of_zero-dvd d in
         absurd (omega (arith, ints))
+
+-- a number times a divisor has that number as its quotient
+pub exact_quotient : (x q d : ℤ) → pos 0 <ℤ d → q *ℤ d ≡ x → int_div x d ≡ q
+exact_quotient x q (pos d) above e =
+    let whole = div_whole x d (dvd_from_product x q d e) in
+    *ℤ_cancel (pos d) (int_div x (pos d)) q above (whole ∙ sym e ∙ *ℤ_comm q (pos d))
+exact_quotient x q (negsuc d) above e = absurd (omega (arith, ints))

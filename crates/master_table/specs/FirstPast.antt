@@ -17,7 +17,8 @@ abbrev pub past_in : Limits → ℕ → ℕ → Equation → Option ℕ
 past_in caps n i row =
     or_place (past_from (entry_cap caps n i) 0 row.entries)
     (cond (nat_lt (entry_cap caps n i) (unsigned_abs row.right)) (Some (length row.entries))
-    (cond (nat_lt (weight_cap caps n i) (unsigned_abs row.weight)) (Some (length row.entries + 1)) None))
+    (cond (nat_lt (weight_cap caps n i) (unsigned_abs row.weight))
+    (Some (length row.entries + 1)) None))
 
 -- the first row with such a number, and the place in it, or else a later row
 abbrev pub or_later : ℕ → Option ℕ → Option (ℕ × ℕ) → Option (ℕ × ℕ)

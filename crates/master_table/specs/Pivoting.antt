@@ -19,7 +19,8 @@ turned_row col row =
 -- what another row has of the column: its entry there; in the helper row at a helper the entry less the weight
 abbrev pub excess : ℕ → ℕ → ℕ → Equation → ℤ
 excess n col i row =
-    get_or row.entries col (pos 0) -ℤ cond (nat_lt n i) (cond (nat_lt col n) row.weight (pos 0)) (pos 0)
+    get_or row.entries col (pos 0)
+    -ℤ cond (nat_lt n i) (cond (nat_lt col n) row.weight (pos 0)) (pos 0)
 
 -- own times a row less `by` times the turned row
 abbrev pub combined_row : ℤ → ℤ → Equation → Equation → Equation
@@ -53,7 +54,8 @@ abbrev pub row_after : ℕ → ℕ → ℕ → Equation → ℕ → Equation →
 row_after n r col turned i row =
     if nat_eq i r then turned
     else cond (nat_eq (unsigned_abs (excess n col i row)) 0) row
-    (reduced_row n (combined_row (get_or turned.entries col (pos 0)) (excess n col i row) row turned))
+    (reduced_row n
+    (combined_row (get_or turned.entries col (pos 0)) (excess n col i row) row turned))
 
 -- the rows from place i on
 abbrev pub rows_after : ℕ → ℕ → ℕ → Equation → ℕ → List Equation → List Equation
@@ -89,4 +91,5 @@ pub record IsPivotOf (r col : ℕ) (old new : Tableau) : Type 0 where
   pub turned : row_at new r ≡ turned_row col (row_at old r)
   pub above : pos 0 <ℤ entry_at new r col
   pub others : (i : ℕ) → i < size old + 2 → i ≢ r
-      → IsCombinationOf (entry_at new r col) (excess (size old) col i (row_at old i)) (row_at old i) (row_at new r) (row_at new i)
+      → IsCombinationOf (entry_at new r col) (excess (size old) col i (row_at old i))
+      (row_at old i) (row_at new r) (row_at new i)

@@ -77,7 +77,8 @@ pub record IsTableauOf (n : ℕ) (t : Tableau) : Type 0 where
   pub determined : IsDetermined n (basis_columns t)
   pub price_list : IsPriceList n (basis_columns t) (row_at t n).weight (prices_of n (row_at t n))
   pub prices_reduced : IsGcdOf ((row_at t n).weight ∷ multipliers n (row_at t n)) 1
-  pub helper_list : IsHelperList n (basis_columns t) (row_at t (n + 1)).weight (multipliers n (row_at t (n + 1)))
+  pub helper_list : IsHelperList n (basis_columns t) (row_at t (n + 1)).weight
+      (multipliers n (row_at t (n + 1)))
   pub numbers_reduced : IsGcdOf ((row_at t (n + 1)).weight ∷ multipliers n (row_at t (n + 1))) 1
 
 abbrev pub IsTableau : Tableau → Type 0

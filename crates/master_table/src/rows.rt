@@ -79,21 +79,56 @@ fn common_divisor(first: i128, xs: &[i128]) -> u128
     found
 }
 
-/// The quotient by a number above 0, rounded toward zero.
-fn quotient(x: i128, d: i128) -> i128
+/// What finds exact quotients without a division (Granlund and Montgomery 1994): the inverse, modulo
+/// 2^64, of a divisor's odd part, and how often 2 divides it.
+#[derive(Clone, Copy)]
+struct Inverse {
+    odd: u64,
+    twos: u32,
+}
+
+/// The inverse of a divisor, by Newton's iteration on its low 64 bits.
+fn inverse_of(d: i128) -> Inverse {
+    let low = (d.unsigned_abs() % (1 << 64)) as u64;
+    let twos = low.trailing_zeros() % 64;
+    let odd = low >> twos;
+    let mut inverse = odd;
+    for _ in 0..5 {
+        inverse = inverse.wrapping_mul(2_u64.wrapping_sub(odd.wrapping_mul(inverse)));
+    }
+    Inverse { odd: inverse, twos }
+}
+
+/// The quotient, where the division is exact and the quotient below 2^64 in size, and else any number.
+fn guess(x: i128, by: Inverse) -> i128
+    ensures { unsigned_abs result ≤ 2 ^ 64 }
+{
+    let low = (x.unsigned_abs() >> (by.twos % 64)) % (1 << 64);
+    let size = i128::from((low as u64).wrapping_mul(by.odd));
+    if x < 0 { -size } else { size }
+}
+
+/// The quotient by a number above 0, rounded toward zero. A guess is tried by a product.
+fn quotient(x: i128, d: i128, by: Inverse) -> i128
     requires { pos 0 <ℤ d }
     ensures { result ≡ int_div x d }
 {
+    if d <= 1 << 60 {
+        let guess = guess(x, by);
+        if times(guess, d) == x {
+            return guess;
+        }
+    }
     x / d
 }
 
 /// Each number divided by `d`.
-fn divide_all(xs: &mut Vec<i128>, d: i128)
+fn divide_all(xs: &mut Vec<i128>, d: i128, by: Inverse)
     requires { pos 0 <ℤ d }
     ensures { xs.new.items ≡ quotients d xs.old.items }
 {
     for i in 0..xs.len() {
-        xs[i] = quotient(xs[i], d);
+        xs[i] = quotient(xs[i], d, by);
     }
 }
 
@@ -110,10 +145,11 @@ fn divided(row: Row, d: i128) -> Row
         right,
         mut entries,
     } = row;
-    divide_all(&mut entries, d);
+    let by = inverse_of(d);
+    divide_all(&mut entries, d, by);
     Row {
-        weight: quotient(weight, d),
-        right: quotient(right, d),
+        weight: quotient(weight, d, by),
+        right: quotient(right, d, by),
         entries,
     }
 }
@@ -171,7 +207,8 @@ fn next_row(
     requires helpers { n ≤ vec_len row.now.entries }
     requires row { IsSmallRow (2 ^ 84) (equation_of row.now) }
     requires turned { IsSmallRow (2 ^ 40) (equation_of turned.now) }
-    requires some { 0 < divisor n (combined_row own by (equation_of row.now) (equation_of turned.now)) }
+    requires some { 0 < divisor n
+        (combined_row own by (equation_of row.now) (equation_of turned.now)) }
     ensures { IfOk result (λ v. equation_of v
         ≡ reduced_row n (combined_row own by (equation_of row.now) (equation_of turned.now))) }
 {
