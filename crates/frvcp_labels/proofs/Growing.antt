@@ -1,6 +1,6 @@
 -- Labels after one was added.
-use Rattle.std.proofs.Common.{◌≡◌, ℕ, ◌+◌, ◌-◌, ◌*◌, ◌/◌, ◌<◌, ◌≤◌, ◌⊎◌, inl, inr, List, [], ◌∷◌, ◌++◌, length, map, refl, sym, ◌∙◌, ap, subst, arith, Option, Some, None, true, false}
-use Rattle.std.specs.Prelude.{Bool, IfSome, IsNone, nat_eq, option_map, slice_get, slice_index}
+use Rattle.std.proofs.Common.{◌≡◌, ℕ, ◌+◌, ◌*◌, ◌/◌, ◌<◌, ◌⊎◌, inl, inr, List, [], ◌∷◌, ◌++◌, length, map, refl, sym, ◌∙◌, ap, subst, arith, Option, Some, None, true, false}
+use Rattle.std.specs.Prelude.{Bool, IfSome, IsNone, nat_eq, option_map, slice_get}
 use Rattle.std.proofs.lemmas.Option.{same_Some, none-some, slice_get-map}
 use Rattle.std.proofs.lemmas.Bool.{and_parts, and_from, eqb-true, eq-eqb, false≢true}
 use Rattle.std.proofs.lemmas.Nat.{div-mul-add}
@@ -16,7 +16,7 @@ use Rattle.frvcp_labels.specs.Search.{AreSound, HasOrigin, Holds, IsGrown, IsSou
 use Rattle.frvcp_labels.specs.Trips.{Journey}
 use Rattle.frvcp_labels.specs.Ways.{Leaving}
 use Rattle.frvcp_labels.specs.declared.state.State.{State}
-use Rattle.frvcp_labels.proofs.Sooner.{first_is_least}
+use Rattle.frvcp_labels.proofs.FirstLevel.{first_is_least}
 
 -- one state dominates another by their values
 abbrev pub by_value : State → State → Bool

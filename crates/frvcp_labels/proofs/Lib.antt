@@ -6,7 +6,7 @@ pub mod StationList
 pub mod Growing
 pub mod Searching
 mod FullBattery
-mod Sooner
+mod FirstLevel
 mod Spreading
 mod Turning
 mod Solving

@@ -1,6 +1,6 @@
 //! Where a partial route has come to.
 
-use dominance::{Covers, LabelValue};
+use dominance::Covers;
 use piece_fn::PieceFn;
 
 /// A vehicle about to leave a node, and the least time at each level that it may then have.
@@ -28,11 +28,6 @@ impl Covers for State {
         (level_times y.value) (level_times z.value) };
 
     fn covers_whole(&self, other: &State) -> bool {
-        let (_, own) = self.value.least();
-        let (_, others) = other.value.least();
-        if others < own {
-            return false;
-        }
         self.value.covers_whole(&other.value)
     }
 }
