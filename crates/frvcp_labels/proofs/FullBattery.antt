@@ -1,18 +1,17 @@
 -- Where a full battery was had, a later vehicle is needless.
-use Rattle.std.proofs.Common.{◌≡◌, ℕ, zero, suc, ◌+◌, ◌-◌, ◌*◌, ◌<◌, ◌≤◌, ◌⊎◌, inl, inr, List, length, replicate, set, refl, sym, ◌∙◌, ap, subst, arith, Option, Some, None}
+use Rattle.std.proofs.Common.{◌≡◌, ℕ, zero, suc, ◌+◌, ◌*◌, ◌<◌, ◌≤◌, inl, inr, List, length, replicate, set, sym, ◌∙◌, ap, subst, arith, Option, Some, None}
 use Rattle.std.specs.Prelude.{IfSome, slice_get}
 use Rattle.std.proofs.lemmas.Option.{none-some, same_Some}
 use Rattle.std.proofs.lemmas.List.{length-replicate}
 use Rattle.std.proofs.lemmas.Bool.{cases_eq}
-use Rattle.ev_model.specs.Network.{energy, node_count}
-use Rattle.ev_model.specs.declared.Stop.{Stop}
+use Rattle.ev_model.specs.Network.{node_count}
 use Rattle.dominance.specs.LevelTimes.{IsLevel, time_at}
 use Rattle.label_pool.specs.declared.label.Label.{Label}
 use Rattle.label_pool.proofs.Elements.{element_at, set_here, set_there}
 use Rattle.piece_fn.specs.PieceFn.{level_times}
 use Rattle.frvcp_labels.specs.Full.{AreFull, IsFullBy, IsNoted, full_at}
 use Rattle.frvcp_labels.specs.Search.{Holds, IsGrown, IsSound, MayGo, Reached, SpreadsTo}
-use Rattle.frvcp_labels.specs.Trips.{Journey, drive_time}
+use Rattle.frvcp_labels.specs.Trips.{Journey}
 use Rattle.frvcp_labels.specs.Ways.{Leaving, leaving_after}
 use Rattle.frvcp_labels.specs.declared.state.State.{State}
 use Rattle.frvcp_labels.proofs.Growing.{same_place}

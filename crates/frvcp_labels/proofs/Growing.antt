@@ -1,6 +1,6 @@
 -- Labels after one was added.
-use Rattle.std.proofs.Common.{◌≡◌, ℕ, ◌+◌, ◌-◌, ◌*◌, ◌/◌, ◌<◌, ◌≤◌, ◌⊎◌, inl, inr, List, [], ◌∷◌, ◌++◌, length, map, refl, sym, ◌∙◌, ap, subst, arith, Option, Some, None, true, false}
-use Rattle.std.specs.Prelude.{Bool, IfSome, IsNone, nat_eq, option_map, slice_get, slice_index}
+use Rattle.std.proofs.Common.{◌≡◌, ℕ, ◌+◌, ◌*◌, ◌/◌, ◌<◌, ◌⊎◌, inl, inr, List, [], ◌∷◌, ◌++◌, length, map, refl, sym, ◌∙◌, ap, subst, arith, Option, Some, None, true, false}
+use Rattle.std.specs.Prelude.{Bool, IfSome, IsNone, nat_eq, option_map, slice_get}
 use Rattle.std.proofs.lemmas.Option.{same_Some, none-some, slice_get-map}
 use Rattle.std.proofs.lemmas.Bool.{and_parts, and_from, eqb-true, eq-eqb, false≢true}
 use Rattle.std.proofs.lemmas.Nat.{div-mul-add}
@@ -16,6 +16,7 @@ use Rattle.frvcp_labels.specs.Search.{AreSound, HasOrigin, Holds, IsGrown, IsSou
 use Rattle.frvcp_labels.specs.Trips.{Journey}
 use Rattle.frvcp_labels.specs.Ways.{Leaving}
 use Rattle.frvcp_labels.specs.declared.state.State.{State}
+use Rattle.frvcp_labels.proofs.FirstLevel.{first_is_least}
 
 -- one state dominates another by their values
 abbrev pub by_value : State → State → Bool
@@ -198,17 +199,12 @@ pub new_sound : (t : Journey) (labels : List (Label State)) (s : State) (bucket 
 new_sound t labels s bucket level key parent sound place valid first time origin =
     let v = level_times s.value in
     let at_first : key ≡ time_at v v.first = time ∙ ap (λ l. time_at v l) first in
-    let zero_gap : v.first - v.first ≡ 0 = omega arith in
-    let start : time_at v v.first ≡ slice_index v.times 0 = ap (λ i. slice_index v.times i) zero_gap in
     let some : 0 < length v.times = valid.some in
     record {
       state = sound;
       bucket = place;
       first = (omega arith, omega (arith, some));
       key = at_first;
-      least = λ x is.
-          let inside : x - v.first < length v.times = omega (arith, is.0, is.1) in
-          let later : slice_index v.times 0 ≤ slice_index v.times (x - v.first) = valid.rising 0 (x - v.first) 0 (omega arith) inside in
-          omega (arith, at_first, start, later);
+      least = λ x is. (let low = first_is_least v valid x is in omega (arith, at_first, low));
       origin = origin;
     }

@@ -6,6 +6,7 @@ pub mod StationList
 pub mod Growing
 pub mod Searching
 mod FullBattery
+mod FirstLevel
 mod Spreading
 mod Turning
 mod Solving

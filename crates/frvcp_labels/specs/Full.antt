@@ -1,5 +1,5 @@
 -- By when a full battery was had, at each place.
-use Rattle.std.specs.Prelude.{◌≡◌, ℕ, ◌+◌, ◌-◌, ◌*◌, ◌<◌, ◌≤◌, ◌⊎◌, List, length, slice_get, Option, Some}
+use Rattle.std.specs.Prelude.{◌≡◌, ℕ, ◌+◌, ◌*◌, ◌<◌, ◌≤◌, ◌⊎◌, List, length, slice_get, Option, Some}
 use Rattle.ev_model.specs.Network.{node_count}
 use Rattle.dominance.specs.LevelTimes.{time_at}
 use Rattle.label_pool.specs.declared.label.Label.{Label}

@@ -1,8 +1,7 @@
-use Rattle.std.proofs.Common.{◌≡◌, ◌∙◌, ◌<◌, ap, subst, sym}
+use Rattle.std.proofs.Common.{◌≡◌, ◌<◌, subst, sym}
 use Rattle.std.specs.Prelude.{IfSome}
 use Rattle.dominance.specs.LevelTimes.{IsLevel, time_at}
 use Rattle.piece_fn.specs.PieceFn.{level_times}
-use Rattle.ev_model.specs.Network.{node_count}
 use Rattle.frvcp_labels.proofs.FullBattery.{full_added}
 use Rattle.frvcp_labels.proofs.trip.Trip.add_noted.Goals as goal
 
