@@ -4,3 +4,4 @@ pub mod Entries
 pub mod Pairs
 pub mod Sections
 pub mod Meanings
+pub mod Parts
