@@ -5,3 +5,5 @@ pub mod Pairs
 pub mod Sections
 pub mod Meanings
 pub mod Parts
+pub mod LabelParts
+pub mod LabelLines
