@@ -7,3 +7,5 @@ pub mod Meanings
 pub mod Parts
 pub mod LabelParts
 pub mod LabelLines
+pub mod ItemLines
+pub mod SectionLines
