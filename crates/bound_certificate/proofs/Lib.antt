@@ -9,3 +9,6 @@ pub mod LabelParts
 pub mod LabelLines
 pub mod ItemLines
 pub mod SectionLines
+pub mod TreeParts
+pub mod TreeReading
+pub mod RootParts
