@@ -12,3 +12,4 @@ pub mod SectionLines
 pub mod TreeParts
 pub mod TreeReading
 pub mod RootParts
+pub mod RootLines
