@@ -13,3 +13,4 @@ pub mod TreeParts
 pub mod TreeReading
 pub mod RootParts
 pub mod RootLines
+pub mod RootReading
