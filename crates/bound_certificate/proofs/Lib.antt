@@ -14,3 +14,5 @@ pub mod TreeReading
 pub mod RootParts
 pub mod RootLines
 pub mod RootReading
+pub mod CertificateReading
+pub mod HeadReading
