@@ -4,3 +4,15 @@ pub mod Entries
 pub mod Pairs
 pub mod Sections
 pub mod Meanings
+pub mod Parts
+pub mod LabelParts
+pub mod LabelLines
+pub mod ItemLines
+pub mod SectionLines
+pub mod TreeParts
+pub mod TreeReading
+pub mod RootParts
+pub mod RootLines
+pub mod RootReading
+pub mod CertificateReading
+pub mod HeadReading

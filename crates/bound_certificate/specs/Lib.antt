@@ -4,3 +4,4 @@ pub mod Ranges
 pub mod Written
 pub mod CertificateTexts
 pub mod Meaning
+pub mod Reading
