@@ -1,4 +1,4 @@
-use Rattle.std.proofs.Common.{◌∙◌, ◌<◌, Err, List, ap, subst, sym}
+use Rattle.std.proofs.Common.{◌∙◌, ◌<◌, Err, ap, subst, sym}
 use Rattle.level_table.specs.Answer.{most_cells}
 use Rattle.evroute.proofs.Making.{is_route_of_all, puts_no_time, puts_time, refused_levels}
 use Rattle.evroute.proofs.make.solved.Goals as goal
