@@ -13,7 +13,7 @@ use Rattle.evroute.specs.CheckAnswer.{CheckAnswers}
 use Rattle.evroute.specs.ConvertAnswer.{BecomesWhole, IsConvertRefused}
 use Rattle.evroute.specs.Ended.{IsCheckEnded}
 use Rattle.evroute.specs.FixedAnswer.{FixedAnswers}
-use Rattle.evroute.specs.MakeAnswer.{HasNoInstance, MakeAnswers, MakesNetwork, text_made}
+use Rattle.evroute.specs.MakeAnswer.{HasNoInstance, MakeAnswers, text_made}
 use Rattle.evroute.specs.Found.{Finds, status_of}
 use Rattle.evroute.specs.Run.{AreRead, ComesToPlan, ComesToWrite, HasFailedRead, HasFailedWrite, HasFileFault, HasMadeFault, HasWriteFault, IsAnswered, JobAnswers, LeavesFiles, LeavesMade, LeavesWhole, MakesNothing, WritesMade, most_bytes}
 use Rattle.evroute.specs.declared.answer.Answer.{Answer}

@@ -9,7 +9,6 @@ ghost use Rattle.evroute.specs.Found.{Finds};
 ghost use Rattle.evroute.specs.Run.{AreRead, IsAnswered};
 ghost use Rattle.plan_writer.specs.CheckText.{check_text};
 ghost use Rattle.plan_writer.specs.declared.check.Judgement.TheVariants as judgement;
-ghost use Rattle.plan_writer.specs.RefusalText.{IsRule, refusal_text};
 ghost use Rattle.route_plan.specs.PlanTexts.{SpellsFleetPlan};
 
 use crate::answer::{Answer, Ended, refused, refused_job};

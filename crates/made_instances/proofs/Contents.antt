@@ -1,14 +1,12 @@
 -- The contents of a made value.
-use Rattle.std.proofs.Common.{◌≡◌, ◌∙◌, ℕ, ◌+◌, List, [], ◌∷◌, ◌++◌, Option, None, Some, ap, map, refl, replicate, sym}
+use Rattle.std.proofs.Common.{◌≡◌, ◌∙◌, ℕ, ◌+◌, List, [], ◌∷◌, ◌++◌, None, Some, ap, map, refl, replicate, sym}
 use Rattle.std.proofs.lemmas.List.{map-append}
 use Rattle.serde_json.proofs.OnLiterals.{serde_json_on_literals}
 use Rattle.serde_json.specs.Data.{Data}
-use Rattle.serde_json.specs.View.{items_of}
 use Rattle.instance_maker.specs.Lists.{tabulate}
 use Rattle.instance_maker.specs.Locations.{distance_between, locations_of}
 use Rattle.instance_maker.specs.MadeInstance.{array_of, curves_value, distances_value, made_value, process_times_value, station_value, stations_value, whole}
 use Rattle.instance_reader.specs.Contents.{Contents, CurveOfType, Station, contents_of, curve_in, items_in, number_in, numbers_in, rows_in, station_in}
-use Rattle.instance_reader.specs.Values.{list_of}
 use Rattle.made_instances.proofs.Along.{list_of-items_of, map-tabulate, numbers_mapped, numbers_replicated}
 use Rattle.made_instances.specs.MadeContents.{curves_made, distances_made, made_contents, process_times_made, station_made}
 

@@ -1,5 +1,5 @@
 -- The contents of a made instance break no rule on sizes, shapes, stations, types and curves.
-use Rattle.std.proofs.Common.{◌≡◌, ◌≢◌, ◌∙◌, ℕ, zero, suc, ◌+◌, ◌<◌, ◌≤◌, ◌%◌, ◌^◌, ◌==◌, Bool, true, false, if◌then◌else◌, List, [], ◌∷◌, ◌++◌, Option, None, Some, ap, arith, codes, length, length-append, lit≤, map, not, refl, replicate, subst, sym}
+use Rattle.std.proofs.Common.{◌≡◌, ◌∙◌, ℕ, zero, suc, ◌+◌, ◌<◌, ◌≤◌, ◌%◌, ◌==◌, Bool, true, false, if◌then◌else◌, List, [], ◌∷◌, ◌++◌, None, ap, arith, codes, length, length-append, lit≤, map, not, refl, replicate, sym}
 use Rattle.std.proofs.lemmas.Bool.{eq-eqb, le-ltb, lt-ltb, ne_eqb}
 use Rattle.std.proofs.lemmas.List.{length-map, length-replicate}
 use Rattle.std.specs.Bool.{then_some}
@@ -8,11 +8,10 @@ use Rattle.ev_model.specs.Network.{most_nodes}
 use Rattle.instance_maker.proofs.MadeLemmas.{AllOf, IsInSquare, length-tabulate}
 use Rattle.instance_maker.specs.Lists.{tabulate}
 use Rattle.instance_maker.specs.Locations.{distance_between, location_of, locations_of}
-use Rattle.instance_maker.specs.MadeInstance.{type_of}
 use Rattle.instance_reader.specs.Contents.{Station}
 use Rattle.instance_reader.specs.Curves.{bad_curve_in}
 use Rattle.instance_reader.specs.Faults.{early_fault, size_fault, station_fault}
-use Rattle.instance_reader.specs.Nodes.{first_wrong_node, is_station_among, node_place, wrong_node_in}
+use Rattle.instance_reader.specs.Nodes.{first_wrong_node, is_station_among, wrong_node_in}
 use Rattle.instance_reader.specs.Places.{at_key, item_of}
 use Rattle.instance_reader.specs.Shapes.{first_wrong_shape, odd_row, odd_row_in}
 use Rattle.instance_reader.specs.Search.{first_along}

@@ -1,5 +1,5 @@
 -- A made value means a network.
-use Rattle.std.proofs.Common.{◌≡◌, ◌∙◌, ◌↔◌, ◌^◌, Result, Ok, Err, ℕ, ◌+◌, ◌≤◌, ◌<◌, List, [], ◌∷◌, Option, None, Some, ap, arith, inl, inr, length, map, refl, subst, sym}
+use Rattle.std.proofs.Common.{◌≡◌, ◌∙◌, ◌↔◌, ◌^◌, Result, Ok, Err, ℕ, ◌+◌, ◌≤◌, ◌<◌, List, None, Some, ap, arith, inl, inr, length, map, refl, subst, sym}
 use Rattle.std.proofs.lemmas.Bool.{cases_lt}
 use Rattle.std.proofs.lemmas.List.{length-map}
 use Rattle.std.specs.Option.{option_map}
@@ -23,7 +23,7 @@ use Rattle.made_instances.proofs.Contents.{contents_made}
 use Rattle.made_instances.proofs.Denominator.{denominator_is_136}
 use Rattle.made_instances.proofs.Early.{no_rule_is_broken_early}
 use Rattle.made_instances.proofs.KeysAndKinds.{no_key_is_missing, no_kind_is_wrong}
-use Rattle.made_instances.specs.MadeContents.{distances_made, made_contents, made_denominator, made_network}
+use Rattle.made_instances.specs.MadeContents.{made_contents, made_denominator, made_network}
 
 denominator_made : (seed customers stations : ℕ) → IsDenominatorOf (made_contents seed customers stations) made_denominator
 unfolding made_contents

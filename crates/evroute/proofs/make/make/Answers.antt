@@ -1,7 +1,7 @@
 use Rattle.std.proofs.Common.{◌∙◌, ℕ, List, rules, subst}
 use Rattle.command_line.specs.Words.{MakeJob, make_job_of}
 use Rattle.evroute.proofs.Finding.{finds_no_instance, finds_no_memory, ok_is_no_error}
-use Rattle.evroute.specs.MakeAnswer.{HasNoInstance, MakesNetwork, text_made}
+use Rattle.evroute.specs.MakeAnswer.{HasNoInstance}
 use Rattle.instance_reader.specs.Faults.{IsInstanceOf}
 use Rattle.evroute.proofs.make.make.Goals as goal
 
