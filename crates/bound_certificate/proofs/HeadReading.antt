@@ -79,5 +79,6 @@ module _ (g : Network) (small_capacity : g.capacity < 10 ^ 64) (small_limit : sc
       (reads-behind StandsUnlessLonger 108 (codes "evels ") (then_reads (node_where (λ n. nat_eq n g.reserve)) (λ first. behind_word (codes " ") (then_reads (node_where (λ n. nat_eq n g.home_level)) (λ second. behind_word (10 ∷ []) (body_at g))))) (λ w. decimal g.reserve ++ (codes " " ++ (decimal g.home_level ++ (10 ∷ body_text w)))) (WrittenIs g) (WrittenLoose g) Anything
       (reads-own g.reserve small_reserve (then_reads (node_where (λ n. nat_eq n g.home_level)) (λ second. behind_word (10 ∷ []) (body_at g))) (λ w. decimal g.home_level ++ (10 ∷ body_text w)) (WrittenIs g) (WrittenLoose g) 32 [] (λ rest. refl)
       (reads-own g.home_level small_home (body_at g) body_text (WrittenIs g) (WrittenLoose g) 10 [] (λ rest. refl) (reads-body g small_capacity small_limit)))))
+
   pub reads-certificate : Reads StandsUnlessLonger (certificate_at g) (certificate_text g) (WrittenIs g) (WrittenLoose g) Anything
   reads-certificate = first_lines (is_first_version g)

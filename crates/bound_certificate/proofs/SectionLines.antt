@@ -102,17 +102,28 @@ module _ (g : Network) (small_capacity : g.capacity < 10 ^ 64) (small_limit : sc
       let pairs = (pairs_read p).example in
       let labels = (labels_read l).example in
       let many_pairs = loose_length PairLoose p pairs.0 pairs.1 in
-      let many_labels = loose_length (LabelLoose g) l labels.0 labels.1 in
-      (
+      let many_labels = loose_length (LabelLoose g) l labels.0 labels.1 in (
         record { weight = w; prices = prices; pairs = pairs.0; labels = labels.0 },
-        ((((record {
-          weight = small;
-          prices = price_are;
-          few_pairs = omega (arith, many_pairs, few_pairs);
-          pairs = own_length PairLoose p pairs.0 pairs.1;
-          few_labels = omega (arith, many_labels, few_labels);
-          labels = own_length (LabelLoose g) l labels.0 labels.1;
-        }, refl), many_pairs), many_labels), refl),
+        (
+          (
+            (
+              (
+                record {
+                  weight = small;
+                  prices = price_are;
+                  few_pairs = omega (arith, many_pairs, few_pairs);
+                  pairs = own_length PairLoose p pairs.0 pairs.1;
+                  few_labels = omega (arith, many_labels, few_labels);
+                  labels = own_length (LabelLoose g) l labels.0 labels.1;
+                },
+                refl,
+              ),
+              many_pairs,
+            ),
+            many_labels,
+          ),
+          refl,
+        ),
       )
 
   abbrev WithPairs : ℕ → ℕ → ℕ → List ℤ → List (ℕ × ℕ) → WrittenSection → Type 0
@@ -142,29 +153,57 @@ module _ (g : Network) (small_capacity : g.capacity < 10 ^ 64) (small_limit : sc
     where
       loose_with : (labels : List WrittenLabel) → AreLooseRun (LabelLoose g) l labels → LoosePrices w p l prices (record { weight = w; prices = prices; pairs = pairs; labels = labels }) × (pairs ≡ pairs)
       loose_with labels loose =
-          let many = loose_length (LabelLoose g) l labels loose in
-          (((((record {
-            weight = small;
-            prices = prices_read.loose prices price_are;
-            few_pairs = omega (arith, pairs_are.1, few_pairs);
-            pairs = own_length PairLoose p pairs ((pairs_read p).loose pairs pairs_are);
-            few_labels = omega (arith, many, few_labels);
-            labels = own_length (LabelLoose g) l labels loose;
-          }, refl), pairs_are.1), many), refl), refl)
+          let many = loose_length (LabelLoose g) l labels loose in (
+            (
+              (
+                (
+                  (
+                    record {
+                      weight = small;
+                      prices = prices_read.loose prices price_are;
+                      few_pairs = omega (arith, pairs_are.1, few_pairs);
+                      pairs = own_length PairLoose p pairs ((pairs_read p).loose pairs pairs_are);
+                      few_labels = omega (arith, many, few_labels);
+                      labels = own_length (LabelLoose g) l labels loose;
+                    },
+                    refl,
+                  ),
+                  pairs_are.1,
+                ),
+                many,
+              ),
+              refl,
+            ),
+            refl,
+          )
 
   loose_made : (w p l : ℕ) (prices : List ℤ) (pairs : List (ℕ × ℕ)) (labels : List WrittenLabel) → w ≤ greatest_weight → AreLooseRun PriceIs (customer_count g) prices → p ≤ most_pairs → AreLooseRun PairLoose p pairs → l ≤ most_items → AreLooseRun (LabelLoose g) l labels
       → LoosePairs w p l prices pairs (record { weight = w; prices = prices; pairs = pairs; labels = labels })
   loose_made w p l prices pairs labels small price_are few_pairs pairs_are few_labels labels_are =
       let many_pairs = loose_length PairLoose p pairs pairs_are in
-      let many_labels = loose_length (LabelLoose g) l labels labels_are in
-      (((((record {
-        weight = small;
-        prices = price_are;
-        few_pairs = omega (arith, many_pairs, few_pairs);
-        pairs = own_length PairLoose p pairs pairs_are;
-        few_labels = omega (arith, many_labels, few_labels);
-        labels = own_length (LabelLoose g) l labels labels_are;
-      }, refl), many_pairs), many_labels), refl), refl)
+      let many_labels = loose_length (LabelLoose g) l labels labels_are in (
+        (
+          (
+            (
+              (
+                record {
+                  weight = small;
+                  prices = price_are;
+                  few_pairs = omega (arith, many_pairs, few_pairs);
+                  pairs = own_length PairLoose p pairs pairs_are;
+                  few_labels = omega (arith, many_labels, few_labels);
+                  labels = own_length (LabelLoose g) l labels labels_are;
+                },
+                refl,
+              ),
+              many_pairs,
+            ),
+            many_labels,
+          ),
+          refl,
+        ),
+        refl,
+      )
 
   pairs_part : (w p l : ℕ) (prices : List ℤ) → w ≤ greatest_weight → p ≤ most_pairs → l ≤ most_items
       → AreRun {S = Unit {0}} (λ none price. PriceIs price) (λ none price. none) (customer_count g) (tt {0}) prices
@@ -176,8 +215,7 @@ module _ (g : Network) (small_capacity : g.capacity < 10 ^ 64) (small_limit : sc
       (pairs_read p) (λ pairs are. labels_part w p l prices pairs small few_pairs few_labels price_are are)
       (λ s is. (is.0.0.0.0.pairs, is.0.0.1))
       (λ s is. ((((loosened s is.0.0.0.0, is.0.0.0.1), is.0.0.1), is.0.1), is.1))
-      (λ pairs loose.
-      (
+      (λ pairs loose. (
         record { weight = w; prices = prices; pairs = pairs; labels = (labels_read l).example.0 },
         loose_made w p l prices pairs (labels_read l).example.0 small (prices_read.loose prices price_are) few_pairs loose few_labels (labels_read l).example.1,
       ))

@@ -133,8 +133,7 @@ module _ (read : Reader TreeLine) (text : TreeLine → List ℕ) (Fits Loose : T
       alone : (front : List ℕ) → Begins (IsTextOf text Loose) front → Begins (Language (suc trees)) front
       alone front begins =
           let line = begins.1.0 in
-          let rest = leaves (open_behind line (suc trees)) in
-          (
+          let rest = leaves (open_behind line (suc trees)) in (
             begins.0 ++ joined_texts text rest.0,
             (line ∷ rest.0, (All-cons Loose line rest.0 begins.1.1 rest.1.0, closes_with line trees rest.0 rest.1.1), ap (λ xs. xs ++ joined_texts text rest.0) begins.1.2 ∙ append_assoc front begins.0 (joined_texts text rest.0)),
           )

@@ -38,7 +38,8 @@ abbrev pub weight_at : Reader ℕ
 weight_at = number_where greatest_weight (λ n. nat_le 1 n)
 
 -- a line that begins with a word, with so many items, each behind a space; the word takes the first space with it
-abbrev pub line_of : {A S : Type 0} → List ℕ → (S → Reader A) → (S → A → S) → ℕ → S → Reader (List A)
+abbrev pub line_of : {A S : Type 0} → List ℕ → (S → Reader A) → (S → A → S) → ℕ → S
+    → Reader (List A)
 line_of word read next zero state = behind_word (word ++ 10 ∷ []) (answer [])
 line_of word read next (suc count) state =
     behind_word (word ++ codes " ") (then_reads (read state) (λ first.
@@ -52,7 +53,8 @@ bound_behind false =
     then_reads (whole_at greatest_bound) (λ bound. behind_word (10 ∷ []) (answer (Some bound)))
 
 abbrev pub bound_at : Reader (Option ℕ)
-bound_at = behind_word (codes "bound ") (then_reads (choice_at (codes "none" ++ 10 ∷ [])) bound_behind)
+bound_at =
+    behind_word (codes "bound ") (then_reads (choice_at (codes "none" ++ 10 ∷ [])) bound_behind)
 
 -- the stops of a plan, up to the end of the line
 abbrev pub plan_line : Reader RoutePlan
@@ -82,7 +84,8 @@ entry_at g columns earlier = then_reads (optional_at (codes "h")) (entry_behind 
 
 abbrev pub basis_at : Network → ℕ → Reader (List BasisEntry)
 basis_at g columns =
-    line_of (codes "basis") (entry_at g columns) (λ earlier entry. entry ∷ earlier) (customer_count g) []
+    line_of (codes "basis") (entry_at g columns) (λ earlier entry. entry ∷ earlier)
+    (customer_count g) []
 
 abbrev pub exact_at : Reader Root
 exact_at =
@@ -118,7 +121,8 @@ abbrev pub pair_at : Network → Option (ℕ × ℕ) → Reader (ℕ × ℕ)
 pair_at g last =
     behind_word (codes "pair ") (then_reads (node_where (is_place g)) (λ i.
     behind_word (codes " ")
-    (then_reads (node_where (λ j. is_place g j && (not (nat_eq i j) && rises_from last (i, j)))) (λ j.
+    (then_reads (node_where (λ j. is_place g j
+    && (not (nat_eq i j) && rises_from last (i, j)))) (λ j.
     behind_word (10 ∷ []) (answer (i, j))))))
 
 -- a customer above the one before
@@ -134,7 +138,8 @@ abbrev pub set_behind : Network → Bool → Reader (List ℕ)
 set_behind g true = behind_word (codes " ") (answer [])
 set_behind g false =
     then_reads (customer_at g None) (λ first.
-    then_reads (each_from (codes ",") (codes " ") (customer_at g) (λ before node. Some node) (Some first))
+    then_reads (each_from (codes ",") (codes " ") (customer_at g) (λ before node. Some node)
+    (Some first))
     (λ others. answer (first ∷ others)))
 
 abbrev pub set_at : Network → Reader (List ℕ)
@@ -153,14 +158,16 @@ is_later (Some before) level time =
 abbrev pub point_at : Network → Option (ℕ × ℕ) → Reader (ℕ × ℕ)
 point_at g last =
     then_reads (number_where g.capacity (is_higher last)) (λ level.
-    behind_word (codes ":") (then_reads (number_where (scaled_limit g) (is_later last level)) (λ time.
+    behind_word (codes ":")
+    (then_reads (number_where (scaled_limit g) (is_later last level)) (λ time.
     answer (level, time))))
 
 -- the points of a label: one at least, parted by spaces, up to the end of the line
 abbrev pub points_at : Network → Reader (List (ℕ × ℕ))
 points_at g =
     then_reads (point_at g None) (λ first.
-    then_reads (each_from (codes " ") (10 ∷ []) (point_at g) (λ before point. Some point) (Some first))
+    then_reads (each_from (codes " ") (10 ∷ []) (point_at g) (λ before point. Some point)
+    (Some first))
     (λ others. answer (first ∷ others)))
 
 abbrev pub label_at : Network → Reader WrittenLabel
@@ -189,7 +196,8 @@ section_at g =
 
 abbrev pub sections_at : Network → Reader (List WrittenSection)
 sections_at g =
-    behind_word (codes "sections ") (then_reads (number_where most_items (λ n. nat_le 1 n)) (λ count.
+    behind_word (codes "sections ")
+    (then_reads (number_where most_items (λ n. nat_le 1 n)) (λ count.
     behind_word (10 ∷ []) (so_many count (section_at g))))
 
 -- a line of the tree; that the two customers differ is told at the second
