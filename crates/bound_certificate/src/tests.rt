@@ -5,18 +5,7 @@ use instance_reader::{Instance, read_instance};
 use piece_fn::{Label, PieceFn};
 use route_plan::{RoutePlan, Stop};
 use std::alloc::{AllocError, Global};
-
-/// A depot, a customer and a station.
-const ONE_STATION: &str =
-    r#"{"max_q":10,"css":[{"node_id":2,"cs_type":"fast"}],"breakpoints_by_type":[{"cs_type":"fast","time":[0,4,10],"charge":[0,8,10]}],"process_times":[0,0,0],"energy_matrix":[[0,6,3],[6,0,2],[5,2,0]],"time_matrix":[[0,10,8],[10,0,3],[8,3,0]]}"#;
-
-/// The same with a reserve.
-const RESERVE: &str =
-    r#"{"max_q":10,"css":[{"node_id":2,"cs_type":"fast"}],"breakpoints_by_type":[{"cs_type":"fast","time":[0,4,10],"charge":[0,8,10]}],"process_times":[0,0,0],"energy_matrix":[[0,6,3],[6,0,2],[5,2,0]],"time_matrix":[[0,10,8],[10,0,3],[8,3,0]],"min_q":1}"#;
-
-/// A depot and two customers.
-const TWO_CUSTOMERS: &str =
-    r#"{"max_q":10,"css":[],"breakpoints_by_type":[],"process_times":[0,0,0],"energy_matrix":[[0,1,1],[1,0,1],[1,1,0]],"time_matrix":[[0,4,4],[4,0,5],[4,5,0]]}"#;
+use worked_instances::{ONE_STATION, RESERVE, TWO_CUSTOMERS};
 
 const LABELS: &str =
     "label 0 0 - 10:0\nlabel 1 1 1 4:20\nlabel 0 2 - 7:16 8:17 10:29\nlabel 1 2 1 2:26 8:32 10:44\nlabel 1 1 1 5:22 6:23 8:35\nleaf 0\n";

@@ -25,7 +25,7 @@ pub enum Ended {
 }
 
 /// The line of a refusal.
-pub fn refused(alloc: Global, refusal: Refusal) -> Result<Answer, AllocError>
+pub fn refuse(alloc: Global, refusal: Refusal) -> Result<Answer, AllocError>
     requires { IsRule refusal }
     ensures status { IfOk result (λ a. a.status ≡ Status.Refused) }
     ensures text { IfOk result (λ a. a.text.items ≡ refusal_text refusal) }
@@ -39,13 +39,13 @@ pub fn refused(alloc: Global, refusal: Refusal) -> Result<Answer, AllocError>
 }
 
 /// The line of a refusal as the answer to a job.
-pub fn refused_job(alloc: Global, refusal: Refusal) -> Result<Answer, ShelfFault>
+pub fn refuse_job(alloc: Global, refusal: Refusal) -> Result<Answer, ShelfFault>
     requires { IsRule refusal }
     ensures status { IfOk result (λ a. a.status ≡ Status.Refused) }
     ensures text { IfOk result (λ a. a.text.items ≡ refusal_text refusal) }
     ensures memory { IfErr result (λ fault. fault ≡ ShelfFault.Memory) }
 {
-    match refused(alloc, refusal) {
+    match refuse(alloc, refusal) {
         Ok(answer) => Ok(answer),
         Err(AllocError) => Err(ShelfFault::Memory),
     }

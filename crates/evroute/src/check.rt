@@ -11,7 +11,7 @@ ghost use Rattle.plan_writer.specs.CheckText.{check_text};
 ghost use Rattle.plan_writer.specs.declared.check.Judgement.TheVariants as judgement;
 ghost use Rattle.route_plan.specs.PlanTexts.{SpellsFleetPlan};
 
-use crate::answer::{Answer, Ended, refused, refused_job};
+use crate::answer::{Answer, Ended, refuse, refuse_job};
 use crate::instance::limited_instance;
 use crate::status::Status;
 use crate::steps::read_file;
@@ -42,7 +42,7 @@ pub fn check<S: Shelf>(
     };
     match fleet_instance(alloc, bytes.as_slice(), limit) {
         Ok(inst) => check_on(alloc, &inst, plan, shelf),
-        Err(Ended::Refused(refusal)) => refused_job(alloc, refusal),
+        Err(Ended::Refused(refusal)) => refuse_job(alloc, refusal),
         Err(Ended::Memory) => Err(ShelfFault::Memory),
     }
 }
@@ -65,7 +65,7 @@ fn check_on<S: Shelf>(
         Ok(bytes) => bytes,
         Err(fault) => return Err(fault),
     };
-    match judged(alloc, inst, bytes.as_slice()) {
+    match judge_text(alloc, inst, bytes.as_slice()) {
         Ok(answer) => Ok(answer),
         Err(AllocError) => Err(ShelfFault::Memory),
     }
@@ -86,15 +86,15 @@ fn fleet_instance(alloc: Global, bytes: &[u8], limit: Option<u64>) -> Result<Ins
 }
 
 /// The answer to the bytes of a plan file, on an instance without too many customers.
-fn judged(alloc: Global, inst: &Instance, bytes: &[u8]) -> Result<Answer, AllocError>
+fn judge_text(alloc: Global, inst: &Instance, bytes: &[u8]) -> Result<Answer, AllocError>
     requires { customer_count inst.now ≤ most_customers }
     ensures answers { (limit : Option ℕ) (file : List ℕ) → HasFleetNetwork limit file inst.now
         → IfOk result (λ a. CheckAnswers limit file bytes.now a.status a.text.items) }
     ensures answered { IfOk result (λ a. IsAnswered a.status) }
 {
     match plan_of(alloc, bytes) {
-        Ok(plan) => reported(alloc, inst, plan.as_ref()),
-        Err(Ended::Refused(refusal)) => refused(alloc, refusal),
+        Ok(plan) => report_on(alloc, inst, plan.as_ref()),
+        Err(Ended::Refused(refusal)) => refuse(alloc, refusal),
         Err(Ended::Memory) => Err(AllocError),
     }
 }
@@ -114,7 +114,7 @@ fn plan_of(alloc: Global, bytes: &[u8]) -> Result<Option<FleetPlan>, Ended>
 }
 
 /// The report on a fleet plan, or on none.
-fn reported(alloc: Global, inst: &Instance, plan: Option<&FleetPlan>) -> Result<Answer, AllocError>
+fn report_on(alloc: Global, inst: &Instance, plan: Option<&FleetPlan>) -> Result<Answer, AllocError>
     requires { customer_count inst.now ≤ most_customers }
     ensures answered { IfOk result (λ a. IsAnswered a.status) }
     ensures answers { (limit : Option ℕ) (file plan_bytes : List ℕ)
@@ -123,16 +123,16 @@ fn reported(alloc: Global, inst: &Instance, plan: Option<&FleetPlan>) -> Result<
         → IfOk result (λ a. CheckAnswers limit file plan_bytes a.status a.text.items) }
 {
     let Some(plan) = plan else {
-        return accepted(alloc, inst, None);
+        return accept(alloc, inst, None);
     };
     match check_fleet(inst, plan) {
-        Ok(cost) => accepted(alloc, inst, Some(cost)),
-        Err(fault) => rejected(alloc, inst, fault),
+        Ok(cost) => accept(alloc, inst, Some(cost)),
+        Err(fault) => reject(alloc, inst, fault),
     }
 }
 
 /// The report on a fleet plan of this scaled cost, or on none.
-fn accepted(alloc: Global, inst: &Instance, cost: Option<u128>) -> Result<Answer, AllocError>
+fn accept(alloc: Global, inst: &Instance, cost: Option<u128>) -> Result<Answer, AllocError>
     ensures status { IfOk result (λ a. a.status ≡ Status.Done) }
     ensures text { IfOk result (λ a. a.text.items
         ≡ check_text inst.now.denominator (judgement.Accepted cost)) }
@@ -146,7 +146,7 @@ fn accepted(alloc: Global, inst: &Instance, cost: Option<u128>) -> Result<Answer
 }
 
 /// The report on plans that break a rule.
-fn rejected(alloc: Global, inst: &Instance, fault: PlanFault) -> Result<Answer, AllocError>
+fn reject(alloc: Global, inst: &Instance, fault: PlanFault) -> Result<Answer, AllocError>
     ensures status { IfOk result (λ a. a.status ≡ Status.Negative) }
     ensures text { IfOk result
         (λ a. a.text.items ≡ check_text inst.now.denominator (judgement.Plan fault)) }

@@ -6,7 +6,7 @@ ghost use Rattle.evroute.specs.ConvertAnswer.{BecomesWhole};
 ghost use Rattle.evroute.specs.Found.{Finds};
 ghost use Rattle.evroute.specs.Run.{AreRead};
 
-use crate::answer::{Answer, refused_job};
+use crate::answer::{Answer, refuse_job};
 use crate::status::Status;
 use crate::steps::read_file;
 use decimal_import::ImportFault;
@@ -33,7 +33,7 @@ pub fn convert<S: Shelf>(
     match decimal_import::convert(alloc, bytes.as_slice(), time_digits, energy_digits) {
         Ok(whole) => write_whole(alloc, outfile, whole.as_slice(), shelf),
         Err(ImportFault::Memory) => Err(ShelfFault::Memory),
-        Err(fault) => refused_job(alloc, Refusal::Literal(fault)),
+        Err(fault) => refuse_job(alloc, Refusal::Literal(fault)),
     }
 }
 

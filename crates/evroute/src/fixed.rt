@@ -15,7 +15,7 @@ ghost use Rattle.plan_writer.specs.FixedText.{fixed_text};
 ghost use Rattle.route_plan.specs.Limits.{most_route_nodes};
 ghost use Rattle.route_plan.specs.RouteWords.{SpellsRoute};
 
-use crate::answer::{Answer, Ended, refused};
+use crate::answer::{Answer, Ended, refuse};
 use crate::instance::limited_instance;
 use crate::status::Status;
 use crate::steps::read_file;
@@ -59,27 +59,27 @@ fn answer_to(
     ensures answers { IfOk result
         (λ a. FixedAnswers options word.now bytes.now a.status a.text.items) }
 {
-    match charged(alloc, bytes, word, options) {
+    match charge_file(alloc, bytes, word, options) {
         Ok(answer) => Ok(answer),
-        Err(Ended::Refused(refusal)) => refused(alloc, refusal),
+        Err(Ended::Refused(refusal)) => refuse(alloc, refusal),
         Err(Ended::Memory) => Err(AllocError),
     }
 }
 
 /// The charged route, or why there is none.
-fn charged(alloc: Global, bytes: &[u8], word: &str, options: Options) -> Result<Answer, Ended>
+fn charge_file(alloc: Global, bytes: &[u8], word: &str, options: Options) -> Result<Answer, Ended>
     ensures ok { IfOk result (λ a. FixedAnswers options word.now bytes.now a.status a.text.items) }
     ensures answered { IfOk result (λ a. IsAnswered a.status) }
     ensures ended { IfErr result (IsEnded options word.now bytes.now) }
 {
     match limited_instance(alloc, bytes, options.limit) {
-        Ok(inst) => charged_on(alloc, &inst, word, options),
+        Ok(inst) => charge_on(alloc, &inst, word, options),
         Err(ended) => Err(ended),
     }
 }
 
 /// The charged route of an instance whose limit is that of the words.
-fn charged_on(alloc: Global, inst: &Instance, word: &str, options: Options) -> Result<Answer, Ended>
+fn charge_on(alloc: Global, inst: &Instance, word: &str, options: Options) -> Result<Answer, Ended>
     ensures ok { (bytes : List ℕ) → HasNetwork options.limit bytes inst.now
         → IfOk result (λ a. FixedAnswers options word.now bytes a.status a.text.items) }
     ensures ended { (bytes : List ℕ) → HasNetwork options.limit bytes inst.now
@@ -88,7 +88,7 @@ fn charged_on(alloc: Global, inst: &Instance, word: &str, options: Options) -> R
 {
     match start(inst, options) {
         Ok(start) => match route(alloc, word, inst) {
-            Ok(route) => solved(alloc, inst, route.as_slice(), start),
+            Ok(route) => charge_from(alloc, inst, route.as_slice(), start),
             Err(ended) => Err(ended),
         },
         Err(ended) => Err(ended),
@@ -131,7 +131,7 @@ fn route(alloc: Global, word: &str, inst: &Instance) -> Result<Vec<usize>, Ended
 }
 
 /// The text of a fastest plan of the route, or that there is none.
-fn solved(alloc: Global, inst: &Instance, route: &[usize], start: u64) -> Result<Answer, Ended>
+fn charge_from(alloc: Global, inst: &Instance, route: &[usize], start: u64) -> Result<Answer, Ended>
     requires route { IsRoute inst.now route.now }
     requires start { start ≤ inst.now.capacity }
     ensures ok { (options : Options) (word bytes : List ℕ)
@@ -147,13 +147,13 @@ fn solved(alloc: Global, inst: &Instance, route: &[usize], start: u64) -> Result
         return Err(Ended::Memory);
     };
     match plan {
-        Some(plan) => planned(alloc, inst, start, &plan),
+        Some(plan) => report_plan(alloc, inst, start, &plan),
         None => infeasible(alloc, inst),
     }
 }
 
 /// The text of a feasible plan.
-fn planned(alloc: Global, inst: &Instance, start: u64, plan: &RoutePlan) -> Result<Answer, Ended>
+fn report_plan(alloc: Global, inst: &Instance, start: u64, plan: &RoutePlan) -> Result<Answer, Ended>
     requires start { start ≤ inst.now.capacity }
     requires feasible { IsFeasible inst.now 1 start plan.now.stops }
     ensures status { IfOk result (λ a. a.status ≡ Status.Done) }

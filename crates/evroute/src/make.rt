@@ -11,7 +11,7 @@ ghost use Rattle.evroute.specs.Run.{IsAnswered};
 ghost use Rattle.instance_maker.specs.MadeInstance.{made_text};
 ghost use Rattle.plan_writer.specs.MakeText.{make_text};
 
-use crate::answer::{Answer, refused_job};
+use crate::answer::{Answer, refuse_job};
 use crate::status::Status;
 use ev_outside::{Shelf, ShelfFault};
 use frvcp_labels::solve_route;
@@ -43,7 +43,7 @@ pub fn make<S: Shelf>(
             outfile,
             shelf,
         ),
-        Err(MakerFault::Range) => refused_job(alloc, Refusal::Maker),
+        Err(MakerFault::Range) => refuse_job(alloc, Refusal::Maker),
         Err(MakerFault::Memory) => Err(ShelfFault::Memory),
     }
 }
@@ -115,11 +115,7 @@ fn route_of_all(alloc: Global, customers: u32) -> Result<Vec<usize>, AllocError>
 }
 
 /// The three lines, with the time of a feasible plan.
-fn report_time(
-    alloc: Global,
-    inst: &Instance,
-    plan: &RoutePlan,
-) -> Result<Answer, AllocError>
+fn report_time(alloc: Global, inst: &Instance, plan: &RoutePlan) -> Result<Answer, AllocError>
     requires { IsFeasible inst.now 1 inst.now.capacity plan.now.stops }
     ensures status { IfOk result (λ a. a.status ≡ Status.Done) }
     ensures text { IfOk result (λ a. a.text.items

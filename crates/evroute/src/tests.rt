@@ -2,18 +2,7 @@ use crate::{Status, run};
 use command_line::usage;
 use ev_outside::{MemoryShelf, MemorySink};
 use std::alloc::{AllocError, Global};
-
-/// A depot, a customer and a station.
-const ONE_STATION: &str =
-    r#"{"max_q":10,"css":[{"node_id":2,"cs_type":"fast"}],"breakpoints_by_type":[{"cs_type":"fast","time":[0,4,10],"charge":[0,8,10]}],"process_times":[0,0,0],"energy_matrix":[[0,6,3],[6,0,2],[5,2,0]],"time_matrix":[[0,10,8],[10,0,3],[8,3,0]]}"#;
-
-/// The same with a reserve of one unit.
-const WITH_RESERVE: &str =
-    r#"{"max_q":10,"css":[{"node_id":2,"cs_type":"fast"}],"breakpoints_by_type":[{"cs_type":"fast","time":[0,4,10],"charge":[0,8,10]}],"process_times":[0,0,0],"energy_matrix":[[0,6,3],[6,0,2],[5,2,0]],"time_matrix":[[0,10,8],[10,0,3],[8,3,0]],"min_q":1}"#;
-
-/// The first one with energies, battery and charges multiplied by 10^8.
-const FINE_LEVELS: &str =
-    r#"{"max_q":1000000000,"css":[{"node_id":2,"cs_type":"fast"}],"breakpoints_by_type":[{"cs_type":"fast","time":[0,4,10],"charge":[0,800000000,1000000000]}],"process_times":[0,0,0],"energy_matrix":[[0,600000000,300000000],[600000000,0,200000000],[500000000,200000000,0]],"time_matrix":[[0,10,8],[10,0,3],[8,3,0]]}"#;
+use worked_instances::{FINE_UNITS, ONE_STATION, RESERVE};
 
 /// A file with decimals.
 const DECIMALS: &str =
@@ -122,7 +111,7 @@ fn a_route_is_charged_or_refused(rt: HostRuntime) {
         ),
         (
             "fixed A 0,1,0",
-            FINE_LEVELS,
+            FINE_UNITS,
             Status::Done,
             "time 4300000000/200000000\nat 0\nvia 2 charge 100000000\nat 1\nat 0\n",
         ),
@@ -224,7 +213,7 @@ fn the_reserve_is_kept(rt: HostRuntime) {
         ),
     ];
     for (line, status, put) in cases {
-        let ended = run_on(alloc, line, WITH_RESERVE, CHARGED, &[], &[]).expect(&rt, "memory");
+        let ended = run_on(alloc, line, RESERVE, CHARGED, &[], &[]).expect(&rt, "memory");
         assert_eq!(rt; ended.0, status, "{line}");
         assert_eq!(rt; ended.1.as_slice(), put.as_bytes());
     }

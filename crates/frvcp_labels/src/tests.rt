@@ -6,36 +6,10 @@ use instance_reader::{Instance, read_instance};
 use route_plan::read_route;
 use std::alloc::Global;
 use std::test::Fail;
-
-const ONE_STATION: &str =
-    r#"{"max_q":10,"css":[{"node_id":2,"cs_type":"fast"}],"breakpoints_by_type":[{"cs_type":"fast","time":[0,4,10],"charge":[0,8,10]}],"process_times":[0,0,0],"energy_matrix":[[0,6,3],[6,0,2],[5,2,0]],"time_matrix":[[0,10,8],[10,0,3],[8,3,0]]}"#;
-
-/// The same with energies, the battery and charges times 10^8.
-const FINE_UNITS: &str =
-    r#"{"max_q":1000000000,"css":[{"node_id":2,"cs_type":"fast"}],"breakpoints_by_type":[{"cs_type":"fast","time":[0,4,10],"charge":[0,800000000,1000000000]}],"process_times":[0,0,0],"energy_matrix":[[0,600000000,300000000],[600000000,0,200000000],[500000000,200000000,0]],"time_matrix":[[0,10,8],[10,0,3],[8,3,0]]}"#;
-
-const TWO_STATIONS: &str =
-    r#"{"max_q":10,"css":[{"node_id":2,"cs_type":"fast"},{"node_id":3,"cs_type":"fast"}],"breakpoints_by_type":[{"cs_type":"fast","time":[0,4,10],"charge":[0,8,10]}],"process_times":[0,0,0,0],"energy_matrix":[[0,11,8,11],[11,0,11,4],[8,11,0,8],[11,4,8,0]],"time_matrix":[[0,11,8,11],[11,0,11,4],[8,11,0,8],[11,4,8,0]]}"#;
-
-/// The first with a time to plug in, and so the two stations.
-const PLUG_TIME: &str =
-    r#"{"max_q":10,"css":[{"node_id":2,"cs_type":"fast"}],"breakpoints_by_type":[{"cs_type":"fast","time":[0,4,10],"charge":[0,8,10],"plug_time":1}],"process_times":[0,0,0],"energy_matrix":[[0,6,3],[6,0,2],[5,2,0]],"time_matrix":[[0,10,8],[10,0,3],[8,3,0]]}"#;
-
-const TWO_PLUG_TIMES: &str =
-    r#"{"max_q":10,"css":[{"node_id":2,"cs_type":"fast"},{"node_id":3,"cs_type":"fast"}],"breakpoints_by_type":[{"cs_type":"fast","time":[0,4,10],"charge":[0,8,10],"plug_time":1}],"process_times":[0,0,0,0],"energy_matrix":[[0,11,8,11],[11,0,11,4],[8,11,0,8],[11,4,8,0]],"time_matrix":[[0,11,8,11],[11,0,11,4],[8,11,0,8],[11,4,8,0]]}"#;
-
-/// The first with a reserve, and with levels at home that can and that can't be had.
-const RESERVE: &str =
-    r#"{"max_q":10,"css":[{"node_id":2,"cs_type":"fast"}],"breakpoints_by_type":[{"cs_type":"fast","time":[0,4,10],"charge":[0,8,10]}],"process_times":[0,0,0],"energy_matrix":[[0,6,3],[6,0,2],[5,2,0]],"time_matrix":[[0,10,8],[10,0,3],[8,3,0]],"min_q":1}"#;
-
-const HOME_LEVEL: &str =
-    r#"{"max_q":10,"css":[{"node_id":2,"cs_type":"fast"}],"breakpoints_by_type":[{"cs_type":"fast","time":[0,4,10],"charge":[0,8,10]}],"process_times":[0,0,0],"energy_matrix":[[0,6,3],[6,0,2],[5,2,0]],"time_matrix":[[0,10,8],[10,0,3],[8,3,0]],"home_q":5}"#;
-
-const HOME_LEVEL_TOO_HIGH: &str =
-    r#"{"max_q":10,"css":[{"node_id":2,"cs_type":"fast"}],"breakpoints_by_type":[{"cs_type":"fast","time":[0,4,10],"charge":[0,8,10]}],"process_times":[0,0,0],"energy_matrix":[[0,6,3],[6,0,2],[5,2,0]],"time_matrix":[[0,10,8],[10,0,3],[8,3,0]],"home_q":6}"#;
-
-const NO_STATION: &str =
-    r#"{"max_q":10,"css":[],"breakpoints_by_type":[],"process_times":[0,0],"energy_matrix":[[0,1],[1,0]],"time_matrix":[[0,4],[4,0]]}"#;
+use worked_instances::{
+    FINE_UNITS, HOME_LEVEL, HOME_LEVEL_TOO_HIGH, NO_STATION, ONE_STATION, PLUG_TIME, RESERVE,
+    TWO_PLUG_TIMES, TWO_STATIONS,
+};
 
 /// The instance of a file, with another limit if one is given.
 fn instance(alloc: Global, file: &str, limit: Option<u64>) -> Option<Instance> {

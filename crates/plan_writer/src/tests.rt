@@ -7,10 +7,7 @@ use ev_text::TextFault;
 use instance_reader::{Key, Part, Place, ReadFault, read_instance};
 use plan_check::PlanFault;
 use route_plan::{PlanText, RouteFault, RoutePlan, WalkFault};
-
-/// A depot, a customer and a station.
-const ONE_STATION: &str =
-    r#"{"max_q":10,"css":[{"node_id":2,"cs_type":"fast"}],"breakpoints_by_type":[{"cs_type":"fast","time":[0,4,10],"charge":[0,8,10]}],"process_times":[0,0,0],"energy_matrix":[[0,6,3],[6,0,2],[5,2,0]],"time_matrix":[[0,10,8],[10,0,3],[8,3,0]]}"#;
+use worked_instances::ONE_STATION;
 
 #[test]
 fn refusals_have_their_lines(rt: HostRuntime) {

@@ -24,6 +24,6 @@ returns-in-Ok-fleet_instance g c =
 pub returns-in-Err-Refused : goal.returns-in-Err-Refused
 returns-in-Err-Refused g c =
     let job : CheckJob = record { file = c.args.file.now; plan = c.args.plan.now; limit = c.args.limit } in
-    finds_refusal job (g.S.Shelf.state c.args.shelf.now) (g.S.Shelf.state c.read_file.new.shelf) c.in-Ok.bytes.items c.as_slice.result.now c.in-Err-Refused.field-0 c.in-Err-Refused.refusal c.refused_job.result
-    c.in-Ok.ensures.bytes c.as_slice.ensures.value c.in-Err-Refused.field-0-is c.in-Err-Refused.ensures.ended c.refused_job.ensures.status c.refused_job.ensures.text c.refused_job.ensures.memory
+    finds_refusal job (g.S.Shelf.state c.args.shelf.now) (g.S.Shelf.state c.read_file.new.shelf) c.in-Ok.bytes.items c.as_slice.result.now c.in-Err-Refused.field-0 c.in-Err-Refused.refusal c.refuse_job.result
+    c.in-Ok.ensures.bytes c.as_slice.ensures.value c.in-Err-Refused.field-0-is c.in-Err-Refused.ensures.ended c.refuse_job.ensures.status c.refuse_job.ensures.text c.refuse_job.ensures.memory
     (c.in-Ok.ensures.stays (λ failed. ok_is_no_error failed)) c.in-Ok.ensures.falls c.in-Ok.ensures.files

@@ -27,6 +27,6 @@ pub returns : goal.returns
 returns g c =
     let job : ConvertJob = convert_job_of c.args.file.now c.args.outfile.now c.args.time_digits c.args.energy_digits in
     let rule : c.in-Err-convert.fault ≢ faults.Memory = search rules in
-    finds_literal job (g.S.Shelf.state c.args.shelf.now) (g.S.Shelf.state c.read_file.new.shelf) c.in-Ok.bytes.items c.as_slice.result.now c.in-Err-convert.fault c.refused_job.result
-    c.in-Ok.ensures.bytes c.as_slice.ensures.value rule c.in-Err-convert.ensures.fault c.refused_job.ensures.status c.refused_job.ensures.text c.refused_job.ensures.memory
+    finds_literal job (g.S.Shelf.state c.args.shelf.now) (g.S.Shelf.state c.read_file.new.shelf) c.in-Ok.bytes.items c.as_slice.result.now c.in-Err-convert.fault c.refuse_job.result
+    c.in-Ok.ensures.bytes c.as_slice.ensures.value rule c.in-Err-convert.ensures.fault c.refuse_job.ensures.status c.refuse_job.ensures.text c.refuse_job.ensures.memory
     (c.in-Ok.ensures.stays (λ failed. ok_is_no_error failed)) c.in-Ok.ensures.falls c.in-Ok.ensures.files

@@ -15,8 +15,8 @@ returns-in-Ok g c =
 pub returns-in-Err-Range : goal.returns-in-Err-Range
 returns-in-Err-Range g c =
     let job : MakeJob = make_job_of c.args.seed c.args.customers c.args.stations c.args.outfile.now in
-    finds_no_instance job (g.S.Shelf.state c.args.shelf.now) c.refused_job.result (c.in-Err-Range.ensures.range.0 (search rules))
-    c.refused_job.ensures.status c.refused_job.ensures.text c.refused_job.ensures.memory
+    finds_no_instance job (g.S.Shelf.state c.args.shelf.now) c.refuse_job.result (c.in-Err-Range.ensures.range.0 (search rules))
+    c.refuse_job.ensures.status c.refuse_job.ensures.text c.refuse_job.ensures.memory
 
 pub returns-in-Err-Memory : goal.returns-in-Err-Memory
 returns-in-Err-Memory g c =
