@@ -22,3 +22,4 @@ pub mod Lists
 pub mod Totals
 pub mod Signs
 pub mod Unique
+pub mod PriceSums

@@ -12,7 +12,7 @@ cheaper w t u margin p q enough le =
     let parts : w * t + margin * w ≤ w * u = omega (arith, scaled) in
     omega (arith, ints, enough, parts)
 
-earlier : (w t u : ℕ) (p q : ℤ) → t ≤ u → (pos (w * t) -ℤ p) ≤ℤ (pos (w * u) -ℤ q) → q ≤ℤ (p +ℤ pos ((u - t) * w))
+pub earlier : (w t u : ℕ) (p q : ℤ) → t ≤ u → (pos (w * t) -ℤ p) ≤ℤ (pos (w * u) -ℤ q) → q ≤ℤ (p +ℤ pos ((u - t) * w))
 earlier w t u p q le cost =
     let gap : t + (u - t) ≡ u = omega (arith, le) in
     let parts : w * (t + (u - t)) ≡ w * t + (u - t) * w = omega arith in

@@ -1,5 +1,5 @@
 -- Sums over chosen customers, of combined and of multiplied lists.
-use Rattle.std.proofs.Common.{◌≡◌, ◌∙◌, ℕ, zero, suc, ◌<◌, ◌+◌, arith, refl, sym, ap, ℤ, pos, ◌-ℤ◌, ◌*ℤ◌, List, [], ◌∷◌, map, length, get_or, drop, drop-cons, add-one, append_assoc, ◌++◌, Bool, true, false, cond, nat_eq, eq-eqb, ne_eqb}
+use Rattle.std.proofs.Common.{◌≡◌, ◌∙◌, ℕ, zero, suc, ◌<◌, ◌+◌, arith, refl, sym, ap, ℤ, pos, ◌+ℤ◌, ◌-ℤ◌, ◌*ℤ◌, List, [], ◌∷◌, map, length, get_or, drop, drop-cons, add-one, append_assoc, ◌++◌, Bool, true, false, cond, nat_eq, eq-eqb, ne_eqb, unsigned_abs, ◌≤◌}
 use Rattle.std.proofs.lemmas.Int.{ints}
 use Rattle.fleet_model.proofs.Ring.{*ℤ-+ℤ}
 use Rattle.fleet_model.specs.Equations.{total, total_from, combined}
@@ -102,3 +102,15 @@ pub combined_push : (f g z : ℤ) (i : ℕ) (xs ys out : List ℤ) → length xs
 combined_push f g z i xs ys out e lt is before =
     let more = combined_more f g i xs ys e lt in
     rw append_assoc (ap (λ x. out ++ x ∷ combined f g (drop (i + 1) xs) (drop (i + 1) ys)) is ∙ ap (λ zs. out ++ zs) (sym more) ∙ before)
+
+-- one more of the chosen numbers
+pub total_step : (s : ℕ → Bool) (c : ℕ) (xs : List ℤ) (sum part all : ℤ) → c < length xs → part ≡ cond (s c) (get_or xs c (pos 0)) (pos 0)
+    → sum +ℤ total_from s c (drop c xs) ≡ all → (sum +ℤ part) +ℤ total_from s (c + 1) (drop (c + 1) xs) ≡ all
+total_step s c xs sum part all lt is before =
+    let cut = ap (total_from s c) (drop-cons xs c (pos 0) lt) in
+    let next : total_from s (suc c) (drop (suc c) xs) ≡ total_from s (c + 1) (drop (c + 1) xs) = ap (λ k. total_from s k (drop k xs)) (sym (add-one c)) in
+    omega (arith, ints)
+
+pub cond_small : (t : Bool) (x : ℤ) (m : ℕ) → unsigned_abs x ≤ m → unsigned_abs (cond t x (pos 0)) ≤ m
+cond_small true x m h = h
+cond_small false x m h = omega arith

@@ -2,6 +2,7 @@
 
 ghost use Rattle.std.specs.Prelude.{◌≡◌, ◌↔◌, ◌*◌, ◌*ℤ◌, ◌<◌, ◌≤◌, ◌≤ℤ◌, List, ℕ, ℤ, filter, length, map, slice_get, None, pos, Some, true};
 ghost use Rattle.std.specs.List.{All, range_with_len};
+ghost use Rattle.customer_sets.specs.CustSet.{has, IsCustomerSet};
 ghost use Rattle.customer_sets.specs.Pairs.{any_pair};
 ghost use Rattle.ev_model.specs.Feasible.{IsFeasible};
 ghost use Rattle.ev_model.specs.Fleet.{cost_of, customers_of, IsFleetPlan, ServesOnly, times_in};
@@ -12,6 +13,7 @@ ghost use Rattle.fleet_model.specs.ClosedList.{IsClosed};
 ghost use Rattle.fleet_model.specs.ClosedListRules.{ClosedFault, IsFault};
 ghost use Rattle.fleet_model.specs.Cover.{cost_of_shares, CoverKeepsPairs, IsExactRoot, IsFractionalCover, Share};
 ghost use Rattle.fleet_model.specs.Coverage.{IsAsGood, IsCovered};
+ghost use Rattle.fleet_model.specs.Equations.{total};
 ghost use Rattle.fleet_model.specs.Labels.{Label, State};
 ghost use Rattle.fleet_model.specs.Margins.{Covers, CoversBy, HasNoMargin, IsMargin};
 ghost use Rattle.fleet_model.specs.Pairs.{FleetKeepsPairs, PlanKeepsPairs};
@@ -161,4 +163,10 @@ pub fn customers_are_numbered()
     ensures number { (g : Network) (number node : ℕ) →
         slice_get (filter (is_customer g) (range_with_len 0 (node_count g))) number ≡ Some node →
         number ≡ customer_number g node }
+{}
+
+/// The price sum of a set of customers is the sum of the prices of the customers that are in it.
+pub fn a_price_sum_is_a_total()
+    ensures { (prices : List ℤ) (set : List ℕ) → IsCustomerSet set →
+        price_sum prices set ≡ total (has set) prices }
 {}

@@ -1,0 +1,106 @@
+//! Whether each state of a value is covered.
+
+ghost use Rattle.std.specs.Prelude.{◌≡◌, ◌^◌, ◌<◌, ◌≤◌, ℕ, false, true, IfNone, IfSome, length, slice_index_or, unsigned_abs};
+ghost use Rattle.dominance.specs.LevelTimes.{IsLevel, time_at};
+ghost use Rattle.ev_model.specs.Network.{node_count};
+ghost use Rattle.fleet_model.specs.Coverage.{IsCovered};
+ghost use Rattle.fleet_model.specs.Margins.{Covers};
+ghost use Rattle.piece_fn.specs.PieceFn.{level_times};
+ghost use Rattle.piece_fn.specs.declared.label.Label.{Label};
+ghost use Rattle.closed_lists.specs.Questions.{section};
+ghost use Rattle.closed_lists.specs.Sections.{paid_label};
+ghost use Rattle.closed_lists.specs.Targets.{IsCoveredAll, IsCoveredTo, IsMissed, state_of};
+
+use crate::paid::margin;
+use crate::section::Section;
+use customer_sets::CustSet;
+use dominance::LabelValue;
+use piece_fn::PieceFn;
+
+/// What the states of a value have in common.
+#[derive(Clone, Copy)]
+pub(crate) struct Target {
+    /// The node of the last customer, or 0 where none was served yet.
+    pub(crate) last: usize,
+    /// The node where the vehicle is.
+    pub(crate) node: usize,
+    /// The customers served.
+    pub(crate) set: CustSet,
+    /// The sum that is paid.
+    pub(crate) paid: i128,
+}
+
+impl Section<'_> {
+    /// Whether each state of the value is covered.
+    pub(crate) fn covers_all(&self, target: &Target, value: &PieceFn) -> bool
+        requires last { target.now.last < node_count self.now.network }
+        requires node { target.now.node < node_count self.now.network }
+        requires paid { unsigned_abs target.now.paid ≤ 2 ^ 92 }
+        requires times { (y : ℕ) → IsLevel (level_times value.now) y →
+            time_at (level_times value.now) y ≤ 10 ^ 18 }
+        requires levels { (y : ℕ) → IsLevel (level_times value.now) y → y ≤ 10 ^ 9 }
+        ensures covered { result ≡ true → IsCoveredAll (section self.now) target.now value.now }
+        ensures missed { result ≡ false → IsMissed (section self.now) target.now value.now }
+    {
+        let points = value.points();
+        let last = points[points.len() - 1].0;
+        let mut level = points[0].0;
+        while let Some(to) = self.reach(target, value, level) {
+            if to >= last {
+                return true;
+            }
+            level = to + 1;
+        }
+        false
+    }
+
+    /// A level up to which each state of the value is covered from a level on; `None` where the state at that level
+    /// is not covered.
+    fn reach(&self, target: &Target, value: &PieceFn, level: u64) -> Option<u64>
+        requires last { target.now.last < node_count self.now.network }
+        requires node { target.now.node < node_count self.now.network }
+        requires paid { unsigned_abs target.now.paid ≤ 2 ^ 92 }
+        requires times { (y : ℕ) → IsLevel (level_times value.now) y →
+            time_at (level_times value.now) y ≤ 10 ^ 18 }
+        requires level { IsLevel (level_times value.now) level }
+        ensures some { IfSome result (IsCoveredTo (section self.now) target.now value.now level) }
+        ensures none { IfNone result
+            (IsCovered (section self.now) (state_of target.now value.now level) → ⊥) }
+    {
+        let key = target.last * self.inst.nodes() + target.node;
+        let mut end = self.end(key);
+        while end > 0 {
+            match self.reach_of(end - 1, target, value, level) {
+                Some(to) => return Some(to),
+                None => end = self.before(end - 1),
+            }
+        }
+        None
+    }
+
+    /// The same by one label, which is at the same node after the same customer.
+    fn reach_of(&self, number: usize, target: &Target, value: &PieceFn, level: u64) -> Option<u64>
+        requires number { number < length self.now.labels }
+        requires last { (d : Label) →
+            (slice_index_or self.now.labels number d).last ≡ target.now.last }
+        requires node { (d : Label) →
+            (slice_index_or self.now.labels number d).node ≡ target.now.node }
+        requires paid { unsigned_abs target.now.paid ≤ 2 ^ 92 }
+        requires times { (y : ℕ) → IsLevel (level_times value.now) y →
+            time_at (level_times value.now) y ≤ 10 ^ 18 }
+        requires level { IsLevel (level_times value.now) level }
+        ensures some { IfSome result (IsCoveredTo (section self.now) target.now value.now level) }
+        ensures none { IfNone result ((d : Label) → Covers self.now.weight
+            (paid_label self.now.prices (slice_index_or self.now.labels number d))
+            (state_of target.now value.now level) → ⊥) }
+    {
+        let label = self.label(number);
+        if !label.set.is_subset(target.set) {
+            return None;
+        }
+        match margin(self.weight, self.paid(number), target.paid) {
+            Some(extra) => label.value.reach(value, extra, level),
+            None => None,
+        }
+    }
+}

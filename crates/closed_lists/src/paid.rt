@@ -1,0 +1,53 @@
+//! The price sum of a set, and by how much earlier a label has to be that has paid less.
+
+ghost use Rattle.std.specs.Prelude.{◌≡◌, ◌*◌, ◌+◌, ◌^◌, ◌<◌, ◌≤◌, ℕ, ℤ, pos, ◌+ℤ◌, ◌≤ℤ◌, All, IfNone, IfSome, cond, length, unsigned_abs};
+ghost use Rattle.customer_sets.specs.CustSet.{has};
+ghost use Rattle.fleet_model.specs.Margins.{IsMargin};
+ghost use Rattle.fleet_model.specs.Prices.{price_sum};
+
+use customer_sets::CustSet;
+
+/// The price where the customer is in the set, and else 0.
+fn price_in(set: CustSet, c: usize, price: i128) -> i128
+    requires { c < 128 }
+    ensures { result ≡ cond (has set c) price (pos 0) }
+{
+    if set.has(c) { price } else { 0 }
+}
+
+/// The price sum of a set. A customer without a price counts 0.
+pub(crate) fn price_sum(prices: &[i128], set: CustSet) -> i128
+    requires few { length prices.now ≤ 128 }
+    requires small { All (λ price. unsigned_abs price ≤ 2 ^ 84) prices.now }
+    ensures value { result ≡ price_sum prices.now set }
+    ensures small { unsigned_abs result ≤ 2 ^ 91 }
+{
+    if set.len() == 0 {
+        return 0;
+    }
+    let mut sum = 0;
+    for c in 0..prices.len() {
+        sum += price_in(set, c, prices[c]);
+    }
+    sum
+}
+
+/// The least number of time units that, times the weight, make up for what is paid less; `None` where none
+/// below 2^64 does.
+pub(crate) fn margin(weight: u64, own: i128, theirs: i128) -> Option<u64>
+    requires own { unsigned_abs own ≤ 2 ^ 92 }
+    requires theirs { unsigned_abs theirs ≤ 2 ^ 92 }
+    ensures some { IfSome result (IsMargin weight own theirs) }
+    ensures none { IfNone result ((other : ℕ) → theirs ≤ℤ (own +ℤ pos (other * weight)) →
+        2 ^ 64 ≤ other) }
+{
+    if theirs <= own {
+        return Some(0);
+    }
+    if weight == 0 {
+        return None;
+    }
+    let gap = (theirs - own).unsigned_abs();
+    let margin = gap.div_ceil(u128::from(weight));
+    u64::try_from(margin).ok()
+}

@@ -1,0 +1,166 @@
+//! A section under test.
+
+ghost use Rattle.std.specs.Prelude.{◌≡◌, ◌*◌, ◌+ℤ◌, ◌<◌, ◌^◌, ◌≤◌, IfOk, length, slice_index_or, unsigned_abs};
+ghost use Rattle.ev_model.specs.Network.{node_count, scaled_limit};
+ghost use Rattle.customer_sets.specs.Pairs.{allows_of};
+ghost use Rattle.fleet_model.specs.Places.{place_of};
+ghost use Rattle.fleet_model.specs.Prices.{price_of, price_sum};
+ghost use Rattle.instance_reader.specs.Instance.{customer_nodes};
+ghost use Rattle.piece_fn.specs.declared.label.Label.{Label};
+ghost use Rattle.closed_lists.specs.Links.{IsEnd, key_of};
+ghost use Rattle.closed_lists.specs.Sections.{IsLabelOf};
+ghost use Rattle.closed_lists.specs.Questions.{IsQuestion};
+
+use crate::links::{Links, linked};
+use customer_sets::Pairs;
+use instance_reader::Instance;
+use piece_fn::Label;
+use std::alloc::{AllocError, Global};
+use std::marker::Model;
+
+/// Labels under a weight, prices by customer number, and forbidden pairs, on an instance. Contracts see these.
+#[derive(Drop)]
+pub(crate) struct Section<'a> {
+    pub(crate) inst: &'a Instance,
+    pub(crate) pairs: &'a Pairs,
+    pub(crate) weight: u64,
+    pub(crate) prices: &'a [i128],
+    pub(crate) labels: &'a [Label],
+    pub(crate) links: Links,
+}
+
+impl<'a> Model for Section<'a> {
+    ghost use Rattle.closed_lists.specs.Inside.{IsSection, question};
+    ghost use Rattle.closed_lists.specs.Questions.{Question};
+
+    ghost Value = { Question };
+
+    ghost view = { question };
+
+    ghost invariant = { IsSection };
+}
+
+impl<'a> Section<'a> {
+    /// The section with its labels linked.
+    pub(crate) fn new(
+        alloc: Global,
+        inst: &'a Instance,
+        pairs: &'a Pairs,
+        weight: u64,
+        prices: &'a [i128],
+        labels: &'a [Label],
+    ) -> Result<Section<'a>, AllocError>
+        requires { IsQuestion (record {
+          network = inst.now;
+          pairs = pairs.now;
+          weight = weight;
+          prices = prices.now;
+          labels = labels.now;
+        }) }
+        ensures { IfOk result (λ s. s ≡ record {
+          network = inst.now;
+          pairs = pairs.now;
+          weight = weight;
+          prices = prices.now;
+          labels = labels.now;
+        }) }
+    {
+        let links = linked(alloc, inst, prices, labels)?;
+        Ok(Section {
+            inst,
+            pairs,
+            weight,
+            prices,
+            labels,
+            links,
+        })
+    }
+
+    /// The limit on the scaled time of a route.
+    pub(crate) fn limit(&self) -> u64
+        ensures value { result ≡ scaled_limit self.now.network }
+        ensures small { result ≤ 10 ^ 18 }
+    {
+        self.inst.denominator() * self.inst.limit()
+    }
+
+    /// The label with a number.
+    pub(crate) fn label(&self, number: usize) -> &Label
+        requires { number < length self.now.labels }
+        ensures value { (d : Label) → result.now ≡ slice_index_or self.now.labels number d }
+        ensures label { IsLabelOf self.now.network result.now }
+    {
+        let labels = self.labels;
+        &labels[number]
+    }
+
+    /// What the label with a number has paid: the price sum of its set.
+    pub(crate) fn paid(&self, number: usize) -> i128
+        requires { number < length self.now.labels }
+        ensures value { (d : Label) → result
+            ≡ price_sum self.now.prices (slice_index_or self.now.labels number d).set }
+        ensures small { unsigned_abs result ≤ 2 ^ 91 }
+    {
+        self.links.links[number].paid
+    }
+
+    /// One more than the number of the last label with a key, 0 where there is none.
+    pub(crate) fn end(&self, key: usize) -> usize
+        requires { key < node_count self.now.network * node_count self.now.network }
+        ensures { IsEnd (node_count self.now.network) self.now.labels key
+            (length self.now.labels) result }
+    {
+        self.links.ends[key]
+    }
+
+    /// One more than the number of the last label before one with the same key, 0 where there is none.
+    pub(crate) fn before(&self, number: usize) -> usize
+        requires { number < length self.now.labels }
+        ensures { (d : Label) → IsEnd (node_count self.now.network) self.now.labels
+            (key_of (node_count self.now.network) (slice_index_or self.now.labels number d))
+            number result }
+    {
+        self.links.links[number].before
+    }
+
+    /// The reserve.
+    pub(crate) fn reserve(&self) -> u64
+        ensures value { result ≡ self.now.network.reserve }
+        ensures small { result ≤ 10 ^ 9 }
+    {
+        self.inst.min_q()
+    }
+
+    /// The place of a node on a route: 0 for the depot, one more than a customer's number.
+    fn place_of(&self, node: usize) -> usize
+        requires { node < node_count self.now.network }
+        ensures value { result ≡ place_of self.now.network node }
+        ensures within { result ≤ self.now.pairs.customers }
+    {
+        match self.inst.customer_number(node) {
+            Some(number) => number + 1,
+            None => 0,
+        }
+    }
+
+    /// Whether a node may follow a last customer's node on a route.
+    pub(crate) fn allows(&self, last: usize, node: usize) -> bool
+        requires last { last < node_count self.now.network }
+        requires node { node < node_count self.now.network }
+        ensures { result ≡ allows_of self.now.pairs (place_of self.now.network last)
+            (place_of self.now.network node) }
+    {
+        self.pairs.allows(self.place_of(last), self.place_of(node))
+    }
+
+    /// What is paid when a customer is served besides.
+    pub(crate) fn paid_with(&self, paid: i128, customer: usize) -> i128
+        requires small { unsigned_abs paid ≤ 2 ^ 91 }
+        requires customer { customer < length (customer_nodes self.now.network) }
+        ensures value { result ≡ price_of self.now.prices customer +ℤ paid }
+        ensures small { unsigned_abs result ≤ 2 ^ 92 }
+    {
+        let prices = self.prices;
+        prices[customer] + paid
+    }
+}
