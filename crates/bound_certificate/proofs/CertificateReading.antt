@@ -1,9 +1,8 @@
 -- The reader of a certificate reads exactly its text.
-use Rattle.std.proofs.Common.{◌≡◌, ◌∙◌, ℕ, ◌+◌, ◌^◌, ◌<◌, ◌≤◌, Bool, true, false, List, [], ◌∷◌, ◌++◌, Option, None, decimal, codes, length, nat_eq, nat_le, refl, sym, ap, subst, append_assoc, append-nil, arith}
-use Rattle.std.proofs.lemmas.List.{length-append}
+use Rattle.std.proofs.Common.{◌≡◌, ℕ, ◌^◌, ◌<◌, ◌≤◌, List, [], ◌∷◌, ◌++◌, Option, decimal, codes, length, nat_le, refl, sym, subst, append_assoc, append-nil, arith}
 use Rattle.std.specs.List.{All}
 use Rattle.ev_model.specs.Network.{Network, scaled_limit}
-use Rattle.ev_text.specs.Readers.{Reader, answer, behind_word, number_where, so_many, then_reads}
+use Rattle.ev_text.specs.Readers.{answer, behind_word, number_where, so_many, then_reads}
 use Rattle.ev_text.specs.Texts.{StandsUnlessLonger, joined_texts}
 use Rattle.ev_text.proofs.ReadingLaws.{Reads, reads-as, reads-behind, reads-then}
 use Rattle.ev_text.proofs.RunLaws.{AreLooseRun, reads-so_many}
@@ -13,7 +12,6 @@ use Rattle.bound_certificate.specs.Reading.{body_at, bound_at, line_at, root_at,
 use Rattle.bound_certificate.specs.Trees.{Closes}
 use Rattle.bound_certificate.specs.Written.{Written, WrittenSection}
 use Rattle.bound_certificate.specs.declared.certificate.Root.{Root}
-use Rattle.bound_certificate.specs.declared.certificate.Root.TheVariants as root
 use Rattle.bound_certificate.specs.declared.certificate.TreeLine.{TreeLine}
 use Rattle.bound_certificate.specs.declared.certificate.TreeLine.TheVariants.{Split, Leaf}
 use Rattle.bound_certificate.proofs.ItemLines.{loose_length, own_length}

@@ -1,7 +1,7 @@
 -- The reader of a label reads exactly its line.
-use Rattle.std.proofs.Common.{◌≡◌, ◌≢◌, ◌∙◌, ℕ, ◌^◌, ◌<◌, ◌≤◌, Bool, true, List, [], ◌∷◌, ◌++◌, decimal, codes, nat_lt, refl, sym, ap, append_assoc, append-nil, arith}
+use Rattle.std.proofs.Common.{◌≡◌, ℕ, ◌^◌, ◌<◌, ◌≤◌, List, [], ◌∷◌, ◌++◌, decimal, codes, nat_lt, refl, append_assoc, append-nil, arith}
 use Rattle.ev_model.specs.Network.{Network, node_count, scaled_limit}
-use Rattle.ev_text.specs.Readers.{Reader, answer, behind_word, then_reads}
+use Rattle.ev_text.specs.Readers.{answer, behind_word, then_reads}
 use Rattle.ev_text.specs.Texts.{StandsUnlessLonger, marked_texts}
 use Rattle.ev_text.proofs.ListLaws.{cons_text}
 use Rattle.ev_text.proofs.MarkedLaws.{ended_text}

@@ -1,11 +1,11 @@
 -- The readers of sets, points and labels read exactly their texts.
-use Rattle.std.proofs.Common.{◌≡◌, ◌≢◌, ◌∙◌, ℕ, ◌^◌, ◌<◌, ◌≤◌, Bool, true, false, ◌&&◌, List, [], ◌∷◌, ◌++◌, Option, None, Some, decimal, codes, nat_lt, refl, sym, ap, subst, append_assoc, append-nil, arith}
+use Rattle.std.proofs.Common.{◌≡◌, ◌≢◌, ◌∙◌, ℕ, ◌^◌, ◌<◌, ◌≤◌, Bool, true, false, ◌&&◌, List, [], ◌∷◌, ◌++◌, Option, None, Some, decimal, codes, refl, sym, ap, subst, append_assoc, arith}
 use Rattle.std.specs.List.{All}
 use Rattle.std.specs.Char.{is_ascii_digit}
-use Rattle.ev_model.specs.Network.{Network, node_count, scaled_limit}
+use Rattle.ev_model.specs.Network.{Network, scaled_limit}
 use Rattle.ev_text.specs.Numerals.{BeginsWithoutDigit}
-use Rattle.ev_text.specs.Readers.{Reader, answer, behind_word, each_from, optional_at, then_reads}
-use Rattle.ev_text.specs.Texts.{AllFrom, StandsUnlessLonger, marked_texts, optional_text, parted_texts}
+use Rattle.ev_text.specs.Readers.{answer, each_from, optional_at, then_reads}
+use Rattle.ev_text.specs.Texts.{AllFrom, StandsUnlessLonger, marked_texts, optional_text}
 use Rattle.ev_text.proofs.ChoiceLaws.{BeforeOptional, BeginsOtherwise, reader-optional}
 use Rattle.ev_text.proofs.EachFromLaws.{reads-each}
 use Rattle.ev_text.proofs.MarkedLaws.{ended_text}
@@ -14,9 +14,8 @@ use Rattle.ev_text.proofs.Readings.{first_digit}
 use Rattle.ev_text.proofs.ReadingLaws.{Reads, reads-as, reads-behind, reads-reader, reads-then}
 use Rattle.ev_text.proofs.RunLaws.{ConsBehind, ConsFrom, ConsLoose, reads-cons}
 use Rattle.route_plan.specs.Limits.{greatest_number}
-use Rattle.bound_certificate.specs.CertificateTexts.{label_text, point_text, set_text}
-use Rattle.bound_certificate.specs.Reading.{customer_at, is_above, is_customer_node, is_place, label_at, node_where, point_at, points_at, set_at, set_behind}
-use Rattle.bound_certificate.specs.Written.{WrittenLabel}
+use Rattle.bound_certificate.specs.CertificateTexts.{point_text, set_text}
+use Rattle.bound_certificate.specs.Reading.{customer_at, is_above, is_customer_node, point_at, points_at, set_at, set_behind}
 use Rattle.bound_certificate.proofs.Parts.{Anything, Keeping, NoDigit, PointIs, PointLoose, UpTo, ranged, reads-made, reads-point}
 
 -- customers of a set, each above the one before

@@ -1,10 +1,9 @@
 -- The readers of parts of a certificate read exactly their texts.
-use Rattle.std.proofs.Common.{◌≡◌, ◌≢◌, ◌∙◌, ℕ, ◌^◌, ◌<◌, ◌≤◌, Bool, true, ◌&&◌, not, List, [], ◌∷◌, ◌++◌, Option, decimal, codes, nat_eq, nat_lt, refl, sym, ap, subst, append-nil, arith}
-use Rattle.ev_model.specs.Network.{Network, node_count, scaled_limit}
+use Rattle.std.proofs.Common.{◌≡◌, ℕ, ◌^◌, ◌<◌, ◌≤◌, Bool, true, ◌&&◌, not, List, [], ◌∷◌, ◌++◌, Option, decimal, codes, nat_eq, refl, sym, subst, append-nil, arith}
+use Rattle.ev_model.specs.Network.{Network, scaled_limit}
 use Rattle.ev_text.specs.Numerals.{BeginsWithoutDigit}
-use Rattle.ev_text.specs.Readers.{Reader, answer, behind_word, number_where, then_reads}
+use Rattle.ev_text.specs.Readers.{answer, behind_word, number_where, then_reads}
 use Rattle.ev_text.specs.Texts.{IsLonger, StandsUnlessLonger}
-use Rattle.ev_text.specs.declared.TextFault.{TextFault}
 use Rattle.ev_text.specs.declared.TextFault.TheVariants.{TooLarge}
 use Rattle.ev_text.proofs.RangedNumbers.{reads-where}
 use Rattle.ev_text.proofs.ReadingLaws.{Reads, reads-answer, reads-as, reads-behind, reads-then}

@@ -1,14 +1,13 @@
 -- The readers of shares, columns and the entries of a basis read exactly their texts.
-use Rattle.std.proofs.Common.{◌≡◌, ◌≢◌, ◌∙◌, ℕ, ◌^◌, ◌<◌, ◌≤◌, Bool, true, false, ◌&&◌, not, List, [], ◌∷◌, ◌++◌, decimal, codes, nat_le, nat_lt, refl, sym, ap, subst, append_assoc, append-nil, arith}
+use Rattle.std.proofs.Common.{◌≡◌, ◌≢◌, ◌∙◌, ℕ, ◌≤◌, Bool, true, false, ◌&&◌, not, List, [], ◌∷◌, ◌++◌, decimal, codes, nat_le, nat_lt, refl, sym, ap, subst, append-nil, arith}
 use Rattle.std.specs.Char.{is_ascii_digit}
 use Rattle.std.specs.List.{list_any}
 use Rattle.ev_model.specs.Network.{Network}
 use Rattle.ev_model.specs.declared.Stop.{Stop}
-use Rattle.ev_text.specs.Readers.{Reader, answer, behind_word, list_at, number_where, optional_at, then_reads}
+use Rattle.ev_text.specs.Readers.{answer, behind_word, list_at, number_where, optional_at, then_reads}
 use Rattle.ev_text.specs.Texts.{StandsUnlessLonger, optional_text, parted_texts}
 use Rattle.ev_text.proofs.ChoiceLaws.{BeforeOptional, BeginsOtherwise, reader-optional}
 use Rattle.ev_text.proofs.ListLaws.{AreParted, reader-parted}
-use Rattle.ev_text.proofs.ReaderLaws.{IsReader}
 use Rattle.ev_text.proofs.ReadingLaws.{Reads, reads-as, reads-behind, reads-reader, reads-then}
 use Rattle.ev_text.proofs.Readings.{first_digit}
 use Rattle.route_plan.specs.Limits.{greatest_number}

@@ -1,9 +1,9 @@
 -- The reader of the root reads exactly its lines.
-use Rattle.std.proofs.Common.{◌≡◌, ◌≢◌, ◌∙◌, ℕ, ◌+◌, ◌^◌, ◌<◌, ◌≤◌, Bool, true, false, List, [], ◌∷◌, ◌++◌, decimal, codes, length, nat_le, refl, sym, ap, subst, append_assoc, append-nil, arith}
+use Rattle.std.proofs.Common.{◌≡◌, ◌≢◌, ◌∙◌, ℕ, ◌≤◌, Bool, true, false, List, [], ◌∷◌, ◌++◌, decimal, codes, length, nat_le, refl, sym, subst, append_assoc, append-nil, arith}
 use Rattle.std.proofs.lemmas.List.{append_cancel_left}
 use Rattle.std.specs.List.{All}
 use Rattle.ev_model.specs.Network.{Network}
-use Rattle.ev_text.specs.Readers.{Reader, answer, behind_word, choice_at, so_many, then_reads}
+use Rattle.ev_text.specs.Readers.{answer, behind_word, choice_at, so_many, then_reads}
 use Rattle.ev_text.specs.Scans.{whole_at}
 use Rattle.ev_text.specs.Texts.{StandsUnlessLonger, joined_texts, optional_text}
 use Rattle.ev_text.proofs.ChoiceLaws.{BeforeChoice, reader-choice}

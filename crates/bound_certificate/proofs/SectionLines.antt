@@ -1,12 +1,11 @@
 -- The reader of a section reads exactly its lines.
-use Rattle.std.proofs.Common.{◌≡◌, ◌∙◌, ℕ, ◌^◌, ◌<◌, ◌≤◌, ℤ, pos, List, [], ◌∷◌, ◌++◌, Option, None, Some, decimal, codes, length, refl, sym, ap, append_assoc, append-nil, arith, unsigned_abs}
+use Rattle.std.proofs.Common.{◌≡◌, ℕ, ◌^◌, ◌<◌, ◌≤◌, ℤ, pos, List, [], ◌∷◌, ◌++◌, Option, None, Some, decimal, codes, length, refl, append_assoc, append-nil, arith, unsigned_abs}
 use Rattle.std.specs.Fmt.{signed_decimal}
 use Rattle.std.specs.List.{All}
 use Rattle.ev_model.specs.Network.{Network, scaled_limit}
 use Rattle.ev_text.specs.Readers.{Reader, answer, behind_word, many_from, signed_at, so_many, then_reads}
 use Rattle.ev_text.specs.Scans.{whole_at}
-use Rattle.ev_text.specs.Texts.{AllFrom, IsLonger, StandsUnlessLonger, joined_texts}
-use Rattle.ev_text.specs.declared.TextFault.TheVariants.{TooLarge}
+use Rattle.ev_text.specs.Texts.{AllFrom, StandsUnlessLonger, joined_texts}
 use Rattle.ev_text.proofs.ReaderLaws.{reader-number}
 use Rattle.ev_text.proofs.ReadingLaws.{Reads, reads-as, reads-behind, reads-reader, reads-then}
 use Rattle.ev_text.proofs.RunLaws.{AreLooseRun, AreRun, reads-many, reads-so_many}

@@ -1,10 +1,8 @@
 -- The reader of the lines of a tree reads exactly the lines of one tree.
-use Rattle.std.proofs.Common.{◌≡◌, ◌≢◌, ◌∙◌, inl, inr, ℕ, zero, suc, ◌+◌, ◌-◌, ◌^◌, ◌<◌, ◌≤◌, Bool, true, false, ◌&&◌, not, List, [], ◌∷◌, ◌++◌, decimal, codes, length, length-append, length-drop, nat_eq, nat_lt, Result, Ok, Err, refl, sym, ap, subst, append_assoc, append-nil, arith}
-use Rattle.std.specs.List.{All}
-use Rattle.std.proofs.lemmas.List.Elements.{All-cons, All-head, All-nil, All-tail}
+use Rattle.std.proofs.Common.{◌≡◌, ℕ, Bool, true, false, ◌&&◌, not, List, [], ◌∷◌, ◌++◌, decimal, codes, nat_eq, nat_lt, refl, ap, subst, arith}
 use Rattle.ev_model.specs.Network.{Network}
-use Rattle.ev_text.specs.Readers.{Reader, answer, behind_word, choice_at, number_where, then_reads}
-use Rattle.ev_text.specs.Texts.{StandsUnlessLonger, joined_texts, optional_text}
+use Rattle.ev_text.specs.Readers.{answer, behind_word, choice_at, number_where, then_reads}
+use Rattle.ev_text.specs.Texts.{StandsUnlessLonger, optional_text}
 use Rattle.ev_text.proofs.ChoiceLaws.{BeforeChoice, other_word, reader-choice}
 use Rattle.ev_text.proofs.ReadingLaws.{Reads, reads-as, reads-behind, reads-reader, reads-then}
 use Rattle.route_plan.specs.Limits.{greatest_number}

@@ -44,8 +44,8 @@ pub trait Stream {
 
 /// Named files, of which one may be open to be read and one to be written.
 pub trait Storage: Stream {
-    // The files, what is left to read of the one that is open, and the name of the one that is written,
-    // where they are told.
+    // The files, what is left to read of the one that is open, and the name of the one that is
+    // written, where they are told.
     ghost told: { Self → Option Told };
 
     /// Opens a file to be read from its beginning. A name that isn't there has no bytes, or the call
@@ -66,7 +66,8 @@ pub trait Storage: Stream {
     /// Makes a file that is empty, to be written. Nothing is known of its bytes where the call fails.
     fn create(&mut self, name: &str) -> Result<(), CallFailed>
         ensures creates { OnOk result (Creates name.now (told self.new)) }
-        ensures others { KeepsOthers name.now (files_of (told self.old)) (files_of (told self.new)) }
+        ensures others { KeepsOthers name.now
+            (files_of (told self.old)) (files_of (told self.new)) }
         ensures counts { IsCounted result (Self.failed self.old) (Self.failed self.new) };
 
     ghost writes: { (a b : Self) (piece : List ℕ) → Self.takes a piece b →

@@ -1,5 +1,5 @@
 -- The answers of `make` on the instance that was made.
-use Rattle.std.proofs.Common.{◌≡◌, ◌≢◌, ◌∙◌, ◌↔◌, ℕ, zero, suc, ◌+◌, ◌<◌, ◌≤◌, List, [], ◌∷◌, ◌++◌, Option, None, Some, MatchOption, Result, Ok, Err, IfOk, ap, arith, refl, subst, sym}
+use Rattle.std.proofs.Common.{◌≡◌, ◌≢◌, ◌∙◌, ℕ, zero, suc, ◌+◌, ◌<◌, ◌≤◌, List, [], ◌∷◌, ◌++◌, Option, None, Some, MatchOption, Result, Ok, Err, IfOk, ap, arith, refl, subst, sym}
 use Rattle.std.proofs.lemmas.List.Elements.{All-cons, All-nil}
 use Rattle.std.specs.List.{All, range_with_len}
 use Rattle.command_line.specs.Words.{MakeJob}
@@ -7,7 +7,6 @@ use Rattle.ev_model.specs.Fastest.{HasNoPlan, IsFastest}
 use Rattle.ev_model.specs.Network.{Network, node_count}
 use Rattle.ev_model.specs.Route.{IsRoute, Moves}
 use Rattle.ev_model.specs.Time.{time_of}
-use Rattle.ev_model.specs.declared.Stop.{Stop}
 use Rattle.evroute.proofs.Task.{match_none, match_some}
 use Rattle.evroute.specs.MakeAnswer.{MakeAnswers, MakesNetwork, route_of_all}
 use Rattle.evroute.specs.declared.answer.Answer.{Answer}

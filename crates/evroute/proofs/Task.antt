@@ -1,6 +1,5 @@
 -- The steps of a job, put together.
-use Rattle.std.proofs.Common.{◌≡◌, ◌↔◌, ℕ, ◌<◌, ◌≤◌, List, length, Option, None, Some, Result, Ok, Err, IfOk, inl, inr, refl, subst, sym}
-use Rattle.std.proofs.lemmas.Bool.{cases_lt}
+use Rattle.std.proofs.Common.{◌≡◌, ℕ, ◌≤◌, List, length, Option, None, Some, Result, Ok, Err, IfOk, refl, subst, sym}
 use Rattle.std.specs.Option.{MatchOption}
 use Rattle.command_line.specs.declared.Options.{Options}
 use Rattle.ev_model.specs.Fastest.{HasNoPlan, IsFastest}

@@ -1,5 +1,5 @@
 -- What `make` writes and puts: functions of the numbers of its words.
-use Rattle.std.specs.Prelude.{◌≡◌, ℕ, ◌<◌, ◌≤◌, List, [], ◌∷◌, ◌++◌, None, Some}
+use Rattle.std.specs.Prelude.{◌≡◌, ℕ, List, [], ◌∷◌, ◌++◌, None, Some}
 use Rattle.std.specs.List.{range_with_len}
 use Rattle.command_line.specs.Words.{MakeJob}
 use Rattle.ev_model.specs.Fastest.{HasNoPlan, IsFastest}

@@ -1,4 +1,3 @@
-use Rattle.std.proofs.Common.{◌∙◌, ◌<◌, Err, ap, subst, sym}
 use Rattle.evroute.proofs.Task.{match_none, match_some, puts_infeasible, puts_plan}
 use Rattle.ev_model.specs.Fastest.{HasNoPlan, IsFastest}
 use Rattle.evroute.proofs.fixed.charge_from.Goals as goal
