@@ -5,3 +5,4 @@ pub mod Refused
 pub mod Finding
 pub mod Making
 pub mod Performed
+pub mod ReadRules

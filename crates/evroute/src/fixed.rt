@@ -153,7 +153,12 @@ fn charge_from(alloc: Global, inst: &Instance, route: &[usize], start: u64) -> R
 }
 
 /// The text of a feasible plan.
-fn report_plan(alloc: Global, inst: &Instance, start: u64, plan: &RoutePlan) -> Result<Answer, Ended>
+fn report_plan(
+    alloc: Global,
+    inst: &Instance,
+    start: u64,
+    plan: &RoutePlan,
+) -> Result<Answer, Ended>
     requires start { start ≤ inst.now.capacity }
     requires feasible { IsFeasible inst.now 1 start plan.now.stops }
     ensures status { IfOk result (λ a. a.status ≡ Status.Done) }

@@ -6,24 +6,20 @@ ghost use Rattle.evroute.specs.LimitedNetwork.{HasNetwork};
 ghost use Rattle.instance_reader.specs.Faults.{IsFirstFault};
 
 use crate::answer::Ended;
-use charge_curve::CurveFault;
 use instance_reader::{Instance, ReadFault, read_instance};
 use plan_writer::Refusal;
 use std::alloc::Global;
 
-/// Why an instance isn't read. Want of memory is no rule, in a curve either.
+/// Why an instance isn't read. Want of memory is no rule.
 fn unread(fault: ReadFault) -> Ended
-    ensures rule { IsRuleOrMemory result }
+    ensures rule { (bytes : List ℕ) → (fault ≢ ReadFault.Memory → IsFirstFault bytes fault)
+        → IsRuleOrMemory result }
     ensures ended { (limit : Option ℕ) (bytes : List ℕ)
         → (fault ≢ ReadFault.Memory → IsFirstFault bytes fault)
         → IsNetworkEnded limit bytes result }
 {
     match fault {
         ReadFault::Memory => Ended::Memory,
-        ReadFault::BadCurve {
-            fault: CurveFault::Memory,
-            ..
-        } => Ended::Memory,
         _ => Ended::Refused(Refusal::Instance(fault)),
     }
 }

@@ -19,4 +19,6 @@ pub use method::solve;
 pub use prices::Lp;
 
 #[cfg(test)]
+mod enumeration;
+#[cfg(test)]
 mod tests;
