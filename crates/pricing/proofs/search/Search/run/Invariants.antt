@@ -1,0 +1,5 @@
+use Rattle.pricing.specs.Tree.{IsSearch}
+use Rattle.pricing.proofs.search.Search.run.Given as goal
+
+abbrev pub invariant-loop : goal.invariant-loop
+invariant-loop l = IsSearch l.terms l.self
