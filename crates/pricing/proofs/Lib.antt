@@ -6,3 +6,4 @@ mod Tracing
 mod Starting
 mod Searching
 mod Mending
+mod Ending

@@ -1,18 +1,21 @@
 -- The listed labels as a list of their own, and what its faults tell.
 use Rattle.std.proofs.Common.{◌≡◌, ◌∙◌, ℕ, zero, suc, ◌*◌, ◌<◌, Bool, true, pos, ◌<ℤ◌, refl, sym, ap, subst, List, ℤ, [], ◌∷◌, ◌++◌, length, map, arith, inl, inr, Option, Some}
 use Rattle.std.specs.Prelude.{slice_get}
+use Rattle.std.specs.List.{Contains}
 use Rattle.std.proofs.lemmas.Option.{none-some, same_Some, slice_get_within}
 use Rattle.ev_model.specs.Network.{node_count}
-use Rattle.fleet_model.specs.ClosedListRules.{at_home, at_step, EarnsAtHome, IsFault}
-use Rattle.fleet_model.specs.Labels.{Label as PaidLabel, state_at}
+use Rattle.fleet_model.specs.ClosedListRules.{at_home, at_step, EarnsAtHome, IsFault, ReachesUncovered}
+use Rattle.fleet_model.specs.Coverage.{IsCovered}
+use Rattle.fleet_model.specs.Labels.{Label as PaidLabel, State, state_at}
 use Rattle.fleet_model.specs.Places.{place_of}
 use Rattle.fleet_model.specs.Section.{Section}
-use Rattle.fleet_model.specs.Steps.{time_at}
+use Rattle.fleet_model.specs.Steps.{at_customer, at_station, time_at}
 use Rattle.index_links.specs.Queue.{HasPair}
 use Rattle.label_pool.proofs.Elements.{appended_cases}
 use Rattle.piece_fn.specs.declared.label.Label.{Label}
 use Rattle.closed_lists.specs.Questions.{Question, section}
 use Rattle.closed_lists.specs.Sections.{paid_label, section_of}
+use Rattle.closed_lists.specs.Tellings.{IsUncovered}
 use Rattle.pricing.specs.Tree.{AreCopies, AreCopiesAt}
 use Rattle.pricing.specs.declared.found.Found.{Found}
 
@@ -82,3 +85,32 @@ pub held_within : (keys : List (Option ℕ)) (key i : ℕ) → HasPair keys key 
 held_within [] key i held = absurd (none-some key held)
 held_within (k ∷ ks) key zero held = omega arith
 held_within (k ∷ ks) key (suc i) held = omega (arith, held_within ks key i held)
+
+-- no state is covered by no label
+no_member : (x : PaidLabel) → Contains [] x → ⊥
+no_member x member = absurd (omega (arith, member.1))
+
+never_covered : (s : Section) (b : State) → s.labels ≡ [] → IsCovered s b → ⊥
+never_covered s b none covered = absurd (no_member covered.0 (subst (λ (ls : List PaidLabel). Contains ls covered.0) none covered.1))
+
+-- a step that leads to a state that a list does not cover leads to one that no label covers
+pub still_uncovered : (q : Question) (labels : List Label) (found : List Found) (numbers : List ℕ) (copies : AreCopies found numbers labels) (n x number : ℕ) (f : Found) → q.labels ≡ [] → IsFault q.network (section_of q.pairs q.weight q.prices labels) (at_step n x)
+    → slice_get numbers n ≡ Some number → slice_get found number ≡ Some f → IsUncovered q f.label x
+still_uncovered q labels found numbers copies n x number f none fault at here =
+    let there = told_label q.prices labels n fault.0 fault.1 in
+    let copied = copies.same n number there.0 at there.1 in
+    let same : copied.0 ≡ f = same_Some copied.0 f (sym copied.1 ∙ here) in
+    let label : paid_label q.prices f.label ≡ fault.0 = ap (λ (k : Found). paid_label q.prices k.label) (sym same) ∙ ap (paid_label q.prices) copied.2 ∙ there.2 in
+    let no_labels : (section q).labels ≡ [] = ap (map (paid_label q.prices)) none in
+    let step : ReachesUncovered q.network (section q) fault.0 x = (
+      fault.2.0,
+      fault.2.1,
+      elim (fault.2.2) [
+        | inl customer ↦ inl (
+          record { step = customer.0.step; customer = customer.0.customer; new = customer.0.new; allowed = customer.0.allowed; in_time = customer.0.in_time },
+          never_covered (section q) (at_customer q.network (section q) (state_at fault.0 fault.2.0) x) no_labels,
+        )
+        | inr station ↦ inr (station.0, station.1, never_covered (section q) (at_station q.network (state_at fault.0 fault.2.0) x station.0) no_labels)
+      ],
+    ) in
+    subst (λ (l : PaidLabel). ReachesUncovered q.network (section q) l x) (sym label) step

@@ -1,5 +1,5 @@
 -- The labels that a search finds: each is the start or comes from one that was found before it.
-use Rattle.std.specs.Prelude.{◌≡◌, ℕ, ◌*◌, ◌<◌, ◌≤◌, ◌^◌, List, length, slice_get, Option, Some, IfSome, MatchOption, unsigned_abs}
+use Rattle.std.specs.Prelude.{◌≡◌, ℕ, ◌*◌, ◌<◌, ◌≤◌, ◌⊎◌, ◌^◌, List, length, slice_get, Option, Some, IfSome, MatchOption, unsigned_abs}
 use Rattle.std.specs.List.{All}
 use Rattle.ev_model.specs.Network.{IsNetwork, node_count}
 use Rattle.closed_lists.specs.Questions.{Question}
@@ -63,3 +63,15 @@ AreCopiesAt found numbers labels =
 pub record AreCopies (found : List Found) (numbers : List ℕ) (labels : List Label) : Type 0 where
   pub count : length labels ≡ length numbers
   pub same : AreCopiesAt found numbers labels
+
+-- a search has listed a further label, or is where it was
+abbrev pub IsFurther : Search → Search → Type 0
+IsFurther old now =
+    (length old.listed.items < length now.listed.items)
+    ⊎ ((now.listed.items ≡ old.listed.items) × (now.queue ≡ old.queue))
+
+-- a search has listed a further label, or has a route
+abbrev pub IsMended : Search → Search → Type 0
+IsMended old now =
+    (length old.listed.items < length now.listed.items)
+    ⊎ ((now.listed.items ≡ old.listed.items) × (0 < length now.routes.items))

@@ -21,8 +21,8 @@ use std::alloc::{AllocError, Global};
 /// the pairs, the weight and the prices, and in range. Which of several routes or lists is answered isn't promised.
 ///
 /// First a quick search compares labels whatever customers they have served; where it finds no route an exact one
-/// follows. Both take the label of least time next. The exact list is tested before it is answered. The only `Err`
-/// is want of memory, which also stands for more than 2^64 labels taken.
+/// follows. Both take the label of least time next. The exact list is tested before it is answered; what the test
+/// finds wanting is added, and the search goes on. The only `Err` is want of memory.
 pub fn price(
     alloc: Global,
     inst: &Instance,
@@ -76,7 +76,7 @@ fn exact(
 {
     let of = prices.of.as_slice();
     let mut search = Search::new(alloc, terms, Care::Exact)?;
-    for _ in 0..u64::MAX {
+    while search.routes.is_empty() {
         search.run(alloc, terms)?;
         if !search.routes.is_empty() {
             return Ok(better_of(terms, search));
@@ -87,7 +87,7 @@ fn exact(
             Err(fault) => search.mend(alloc, terms, &labels, fault)?,
         }
     }
-    Err(AllocError)
+    Ok(better_of(terms, search))
 }
 
 /// The routes that a search found.

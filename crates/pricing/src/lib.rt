@@ -13,3 +13,6 @@ mod steps;
 
 pub use answer::price;
 pub use priced::{Priced, PricedRoute, Prices};
+
+#[cfg(test)]
+mod tests;

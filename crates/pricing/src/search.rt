@@ -1,14 +1,14 @@
 //! The search for labels.
 
-ghost use Rattle.std.specs.Prelude.{All, ◌≡◌, ◌<◌, ◌≤◌, ◌+◌, IfOk, IfSome, OnOk, Some, ◌^◌, length, slice_get, unsigned_abs};
+ghost use Rattle.std.specs.Prelude.{[], All, ◌≡◌, ◌<◌, ◌≤◌, ◌+◌, IfOk, IfSome, OnOk, Some, ◌^◌, length, slice_get, unsigned_abs};
 ghost use Rattle.ev_model.specs.Network.{node_count};
-ghost use Rattle.fleet_model.specs.ClosedListRules.{EarnsAtHome};
+ghost use Rattle.fleet_model.specs.ClosedListRules.{EarnsAtHome, IsFault, at_home, at_step};
 ghost use Rattle.closed_lists.specs.Questions.{section};
 ghost use Rattle.closed_lists.specs.Sections.{IsLabelOf, paid_label, section_of};
+ghost use Rattle.closed_lists.specs.Tellings.{IsUncovered, TellsHome};
 ghost use Rattle.closed_lists.specs.Verdicts.{IsTold};
-ghost use Rattle.closed_lists.specs.Tellings.{TellsHome};
 ghost use Rattle.pricing.specs.Answers.{IsInRange};
-ghost use Rattle.pricing.specs.Tree.{AreCopies, AreSteps, HasOrigin, IsGrown, IsSearch, IsTree};
+ghost use Rattle.pricing.specs.Tree.{AreCopies, AreSteps, HasOrigin, IsFurther, IsGrown, IsMended, IsSearch, IsTree};
 ghost use Rattle.pricing.specs.declared.found.Found.{Found};
 
 use crate::coverage::{Asked, Care};
@@ -64,25 +64,24 @@ impl Search {
     /// waits or enough routes are found.
     pub(crate) fn run(&mut self, alloc: Global, terms: &Section<'_>) -> Result<(), AllocError>
         requires { IsSearch terms.now self.old }
-        ensures { OnOk result (IsSearch terms.now self.new) }
+        ensures search { OnOk result (IsSearch terms.now self.new) }
+        ensures listed { OnOk result (length self.old.listed.items ≤ length self.new.listed.items) }
     {
-        for _ in 0..u64::MAX {
-            if self.routes.len() >= MOST_ROUTES {
-                return Ok(());
-            }
+        while self.routes.len() < MOST_ROUTES {
             let Some(number) = self.queue.take_least() else {
                 return Ok(());
             };
             self.take(alloc, terms, number)?;
         }
-        Err(AllocError)
+        Ok(())
     }
 
     /// Lists a label and makes its steps, unless it is needless.
     fn take(&mut self, alloc: Global, terms: &Section<'_>, number: usize) -> Result<(), AllocError>
         requires search { IsSearch terms.now self.old }
         requires known { number < length self.old.tree.found.items }
-        ensures { OnOk result (IsSearch terms.now self.new) }
+        ensures search { OnOk result (IsSearch terms.now self.new) }
+        ensures listed { OnOk result (IsFurther self.old self.new) }
     {
         if self.is_needless(terms, number) {
             return Ok(());
@@ -118,6 +117,7 @@ impl Search {
         requires known { number < length self.old.tree.found.items }
         ensures search { OnOk result (IsSearch terms.now self.new) }
         ensures grown { OnOk result (IsGrown self.old.tree.found.items self.new.tree.found.items) }
+        ensures listed { OnOk result (length self.old.listed.items < length self.new.listed.items) }
     {
         self.listed.push(number)?;
         self.look_home(alloc, terms, number)?;
@@ -138,6 +138,7 @@ impl Search {
         requires known { number < length self.old.tree.found.items }
         ensures search { OnOk result (IsSearch terms.now self.new) }
         ensures same { OnOk result (self.new.tree.found.items ≡ self.old.tree.found.items) }
+        ensures listed { OnOk result (self.new.listed.items ≡ self.old.listed.items) }
     {
         if !earns(terms, &self.tree.found[number].label)? {
             return Ok(());
@@ -158,6 +159,8 @@ impl Search {
             EarnsAtHome terms.now.network (section terms.now) (paid_label terms.now.prices f.label) }
         ensures search { OnOk result (IsSearch terms.now self.new) }
         ensures same { OnOk result (self.new.tree.found.items ≡ self.old.tree.found.items) }
+        ensures listed { OnOk result (self.new.listed.items ≡ self.old.listed.items) }
+        ensures some { OnOk result (0 < length self.new.routes.items) }
     {
         let route = route_of(alloc, terms, &self.tree, number)?;
         self.routes.push(route)?;
@@ -177,6 +180,7 @@ impl Search {
         requires node { node < node_count terms.now.network }
         ensures search { OnOk result (IsSearch terms.now self.new) }
         ensures grown { OnOk result (IsGrown self.old.tree.found.items self.new.tree.found.items) }
+        ensures listed { OnOk result (self.new.listed.items ≡ self.old.listed.items) }
     {
         let label = &self.tree.found[from].label;
         let Some(target) = target_at(terms, label, node) else {
@@ -201,6 +205,7 @@ impl Search {
             target.now values.items }
         ensures search { OnOk result (IsSearch terms.now self.new) }
         ensures grown { OnOk result (IsGrown self.old.tree.found.items self.new.tree.found.items) }
+        ensures listed { OnOk result (self.new.listed.items ≡ self.old.listed.items) }
     {
         while let Some(value) = values.pop() {
             self.add(terms, from, target.label(node, value))?;
@@ -216,6 +221,7 @@ impl Search {
         requires origin { HasOrigin terms.now self.old.tree.found.items (Some from) label }
         ensures search { OnOk result (IsSearch terms.now self.new) }
         ensures grown { OnOk result (IsGrown self.old.tree.found.items self.new.tree.found.items) }
+        ensures listed { OnOk result (self.new.listed.items ≡ self.old.listed.items) }
     {
         let paid = price_sum(terms.prices(), label.set);
         let asked = Asked {
@@ -259,8 +265,8 @@ impl Search {
         Ok(labels)
     }
 
-    /// Answers a fault of the listed labels. A label that earns more than it takes gives a route; a step that leads to
-    /// states that are not covered is made, and its labels are listed, whatever other labels there are.
+    /// Answers a fault of the listed labels: keeps the route of a label that earns more than it takes, or lists further
+    /// labels, whatever other labels there are.
     pub(crate) fn mend(
         &mut self,
         alloc: Global,
@@ -269,23 +275,63 @@ impl Search {
         fault: ClosedFault,
     ) -> Result<(), AllocError>
         requires search { IsSearch terms.now self.old }
+        requires none { terms.now.labels ≡ [] }
         requires copies { AreCopies self.old.tree.found.items self.old.listed.items labels.now }
         requires told { IsTold terms.now.network
             (section_of terms.now.pairs terms.now.weight terms.now.prices labels.now) fault }
-        ensures { OnOk result (IsSearch terms.now self.new) }
+        ensures search { OnOk result (IsSearch terms.now self.new) }
+        ensures further { OnOk result (IsMended self.old self.new) }
     {
         match fault {
-            ClosedFault::Memory => Err(AllocError),
             ClosedFault::Start => self.settle(alloc, terms, 0),
-            ClosedFault::End { label } => {
-                let number = self.listed[label];
-                self.keep_route(alloc, terms, number)
-            }
-            ClosedFault::Step { label, node } => {
-                let number = self.listed[label];
-                self.force(alloc, terms, number, node)
-            }
+            ClosedFault::Step { label, node } => self.make_step(alloc, terms, labels, label, node),
+            ClosedFault::End { label } => self.keep_listed(alloc, terms, labels, label),
+            ClosedFault::Memory => Err(AllocError),
         }
+    }
+
+    /// Keeps the route of a listed label that earns more than it takes.
+    fn keep_listed(
+        &mut self,
+        alloc: Global,
+        terms: &Section<'_>,
+        labels: &[Label],
+        label: usize,
+    ) -> Result<(), AllocError>
+        requires search { IsSearch terms.now self.old }
+        requires copies { AreCopies self.old.tree.found.items self.old.listed.items labels.now }
+        requires earns { IsFault terms.now.network
+            (section_of terms.now.pairs terms.now.weight terms.now.prices labels.now)
+            (at_home label) }
+        ensures search { OnOk result (IsSearch terms.now self.new) }
+        ensures listed { OnOk result (self.new.listed.items ≡ self.old.listed.items) }
+        ensures some { OnOk result (0 < length self.new.routes.items) }
+    {
+        let number = self.listed[label];
+        self.keep_route(alloc, terms, number)
+    }
+
+    /// Lists the labels of a step from a listed label that leads to states that are not covered, whatever other
+    /// labels there are.
+    fn make_step(
+        &mut self,
+        alloc: Global,
+        terms: &Section<'_>,
+        labels: &[Label],
+        label: usize,
+        node: usize,
+    ) -> Result<(), AllocError>
+        requires search { IsSearch terms.now self.old }
+        requires none { terms.now.labels ≡ [] }
+        requires copies { AreCopies self.old.tree.found.items self.old.listed.items labels.now }
+        requires step { IsFault terms.now.network
+            (section_of terms.now.pairs terms.now.weight terms.now.prices labels.now)
+            (at_step label node) }
+        ensures search { OnOk result (IsSearch terms.now self.new) }
+        ensures listed { OnOk result (length self.old.listed.items < length self.new.listed.items) }
+    {
+        let number = self.listed[label];
+        self.force(alloc, terms, number, node)
     }
 
     /// Makes the step from a label to a node, and lists the labels that it leads to.
@@ -299,11 +345,14 @@ impl Search {
         requires search { IsSearch terms.now self.old }
         requires known { from < length self.old.tree.found.items }
         requires node { node < node_count terms.now.network }
+        requires leads { (f : Found) → slice_get self.old.tree.found.items from ≡ Some f →
+            IsUncovered terms.now f.label node }
         ensures search { OnOk result (IsSearch terms.now self.new) }
+        ensures listed { OnOk result (length self.old.listed.items < length self.new.listed.items) }
     {
         let label = &self.tree.found[from].label;
         let Some(target) = target_at(terms, label, node) else {
-            return Ok(());
+            unreachable!();
         };
         let values = values_at(alloc, terms, label, node)?;
         self.force_all(alloc, terms, from, node, &target, values)
@@ -323,7 +372,9 @@ impl Search {
         requires node { node < node_count terms.now.network }
         requires steps { AreSteps terms.now self.old.tree.found.items from node
             target.now values.items }
+        requires some { 0 < length values.items }
         ensures search { OnOk result (IsSearch terms.now self.new) }
+        ensures listed { OnOk result (length self.old.listed.items < length self.new.listed.items) }
     {
         while let Some(value) = values.pop() {
             self.force_one(alloc, terms, from, target.label(node, value))?;
@@ -345,6 +396,7 @@ impl Search {
         requires origin { HasOrigin terms.now self.old.tree.found.items (Some from) label }
         ensures search { OnOk result (IsSearch terms.now self.new) }
         ensures grown { OnOk result (IsGrown self.old.tree.found.items self.new.tree.found.items) }
+        ensures listed { OnOk result (length self.old.listed.items < length self.new.listed.items) }
     {
         let paid = price_sum(terms.prices(), label.set);
         let number = put(

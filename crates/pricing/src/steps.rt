@@ -1,9 +1,10 @@
 //! The steps from a label.
 
-ghost use Rattle.std.specs.Prelude.{◌≡◌, ◌<◌, ◌∷◌, [], ℕ, All, IfOk, IfSome, List};
+ghost use Rattle.std.specs.Prelude.{◌≡◌, ◌<◌, ◌∷◌, [], ℕ, All, IfNone, IfOk, IfSome, List, length};
 ghost use Rattle.ev_model.specs.Network.{node_count};
 ghost use Rattle.instance_reader.specs.Instance.{IsCurveAt};
 ghost use Rattle.closed_lists.specs.Sections.{IsLabelOf};
+ghost use Rattle.closed_lists.specs.Tellings.{IsUncovered};
 ghost use Rattle.pricing.specs.Steps.{IsLeft, label_of, Leads};
 
 use charge_curve::Scaled;
@@ -41,6 +42,7 @@ pub(crate) fn target_at(terms: &Section<'_>, from: &Label, node: usize) -> Optio
     requires node { node < node_count terms.now.network }
     ensures leads { IfSome result (λ t. (value : List (ℕ × ℕ)) →
         Leads terms.now from.now (label_of t node value)) }
+    ensures none { IfNone result (IsUncovered terms.now from.now node → ⊥) }
 {
     if node == from.node {
         return None;
@@ -54,7 +56,10 @@ pub(crate) fn target_at(terms: &Section<'_>, from: &Label, node: usize) -> Optio
     let Some(customer) = terms.customer_number(node) else {
         return None;
     };
-    if from.set.has(customer) || !terms.allows(from.last, node) {
+    if from.set.has(customer) {
+        return None;
+    }
+    if !terms.allows(from.last, node) {
         return None;
     }
     Some(Target {
@@ -76,6 +81,8 @@ pub(crate) fn values_at(
     requires node { node < node_count terms.now.network }
     ensures left { IfOk result (λ values.
         All (IsLeft terms.now.network from.now node) values.items) }
+    ensures some { IfOk result (λ values. IsUncovered terms.now from.now node →
+        0 < length values.items) }
 {
     let Some(arrived) = terms.arrival(from, node, 0, terms.reserve())? else {
         return Ok(Vec::new(alloc));
@@ -101,6 +108,7 @@ fn charged(
     requires curve { IsCurveAt terms.now.network node curve.now }
     ensures left { IfOk result (λ values.
         All (IsLeft terms.now.network from.now node) values.items) }
+    ensures some { IfOk result (λ values. 0 < length values.items) }
 {
     let inst = terms.instance();
     let plugging = inst.denominator() * inst.plug_at(node);

@@ -1,4 +1,4 @@
-use Rattle.std.proofs.Common.{List, ℕ, [], ◌∷◌, ◌++◌, sym, subst}
+use Rattle.std.proofs.Common.{◌∙◌, List, ℕ, [], ◌∷◌, ◌++◌, sym, subst}
 use Rattle.std.specs.List.{All}
 use Rattle.std.proofs.lemmas.Option.{slice_get_within}
 use Rattle.piece_fn.specs.declared.label.Label.{Label}
@@ -39,6 +39,7 @@ loop-value-preserved c =
     record {
       search = c.in_ok-add.ensures.search;
       grown = grown_on c.args.self.now.tree.found.items c.loop-value.self.tree.found.items c.add.new.self.tree.found.items c.loop-value.invariant.grown c.in_ok-add.ensures.grown;
+      listed = c.in_ok-add.ensures.listed ∙ c.loop-value.invariant.listed;
       steps = record {
         from = steps.from;
         here = c.in_ok-add.ensures.grown.stays c.args.from steps.from steps.here;

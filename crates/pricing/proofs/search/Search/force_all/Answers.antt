@@ -1,4 +1,5 @@
-use Rattle.std.proofs.Common.{List, ℕ, [], ◌∷◌, ◌++◌, sym, subst}
+use Rattle.std.proofs.Common.{◌∙◌, List, ℕ, [], ◌∷◌, ◌++◌, length, sym, subst, ap, arith}
+use Rattle.std.proofs.lemmas.List.{length-append}
 use Rattle.std.specs.List.{All}
 use Rattle.std.proofs.lemmas.Option.{slice_get_within}
 use Rattle.piece_fn.specs.declared.label.Label.{Label}
@@ -37,6 +38,7 @@ loop-value-preserved c =
     let all = subst (λ (vs : List (List (ℕ × ℕ))). All (IsLeft c.args.terms.now.network steps.from.label c.args.node) vs) c.in-Some.ensures.items steps.left in
     record {
       search = c.in_ok-force_one.ensures.search;
+      listed = (let count = ap length c.in-Some.ensures.items ∙ length-append c.pop.new.self.items (c.in-Some.value ∷ []) in let more = c.in_ok-force_one.ensures.listed in omega (arith, count, more, c.loop-value.invariant.listed));
       steps = record {
         from = steps.from;
         here = c.in_ok-force_one.ensures.grown.stays c.args.from steps.from steps.here;
