@@ -172,7 +172,8 @@ impl<'a> Section<'a> {
     pub fn customer_number(&self, node: usize) -> Option<usize>
         requires { node < node_count self.now.network }
         ensures value { IsCustomerNumber self.now.network node result }
-        ensures within { IfSome result (λ number. number < length (customer_nodes self.now.network)) }
+        ensures within { IfSome result (λ number.
+            number < length (customer_nodes self.now.network)) }
         ensures small { IfSome result (λ number. number < 128) }
     {
         self.inst.customer_number(node)
