@@ -1,52 +1,26 @@
 -- The reader of a certificate reads exactly its text.
-use Rattle.std.proofs.Common.{◌≡◌, ◌∙◌, ℕ, ◌+◌, ◌^◌, ◌<◌, ◌≤◌, Bool, true, false, List, [], ◌∷◌, ◌++◌, Option, None, decimal, codes, length, nat_eq, nat_le, refl, sym, ap, subst, append_assoc, append-nil, arith}
-use Rattle.std.proofs.lemmas.List.{length-append}
+use Rattle.std.proofs.Common.{◌≡◌, ℕ, ◌^◌, ◌<◌, ◌≤◌, List, [], ◌∷◌, ◌++◌, Option, decimal, codes, length, nat_le, refl, sym, subst, append_assoc, append-nil, arith}
 use Rattle.std.specs.List.{All}
 use Rattle.ev_model.specs.Network.{Network, scaled_limit}
-use Rattle.ev_text.specs.Readers.{Reader, answer, behind_word, number_where, so_many, then_reads}
-use Rattle.ev_text.specs.Texts.{StandsUnlessLonger, joined_texts}
+use Rattle.ev_text.specs.Readers.{answer, behind_word, number_where, so_many, then_reads}
+use Rattle.ev_text.specs.Texts.{AreLooseRun, StandsUnlessLonger, joined_texts}
 use Rattle.ev_text.proofs.ReadingLaws.{Reads, reads-as, reads-behind, reads-then}
-use Rattle.ev_text.proofs.RunLaws.{AreLooseRun, reads-so_many}
+use Rattle.ev_text.proofs.RunLaws.{reads-so_many}
 use Rattle.bound_certificate.specs.CertificateTexts.{body_text, bound_text, line_text, root_text, section_text, sections_text}
 use Rattle.bound_certificate.specs.Limits.{most_items}
 use Rattle.bound_certificate.specs.Reading.{body_at, bound_at, line_at, root_at, section_at, sections_at, tree_at}
-use Rattle.bound_certificate.specs.Trees.{Closes}
 use Rattle.bound_certificate.specs.Written.{Written, WrittenSection}
 use Rattle.bound_certificate.specs.declared.certificate.Root.{Root}
-use Rattle.bound_certificate.specs.declared.certificate.Root.TheVariants as root
 use Rattle.bound_certificate.specs.declared.certificate.TreeLine.{TreeLine}
 use Rattle.bound_certificate.specs.declared.certificate.TreeLine.TheVariants.{Split, Leaf}
+use Rattle.bound_certificate.specs.WrittenRanges.{BoundIs, Keeping, LineIs, LineLoose, RootIs, RootLoose, SectionIs, SectionLoose, SectionsAre, SectionsLoose, TreeIs, TreeLoose, UpTo, WrittenIs, WrittenLoose}
 use Rattle.bound_certificate.proofs.ItemLines.{loose_length, own_length}
-use Rattle.bound_certificate.proofs.Parts.{Anything, Keeping, NoDigit, UpTo, ranged, reads-made}
-use Rattle.bound_certificate.proofs.RootLines.{BoundIs, reads-bound}
-use Rattle.bound_certificate.proofs.RootReading.{RootIs, RootLoose, reads-root}
-use Rattle.bound_certificate.proofs.SectionLines.{SectionIs, SectionLoose, reads-section}
-use Rattle.bound_certificate.proofs.TreeParts.{LineIs, LineLoose, reads-tree_line}
+use Rattle.bound_certificate.proofs.Parts.{Anything, NoDigit, ranged, reads-made}
+use Rattle.bound_certificate.proofs.RootLines.{reads-bound}
+use Rattle.bound_certificate.proofs.RootReading.{reads-root}
+use Rattle.bound_certificate.proofs.SectionLines.{reads-section}
+use Rattle.bound_certificate.proofs.TreeParts.{reads-tree_line}
 use Rattle.bound_certificate.proofs.TreeReading.{reads-tree}
-
-abbrev pub SectionsAre : Network → List WrittenSection → Type 0
-SectionsAre g sections = Keeping most_items (λ n. nat_le 1 n) (length sections) × All (SectionIs g) sections
-
-abbrev pub SectionsLoose : Network → List WrittenSection → Type 0
-SectionsLoose g sections = (length sections ≤ most_items) × AreLooseRun (SectionLoose g) (length sections) sections
-
-abbrev pub TreeIs : Network → ℕ → List TreeLine → Type 0
-TreeIs g sections lines = All (LineIs g sections) lines × Closes 1 lines
-
-abbrev pub TreeLoose : List TreeLine → Type 0
-TreeLoose lines = All LineLoose lines × Closes 1 lines
-
-pub record WrittenIs (g : Network) (w : Written) : Type 0 where
-  pub bound : BoundIs w.bound
-  pub root_is : RootIs g w.root
-  pub sections : SectionsAre g w.sections
-  pub tree : TreeIs g (length w.sections) w.tree
-
-pub record WrittenLoose (g : Network) (w : Written) : Type 0 where
-  pub bound : BoundIs w.bound
-  pub root_is : RootLoose g w.root
-  pub sections : SectionsLoose g w.sections
-  pub tree : TreeLoose w.tree
 
 line_is_some : (line : TreeLine) → 1 ≤ length (line_text line)
 line_is_some (Split i j) = omega arith

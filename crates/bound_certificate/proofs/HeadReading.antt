@@ -1,8 +1,8 @@
 -- The reader of a certificate with its first lines reads exactly its text.
-use Rattle.std.proofs.Common.{◌≡◌, ◌∙◌, ◌↔◌, ℕ, ◌+◌, ◌^◌, ◌<◌, ◌≤◌, Bool, true, false, List, [], ◌∷◌, ◌++◌, decimal, codes, length, nat_eq, Result, Ok, Err, refl, sym, ap, subst, append_assoc, append-nil, arith, if◌then◌else◌}
+use Rattle.std.proofs.Common.{◌≡◌, ◌∙◌, ℕ, ◌^◌, ◌<◌, ◌≤◌, Bool, true, false, List, [], ◌∷◌, ◌++◌, decimal, codes, nat_eq, Result, Ok, Err, refl, sym, ap, subst, append_assoc, arith, if◌then◌else◌}
 use Rattle.std.proofs.lemmas.Bool.{eq-eqb, eqb-true}
 use Rattle.ev_model.specs.Network.{Network, scaled_limit}
-use Rattle.ev_text.specs.Readers.{Reader, behind_word, number_where, then_reads}
+use Rattle.ev_text.specs.Readers.{Reader, behind_word, then_reads}
 use Rattle.ev_text.specs.Scans.{and_then, whole_at}
 use Rattle.ev_text.specs.Texts.{IsNoEnd, IsTextOf, StandsUnlessLonger, fault_place}
 use Rattle.ev_text.specs.declared.TextFault.{TextFault}
@@ -13,9 +13,9 @@ use Rattle.ev_text.proofs.Results.{Err-ne-Ok}
 use Rattle.route_plan.specs.Limits.{greatest_number}
 use Rattle.bound_certificate.specs.CertificateTexts.{body_text, certificate_text, head_lines, is_first_version}
 use Rattle.bound_certificate.specs.Reading.{behind_head, body_at, certificate_at, node_where}
-use Rattle.bound_certificate.specs.Written.{Written}
-use Rattle.bound_certificate.proofs.CertificateReading.{WrittenIs, WrittenLoose, reads-body}
-use Rattle.bound_certificate.proofs.Parts.{Anything, Keeping, NoDigit, ranged}
+use Rattle.bound_certificate.specs.WrittenRanges.{WrittenIs, WrittenLoose}
+use Rattle.bound_certificate.proofs.CertificateReading.{reads-body}
+use Rattle.bound_certificate.proofs.Parts.{Anything, NoDigit, ranged}
 
 -- a number that has to be a given one
 module _ (own : ℕ) (small : own ≤ greatest_number) where

@@ -16,3 +16,4 @@ pub mod RootLines
 pub mod RootReading
 pub mod CertificateReading
 pub mod HeadReading
+pub mod CertificateLaws

@@ -1,13 +1,13 @@
 -- What a certificate that fits stands for.
-use Rattle.std.proofs.Common.{◌≡◌, ◌∙◌, ℕ, ◌+◌, ◌-◌, ◌<◌, ◌≤◌, ℤ, List, [], ◌∷◌, ◌++◌, length, map, refl, sym, ap, subst, append_assoc, append-nil, arith}
-use Rattle.std.specs.List.{All, Contains, range_with_len}
+use Rattle.std.proofs.Common.{◌≡◌, ◌∙◌, ℕ, ◌+◌, ◌-◌, ◌≤◌, ℤ, List, [], ◌∷◌, ◌++◌, length, map, sym, ap, subst, append_assoc, append-nil, arith}
+use Rattle.std.specs.List.{All, range_with_len}
 use Rattle.std.proofs.lemmas.List.{length-map}
 use Rattle.std.proofs.lemmas.List.Elements.{All-cons, All-contains, All-head, All-map, All-nil, All-tail, All-weaker}
 use Rattle.std.proofs.lemmas.List.FromFn.{length-range_with_len}
 use Rattle.charge_curve.specs.Points.{ArePoints, last_level, time_on}
 use Rattle.ev_model.specs.Network.{Network}
 use Rattle.fleet_model.specs.Labels.{IsLevel, Label as PricedLabel}
-use Rattle.fleet_model.specs.Section.{IsSectionOf, Section as PricedSection}
+use Rattle.fleet_model.specs.Section.{IsSectionOf}
 use Rattle.fleet_model.specs.Tree.{BranchTree, IsBranchTree, leaf, split}
 use Rattle.fleet_model.proofs.Numbers.{counted}
 use Rattle.piece_fn.specs.PieceFn.{first_level, level_times}
@@ -18,7 +18,7 @@ use Rattle.bound_certificate.specs.Trees.{lines_of}
 use Rattle.bound_certificate.specs.declared.certificate.Certificate.{Certificate}
 use Rattle.bound_certificate.specs.declared.certificate.Section.{Section}
 use Rattle.bound_certificate.specs.declared.certificate.TreeLine.{TreeLine}
-use Rattle.bound_certificate.specs.declared.certificate.TreeLine.TheVariants.{Split, Leaf}
+use Rattle.bound_certificate.specs.declared.certificate.TreeLine.TheVariants.{Split}
 
 last_is_small : (g : Network) (points : List (ℕ × ℕ)) → ArePoints points → All (PointFits g) points → last_level points ≤ g.capacity
 last_is_small g [] are fit = absurd are

@@ -1,5 +1,5 @@
 -- The lines of a section, written part by part.
-use Rattle.std.proofs.Common.{◌≡◌, ◌∙◌, ℕ, List, ◌++◌, length, map, refl, sym, ap, append_assoc}
+use Rattle.std.proofs.Common.{◌≡◌, ◌∙◌, ℕ, List, ◌++◌, length, map, sym, ap, append_assoc}
 use Rattle.std.proofs.lemmas.List.{length-map}
 use Rattle.ev_model.specs.Network.{Network}
 use Rattle.ev_text.specs.Texts.{joined_texts}

@@ -1,5 +1,5 @@
 -- The lines that close one tree are those of a tree in preorder.
-use Rattle.std.proofs.Common.{◌≡◌, ◌∙◌, ◌↔◌, ℕ, zero, suc, ◌+◌, ◌<◌, ◌≤◌, true, false, List, [], ◌∷◌, ◌++◌, length, drop, get_or, refl, sym, ap, subst, append_assoc, append-nil, add-one, drop-cons, length-drop, arith, IsTrue}
+use Rattle.std.proofs.Common.{◌≡◌, ◌∙◌, ◌↔◌, ℕ, zero, suc, ◌+◌, ◌<◌, ◌≤◌, false, List, [], ◌∷◌, ◌++◌, length, drop, get_or, refl, sym, ap, subst, append_assoc, append-nil, add-one, drop-cons, length-drop, arith, IsTrue}
 use Rattle.std.proofs.lemmas.Bool.{false≢true}
 use Rattle.fleet_model.specs.Tree.{BranchTree, leaf, split}
 use Rattle.bound_certificate.specs.Trees.{Closes, IsWholeTree, lines_of, open_behind}

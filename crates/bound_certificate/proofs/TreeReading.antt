@@ -1,10 +1,10 @@
 -- Lines are read until no tree is open.
-use Rattle.std.proofs.Common.{◌≡◌, ◌≢◌, ◌∙◌, inl, inr, ℕ, zero, suc, ◌+◌, ◌<◌, ◌≤◌, List, [], ◌∷◌, ◌++◌, length, length-append, length-drop, Result, Ok, Err, refl, sym, ap, subst, append_assoc, append-nil, arith}
+use Rattle.std.proofs.Common.{◌≡◌, ◌∙◌, inl, inr, ℕ, zero, suc, ◌≤◌, List, [], ◌∷◌, ◌++◌, length, length-append, length-drop, Result, Ok, Err, refl, sym, ap, subst, append_assoc, arith}
 use Rattle.std.specs.List.{All}
 use Rattle.std.proofs.lemmas.List.Elements.{All-cons, All-head, All-nil, All-tail}
-use Rattle.ev_text.specs.Readers.{Reader, answer, then_reads}
+use Rattle.ev_text.specs.Readers.{Reader}
 use Rattle.ev_text.specs.Scans.{and_then, rest_of}
-use Rattle.ev_text.specs.Texts.{Begins, IsNoEnd, IsTextOf, StandsUnlessLonger, fault_place, joined_texts}
+use Rattle.ev_text.specs.Texts.{Begins, IsTextOf, StandsUnlessLonger, fault_place, joined_texts}
 use Rattle.ev_text.specs.declared.TextFault.{TextFault}
 use Rattle.ev_text.specs.declared.TextFault.TheVariants.{End}
 use Rattle.ev_text.proofs.Grown.{Within, grown}

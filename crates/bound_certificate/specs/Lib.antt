@@ -5,3 +5,5 @@ pub mod Written
 pub mod CertificateTexts
 pub mod Meaning
 pub mod Reading
+pub mod WrittenRanges
+pub mod CertificateIn

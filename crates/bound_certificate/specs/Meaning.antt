@@ -1,5 +1,5 @@
 -- What a certificate stands for, in the definitions of lower bounds.
-use Rattle.std.specs.Prelude.{◌≡◌, ℕ, ℤ, List, map}
+use Rattle.std.specs.Prelude.{◌≡◌, ℤ, List, map}
 use Rattle.customer_sets.specs.Pairs.{allows_of}
 use Rattle.ev_model.specs.Network.{Network}
 use Rattle.ev_model.specs.Time.{time_of}

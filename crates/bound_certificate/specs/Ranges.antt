@@ -1,5 +1,5 @@
 -- The ranges of a certificate: which numbers may stand where, on a network.
-use Rattle.std.specs.Prelude.{◌≡◌, ◌≢◌, ℕ, ◌+◌, ◌<◌, ◌≤◌, ◌⊎◌, Bool, true, false, ℤ, List, [], ◌∷◌, Option, IfSome, length, nat_eq, unsigned_abs}
+use Rattle.std.specs.Prelude.{◌≡◌, ◌≢◌, ℕ, ◌<◌, ◌≤◌, ◌⊎◌, Bool, true, false, ℤ, List, [], ◌∷◌, IfSome, length, nat_eq, unsigned_abs}
 use Rattle.std.specs.List.{All, list_any}
 use Rattle.charge_curve.specs.Points.{ArePoints}
 use Rattle.customer_sets.specs.CustSet.{has}

@@ -1,5 +1,5 @@
 -- How the text of a certificate is read from left to right: the certificate as it is written, or the first fault.
-use Rattle.std.specs.Prelude.{ℕ, zero, suc, ◌-◌, ◌%◌, ℤ, Bool, true, false, ◌&&◌, ◌||◌, not, List, [], ◌∷◌, ◌++◌, Option, None, Some, Ok, Err, codes, length, nat_eq, nat_le, nat_lt}
+use Rattle.std.specs.Prelude.{ℕ, zero, suc, ◌-◌, ◌%◌, Bool, true, false, ◌&&◌, ◌||◌, not, List, [], ◌∷◌, ◌++◌, Option, None, Some, Err, codes, length, nat_eq, nat_le, nat_lt}
 use Rattle.std.specs.List.{list_any}
 use Rattle.ev_model.specs.Network.{Network, is_customer, node_count, scaled_limit}
 use Rattle.ev_text.specs.Readers.{Reader, answer, behind_word, choice_at, each_from, exactly_from, list_at, many_from, number_where, optional_at, signed_at, so_many, then_reads}

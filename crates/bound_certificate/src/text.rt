@@ -1,5 +1,9 @@
 //! The text of certificates.
 
+mod cert_text;
+mod laws;
 mod writing;
 
+pub use cert_text::CertText;
+pub use laws::{certificate_faults_are_first, texts_spell_certificates};
 pub use writing::push_certificate;

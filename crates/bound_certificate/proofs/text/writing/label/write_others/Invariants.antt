@@ -1,5 +1,5 @@
-use Rattle.std.proofs.Common.{◌≡◌, ◌++◌, codes, decimal, drop, map}
-use Rattle.ev_text.specs.Texts.{joined_texts, marked_texts}
+use Rattle.std.proofs.Common.{◌≡◌, ◌++◌, codes, decimal, drop}
+use Rattle.ev_text.specs.Texts.{marked_texts}
 use Rattle.bound_certificate.proofs.text.writing.label.write_others.Given as goal
 
 abbrev pub invariant-loop-node : goal.invariant-loop-node

@@ -1,5 +1,5 @@
-use Rattle.std.proofs.Common.{◌≡◌, ◌++◌, codes, decimal, drop, map}
-use Rattle.ev_text.specs.Texts.{joined_texts, marked_texts}
+use Rattle.std.proofs.Common.{◌≡◌, ◌++◌, codes, drop}
+use Rattle.ev_text.specs.Texts.{marked_texts}
 use Rattle.bound_certificate.specs.CertificateTexts.{point_text}
 use Rattle.bound_certificate.proofs.text.writing.label.write_points.Given as goal
 

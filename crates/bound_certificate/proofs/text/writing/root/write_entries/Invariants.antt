@@ -1,5 +1,5 @@
-use Rattle.std.proofs.Common.{◌≡◌, ◌++◌, codes, decimal, drop, map}
-use Rattle.ev_text.specs.Texts.{joined_texts, marked_texts}
+use Rattle.std.proofs.Common.{◌≡◌, ◌++◌, codes, drop, map}
+use Rattle.ev_text.specs.Texts.{marked_texts}
 use Rattle.bound_certificate.specs.CertificateTexts.{entry_text}
 use Rattle.bound_certificate.specs.Written.{written_entry}
 use Rattle.bound_certificate.proofs.text.writing.root.write_entries.Given as goal

@@ -1,6 +1,6 @@
 use Rattle.std.specs.Fmt.{signed_decimal}
-use Rattle.std.proofs.Common.{◌≡◌, ◌++◌, codes, decimal, drop, map}
-use Rattle.ev_text.specs.Texts.{joined_texts, marked_texts}
+use Rattle.std.proofs.Common.{◌≡◌, ◌++◌, codes, drop}
+use Rattle.ev_text.specs.Texts.{marked_texts}
 use Rattle.bound_certificate.proofs.text.writing.section.write_each_price.Given as goal
 
 abbrev pub invariant-loop-price : goal.invariant-loop-price

@@ -1,5 +1,5 @@
-use Rattle.std.proofs.Common.{◌≡◌, ◌++◌, codes, decimal, drop, map}
-use Rattle.ev_text.specs.Texts.{joined_texts, marked_texts}
+use Rattle.std.proofs.Common.{◌≡◌, ◌++◌, drop}
+use Rattle.ev_text.specs.Texts.{joined_texts}
 use Rattle.bound_certificate.specs.CertificateTexts.{pair_text}
 use Rattle.bound_certificate.proofs.text.writing.section.write_pairs.Given as goal
 

@@ -1,4 +1,4 @@
-use Rattle.std.proofs.Common.{◌≡◌, ◌∙◌, ◌++◌, ap, length, map, sym}
+use Rattle.std.proofs.Common.{◌≡◌, ◌∙◌, ◌++◌, ap, length, map}
 use Rattle.ev_text.specs.Texts.{joined_texts}
 use Rattle.bound_certificate.specs.CertificateTexts.{label_text, pair_text, prices_text}
 use Rattle.bound_certificate.specs.Written.{written_label}
