@@ -22,11 +22,11 @@ use Rattle.bound_certificate.proofs.SectionLines.{reads-section}
 use Rattle.bound_certificate.proofs.TreeParts.{reads-tree_line}
 use Rattle.bound_certificate.proofs.TreeReading.{reads-tree}
 
-line_is_some : (line : TreeLine) → 1 ≤ length (line_text line)
+pub line_is_some : (line : TreeLine) → 1 ≤ length (line_text line)
 line_is_some (Split i j) = omega arith
 line_is_some (Leaf n) = omega arith
 
-tree_read : (g : Network) (sections : ℕ) → Reads StandsUnlessLonger (tree_at (line_at g sections)) (joined_texts line_text) (TreeIs g sections) TreeLoose Anything
+pub tree_read : (g : Network) (sections : ℕ) → Reads StandsUnlessLonger (tree_at (line_at g sections)) (joined_texts line_text) (TreeIs g sections) TreeLoose Anything
 tree_read g sections = reads-tree (line_at g sections) line_text (LineIs g sections) LineLoose (reads-tree_line g sections) line_is_some (0, omega arith)
 
 module _ (g : Network) (small_capacity : g.capacity < 10 ^ 64) (small_limit : scaled_limit g < 10 ^ 64) where

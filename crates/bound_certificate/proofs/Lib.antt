@@ -17,3 +17,16 @@ pub mod RootReading
 pub mod CertificateReading
 pub mod HeadReading
 pub mod CertificateLaws
+pub mod CertificateLoops
+pub mod Shorter
+pub mod PlaceOrder
+pub mod SetReading
+pub mod PointReading
+pub mod HeadLines
+pub mod RowReading
+pub mod LabelReading
+pub mod PairReading
+pub mod EntryReading
+pub mod TreeLoops
+pub mod PartReading
+pub mod BodyReading

@@ -6,13 +6,15 @@ use Rattle.ev_text.specs.Scans.{IsPrefixOf, whole_at}
 use Rattle.ev_text.specs.Texts.{Begins, IsTextOf}
 use Rattle.ev_text.specs.declared.TextFault.{TextFault}
 use Rattle.ev_text.specs.declared.TextFault.TheVariants.{NotWhole, TooLarge, Word, End}
+use Rattle.route_plan.specs.declared.text.plan_text.PlanText.{PlanText}
+use Rattle.route_plan.specs.declared.text.plan_text.PlanText.TheVariants as plan
 use Rattle.bound_certificate.specs.CertificateTexts.{certificate_text, is_first_version}
 use Rattle.bound_certificate.specs.Limits.{most_bytes}
 use Rattle.bound_certificate.specs.Reading.{certificate_at}
 use Rattle.bound_certificate.specs.Written.{Written}
 use Rattle.bound_certificate.specs.WrittenRanges.{WrittenIs, WrittenLoose}
 use Rattle.bound_certificate.specs.declared.text.cert_text.CertText.{CertText}
-use Rattle.bound_certificate.specs.declared.text.cert_text.CertText.TheVariants.{Range, Text, TooLong, Version}
+use Rattle.bound_certificate.specs.declared.text.cert_text.CertText.TheVariants.{Memory, Range, Text, TooLong, Version}
 
 -- the version of an instance's certificates
 abbrev pub own_version : Network → ℕ
@@ -45,6 +47,12 @@ as_refusal (NotWhole at) = Text at
 as_refusal (TooLarge at) = Range at
 as_refusal (Word at) = Text at
 as_refusal (End at) = Text at
+
+-- the same of the fault of a plan
+abbrev pub of_plan : PlanText → CertText
+of_plan (plan.Bad fault) = as_refusal fault
+of_plan (plan.TooLong len) = TooLong len
+of_plan plan.Memory = Memory
 
 abbrev pub or_refused : {A : Type 0} → Result A TextFault → Result A CertText
 or_refused (Ok value) = Ok value

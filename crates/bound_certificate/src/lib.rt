@@ -9,7 +9,8 @@ mod text;
 pub use certificate::{BasisEntry, Certificate, Root, Section, Share, TreeLine};
 pub use laws::fitting_certificates_have_sections_and_a_tree;
 pub use text::{
-    CertText, certificate_faults_are_first, push_certificate, texts_spell_certificates,
+    CertText, certificate_faults_are_first, push_certificate, read_certificate,
+    texts_spell_certificates,
 };
 
 #[cfg(test)]

@@ -2,8 +2,13 @@
 
 mod cert_text;
 mod laws;
+mod reading;
 mod writing;
 
 pub use cert_text::CertText;
 pub use laws::{certificate_faults_are_first, texts_spell_certificates};
+pub use reading::read_certificate;
 pub use writing::push_certificate;
+
+#[cfg(test)]
+mod tests;
