@@ -33,7 +33,7 @@ module _ (g : Network) (columns : ℕ) where
   any_column n [] = refl
   any_column n (e ∷ es) = λ i. same_column n e i || any_column n es i
 
-  same_number : (c d : ℕ) → c < customer_count g → d < customer_count g → nat_eq (customer_node g c) (customer_node g d) ≡ nat_eq c d
+  pub same_number : (c d : ℕ) → c < customer_count g → d < customer_count g → nat_eq (customer_node g c) (customer_node g d) ≡ nat_eq c d
   same_number c d first second = by (nat_eq c d) refl
     where
       by : (b : Bool) → nat_eq c d ≡ b → nat_eq (customer_node g c) (customer_node g d) ≡ nat_eq c d

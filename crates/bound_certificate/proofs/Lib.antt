@@ -30,3 +30,6 @@ pub mod EntryReading
 pub mod TreeLoops
 pub mod PartReading
 pub mod BodyReading
+pub mod WrittenFits
+pub mod WrittenLabels
+pub mod WrittenWhole

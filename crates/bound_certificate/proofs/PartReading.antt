@@ -64,18 +64,18 @@ no_basis g s t u v count n columns refusal whole feed many same is =
 
 -- the entries of a basis differ
 
-not_first : (b c : Bool) → (b || c) ≡ false → (b ≡ false) × (c ≡ false)
+pub not_first : (b c : Bool) → (b || c) ≡ false → (b ≡ false) × (c ≡ false)
 not_first true c is = absurd (false≢true (sym is))
 not_first false c is = (refl, is)
 
-either : (b c : Bool) → b ≡ false → c ≡ false → (b || c) ≡ false
+pub either : (b c : Bool) → b ≡ false → c ≡ false → (b || c) ≡ false
 either b c first second = ap (λ x. x || c) first ∙ second
 
 not_true : (b : Bool) → not b ≡ true → b ≡ false
 not_true true is = absurd (false≢true is)
 not_true false is = refl
 
-swapped_numbers : (m n : ℕ) → nat_eq m n ≡ false → nat_eq n m ≡ false
+pub swapped_numbers : (m n : ℕ) → nat_eq m n ≡ false → nat_eq n m ≡ false
 swapped_numbers m n is = ne_eqb n m (λ same. false≢true (sym is ∙ eq-eqb m n (sym same)))
 
 swapped : (e f : BasisEntry) → same_entry e f ≡ false → same_entry f e ≡ false

@@ -6,14 +6,23 @@ ghost use Rattle.ev_text.specs.Texts.{IsLonger};
 ghost use Rattle.bound_certificate.specs.CertificateIn.{BeginsLoosely, BeginsOtherVersion, SpellsWritten, certificate_in};
 ghost use Rattle.bound_certificate.specs.CertificateTexts.{certificate_text};
 ghost use Rattle.bound_certificate.specs.Limits.{most_bytes};
-ghost use Rattle.bound_certificate.specs.Written.{Written};
+ghost use Rattle.bound_certificate.specs.Ranges.{Fits, customer_count};
+ghost use Rattle.bound_certificate.specs.Written.{Written, written};
 ghost use Rattle.bound_certificate.specs.WrittenRanges.{WrittenIs};
+ghost use Rattle.bound_certificate.specs.declared.certificate.Certificate.{Certificate};
 ghost use Rattle.bound_certificate.specs.declared.text.cert_text.CertText.TheVariants.{Range, Text, TooLong, Version};
 
 /// Bytes are read as a certificate exactly where they spell it: each certificate in the ranges of a network has one text.
 pub fn texts_spell_certificates()
     ensures { (g : Network) → IsNetwork g → (bytes : List ℕ) (w : Written) →
         (certificate_in g bytes ≡ Ok w) ↔ SpellsWritten g bytes w }
+{}
+
+/// What `push_certificate` writes of a certificate that fits is read as that certificate, where it is not too long.
+pub fn written_certificates_are_read()
+    ensures { (g : Network) → IsNetwork g → customer_count g ≤ 128 → (c : Certificate) →
+        Fits g c → length (certificate_text g (written g c)) ≤ most_bytes →
+        certificate_in g (certificate_text g (written g c)) ≡ Ok (written g c) }
 {}
 
 /// What the first fault of a text tells. What stands before its place begins a text in which each number is in its range

@@ -71,7 +71,8 @@ fn take_split(inst: &Instance, scan: &mut Scan<'_>, sections: usize) -> Result<T
     ensures ok { IfOk result (λ line. split_or_leaf inst.now sections true scan.old
         ≡ Ok (written_line inst.now line, scan.new)) }
     ensures fits { IfOk result (LineFits (customer_count inst.now) sections) }
-    ensures fault { IfErr result (λ fault. split_or_leaf inst.now sections true scan.old ≡ Err fault) }
+    ensures fault { IfErr result (λ fault.
+        split_or_leaf inst.now sections true scan.old ≡ Err fault) }
 {
     let i = take_customer(inst, scan)?;
     scan.word(b" ")?;
