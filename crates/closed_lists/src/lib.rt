@@ -14,7 +14,9 @@ mod steps;
 
 pub use check::check_closed;
 pub use fault::ClosedFault;
+pub use paid::{margin, price_sum};
 pub use ranges::is_label_of;
+pub use section::Section;
 
 #[cfg(test)]
 mod tests;

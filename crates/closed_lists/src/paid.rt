@@ -16,7 +16,7 @@ fn price_in(set: CustSet, c: usize, price: i128) -> i128
 }
 
 /// The price sum of a set. A customer without a price counts 0.
-pub(crate) fn price_sum(prices: &[i128], set: CustSet) -> i128
+pub fn price_sum(prices: &[i128], set: CustSet) -> i128
     requires few { length prices.now ≤ 128 }
     requires small { All (λ price. unsigned_abs price ≤ 2 ^ 84) prices.now }
     ensures value { result ≡ price_sum prices.now set }
@@ -34,7 +34,7 @@ pub(crate) fn price_sum(prices: &[i128], set: CustSet) -> i128
 
 /// The least number of time units that, times the weight, make up for what is paid less; `None` where none
 /// below 2^64 does.
-pub(crate) fn margin(weight: u64, own: i128, theirs: i128) -> Option<u64>
+pub fn margin(weight: u64, own: i128, theirs: i128) -> Option<u64>
     requires own { unsigned_abs own ≤ 2 ^ 92 }
     requires theirs { unsigned_abs theirs ≤ 2 ^ 92 }
     ensures some { IfSome result (IsMargin weight own theirs) }

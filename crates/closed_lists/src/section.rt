@@ -1,11 +1,11 @@
 //! A section under test.
 
-ghost use Rattle.std.specs.Prelude.{◌≡◌, ◌*◌, ◌+ℤ◌, ◌<◌, ◌^◌, ◌≤◌, IfOk, length, slice_index_or, unsigned_abs};
+ghost use Rattle.std.specs.Prelude.{◌≡◌, ◌*◌, ◌+ℤ◌, ◌<◌, ◌^◌, ◌≤◌, All, IfOk, IfSome, length, slice_index_or, unsigned_abs};
 ghost use Rattle.ev_model.specs.Network.{node_count, scaled_limit};
 ghost use Rattle.customer_sets.specs.Pairs.{allows_of};
 ghost use Rattle.fleet_model.specs.Places.{place_of};
 ghost use Rattle.fleet_model.specs.Prices.{price_of, price_sum};
-ghost use Rattle.instance_reader.specs.Instance.{customer_nodes};
+ghost use Rattle.instance_reader.specs.Instance.{customer_nodes, IsCustomerNumber};
 ghost use Rattle.piece_fn.specs.declared.label.Label.{Label};
 ghost use Rattle.closed_lists.specs.Links.{IsEnd, key_of};
 ghost use Rattle.closed_lists.specs.Sections.{IsLabelOf};
@@ -19,8 +19,10 @@ use std::alloc::{AllocError, Global};
 use std::marker::Model;
 
 /// Labels under a weight, prices by customer number, and forbidden pairs, on an instance. Contracts see these.
+///
+/// Without labels it tells the steps of a search for labels.
 #[derive(Drop)]
-pub(crate) struct Section<'a> {
+pub struct Section<'a> {
     pub(crate) inst: &'a Instance,
     pub(crate) pairs: &'a Pairs,
     pub(crate) weight: u64,
@@ -42,7 +44,7 @@ impl<'a> Model for Section<'a> {
 
 impl<'a> Section<'a> {
     /// The section with its labels linked.
-    pub(crate) fn new(
+    pub fn new(
         alloc: Global,
         inst: &'a Instance,
         pairs: &'a Pairs,
@@ -76,8 +78,31 @@ impl<'a> Section<'a> {
         })
     }
 
-    /// The limit on the scaled time of a route.
-    pub(crate) fn limit(&self) -> u64
+    /// The instance. It takes no memory.
+    pub fn instance(&self) -> &Instance
+        ensures { result.now ≡ self.now.network }
+    {
+        self.inst
+    }
+
+    /// The weight of time. It takes no memory.
+    pub fn weight(&self) -> u64
+        ensures { result ≡ self.now.weight }
+    {
+        self.weight
+    }
+
+    /// The prices, by customer number. It takes no memory.
+    pub fn prices(&self) -> &[i128]
+        ensures value { result.now ≡ self.now.prices }
+        ensures few { length result.now ≤ 128 }
+        ensures small { All (λ price. unsigned_abs price ≤ 2 ^ 84) result.now }
+    {
+        self.prices
+    }
+
+    /// The limit on the scaled time of a route. It takes no memory.
+    pub fn limit(&self) -> u64
         ensures value { result ≡ scaled_limit self.now.network }
         ensures small { result ≤ 10 ^ 18 }
     {
@@ -123,8 +148,8 @@ impl<'a> Section<'a> {
         self.links.links[number].before
     }
 
-    /// The reserve.
-    pub(crate) fn reserve(&self) -> u64
+    /// The reserve. It takes no memory.
+    pub fn reserve(&self) -> u64
         ensures value { result ≡ self.now.network.reserve }
         ensures small { result ≤ 10 ^ 9 }
     {
@@ -143,8 +168,19 @@ impl<'a> Section<'a> {
         }
     }
 
-    /// Whether a node may follow a last customer's node on a route.
-    pub(crate) fn allows(&self, last: usize, node: usize) -> bool
+    /// The number of the customer at a node; `None` exactly where the node is no customer. It takes no memory.
+    pub fn customer_number(&self, node: usize) -> Option<usize>
+        requires { node < node_count self.now.network }
+        ensures value { IsCustomerNumber self.now.network node result }
+        ensures within { IfSome result (λ number.
+            number < length (customer_nodes self.now.network)) }
+        ensures small { IfSome result (λ number. number < 128) }
+    {
+        self.inst.customer_number(node)
+    }
+
+    /// Whether a node may follow a last customer's node on a route. It takes no memory.
+    pub fn allows(&self, last: usize, node: usize) -> bool
         requires last { last < node_count self.now.network }
         requires node { node < node_count self.now.network }
         ensures { result ≡ allows_of self.now.pairs (place_of self.now.network last)

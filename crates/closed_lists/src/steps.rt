@@ -40,7 +40,7 @@ fn arrived(
 
 impl Section<'_> {
     /// What is left of a label's value on arriving at a node, `extra` after the arc and the process time.
-    fn arrival(
+    pub fn arrival(
         &self,
         label: &Label,
         node: usize,
@@ -205,7 +205,7 @@ impl Section<'_> {
     }
 
     /// Whether a step home takes, times the weight, less than the label has paid.
-    pub(crate) fn earns_at_home(&self, label: &Label, paid: i128) -> Result<bool, AllocError>
+    pub fn earns_at_home(&self, label: &Label, paid: i128) -> Result<bool, AllocError>
         requires label { IsLabelOf self.now.network label.now }
         requires paid { paid ≡ price_sum self.now.prices label.now.set }
         ensures { IfOk result (TellsHome self.now label.now) }

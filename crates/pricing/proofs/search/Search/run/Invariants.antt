@@ -1,0 +1,13 @@
+use Rattle.std.proofs.Common.{◌+◌, ◌-◌, ◌*◌, ◌≤◌, ◌^◌, length}
+use Rattle.pricing.specs.Tree.{IsSearch}
+use Rattle.pricing.proofs.Ending.{held_count}
+use Rattle.pricing.proofs.search.Search.run.Given as goal
+
+abbrev pub invariant-loop-alloc : goal.invariant-loop-alloc
+invariant-loop-alloc l = record {
+  search : IsSearch l.terms l.self;
+  listed : length l.fn.self.listed.items ≤ length l.self.listed.items;
+}
+
+abbrev pub decreases-loop-alloc : goal.decreases-loop-alloc
+decreases-loop-alloc l = (2 ^ 63 - length l.self.listed.items) * 2 ^ 64 + held_count l.self.queue

@@ -1,0 +1,115 @@
+//! The answer of pricing.
+
+ghost use Rattle.std.specs.Prelude.{◌≡◌, ◌<◌, ◌≤◌, ◌^◌, [], All, IfOk, length, unsigned_abs};
+ghost use Rattle.instance_reader.specs.Instance.{customer_nodes};
+ghost use Rattle.pricing.specs.Answers.{IsPriced};
+ghost use Rattle.pricing.specs.Tree.{IsSearch};
+
+use crate::coverage::Care;
+use crate::priced::{Priced, PricedRoute, Prices};
+use crate::search::Search;
+use closed_lists::{Section, check_closed};
+use customer_sets::Pairs;
+use instance_reader::Instance;
+use std::alloc::{AllocError, Global};
+
+/// Routes that earn more by the prices of their customers than they take, or a closed list of labels, which shows
+/// that there is none.
+///
+/// `prices` has the weight of a unit of scaled time, and one price per customer, by number. A route keeps the pairs,
+/// starts from a full battery, and serves each of its customers once. The labels of a closed list are closed under
+/// the pairs, the weight and the prices, and in range. Which of several routes or lists is answered isn't promised.
+///
+/// First a quick search compares labels whatever customers they have served; where it finds no route an exact one
+/// follows. Both take the label of least time next. The exact list is tested before it is answered; what the test
+/// finds wanting is added, and the search goes on. The only `Err` is want of memory.
+pub fn price(
+    alloc: Global,
+    inst: &Instance,
+    pairs: &Pairs,
+    prices: &Prices,
+) -> Result<Priced, AllocError>
+    requires few { length (customer_nodes inst.now) ≤ 128 }
+    requires pairs { pairs.now.customers ≡ length (customer_nodes inst.now) }
+    requires weight { prices.now.weight ≤ 2 ^ 40 }
+    requires one_price { length prices.now.of.items ≡ length (customer_nodes inst.now) }
+    requires small_prices { All (λ price. unsigned_abs price ≤ 2 ^ 84) prices.now.of.items }
+    ensures { IfOk result (IsPriced (record {
+      network = inst.now;
+      pairs = pairs.now;
+      weight = prices.now.weight;
+      prices = prices.now.of.items;
+      labels = [];
+    })) }
+{
+    let of = prices.of.as_slice();
+    let terms = Section::new(alloc, inst, pairs, prices.weight, of, &[])?;
+    let mut quick = Search::new(alloc, &terms, Care::Quick)?;
+    quick.run(alloc, &terms)?;
+    if !quick.routes.is_empty() {
+        return Ok(better_of(&terms, quick));
+    }
+    exact(alloc, inst, pairs, prices, &terms)
+}
+
+/// The answer of the exact search.
+fn exact(
+    alloc: Global,
+    inst: &Instance,
+    pairs: &Pairs,
+    prices: &Prices,
+    terms: &Section<'_>,
+) -> Result<Priced, AllocError>
+    requires few { length (customer_nodes inst.now) ≤ 128 }
+    requires pairs { pairs.now.customers ≡ length (customer_nodes inst.now) }
+    requires weight { prices.now.weight ≤ 2 ^ 40 }
+    requires one_price { length prices.now.of.items ≡ length (customer_nodes inst.now) }
+    requires small_prices { All (λ price. unsigned_abs price ≤ 2 ^ 84) prices.now.of.items }
+    requires terms { terms.now ≡ record {
+      network = inst.now;
+      pairs = pairs.now;
+      weight = prices.now.weight;
+      prices = prices.now.of.items;
+      labels = [];
+    } }
+    ensures { IfOk result (IsPriced terms.now) }
+{
+    let of = prices.of.as_slice();
+    let mut search = Search::new(alloc, terms, Care::Exact)?;
+    while search.routes.is_empty() {
+        search.run(alloc, terms)?;
+        if !search.routes.is_empty() {
+            return Ok(better_of(terms, search));
+        }
+        let labels = search.labels(alloc, terms)?;
+        match check_closed(alloc, inst, pairs, prices.weight, of, &labels) {
+            Ok(()) => return Ok(Priced::Closed { labels }),
+            Err(fault) => search.mend(alloc, terms, &labels, fault)?,
+        }
+    }
+    Ok(better_of(terms, search))
+}
+
+/// The routes that a search found.
+fn better_of(terms: &Section<'_>, search: Search) -> Priced
+    requires search { IsSearch terms.now search }
+    requires some { 0 < length search.routes.items }
+    ensures { IsPriced terms.now result }
+{
+    let Search {
+        care: _,
+        tree: _,
+        queue: _,
+        listed: _,
+        mut routes,
+    } = search;
+    let Some(last) = routes.pop() else {
+        unreachable!();
+    };
+    let PricedRoute { plan, order } = last;
+    Priced::Better {
+        plan,
+        order,
+        further: routes,
+    }
+}

@@ -1,0 +1,461 @@
+//! The search for labels.
+
+ghost use Rattle.std.specs.Prelude.{[], All, ◌≡◌, ◌<◌, ◌≤◌, ◌+◌, IfOk, IfSome, OnOk, Some, ◌^◌, length, slice_get, unsigned_abs};
+ghost use Rattle.ev_model.specs.Network.{node_count};
+ghost use Rattle.fleet_model.specs.ClosedListRules.{EarnsAtHome, IsFault, at_home, at_step};
+ghost use Rattle.closed_lists.specs.Questions.{section};
+ghost use Rattle.closed_lists.specs.Sections.{IsLabelOf, paid_label, section_of};
+ghost use Rattle.closed_lists.specs.Tellings.{IsUncovered, TellsHome};
+ghost use Rattle.closed_lists.specs.Verdicts.{IsTold};
+ghost use Rattle.pricing.specs.Answers.{IsInRange};
+ghost use Rattle.pricing.specs.Tree.{AreCopies, AreSteps, HasOrigin, IsFurther, IsGrown, IsMended, IsSearch, IsTree};
+ghost use Rattle.pricing.specs.declared.found.Found.{Found};
+
+use crate::coverage::{Asked, Care};
+use crate::found::Tree;
+use crate::priced::PricedRoute;
+use crate::route::route_of;
+use crate::steps::{Target, target_at, values_at};
+use closed_lists::{ClosedFault, Section, price_sum};
+use customer_sets::CustSet;
+use dominance::LabelValue;
+use index_links::IndexHeap;
+use piece_fn::{Label, PieceFn};
+use std::alloc::{AllocError, Global};
+
+/// A search takes no further label once it has found so many routes.
+const MOST_ROUTES: usize = 80;
+
+/// A search for routes that earn more than they take.
+#[derive(Drop)]
+pub(crate) struct Search {
+    pub(crate) care: Care,
+    pub(crate) tree: Tree,
+    /// The labels that wait, by their least time.
+    pub(crate) queue: IndexHeap,
+    /// The numbers of the labels that were taken and not needless, whose steps are all made.
+    pub(crate) listed: Vec<usize>,
+    pub(crate) routes: Vec<PricedRoute>,
+}
+
+impl Search {
+    /// A search in which the start waits.
+    pub(crate) fn new(alloc: Global, terms: &Section<'_>, care: Care) -> Result<Search, AllocError>
+        ensures { IfOk result (IsSearch terms.now) }
+    {
+        let mut search = Search {
+            care,
+            tree: Tree::new(alloc, terms)?,
+            queue: IndexHeap::new(alloc),
+            listed: Vec::new(alloc),
+            routes: Vec::new(alloc),
+        };
+        let start = Label {
+            last: 0,
+            node: 0,
+            set: CustSet::empty(),
+            value: PieceFn::point(alloc, terms.instance().max_q(), 0),
+        };
+        put(&mut search.tree, &mut search.queue, terms, start, 0, None)?;
+        Ok(search)
+    }
+
+    /// Takes the labels that wait, by least time, and makes the steps from those that are not needless, until none
+    /// waits or enough routes are found.
+    pub(crate) fn run(&mut self, alloc: Global, terms: &Section<'_>) -> Result<(), AllocError>
+        requires { IsSearch terms.now self.old }
+        ensures search { OnOk result (IsSearch terms.now self.new) }
+        ensures listed { OnOk result (length self.old.listed.items ≤ length self.new.listed.items) }
+    {
+        while self.routes.len() < MOST_ROUTES {
+            let Some(number) = self.queue.take_least() else {
+                return Ok(());
+            };
+            self.take(alloc, terms, number)?;
+        }
+        Ok(())
+    }
+
+    /// Lists a label and makes its steps, unless it is needless.
+    fn take(&mut self, alloc: Global, terms: &Section<'_>, number: usize) -> Result<(), AllocError>
+        requires search { IsSearch terms.now self.old }
+        requires known { number < length self.old.tree.found.items }
+        ensures search { OnOk result (IsSearch terms.now self.new) }
+        ensures listed { OnOk result (IsFurther self.old self.new) }
+    {
+        if self.is_needless(terms, number) {
+            return Ok(());
+        }
+        self.settle(alloc, terms, number)
+    }
+
+    /// Whether labels that were taken before make a label needless.
+    fn is_needless(&self, terms: &Section<'_>, number: usize) -> bool
+        requires search { IsSearch terms.now self.now }
+        requires known { number < length self.now.tree.found.items }
+    {
+        let found = &self.tree.found[number];
+        let (_, key) = found.label.value.least();
+        let asked = Asked {
+            care: self.care,
+            label: &found.label,
+            paid: found.paid,
+            key,
+            number,
+        };
+        self.tree.makes_needless(terms, &asked)
+    }
+
+    /// Lists a label, looks whether it earns more than it takes at home, and makes its steps.
+    fn settle(
+        &mut self,
+        alloc: Global,
+        terms: &Section<'_>,
+        number: usize,
+    ) -> Result<(), AllocError>
+        requires search { IsSearch terms.now self.old }
+        requires known { number < length self.old.tree.found.items }
+        ensures search { OnOk result (IsSearch terms.now self.new) }
+        ensures grown { OnOk result (IsGrown self.old.tree.found.items self.new.tree.found.items) }
+        ensures listed { OnOk result (length self.old.listed.items < length self.new.listed.items) }
+    {
+        self.listed.push(number)?;
+        self.look_home(alloc, terms, number)?;
+        for node in 0..terms.instance().nodes() {
+            self.go(alloc, terms, number, node)?;
+        }
+        Ok(())
+    }
+
+    /// Keeps the route of a label, if it earns more than it takes.
+    fn look_home(
+        &mut self,
+        alloc: Global,
+        terms: &Section<'_>,
+        number: usize,
+    ) -> Result<(), AllocError>
+        requires search { IsSearch terms.now self.old }
+        requires known { number < length self.old.tree.found.items }
+        ensures search { OnOk result (IsSearch terms.now self.new) }
+        ensures same { OnOk result (self.new.tree.found.items ≡ self.old.tree.found.items) }
+        ensures listed { OnOk result (self.new.listed.items ≡ self.old.listed.items) }
+    {
+        if !earns(terms, &self.tree.found[number].label)? {
+            return Ok(());
+        }
+        self.keep_route(alloc, terms, number)
+    }
+
+    /// Keeps the route of a label that earns more than it takes.
+    fn keep_route(
+        &mut self,
+        alloc: Global,
+        terms: &Section<'_>,
+        number: usize,
+    ) -> Result<(), AllocError>
+        requires search { IsSearch terms.now self.old }
+        requires known { number < length self.old.tree.found.items }
+        requires earns { (f : Found) → slice_get self.old.tree.found.items number ≡ Some f →
+            EarnsAtHome terms.now.network (section terms.now) (paid_label terms.now.prices f.label) }
+        ensures search { OnOk result (IsSearch terms.now self.new) }
+        ensures same { OnOk result (self.new.tree.found.items ≡ self.old.tree.found.items) }
+        ensures listed { OnOk result (self.new.listed.items ≡ self.old.listed.items) }
+        ensures some { OnOk result (0 < length self.new.routes.items) }
+    {
+        let route = route_of(alloc, terms, &self.tree, number)?;
+        self.routes.push(route)?;
+        Ok(())
+    }
+
+    /// Lets the labels wait that a step from a label to a node leads to.
+    fn go(
+        &mut self,
+        alloc: Global,
+        terms: &Section<'_>,
+        from: usize,
+        node: usize,
+    ) -> Result<(), AllocError>
+        requires search { IsSearch terms.now self.old }
+        requires known { from < length self.old.tree.found.items }
+        requires node { node < node_count terms.now.network }
+        ensures search { OnOk result (IsSearch terms.now self.new) }
+        ensures grown { OnOk result (IsGrown self.old.tree.found.items self.new.tree.found.items) }
+        ensures listed { OnOk result (self.new.listed.items ≡ self.old.listed.items) }
+    {
+        let label = &self.tree.found[from].label;
+        let Some(target) = target_at(terms, label, node) else {
+            return Ok(());
+        };
+        let values = values_at(alloc, terms, label, node)?;
+        self.add_all(terms, from, node, &target, values)
+    }
+
+    /// Lets the labels with these values wait, where they are not needless.
+    fn add_all(
+        &mut self,
+        terms: &Section<'_>,
+        from: usize,
+        node: usize,
+        target: &Target,
+        mut values: Vec<PieceFn>,
+    ) -> Result<(), AllocError>
+        requires search { IsSearch terms.now self.old }
+        requires node { node < node_count terms.now.network }
+        requires steps { AreSteps terms.now self.old.tree.found.items from node
+            target.now values.items }
+        ensures search { OnOk result (IsSearch terms.now self.new) }
+        ensures grown { OnOk result (IsGrown self.old.tree.found.items self.new.tree.found.items) }
+        ensures listed { OnOk result (self.new.listed.items ≡ self.old.listed.items) }
+    {
+        while let Some(value) = values.pop() {
+            self.add(terms, from, target.label(node, value))?;
+        }
+        Ok(())
+    }
+
+    /// Lets a label wait, where it is not needless.
+    fn add(&mut self, terms: &Section<'_>, from: usize, label: Label) -> Result<(), AllocError>
+        requires search { IsSearch terms.now self.old }
+        requires range { IsInRange terms.now.network label }
+        requires known { from < length self.old.tree.found.items }
+        requires origin { HasOrigin terms.now self.old.tree.found.items (Some from) label }
+        ensures search { OnOk result (IsSearch terms.now self.new) }
+        ensures grown { OnOk result (IsGrown self.old.tree.found.items self.new.tree.found.items) }
+        ensures listed { OnOk result (self.new.listed.items ≡ self.old.listed.items) }
+    {
+        let paid = price_sum(terms.prices(), label.set);
+        let asked = Asked {
+            care: self.care,
+            label: &label,
+            paid,
+            key: u64::MAX,
+            number: usize::MAX,
+        };
+        if self.tree.makes_needless(terms, &asked) {
+            return Ok(());
+        }
+        put(
+            &mut self.tree,
+            &mut self.queue,
+            terms,
+            label,
+            paid,
+            Some(from),
+        )?;
+        Ok(())
+    }
+}
+
+impl Search {
+    /// Copies of the listed labels, in order.
+    pub(crate) fn labels(
+        &self,
+        alloc: Global,
+        terms: &Section<'_>,
+    ) -> Result<Vec<Label>, AllocError>
+        requires { IsSearch terms.now self.now }
+        ensures copies { IfOk result (λ labels.
+            AreCopies self.now.tree.found.items self.now.listed.items labels.items) }
+        ensures ranges { IfOk result (λ labels. All (IsInRange terms.now.network) labels.items) }
+    {
+        let mut labels = Vec::with_capacity(alloc, self.listed.len())?;
+        for number in &self.listed {
+            labels.push(copy_of(alloc, &self.tree.found[*number].label)?)?;
+        }
+        Ok(labels)
+    }
+
+    /// Answers a fault of the listed labels: keeps the route of a label that earns more than it takes, or lists further
+    /// labels, whatever other labels there are.
+    pub(crate) fn mend(
+        &mut self,
+        alloc: Global,
+        terms: &Section<'_>,
+        labels: &[Label],
+        fault: ClosedFault,
+    ) -> Result<(), AllocError>
+        requires search { IsSearch terms.now self.old }
+        requires none { terms.now.labels ≡ [] }
+        requires copies { AreCopies self.old.tree.found.items self.old.listed.items labels.now }
+        requires told { IsTold terms.now.network
+            (section_of terms.now.pairs terms.now.weight terms.now.prices labels.now) fault }
+        ensures search { OnOk result (IsSearch terms.now self.new) }
+        ensures further { OnOk result (IsMended self.old self.new) }
+    {
+        match fault {
+            ClosedFault::Start => self.settle(alloc, terms, 0),
+            ClosedFault::Step { label, node } => self.make_step(alloc, terms, labels, label, node),
+            ClosedFault::End { label } => self.keep_listed(alloc, terms, labels, label),
+            ClosedFault::Memory => Err(AllocError),
+        }
+    }
+
+    /// Keeps the route of a listed label that earns more than it takes.
+    fn keep_listed(
+        &mut self,
+        alloc: Global,
+        terms: &Section<'_>,
+        labels: &[Label],
+        label: usize,
+    ) -> Result<(), AllocError>
+        requires search { IsSearch terms.now self.old }
+        requires copies { AreCopies self.old.tree.found.items self.old.listed.items labels.now }
+        requires earns { IsFault terms.now.network
+            (section_of terms.now.pairs terms.now.weight terms.now.prices labels.now)
+            (at_home label) }
+        ensures search { OnOk result (IsSearch terms.now self.new) }
+        ensures listed { OnOk result (self.new.listed.items ≡ self.old.listed.items) }
+        ensures some { OnOk result (0 < length self.new.routes.items) }
+    {
+        let number = self.listed[label];
+        self.keep_route(alloc, terms, number)
+    }
+
+    /// Lists the labels of a step from a listed label that leads to states that are not covered, whatever other
+    /// labels there are.
+    fn make_step(
+        &mut self,
+        alloc: Global,
+        terms: &Section<'_>,
+        labels: &[Label],
+        label: usize,
+        node: usize,
+    ) -> Result<(), AllocError>
+        requires search { IsSearch terms.now self.old }
+        requires none { terms.now.labels ≡ [] }
+        requires copies { AreCopies self.old.tree.found.items self.old.listed.items labels.now }
+        requires step { IsFault terms.now.network
+            (section_of terms.now.pairs terms.now.weight terms.now.prices labels.now)
+            (at_step label node) }
+        ensures search { OnOk result (IsSearch terms.now self.new) }
+        ensures listed { OnOk result (length self.old.listed.items < length self.new.listed.items) }
+    {
+        let number = self.listed[label];
+        self.force(alloc, terms, number, node)
+    }
+
+    /// Makes the step from a label to a node, and lists the labels that it leads to.
+    fn force(
+        &mut self,
+        alloc: Global,
+        terms: &Section<'_>,
+        from: usize,
+        node: usize,
+    ) -> Result<(), AllocError>
+        requires search { IsSearch terms.now self.old }
+        requires known { from < length self.old.tree.found.items }
+        requires node { node < node_count terms.now.network }
+        requires leads { (f : Found) → slice_get self.old.tree.found.items from ≡ Some f →
+            IsUncovered terms.now f.label node }
+        ensures search { OnOk result (IsSearch terms.now self.new) }
+        ensures listed { OnOk result (length self.old.listed.items < length self.new.listed.items) }
+    {
+        let label = &self.tree.found[from].label;
+        let Some(target) = target_at(terms, label, node) else {
+            unreachable!();
+        };
+        let values = values_at(alloc, terms, label, node)?;
+        self.force_all(alloc, terms, from, node, &target, values)
+    }
+
+    /// Lists the labels with these values.
+    fn force_all(
+        &mut self,
+        alloc: Global,
+        terms: &Section<'_>,
+        from: usize,
+        node: usize,
+        target: &Target,
+        mut values: Vec<PieceFn>,
+    ) -> Result<(), AllocError>
+        requires search { IsSearch terms.now self.old }
+        requires node { node < node_count terms.now.network }
+        requires steps { AreSteps terms.now self.old.tree.found.items from node
+            target.now values.items }
+        requires some { 0 < length values.items }
+        ensures search { OnOk result (IsSearch terms.now self.new) }
+        ensures listed { OnOk result (length self.old.listed.items < length self.new.listed.items) }
+    {
+        while let Some(value) = values.pop() {
+            self.force_one(alloc, terms, from, target.label(node, value))?;
+        }
+        Ok(())
+    }
+
+    /// Lists a label behind another one.
+    fn force_one(
+        &mut self,
+        alloc: Global,
+        terms: &Section<'_>,
+        from: usize,
+        label: Label,
+    ) -> Result<(), AllocError>
+        requires search { IsSearch terms.now self.old }
+        requires range { IsInRange terms.now.network label }
+        requires known { from < length self.old.tree.found.items }
+        requires origin { HasOrigin terms.now self.old.tree.found.items (Some from) label }
+        ensures search { OnOk result (IsSearch terms.now self.new) }
+        ensures grown { OnOk result (IsGrown self.old.tree.found.items self.new.tree.found.items) }
+        ensures listed { OnOk result (length self.old.listed.items < length self.new.listed.items) }
+    {
+        let paid = price_sum(terms.prices(), label.set);
+        let number = put(
+            &mut self.tree,
+            &mut self.queue,
+            terms,
+            label,
+            paid,
+            Some(from),
+        )?;
+        self.settle(alloc, terms, number)
+    }
+}
+
+/// A label with the same numbers.
+fn copy_of(alloc: Global, label: &Label) -> Result<Label, AllocError>
+    ensures { IfOk result (λ copy. copy ≡ label.now) }
+{
+    Ok(Label {
+        last: label.last,
+        node: label.node,
+        set: label.set,
+        value: PieceFn::from_points(alloc, label.value.points())?,
+    })
+}
+
+/// Puts a label behind the others, lets it wait, and answers its number.
+fn put(
+    tree: &mut Tree,
+    queue: &mut IndexHeap,
+    terms: &Section<'_>,
+    label: Label,
+    paid: i128,
+    parent: Option<usize>,
+) -> Result<usize, AllocError>
+    requires tree { IsTree terms.now tree.old.found.items tree.old.ends.items }
+    requires room { length queue.old ≡ length tree.old.found.items }
+    requires range { IsInRange terms.now.network label }
+    requires small { unsigned_abs paid ≤ 2 ^ 91 }
+    requires elder { IfSome parent (λ p. p < length tree.old.found.items) }
+    requires origin { HasOrigin terms.now tree.old.found.items parent label }
+    ensures tree { OnOk result (IsTree terms.now tree.new.found.items tree.new.ends.items) }
+    ensures grown { OnOk result (IsGrown tree.old.found.items tree.new.found.items) }
+    ensures room { OnOk result (length queue.new ≡ length tree.new.found.items) }
+    ensures some { OnOk result (0 < length tree.new.found.items) }
+    ensures number { IfOk result (λ i. i < length tree.new.found.items) }
+{
+    let (_, key) = label.value.least();
+    let number = tree.push(terms, label, paid, parent)?;
+    queue.grow(number + 1)?;
+    queue.put(number, key);
+    Ok(number)
+}
+
+/// Whether the label earns, by the price sum of its customers, more than a way home from it takes.
+fn earns(terms: &Section<'_>, label: &Label) -> Result<bool, AllocError>
+    requires { IsLabelOf terms.now.network label.now }
+    ensures { IfOk result (TellsHome terms.now label.now) }
+{
+    let paid = price_sum(terms.prices(), label.set);
+    terms.earns_at_home(label, paid)
+}

@@ -1,0 +1,130 @@
+//! The steps from a label.
+
+ghost use Rattle.std.specs.Prelude.{◌≡◌, ◌<◌, ◌∷◌, [], ℕ, All, IfNone, IfOk, IfSome, List, length};
+ghost use Rattle.ev_model.specs.Network.{node_count};
+ghost use Rattle.instance_reader.specs.Instance.{IsCurveAt};
+ghost use Rattle.closed_lists.specs.Sections.{IsLabelOf};
+ghost use Rattle.closed_lists.specs.Tellings.{IsUncovered};
+ghost use Rattle.pricing.specs.Steps.{IsLeft, label_of, Leads};
+
+use charge_curve::Scaled;
+use closed_lists::Section;
+use customer_sets::CustSet;
+use dominance::LabelValue;
+use piece_fn::{Label, PieceFn};
+use std::alloc::{AllocError, Global};
+
+/// Where a step leads: the last customer's node and the customers served behind it.
+#[derive(Clone, Copy)]
+pub(crate) struct Target {
+    pub(crate) last: usize,
+    pub(crate) set: CustSet,
+}
+
+impl Target {
+    /// The label at a node with a value.
+    pub(crate) fn label(&self, node: usize, value: PieceFn) -> Label
+        ensures { result ≡ label_of self.now node value }
+    {
+        Label {
+            last: self.last,
+            node,
+            set: self.set,
+            value,
+        }
+    }
+}
+
+/// Where the step from a label to a node leads, if one may be made: to a station, or to a customer who isn't served
+/// yet and may follow the last one. It takes no memory.
+pub(crate) fn target_at(terms: &Section<'_>, from: &Label, node: usize) -> Option<Target>
+    requires label { IsLabelOf terms.now.network from.now }
+    requires node { node < node_count terms.now.network }
+    ensures leads { IfSome result (λ t. (value : List (ℕ × ℕ)) →
+        Leads terms.now from.now (label_of t node value)) }
+    ensures none { IfNone result (IsUncovered terms.now from.now node → ⊥) }
+{
+    if node == from.node {
+        return None;
+    }
+    if terms.instance().curve_at(node).is_some() {
+        return Some(Target {
+            last: from.last,
+            set: from.set,
+        });
+    }
+    let Some(customer) = terms.customer_number(node) else {
+        return None;
+    };
+    if from.set.has(customer) {
+        return None;
+    }
+    if !terms.allows(from.last, node) {
+        return None;
+    }
+    Some(Target {
+        last: node,
+        set: from.set.with(customer),
+    })
+}
+
+/// The values on leaving a node that is gone to from a label: first as the vehicle arrives, and where the node has a
+/// curve those after plugging in and charging. There is none where the battery or the limit does not let the vehicle
+/// come so far.
+pub(crate) fn values_at(
+    alloc: Global,
+    terms: &Section<'_>,
+    from: &Label,
+    node: usize,
+) -> Result<Vec<PieceFn>, AllocError>
+    requires label { IsLabelOf terms.now.network from.now }
+    requires node { node < node_count terms.now.network }
+    ensures left { IfOk result (λ values.
+        All (IsLeft terms.now.network from.now node) values.items) }
+    ensures some { IfOk result (λ values. IsUncovered terms.now from.now node →
+        0 < length values.items) }
+{
+    let Some(arrived) = terms.arrival(from, node, 0, terms.reserve())? else {
+        return Ok(Vec::new(alloc));
+    };
+    match terms.instance().curve_at(node) {
+        Some(curve) => charged(alloc, terms, from, node, arrived, curve),
+        None => single(alloc, arrived),
+    }
+}
+
+/// The same at a station, by the value on arriving.
+fn charged(
+    alloc: Global,
+    terms: &Section<'_>,
+    from: &Label,
+    node: usize,
+    arrived: PieceFn,
+    curve: &Scaled,
+) -> Result<Vec<PieceFn>, AllocError>
+    requires label { IsLabelOf terms.now.network from.now }
+    requires node { node < node_count terms.now.network }
+    requires arrived { IsLeft terms.now.network from.now node arrived }
+    requires curve { IsCurveAt terms.now.network node curve.now }
+    ensures left { IfOk result (λ values.
+        All (IsLeft terms.now.network from.now node) values.items) }
+    ensures some { IfOk result (λ values. 0 < length values.items) }
+{
+    let inst = terms.instance();
+    let plugging = inst.denominator() * inst.plug_at(node);
+    let Some(plugged) = terms.arrival(from, node, plugging, terms.reserve())? else {
+        return single(alloc, arrived);
+    };
+    let mut values = plugged.charge(curve, terms.limit())?;
+    values[0] = arrived;
+    Ok(values)
+}
+
+/// One value.
+fn single(alloc: Global, value: PieceFn) -> Result<Vec<PieceFn>, AllocError>
+    ensures { IfOk result (λ values. values.items ≡ value ∷ []) }
+{
+    let mut values = Vec::new(alloc);
+    values.push(value)?;
+    Ok(values)
+}
