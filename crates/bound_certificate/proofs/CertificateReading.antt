@@ -3,54 +3,30 @@ use Rattle.std.proofs.Common.{◌≡◌, ℕ, ◌^◌, ◌<◌, ◌≤◌, List,
 use Rattle.std.specs.List.{All}
 use Rattle.ev_model.specs.Network.{Network, scaled_limit}
 use Rattle.ev_text.specs.Readers.{answer, behind_word, number_where, so_many, then_reads}
-use Rattle.ev_text.specs.Texts.{StandsUnlessLonger, joined_texts}
+use Rattle.ev_text.specs.Texts.{AreLooseRun, StandsUnlessLonger, joined_texts}
 use Rattle.ev_text.proofs.ReadingLaws.{Reads, reads-as, reads-behind, reads-then}
-use Rattle.ev_text.proofs.RunLaws.{AreLooseRun, reads-so_many}
+use Rattle.ev_text.proofs.RunLaws.{reads-so_many}
 use Rattle.bound_certificate.specs.CertificateTexts.{body_text, bound_text, line_text, root_text, section_text, sections_text}
 use Rattle.bound_certificate.specs.Limits.{most_items}
 use Rattle.bound_certificate.specs.Reading.{body_at, bound_at, line_at, root_at, section_at, sections_at, tree_at}
-use Rattle.bound_certificate.specs.Trees.{Closes}
 use Rattle.bound_certificate.specs.Written.{Written, WrittenSection}
 use Rattle.bound_certificate.specs.declared.certificate.Root.{Root}
 use Rattle.bound_certificate.specs.declared.certificate.TreeLine.{TreeLine}
 use Rattle.bound_certificate.specs.declared.certificate.TreeLine.TheVariants.{Split, Leaf}
+use Rattle.bound_certificate.specs.WrittenRanges.{BoundIs, Keeping, LineIs, LineLoose, RootIs, RootLoose, SectionIs, SectionLoose, SectionsAre, SectionsLoose, TreeIs, TreeLoose, UpTo, WrittenIs, WrittenLoose}
 use Rattle.bound_certificate.proofs.ItemLines.{loose_length, own_length}
-use Rattle.bound_certificate.proofs.Parts.{Anything, Keeping, NoDigit, UpTo, ranged, reads-made}
-use Rattle.bound_certificate.proofs.RootLines.{BoundIs, reads-bound}
-use Rattle.bound_certificate.proofs.RootReading.{RootIs, RootLoose, reads-root}
-use Rattle.bound_certificate.proofs.SectionLines.{SectionIs, SectionLoose, reads-section}
-use Rattle.bound_certificate.proofs.TreeParts.{LineIs, LineLoose, reads-tree_line}
+use Rattle.bound_certificate.proofs.Parts.{Anything, NoDigit, ranged, reads-made}
+use Rattle.bound_certificate.proofs.RootLines.{reads-bound}
+use Rattle.bound_certificate.proofs.RootReading.{reads-root}
+use Rattle.bound_certificate.proofs.SectionLines.{reads-section}
+use Rattle.bound_certificate.proofs.TreeParts.{reads-tree_line}
 use Rattle.bound_certificate.proofs.TreeReading.{reads-tree}
 
-abbrev pub SectionsAre : Network → List WrittenSection → Type 0
-SectionsAre g sections = Keeping most_items (λ n. nat_le 1 n) (length sections) × All (SectionIs g) sections
-
-abbrev pub SectionsLoose : Network → List WrittenSection → Type 0
-SectionsLoose g sections = (length sections ≤ most_items) × AreLooseRun (SectionLoose g) (length sections) sections
-
-abbrev pub TreeIs : Network → ℕ → List TreeLine → Type 0
-TreeIs g sections lines = All (LineIs g sections) lines × Closes 1 lines
-
-abbrev pub TreeLoose : List TreeLine → Type 0
-TreeLoose lines = All LineLoose lines × Closes 1 lines
-
-pub record WrittenIs (g : Network) (w : Written) : Type 0 where
-  pub bound : BoundIs w.bound
-  pub root_is : RootIs g w.root
-  pub sections : SectionsAre g w.sections
-  pub tree : TreeIs g (length w.sections) w.tree
-
-pub record WrittenLoose (g : Network) (w : Written) : Type 0 where
-  pub bound : BoundIs w.bound
-  pub root_is : RootLoose g w.root
-  pub sections : SectionsLoose g w.sections
-  pub tree : TreeLoose w.tree
-
-line_is_some : (line : TreeLine) → 1 ≤ length (line_text line)
+pub line_is_some : (line : TreeLine) → 1 ≤ length (line_text line)
 line_is_some (Split i j) = omega arith
 line_is_some (Leaf n) = omega arith
 
-tree_read : (g : Network) (sections : ℕ) → Reads StandsUnlessLonger (tree_at (line_at g sections)) (joined_texts line_text) (TreeIs g sections) TreeLoose Anything
+pub tree_read : (g : Network) (sections : ℕ) → Reads StandsUnlessLonger (tree_at (line_at g sections)) (joined_texts line_text) (TreeIs g sections) TreeLoose Anything
 tree_read g sections = reads-tree (line_at g sections) line_text (LineIs g sections) LineLoose (reads-tree_line g sections) line_is_some (0, omega arith)
 
 module _ (g : Network) (small_capacity : g.capacity < 10 ^ 64) (small_limit : scaled_limit g < 10 ^ 64) where

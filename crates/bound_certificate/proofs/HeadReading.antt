@@ -13,7 +13,8 @@ use Rattle.ev_text.proofs.Results.{Err-ne-Ok}
 use Rattle.route_plan.specs.Limits.{greatest_number}
 use Rattle.bound_certificate.specs.CertificateTexts.{body_text, certificate_text, head_lines, is_first_version}
 use Rattle.bound_certificate.specs.Reading.{behind_head, body_at, certificate_at, node_where}
-use Rattle.bound_certificate.proofs.CertificateReading.{WrittenIs, WrittenLoose, reads-body}
+use Rattle.bound_certificate.specs.WrittenRanges.{WrittenIs, WrittenLoose}
+use Rattle.bound_certificate.proofs.CertificateReading.{reads-body}
 use Rattle.bound_certificate.proofs.Parts.{Anything, NoDigit, ranged}
 
 -- a number that has to be a given one

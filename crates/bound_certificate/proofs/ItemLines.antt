@@ -2,11 +2,11 @@
 use Rattle.std.proofs.Common.{◌≡◌, ◌∙◌, ℕ, zero, suc, List, [], ◌∷◌, ◌++◌, codes, length, refl, sym, ap, subst, append_assoc, append-nil, arith}
 use Rattle.ev_text.specs.Numerals.{BeginsWithoutDigit}
 use Rattle.ev_text.specs.Readers.{Reader, answer, exactly_from, then_reads}
-use Rattle.ev_text.specs.Texts.{StandsUnlessLonger, marked_texts}
+use Rattle.ev_text.specs.Texts.{AreLooseRun, AreRun, ConsFrom, ConsLoose, StandsUnlessLonger, marked_texts}
 use Rattle.ev_text.proofs.ListLaws.{cons_text}
 use Rattle.ev_text.proofs.MarkedLaws.{ended_text}
 use Rattle.ev_text.proofs.ReadingLaws.{Reads, reads-answer, reads-as, reads-behind}
-use Rattle.ev_text.proofs.RunLaws.{AreLooseRun, AreRun, ConsBehind, ConsFrom, ConsLoose, reads-cons, reads-exactly}
+use Rattle.ev_text.proofs.RunLaws.{ConsBehind, reads-cons, reads-exactly}
 use Rattle.bound_certificate.specs.Reading.{line_of}
 use Rattle.bound_certificate.proofs.Parts.{Anything, NoDigit}
 

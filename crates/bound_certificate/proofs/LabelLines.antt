@@ -1,5 +1,5 @@
 -- The reader of a label reads exactly its line.
-use Rattle.std.proofs.Common.{◌≡◌, ℕ, ◌^◌, ◌<◌, ◌≤◌, List, [], ◌∷◌, ◌++◌, decimal, codes, nat_lt, refl, append_assoc, append-nil, arith}
+use Rattle.std.proofs.Common.{◌≡◌, ℕ, ◌^◌, ◌<◌, List, [], ◌∷◌, ◌++◌, decimal, codes, nat_lt, refl, append_assoc, append-nil, arith}
 use Rattle.ev_model.specs.Network.{Network, node_count, scaled_limit}
 use Rattle.ev_text.specs.Readers.{answer, behind_word, then_reads}
 use Rattle.ev_text.specs.Texts.{StandsUnlessLonger, marked_texts}
@@ -11,20 +11,9 @@ use Rattle.route_plan.specs.Limits.{greatest_number}
 use Rattle.bound_certificate.specs.CertificateTexts.{label_text, point_text, set_text}
 use Rattle.bound_certificate.specs.Reading.{is_place, label_at, node_where, points_at, set_at}
 use Rattle.bound_certificate.specs.Written.{WrittenLabel}
-use Rattle.bound_certificate.proofs.LabelParts.{PointsAre, PointsLoose, SetIs, SetLoose, reads-points, reads-set}
-use Rattle.bound_certificate.proofs.Parts.{Anything, Keeping, NoDigit, UpTo, ranged, reads-made}
-
-pub record LabelIs (g : Network) (l : WrittenLabel) : Type 0 where
-  pub last : Keeping greatest_number (is_place g) l.last
-  pub node : Keeping greatest_number (λ n. nat_lt n (node_count g)) l.node
-  pub served : SetIs g l.served
-  pub points : PointsAre g l.points
-
-pub record LabelLoose (g : Network) (l : WrittenLabel) : Type 0 where
-  pub last : l.last ≤ greatest_number
-  pub node : l.node ≤ greatest_number
-  pub served : SetLoose l.served
-  pub points : PointsLoose g l.points
+use Rattle.bound_certificate.specs.WrittenRanges.{Keeping, LabelIs, LabelLoose, PointsAre, PointsLoose, SetIs, SetLoose, UpTo}
+use Rattle.bound_certificate.proofs.LabelParts.{reads-points, reads-set}
+use Rattle.bound_certificate.proofs.Parts.{Anything, NoDigit, ranged, reads-made}
 
 abbrev points_line : List (ℕ × ℕ) → List ℕ
 points_line points = cons_text point_text (ended_text 32 10 [] point_text) points

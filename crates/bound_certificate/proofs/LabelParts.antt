@@ -5,33 +5,19 @@ use Rattle.std.specs.Char.{is_ascii_digit}
 use Rattle.ev_model.specs.Network.{Network, scaled_limit}
 use Rattle.ev_text.specs.Numerals.{BeginsWithoutDigit}
 use Rattle.ev_text.specs.Readers.{answer, each_from, optional_at, then_reads}
-use Rattle.ev_text.specs.Texts.{AllFrom, StandsUnlessLonger, marked_texts, optional_text}
+use Rattle.ev_text.specs.Texts.{AllFrom, ConsFrom, ConsLoose, StandsUnlessLonger, marked_texts, optional_text}
 use Rattle.ev_text.proofs.ChoiceLaws.{BeforeOptional, BeginsOtherwise, reader-optional}
 use Rattle.ev_text.proofs.EachFromLaws.{reads-each}
 use Rattle.ev_text.proofs.MarkedLaws.{ended_text}
 use Rattle.ev_text.proofs.ListLaws.{cons_text}
 use Rattle.ev_text.proofs.Readings.{first_digit}
 use Rattle.ev_text.proofs.ReadingLaws.{Reads, reads-as, reads-behind, reads-reader, reads-then}
-use Rattle.ev_text.proofs.RunLaws.{ConsBehind, ConsFrom, ConsLoose, reads-cons}
+use Rattle.ev_text.proofs.RunLaws.{ConsBehind, reads-cons}
 use Rattle.route_plan.specs.Limits.{greatest_number}
 use Rattle.bound_certificate.specs.CertificateTexts.{point_text, set_text}
 use Rattle.bound_certificate.specs.Reading.{customer_at, is_above, is_customer_node, point_at, points_at, set_at, set_behind}
-use Rattle.bound_certificate.proofs.Parts.{Anything, Keeping, NoDigit, PointIs, PointLoose, UpTo, ranged, reads-made, reads-point}
-
--- customers of a set, each above the one before
-abbrev pub MemberIs : Network → Option ℕ → ℕ → Type 0
-MemberIs g last node = Keeping greatest_number (λ n. is_customer_node g n && is_above last n) node
-
-abbrev pub next_member : Option ℕ → ℕ → Option ℕ
-next_member before node = Some node
-
-abbrev pub SetIs : Network → List ℕ → Type 0
-SetIs g [] = Unit {0}
-SetIs g (node ∷ nodes) = MemberIs g None node × AllFrom (MemberIs g) next_member (Some node) nodes
-
-abbrev pub SetLoose : List ℕ → Type 0
-SetLoose [] = Unit {0}
-SetLoose (node ∷ nodes) = UpTo greatest_number node × All (UpTo greatest_number) nodes
+use Rattle.bound_certificate.specs.WrittenRanges.{MemberIs, PointIs, PointLoose, PointsAre, PointsLoose, SetIs, SetLoose, UpTo, next_member, next_point}
+use Rattle.bound_certificate.proofs.Parts.{Anything, NoDigit, ranged, reads-made, reads-point}
 
 abbrev is_empty : List ℕ → Bool
 is_empty [] = true
@@ -127,16 +113,6 @@ module _ (g : Network) where
       follows [] rest is any = tt
       follows (x ∷ xs) rest is any =
           subst (BeginsOtherwise 45) (sym (append_assoc (decimal x) (ended_text 44 32 [] (λ n. decimal n) xs) rest)) (no_minus x (ended_text 44 32 [] (λ n. decimal n) xs ++ rest) is.0.0)
-
--- the points of a label
-abbrev pub next_point : Option (ℕ × ℕ) → ℕ × ℕ → Option (ℕ × ℕ)
-next_point before point = Some point
-
-abbrev pub PointsAre : Network → List (ℕ × ℕ) → Type 0
-PointsAre g points = ConsFrom (PointIs g None) (λ first. AllFrom (PointIs g) next_point (Some first)) points
-
-abbrev pub PointsLoose : Network → List (ℕ × ℕ) → Type 0
-PointsLoose g points = ConsLoose (PointLoose g) (All (PointLoose g)) points
 
 abbrev points_text : List (ℕ × ℕ) → List ℕ
 points_text points = cons_text point_text (ended_text 32 10 [] point_text) points

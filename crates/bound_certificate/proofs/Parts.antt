@@ -1,5 +1,5 @@
 -- The readers of parts of a certificate read exactly their texts.
-use Rattle.std.proofs.Common.{◌≡◌, ℕ, ◌^◌, ◌<◌, ◌≤◌, Bool, true, ◌&&◌, not, List, [], ◌∷◌, ◌++◌, Option, decimal, codes, nat_eq, refl, sym, subst, append-nil, arith}
+use Rattle.std.proofs.Common.{◌≡◌, ℕ, ◌^◌, ◌<◌, Bool, ◌&&◌, not, List, [], ◌∷◌, ◌++◌, Option, decimal, codes, nat_eq, refl, sym, subst, append-nil, arith}
 use Rattle.ev_model.specs.Network.{Network, scaled_limit}
 use Rattle.ev_text.specs.Numerals.{BeginsWithoutDigit}
 use Rattle.ev_text.specs.Readers.{answer, behind_word, number_where, then_reads}
@@ -10,18 +10,13 @@ use Rattle.ev_text.proofs.ReadingLaws.{Reads, reads-answer, reads-as, reads-behi
 use Rattle.route_plan.specs.Limits.{greatest_number}
 use Rattle.bound_certificate.specs.CertificateTexts.{pair_text, point_text}
 use Rattle.bound_certificate.specs.Reading.{is_higher, is_later, is_place, node_where, pair_at, point_at, rises_from}
+use Rattle.bound_certificate.specs.WrittenRanges.{Keeping, PairFits, PairLoose, PointIs, PointLoose, UpTo}
 
 abbrev pub Anything : {A : Type 0} → A → List ℕ → Type 0
 Anything value rest = Unit {0}
 
 abbrev pub NoDigit : {A : Type 0} → A → List ℕ → Type 0
 NoDigit value rest = BeginsWithoutDigit rest
-
-abbrev pub UpTo : ℕ → ℕ → Type 0
-UpTo limit n = n ≤ limit
-
-abbrev pub Keeping : ℕ → (ℕ → Bool) → ℕ → Type 0
-Keeping limit keeps n = (n ≤ limit) × (keeps n ≡ true)
 
 shorter : (at : ℕ) (text more : List ℕ) → StandsUnlessLonger (TooLarge at) text more → IsLonger at text more → ⊥
 shorter at text more still longer = still longer
@@ -41,15 +36,6 @@ reads-made {B} own P Q fits loose only =
       before = λ b rest is before. tt;
     })
     (reads-answer StandsUnlessLonger own)
-
--- a forbidden pair behind another
-pub record PairFits (g : Network) (last : Option (ℕ × ℕ)) (p : ℕ × ℕ) : Type 0 where
-  pub first : Keeping greatest_number (is_place g) p.0
-  pub second : Keeping greatest_number (λ j. is_place g j && (not (nat_eq p.0 j) && rises_from last (p.0, j))) p.1
-
-pub record PairLoose (p : ℕ × ℕ) : Type 0 where
-  pub first : p.0 ≤ greatest_number
-  pub second : p.1 ≤ greatest_number
 
 module _ (g : Network) (last : Option (ℕ × ℕ)) where
   abbrev second_keeps : ℕ → ℕ → Bool
@@ -89,15 +75,6 @@ module _ (g : Network) (last : Option (ℕ × ℕ)) where
       (λ p fits. record { first = fits.first.0; second = fits.second.0 })
       (λ i small. ((i, 0), (record { first = small; second = omega arith }, refl)))
       (λ p rest fits any. refl))
-
--- a level with its time, behind another
-pub record PointIs (g : Network) (last : Option (ℕ × ℕ)) (p : ℕ × ℕ) : Type 0 where
-  pub level : Keeping g.capacity (is_higher last) p.0
-  pub time : Keeping (scaled_limit g) (is_later last p.0) p.1
-
-pub record PointLoose (g : Network) (p : ℕ × ℕ) : Type 0 where
-  pub level : p.0 ≤ g.capacity
-  pub time : p.1 ≤ scaled_limit g
 
 module _ (g : Network) (small_capacity : g.capacity < 10 ^ 64) (small_limit : scaled_limit g < 10 ^ 64) (last : Option (ℕ × ℕ)) where
   abbrev WithLevel : ℕ → ℕ × ℕ → Type 0

@@ -4,26 +4,20 @@ use Rattle.std.specs.Char.{is_ascii_digit}
 use Rattle.ev_model.specs.Network.{Network}
 use Rattle.ev_text.specs.Readers.{answer, behind_word, choice_at, then_reads}
 use Rattle.ev_text.specs.Scans.{whole_at}
-use Rattle.ev_text.specs.Texts.{StandsUnlessLonger, optional_text}
+use Rattle.ev_text.specs.Texts.{AreLooseRun, AreRun, StandsUnlessLonger, optional_text}
 use Rattle.ev_text.proofs.ChoiceLaws.{BeforeChoice, other_word, reader-choice}
 use Rattle.ev_text.proofs.ReadingLaws.{Reads, reads-as, reads-behind, reads-reader, reads-then}
 use Rattle.ev_text.proofs.Readings.{first_digit}
-use Rattle.ev_text.proofs.RunLaws.{AreLooseRun, AreRun}
 use Rattle.bound_certificate.specs.CertificateTexts.{basis_text, bound_text, entry_text}
 use Rattle.bound_certificate.specs.Limits.{greatest_bound}
 use Rattle.bound_certificate.specs.Ranges.{customer_count}
 use Rattle.bound_certificate.specs.Reading.{basis_at, bound_at, bound_behind, entry_at}
-use Rattle.bound_certificate.specs.declared.certificate.BasisEntry.{BasisEntry}
 use Rattle.bound_certificate.specs.declared.certificate.BasisEntry.TheVariants.{Helper}
+use Rattle.bound_certificate.specs.WrittenRanges.{BoundIs, EntryIs, EntryLoose, UpTo, next_entry}
 use Rattle.bound_certificate.proofs.ItemLines.{reads-line}
-use Rattle.bound_certificate.proofs.Parts.{Anything, NoDigit, UpTo, reads-made}
-use Rattle.bound_certificate.proofs.RootParts.{EntryIs, EntryLoose, reads-entry}
+use Rattle.bound_certificate.proofs.Parts.{Anything, NoDigit, reads-made}
+use Rattle.bound_certificate.proofs.RootParts.{reads-entry}
 use Rattle.bound_certificate.proofs.SectionLines.{upto}
-
--- the bound, or none
-abbrev pub BoundIs : Option ℕ → Type 0
-BoundIs None = Unit {0}
-BoundIs (Some bound) = bound ≤ greatest_bound
 
 abbrev is_none : Option ℕ → Bool
 is_none None = true
@@ -93,10 +87,6 @@ reads-bound =
     differs : (bound : Option ℕ) (rest : List ℕ) → BoundIs bound → Anything bound rest → BeforeChoice none_line (is_none bound) (behind_none (is_none bound) bound ++ rest)
     differs None rest is any = tt
     differs (Some bound) rest is any = number_differs bound rest is
-
--- the line of a basis
-abbrev pub next_entry : List BasisEntry → BasisEntry → List BasisEntry
-next_entry earlier entry = entry ∷ earlier
 
 pub reads-basis : (g : Network) (columns : ℕ) → Reads StandsUnlessLonger (basis_at g columns) basis_text (AreRun (EntryIs g columns) next_entry (customer_count g) []) (AreLooseRun EntryLoose (customer_count g)) Anything
 reads-basis g columns =

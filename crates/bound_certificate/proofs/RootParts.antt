@@ -12,17 +12,18 @@ use Rattle.ev_text.proofs.ReadingLaws.{Reads, reads-as, reads-behind, reads-read
 use Rattle.ev_text.proofs.Readings.{first_digit}
 use Rattle.route_plan.specs.Limits.{greatest_number}
 use Rattle.route_plan.specs.PlanReading.{stop_at}
-use Rattle.route_plan.specs.PlanTexts.{FitsText, IsSmallStop, stop_text}
+use Rattle.route_plan.specs.PlanTexts.{IsSmallStop, stop_text}
 use Rattle.route_plan.specs.declared.plan.RoutePlan.{RoutePlan}
 use Rattle.route_plan.proofs.PlanReaders.{BeforeStop, reader-stop}
 use Rattle.bound_certificate.specs.CertificateTexts.{column_text, entry_text, share_text, stops_text}
 use Rattle.bound_certificate.specs.Limits.{greatest_weight, most_items}
-use Rattle.bound_certificate.specs.Ranges.{same_entry}
+use Rattle.bound_certificate.specs.Ranges.{ColumnFits, same_entry}
 use Rattle.bound_certificate.specs.Reading.{column_at, entry_at, entry_behind, is_customer_node, node_where, plan_line, share_at, weight_at}
 use Rattle.bound_certificate.specs.declared.certificate.BasisEntry.{BasisEntry}
 use Rattle.bound_certificate.specs.declared.certificate.BasisEntry.TheVariants.{Helper, Column}
 use Rattle.bound_certificate.specs.declared.certificate.Share.{Share}
-use Rattle.bound_certificate.proofs.Parts.{Anything, Keeping, NoDigit, UpTo, ranged, reads-made}
+use Rattle.bound_certificate.specs.WrittenRanges.{EntryIs, EntryLoose, Keeping, ShareIs, ShareLoose, UpTo}
+use Rattle.bound_certificate.proofs.Parts.{Anything, NoDigit, ranged, reads-made}
 
 -- the stops of a plan, up to the end of the line
 
@@ -46,34 +47,22 @@ stops_read =
     reads-reader StandsUnlessLonger (list_at (codes " ") (10 ∷ []) stop_at) stops_line StopsAre Anything
     (reader-parted 32 10 [] stop_at stop_text IsSmallStop BeforeStop reader-stop ten_differs before_space before_feed)
 
-abbrev pub PlanIs : RoutePlan → Type 0
-PlanIs p = FitsText p.stops
-
 abbrev PlanOf : List Stop → RoutePlan → Type 0
-PlanOf stops p = PlanIs p × (p.stops ≡ stops)
+PlanOf stops p = ColumnFits p × (p.stops ≡ stops)
 
-pub reads-plan : Reads StandsUnlessLonger plan_line stops_text PlanIs PlanIs Anything
+pub reads-plan : Reads StandsUnlessLonger plan_line stops_text ColumnFits ColumnFits Anything
 reads-plan =
-    reads-as StandsUnlessLonger plan_line (λ p. stops_text p ++ []) stops_text PlanIs PlanIs PlanIs PlanIs Anything Anything
+    reads-as StandsUnlessLonger plan_line (λ p. stops_text p ++ []) stops_text ColumnFits ColumnFits ColumnFits ColumnFits Anything Anything
     (record { texts = λ p is. append-nil (stops_text p); to = λ p is. is; from = λ p is. is; to_loose = λ p is. is; before = λ p rest is any. tt })
-    (reads-then StandsUnlessLonger (list_at (codes " ") (10 ∷ []) stop_at) (λ stops. answer (record { stops = stops })) stops_line (λ stops p. []) StopsAre StopsAre PlanIs PlanIs Anything Anything (λ p. p.stops) stops_read
+    (reads-then StandsUnlessLonger (list_at (codes " ") (10 ∷ []) stop_at) (λ stops. answer (record { stops = stops })) stops_line (λ stops p. []) StopsAre StopsAre ColumnFits ColumnFits Anything Anything (λ p. p.stops) stops_read
     (λ stops are. reads-made (record { stops = stops }) (PlanOf stops) (PlanOf stops) (record { some = are.0; small = are.1 }, refl) (record { some = are.0; small = are.1 }, refl) (λ p is. λ i. record { stops = is.1 i }))
     (λ p is. (is.some, is.small))
     (λ p is. is)
     (λ stops are. (record { stops = stops }, (record { some = are.0; small = are.1 }, refl)))
     (λ p rest is any. tt))
 
-pub reads-column : Reads StandsUnlessLonger column_at column_text PlanIs PlanIs Anything
-reads-column = reads-behind StandsUnlessLonger 99 (codes "olumn ") plan_line stops_text PlanIs PlanIs Anything reads-plan
-
--- a route with its share
-pub record ShareIs (x : Share) : Type 0 where
-  pub share : Keeping greatest_weight (λ n. nat_le 1 n) x.share
-  pub plan : PlanIs x.plan
-
-pub record ShareLoose (x : Share) : Type 0 where
-  pub share : x.share ≤ greatest_weight
-  pub plan : PlanIs x.plan
+pub reads-column : Reads StandsUnlessLonger column_at column_text ColumnFits ColumnFits Anything
+reads-column = reads-behind StandsUnlessLonger 99 (codes "olumn ") plan_line stops_text ColumnFits ColumnFits Anything reads-plan
 
 abbrev OfShare : ℕ → Share → Type 0
 OfShare share x = ShareIs x × (x.share ≡ share)
@@ -85,7 +74,7 @@ share_part : (share : ℕ) → Keeping greatest_weight (λ n. nat_le 1 n) share 
 share_part share is_share =
     reads-as StandsUnlessLonger (then_reads plan_line (λ plan. answer (record { share = share; plan = plan }))) (λ x. stops_text x.plan ++ []) (λ x. stops_text x.plan) (OfShare share) (OfShare share) (LooseOfShare share) (LooseOfShare share) Anything Anything
     (record { texts = λ x is. append-nil (stops_text x.plan); to = λ x is. is; from = λ x is. is; to_loose = λ x is. is; before = λ x rest is any. tt })
-    (reads-then StandsUnlessLonger plan_line (λ plan. answer (record { share = share; plan = plan })) stops_text (λ plan x. []) PlanIs PlanIs (OfShare share) (LooseOfShare share) Anything Anything (λ x. x.plan) reads-plan
+    (reads-then StandsUnlessLonger plan_line (λ plan. answer (record { share = share; plan = plan })) stops_text (λ plan x. []) ColumnFits ColumnFits (OfShare share) (LooseOfShare share) Anything Anything (λ x. x.plan) reads-plan
     (λ plan is. reads-made (record { share = share; plan = plan }) (λ x. OfShare share x × (x.plan ≡ plan)) (λ x. LooseOfShare share x × (x.plan ≡ plan))
     ((record { share = is_share; plan = is }, refl), refl) ((record { share = is_share.0; plan = is }, refl), refl) (λ x has. λ i. record { share = has.0.1 i; plan = has.1 i }))
     (λ x is. is.0.plan)
@@ -111,14 +100,6 @@ helper_keeps g earlier node = is_customer_node g node && not (list_any (same_ent
 
 abbrev column_keeps : ℕ → List BasisEntry → ℕ → Bool
 column_keeps columns earlier number = nat_lt number columns && not (list_any (same_entry (Column number)) earlier)
-
-abbrev pub EntryIs : Network → ℕ → List BasisEntry → BasisEntry → Type 0
-EntryIs g columns earlier (Helper node) = Keeping greatest_number (λ n. is_customer_node g n && not (list_any (same_entry (Helper n)) earlier)) node
-EntryIs g columns earlier (Column number) = Keeping most_items (λ n. nat_lt n columns && not (list_any (same_entry (Column n)) earlier)) number
-
-abbrev pub EntryLoose : BasisEntry → Type 0
-EntryLoose (Helper node) = UpTo greatest_number node
-EntryLoose (Column number) = UpTo most_items number
 
 abbrev is_helper : BasisEntry → Bool
 is_helper (Helper node) = true

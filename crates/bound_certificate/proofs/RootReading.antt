@@ -5,34 +5,25 @@ use Rattle.std.specs.List.{All}
 use Rattle.ev_model.specs.Network.{Network}
 use Rattle.ev_text.specs.Readers.{answer, behind_word, choice_at, so_many, then_reads}
 use Rattle.ev_text.specs.Scans.{whole_at}
-use Rattle.ev_text.specs.Texts.{StandsUnlessLonger, joined_texts, optional_text}
+use Rattle.ev_text.specs.Texts.{AreLooseRun, AreRun, StandsUnlessLonger, joined_texts, optional_text}
 use Rattle.ev_text.proofs.ChoiceLaws.{BeforeChoice, reader-choice}
 use Rattle.ev_text.proofs.ReadingLaws.{Reads, reads-as, reads-behind, reads-reader, reads-then}
-use Rattle.ev_text.proofs.RunLaws.{AreLooseRun, AreRun, reads-so_many}
+use Rattle.ev_text.proofs.RunLaws.{reads-so_many}
 use Rattle.route_plan.specs.declared.plan.RoutePlan.{RoutePlan}
 use Rattle.bound_certificate.specs.CertificateTexts.{basis_text, column_text, root_text, share_text}
 use Rattle.bound_certificate.specs.Limits.{greatest_weight, most_items}
-use Rattle.bound_certificate.specs.Ranges.{customer_count}
+use Rattle.bound_certificate.specs.Ranges.{ColumnFits, customer_count}
 use Rattle.bound_certificate.specs.Reading.{basis_at, column_at, exact_at, exact_or_wide, none_or_other, root_at, share_at, weight_at, wide_at}
 use Rattle.bound_certificate.specs.declared.certificate.BasisEntry.{BasisEntry}
 use Rattle.bound_certificate.specs.declared.certificate.Root.{Root}
 use Rattle.bound_certificate.specs.declared.certificate.Root.TheVariants as root
 use Rattle.bound_certificate.specs.declared.certificate.Share.{Share}
+use Rattle.bound_certificate.specs.WrittenRanges.{EntryIs, EntryLoose, Keeping, RootIs, RootLoose, ShareIs, ShareLoose, UpTo, next_entry}
 use Rattle.bound_certificate.proofs.ItemLines.{loose_length, own_length}
-use Rattle.bound_certificate.proofs.Parts.{Anything, Keeping, NoDigit, UpTo, ranged, reads-made}
-use Rattle.bound_certificate.proofs.RootLines.{next_entry, reads-basis}
-use Rattle.bound_certificate.proofs.RootParts.{EntryIs, EntryLoose, PlanIs, ShareIs, ShareLoose, reads-column, reads-share}
+use Rattle.bound_certificate.proofs.Parts.{Anything, NoDigit, ranged, reads-made}
+use Rattle.bound_certificate.proofs.RootLines.{reads-basis}
+use Rattle.bound_certificate.proofs.RootParts.{reads-column, reads-share}
 use Rattle.bound_certificate.proofs.SectionLines.{upto}
-
-abbrev pub RootIs : Network → Root → Type 0
-RootIs g root.None = Unit {0}
-RootIs g (root.Exact over shares) = Keeping greatest_weight (λ n. nat_le 1 n) over × (length shares ≤ most_items) × All ShareIs shares
-RootIs g (root.Wide columns basis) = (length columns ≤ most_items) × All PlanIs columns × AreRun (EntryIs g (length columns)) next_entry (customer_count g) [] basis
-
-abbrev pub RootLoose : Network → Root → Type 0
-RootLoose g root.None = Unit {0}
-RootLoose g (root.Exact over shares) = (over ≤ greatest_weight) × (length shares ≤ most_items) × AreLooseRun ShareLoose (length shares) shares
-RootLoose g (root.Wide columns basis) = (length columns ≤ most_items) × AreLooseRun PlanIs (length columns) columns × AreLooseRun EntryLoose (customer_count g) basis
 
 abbrev says_none : Root → Bool
 says_none root.None = true
@@ -77,8 +68,8 @@ other_behind front b c word rest other = (
 shares_read : (count : ℕ) → Reads StandsUnlessLonger (so_many count share_at) (joined_texts share_text) (λ shares. All ShareIs shares × (length shares ≡ count)) (AreLooseRun ShareLoose count) Anything
 shares_read count = reads-so_many StandsUnlessLonger share_at share_text ShareIs ShareLoose Anything reads-share (λ x rest. tt) count
 
-columns_read : (count : ℕ) → Reads StandsUnlessLonger (so_many count column_at) (joined_texts column_text) (λ columns. All PlanIs columns × (length columns ≡ count)) (AreLooseRun PlanIs count) Anything
-columns_read count = reads-so_many StandsUnlessLonger column_at column_text PlanIs PlanIs Anything reads-column (λ p rest. tt) count
+columns_read : (count : ℕ) → Reads StandsUnlessLonger (so_many count column_at) (joined_texts column_text) (λ columns. All ColumnFits columns × (length columns ≡ count)) (AreLooseRun ColumnFits count) Anything
+columns_read count = reads-so_many StandsUnlessLonger column_at column_text ColumnFits ColumnFits Anything reads-column (λ p rest. tt) count
 
 module _ (g : Network) where
   loosened : (r : Root) → RootIs g r → RootLoose g r
@@ -189,7 +180,7 @@ module _ (g : Network) where
   abbrev LooseColumns : ℕ → List RoutePlan → Root → Type 0
   LooseColumns count columns r = LooseColumnCount count r × (columns_of r ≡ columns)
 
-  wide_columns : (r : Root) → Other false r → (length (columns_of r) ≤ most_items) × All PlanIs (columns_of r)
+  wide_columns : (r : Root) → Other false r → (length (columns_of r) ≤ most_items) × All ColumnFits (columns_of r)
   wide_columns root.None is = absurd (let no = is.0.1 in cc)
   wide_columns (root.Exact over shares) is = absurd (let no = is.1 in cc)
   wide_columns (root.Wide columns basis) is = (is.0.0.0, is.0.0.1)
@@ -204,12 +195,12 @@ module _ (g : Network) where
   only_wide count columns basis (root.Exact over shares) is = absurd (let no = is.0.0.0.1 in cc)
   only_wide count columns basis (root.Wide cs bs) is = λ i. root.Wide (is.0.1 i) (is.1 i)
 
-  loose_wide : (count : ℕ) (columns : List RoutePlan) (basis : List BasisEntry) → count ≤ most_items → AreLooseRun PlanIs count columns → AreLooseRun EntryLoose (customer_count g) basis → LooseColumnCount count (root.Wide columns basis)
+  loose_wide : (count : ℕ) (columns : List RoutePlan) (basis : List BasisEntry) → count ≤ most_items → AreLooseRun ColumnFits count columns → AreLooseRun EntryLoose (customer_count g) basis → LooseColumnCount count (root.Wide columns basis)
   loose_wide count columns basis few loose entries =
-      let many = loose_length PlanIs count columns loose in
-      ((((omega (arith, many, few), own_length PlanIs count columns loose, entries), refl), refl), many)
+      let many = loose_length ColumnFits count columns loose in
+      ((((omega (arith, many, few), own_length ColumnFits count columns loose, entries), refl), refl), many)
 
-  basis_part : (count : ℕ) (columns : List RoutePlan) → count ≤ most_items → All PlanIs columns × (length columns ≡ count)
+  basis_part : (count : ℕ) (columns : List RoutePlan) → count ≤ most_items → All ColumnFits columns × (length columns ≡ count)
       → Reads StandsUnlessLonger (then_reads (basis_at g count) (λ basis. answer (root.Wide columns basis))) (λ r. basis_text (basis_of r)) (WithColumns count columns) (LooseColumns count columns) Anything
   basis_part count columns few are =
       reads-as StandsUnlessLonger (then_reads (basis_at g count) (λ basis. answer (root.Wide columns basis))) (λ r. basis_text (basis_of r) ++ []) (λ r. basis_text (basis_of r)) (WithColumns count columns) (WithColumns count columns) (LooseColumns count columns) (LooseColumns count columns) Anything Anything
@@ -228,7 +219,7 @@ module _ (g : Network) where
       → Reads StandsUnlessLonger (then_reads (so_many count column_at) (λ columns. then_reads (basis_at g count) (λ basis. answer (root.Wide columns basis)))) (λ r. joined_texts column_text (columns_of r) ++ basis_text (basis_of r)) (WithColumnCount count) (LooseColumnCount count) Anything
   columns_part count few =
       reads-then StandsUnlessLonger (so_many count column_at) (λ columns. then_reads (basis_at g count) (λ basis. answer (root.Wide columns basis))) (joined_texts column_text) (λ columns r. basis_text (basis_of r))
-      (λ columns. All PlanIs columns × (length columns ≡ count)) (AreLooseRun PlanIs count) (WithColumnCount count) (LooseColumnCount count) Anything Anything columns_of (columns_read count)
+      (λ columns. All ColumnFits columns × (length columns ≡ count)) (AreLooseRun ColumnFits count) (WithColumnCount count) (LooseColumnCount count) Anything Anything columns_of (columns_read count)
       (λ columns are. basis_part count columns few are)
       (λ r is. ((wide_columns r is.0).1, is.1))
       (λ r is. (loosened_other false r is.0, is.1))

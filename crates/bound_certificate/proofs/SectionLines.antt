@@ -1,45 +1,24 @@
 -- The reader of a section reads exactly its lines.
-use Rattle.std.proofs.Common.{◌≡◌, ℕ, ◌^◌, ◌<◌, ◌≤◌, ℤ, pos, List, [], ◌∷◌, ◌++◌, Option, None, Some, decimal, codes, length, refl, append_assoc, append-nil, arith, unsigned_abs}
+use Rattle.std.proofs.Common.{◌≡◌, ℕ, ◌^◌, ◌<◌, ◌≤◌, ℤ, pos, List, [], ◌∷◌, ◌++◌, None, Some, decimal, codes, length, refl, append_assoc, append-nil, arith}
 use Rattle.std.specs.Fmt.{signed_decimal}
 use Rattle.std.specs.List.{All}
 use Rattle.ev_model.specs.Network.{Network, scaled_limit}
 use Rattle.ev_text.specs.Readers.{Reader, answer, behind_word, many_from, signed_at, so_many, then_reads}
 use Rattle.ev_text.specs.Scans.{whole_at}
-use Rattle.ev_text.specs.Texts.{AllFrom, StandsUnlessLonger, joined_texts}
+use Rattle.ev_text.specs.Texts.{AreLooseRun, AreRun, StandsUnlessLonger, joined_texts}
 use Rattle.ev_text.proofs.ReaderLaws.{reader-number}
 use Rattle.ev_text.proofs.ReadingLaws.{Reads, reads-as, reads-behind, reads-reader, reads-then}
-use Rattle.ev_text.proofs.RunLaws.{AreLooseRun, AreRun, reads-many, reads-so_many}
+use Rattle.ev_text.proofs.RunLaws.{reads-many, reads-so_many}
 use Rattle.ev_text.proofs.SignedLaws.{reads-signed}
 use Rattle.bound_certificate.specs.CertificateTexts.{label_text, pair_text, prices_text, section_text}
 use Rattle.bound_certificate.specs.Limits.{greatest_price, greatest_weight, most_items, most_pairs}
-use Rattle.bound_certificate.specs.Ranges.{customer_count}
+use Rattle.bound_certificate.specs.Ranges.{IsPrice, customer_count}
 use Rattle.bound_certificate.specs.Reading.{label_at, line_of, pair_at, section_at, section_behind}
 use Rattle.bound_certificate.specs.Written.{WrittenLabel, WrittenSection}
+use Rattle.bound_certificate.specs.WrittenRanges.{LabelIs, LabelLoose, PairFits, PairLoose, SectionIs, SectionLoose, UpTo, next_pair}
 use Rattle.bound_certificate.proofs.ItemLines.{loose_length, own_length, reads-line}
-use Rattle.bound_certificate.proofs.LabelLines.{LabelIs, LabelLoose, reads-label}
-use Rattle.bound_certificate.proofs.Parts.{Anything, NoDigit, PairFits, PairLoose, UpTo, reads-made, reads-pair}
-
-abbrev pub PriceIs : ℤ → Type 0
-PriceIs price = unsigned_abs price ≤ greatest_price
-
-abbrev pub next_pair : Option (ℕ × ℕ) → ℕ × ℕ → Option (ℕ × ℕ)
-next_pair before pair = Some pair
-
-pub record SectionIs (g : Network) (s : WrittenSection) : Type 0 where
-  pub weight : s.weight ≤ greatest_weight
-  pub prices : AreRun {S = Unit {0}} (λ none price. PriceIs price) (λ none price. none) (customer_count g) (tt {0}) s.prices
-  pub few_pairs : length s.pairs ≤ most_pairs
-  pub pairs : AllFrom (PairFits g) next_pair None s.pairs
-  pub few_labels : length s.labels ≤ most_items
-  pub labels : All (LabelIs g) s.labels
-
-pub record SectionLoose (g : Network) (s : WrittenSection) : Type 0 where
-  pub weight : s.weight ≤ greatest_weight
-  pub prices : AreLooseRun PriceIs (customer_count g) s.prices
-  pub few_pairs : length s.pairs ≤ most_pairs
-  pub pairs : AreLooseRun PairLoose (length s.pairs) s.pairs
-  pub few_labels : length s.labels ≤ most_items
-  pub labels : AreLooseRun (LabelLoose g) (length s.labels) s.labels
+use Rattle.bound_certificate.proofs.LabelLines.{reads-label}
+use Rattle.bound_certificate.proofs.Parts.{Anything, NoDigit, reads-made, reads-pair}
 
 -- a number up to a limit
 pub upto : (limit : ℕ) → limit < 10 ^ 64 → Reads StandsUnlessLonger (whole_at limit) (λ n. decimal n) (UpTo limit) (UpTo limit) NoDigit
@@ -49,9 +28,9 @@ module _ (g : Network) (small_capacity : g.capacity < 10 ^ 64) (small_limit : sc
   abbrev price_line : Reader (List ℤ)
   price_line = line_of {S = Unit {0}} (codes "prices") (λ none. signed_at greatest_price) (λ none price. none) (customer_count g) (tt {0})
 
-  prices_read : Reads StandsUnlessLonger price_line prices_text (AreRun {S = Unit {0}} (λ none price. PriceIs price) (λ none price. none) (customer_count g) (tt {0})) (AreLooseRun PriceIs (customer_count g)) Anything
+  prices_read : Reads StandsUnlessLonger price_line prices_text (AreRun {S = Unit {0}} (λ none price. IsPrice price) (λ none price. none) (customer_count g) (tt {0})) (AreLooseRun IsPrice (customer_count g)) Anything
   prices_read =
-      reads-line {S = Unit {0}} 112 (codes "rices") (λ none. signed_at greatest_price) (λ none price. none) signed_decimal (λ none price. PriceIs price) PriceIs (pos 0, omega arith)
+      reads-line {S = Unit {0}} 112 (codes "rices") (λ none. signed_at greatest_price) (λ none price. none) signed_decimal (λ none price. IsPrice price) IsPrice (pos 0, omega arith)
       (λ none. reads-signed StandsUnlessLonger (λ at text more still longer. still longer) greatest_price (omega arith) (omega arith)) (customer_count g) (tt {0})
 
   pairs_read : (count : ℕ) → Reads StandsUnlessLonger (many_from (pair_at g) (λ before pair. Some pair) count None) (joined_texts pair_text) (AreRun (PairFits g) next_pair count None) (AreLooseRun PairLoose count) Anything
@@ -96,7 +75,7 @@ module _ (g : Network) (small_capacity : g.capacity < 10 ^ 64) (small_limit : sc
   }
 
   -- a loose section with these parts
-  loosely : (w : ℕ) (prices : List ℤ) (p l : ℕ) → w ≤ greatest_weight → AreLooseRun PriceIs (customer_count g) prices → p ≤ most_pairs → l ≤ most_items → (s : WrittenSection) × LoosePrices w p l prices s
+  loosely : (w : ℕ) (prices : List ℤ) (p l : ℕ) → w ≤ greatest_weight → AreLooseRun IsPrice (customer_count g) prices → p ≤ most_pairs → l ≤ most_items → (s : WrittenSection) × LoosePrices w p l prices s
   loosely w prices p l small price_are few_pairs few_labels =
       let pairs = (pairs_read p).example in
       let labels = (labels_read l).example in
@@ -132,7 +111,7 @@ module _ (g : Network) (small_capacity : g.capacity < 10 ^ 64) (small_limit : sc
   LoosePairs w p l prices pairs s = LoosePrices w p l prices s × (s.pairs ≡ pairs)
 
   labels_part : (w p l : ℕ) (prices : List ℤ) (pairs : List (ℕ × ℕ)) → w ≤ greatest_weight → p ≤ most_pairs → l ≤ most_items
-      → AreRun {S = Unit {0}} (λ none price. PriceIs price) (λ none price. none) (customer_count g) (tt {0}) prices → AreRun (PairFits g) next_pair p None pairs
+      → AreRun {S = Unit {0}} (λ none price. IsPrice price) (λ none price. none) (customer_count g) (tt {0}) prices → AreRun (PairFits g) next_pair p None pairs
       → Reads StandsUnlessLonger (then_reads (so_many l (label_at g)) (λ labels. answer (record { weight = w; prices = prices; pairs = pairs; labels = labels }))) (λ s. joined_texts label_text s.labels)
       (λ s. WithPrices w p l prices s × (s.pairs ≡ pairs)) (λ s. LoosePrices w p l prices s × (s.pairs ≡ pairs)) Anything
   labels_part w p l prices pairs small few_pairs few_labels price_are pairs_are =
@@ -176,7 +155,7 @@ module _ (g : Network) (small_capacity : g.capacity < 10 ^ 64) (small_limit : sc
             refl,
           )
 
-  loose_made : (w p l : ℕ) (prices : List ℤ) (pairs : List (ℕ × ℕ)) (labels : List WrittenLabel) → w ≤ greatest_weight → AreLooseRun PriceIs (customer_count g) prices → p ≤ most_pairs → AreLooseRun PairLoose p pairs → l ≤ most_items → AreLooseRun (LabelLoose g) l labels
+  loose_made : (w p l : ℕ) (prices : List ℤ) (pairs : List (ℕ × ℕ)) (labels : List WrittenLabel) → w ≤ greatest_weight → AreLooseRun IsPrice (customer_count g) prices → p ≤ most_pairs → AreLooseRun PairLoose p pairs → l ≤ most_items → AreLooseRun (LabelLoose g) l labels
       → LoosePairs w p l prices pairs (record { weight = w; prices = prices; pairs = pairs; labels = labels })
   loose_made w p l prices pairs labels small price_are few_pairs pairs_are few_labels labels_are =
       let many_pairs = loose_length PairLoose p pairs pairs_are in
@@ -205,7 +184,7 @@ module _ (g : Network) (small_capacity : g.capacity < 10 ^ 64) (small_limit : sc
       )
 
   pairs_part : (w p l : ℕ) (prices : List ℤ) → w ≤ greatest_weight → p ≤ most_pairs → l ≤ most_items
-      → AreRun {S = Unit {0}} (λ none price. PriceIs price) (λ none price. none) (customer_count g) (tt {0}) prices
+      → AreRun {S = Unit {0}} (λ none price. IsPrice price) (λ none price. none) (customer_count g) (tt {0}) prices
       → Reads StandsUnlessLonger (then_reads (many_from (pair_at g) (λ before pair. Some pair) p None) (λ pairs. then_reads (so_many l (label_at g)) (λ labels. answer (record { weight = w; prices = prices; pairs = pairs; labels = labels }))))
       (λ s. joined_texts pair_text s.pairs ++ joined_texts label_text s.labels) (WithPrices w p l prices) (LoosePrices w p l prices) Anything
   pairs_part w p l prices small few_pairs few_labels price_are =
@@ -226,7 +205,7 @@ module _ (g : Network) (small_capacity : g.capacity < 10 ^ 64) (small_limit : sc
   prices_part : (w p l : ℕ) → w ≤ greatest_weight → p ≤ most_pairs → l ≤ most_items → Reads StandsUnlessLonger (section_behind g w p l) behind_counts (WithCounts w p l) (LooseCounts w p l) Anything
   prices_part w p l small few_pairs few_labels =
       reads-then StandsUnlessLonger price_line (λ prices. then_reads (many_from (pair_at g) (λ before pair. Some pair) p None) (λ pairs. then_reads (so_many l (label_at g)) (λ labels. answer (record { weight = w; prices = prices; pairs = pairs; labels = labels }))))
-      prices_text (λ prices s. joined_texts pair_text s.pairs ++ joined_texts label_text s.labels) (AreRun {S = Unit {0}} (λ none price. PriceIs price) (λ none price. none) (customer_count g) (tt {0})) (AreLooseRun PriceIs (customer_count g))
+      prices_text (λ prices s. joined_texts pair_text s.pairs ++ joined_texts label_text s.labels) (AreRun {S = Unit {0}} (λ none price. IsPrice price) (λ none price. none) (customer_count g) (tt {0})) (AreLooseRun IsPrice (customer_count g))
       (WithCounts w p l) (LooseCounts w p l) Anything Anything (λ s. s.prices) prices_read (λ prices are. pairs_part w p l prices small few_pairs few_labels are)
       (λ s is. is.0.0.0.prices)
       (λ s is. (((loosened s is.0.0.0, is.0.0.1), is.0.1), is.1))

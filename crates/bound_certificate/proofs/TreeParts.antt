@@ -11,18 +11,11 @@ use Rattle.bound_certificate.specs.Limits.{most_items}
 use Rattle.bound_certificate.specs.Reading.{is_customer_node, line_at, node_where, split_or_leaf}
 use Rattle.bound_certificate.specs.declared.certificate.TreeLine.{TreeLine}
 use Rattle.bound_certificate.specs.declared.certificate.TreeLine.TheVariants.{Split, Leaf}
-use Rattle.bound_certificate.proofs.Parts.{Anything, Keeping, NoDigit, UpTo, ranged, reads-made}
+use Rattle.bound_certificate.specs.WrittenRanges.{Keeping, LineIs, LineLoose, UpTo}
+use Rattle.bound_certificate.proofs.Parts.{Anything, NoDigit, ranged, reads-made}
 
 abbrev second_keeps : Network → ℕ → ℕ → Bool
 second_keeps g i j = is_customer_node g j && not (nat_eq i j)
-
-abbrev pub LineIs : Network → ℕ → TreeLine → Type 0
-LineIs g sections (Split i j) = Keeping greatest_number (is_customer_node g) i × Keeping greatest_number (λ m. is_customer_node g m && not (nat_eq i m)) j
-LineIs g sections (Leaf n) = Keeping most_items (λ m. nat_lt m sections) n
-
-abbrev pub LineLoose : TreeLine → Type 0
-LineLoose (Split i j) = UpTo greatest_number i × UpTo greatest_number j
-LineLoose (Leaf n) = UpTo most_items n
 
 abbrev is_split : TreeLine → Bool
 is_split (Split i j) = true

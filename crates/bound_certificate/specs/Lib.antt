@@ -5,3 +5,6 @@ pub mod Written
 pub mod CertificateTexts
 pub mod Meaning
 pub mod Reading
+pub mod WrittenRanges
+pub mod CertificateIn
+pub mod Places

@@ -1,5 +1,5 @@
 -- How the text of a certificate is read from left to right: the certificate as it is written, or the first fault.
-use Rattle.std.specs.Prelude.{ℕ, zero, suc, ◌-◌, ◌%◌, Bool, true, false, ◌&&◌, ◌||◌, not, List, [], ◌∷◌, ◌++◌, Option, None, Some, Err, codes, length, nat_eq, nat_le, nat_lt}
+use Rattle.std.specs.Prelude.{ℕ, zero, suc, ◌-◌, ◌%◌, ℤ, Bool, true, false, ◌&&◌, ◌||◌, not, List, [], ◌∷◌, ◌++◌, Option, None, Some, Err, codes, length, nat_eq, nat_le, nat_lt}
 use Rattle.std.specs.List.{list_any}
 use Rattle.ev_model.specs.Network.{Network, is_customer, node_count, scaled_limit}
 use Rattle.ev_text.specs.Readers.{Reader, answer, behind_word, choice_at, each_from, exactly_from, list_at, many_from, number_where, optional_at, signed_at, so_many, then_reads}
@@ -86,6 +86,15 @@ abbrev pub basis_at : Network → ℕ → Reader (List BasisEntry)
 basis_at g columns =
     line_of (codes "basis") (entry_at g columns) (λ earlier entry. entry ∷ earlier)
     (customer_count g) []
+
+-- so many entries, parted by spaces, up to the end of the line
+abbrev pub entries_at : Network → ℕ → ℕ → Reader (List BasisEntry)
+entries_at g columns zero = behind_word (10 ∷ []) (answer [])
+entries_at g columns (suc count) =
+    then_reads (entry_at g columns []) (λ first.
+    then_reads (exactly_from (codes " ") (10 ∷ []) (entry_at g columns)
+    (λ earlier entry. entry ∷ earlier) count (first ∷ [])) (λ others.
+    answer (first ∷ others)))
 
 abbrev pub exact_at : Reader Root
 exact_at =
@@ -178,11 +187,25 @@ label_at g =
     then_reads (points_at g) (λ points.
     answer (record { last = last; node = node; served = served; points = points }))))))))
 
+-- so many prices, parted by spaces, up to the end of the line
+abbrev pub price_row : ℕ → Reader (List ℤ)
+price_row zero = behind_word (10 ∷ []) (answer [])
+price_row (suc count) =
+    then_reads (signed_at greatest_price) (λ first.
+    then_reads (exactly_from {S = Unit {0}} (codes " ") (10 ∷ []) (λ none. signed_at greatest_price)
+    (λ none price. none) count (tt {0})) (λ others.
+    answer (first ∷ others)))
+
+-- a price for each customer; none depends on another
+abbrev pub prices_at : Network → Reader (List ℤ)
+prices_at g =
+    line_of (codes "prices") (λ none. signed_at greatest_price) (λ none price. none)
+    (customer_count g) (tt {0})
+
 -- the lines of a section behind the first, which has the counts
 abbrev pub section_behind : Network → ℕ → ℕ → ℕ → Reader WrittenSection
 section_behind g weight pairs labels =
-    then_reads (line_of (codes "prices") (λ none. signed_at greatest_price) (λ none price. none)
-    (customer_count g) (tt {0})) (λ prices.
+    then_reads (prices_at g) (λ prices.
     then_reads (many_from (pair_at g) (λ before pair. Some pair) pairs None) (λ pairs.
     then_reads (so_many labels (label_at g)) (λ labels.
     answer (record { weight = weight; prices = prices; pairs = pairs; labels = labels }))))

@@ -8,7 +8,10 @@ mod text;
 
 pub use certificate::{BasisEntry, Certificate, Root, Section, Share, TreeLine};
 pub use laws::fitting_certificates_have_sections_and_a_tree;
-pub use text::push_certificate;
+pub use text::{
+    CertText, certificate_faults_are_first, push_certificate, read_certificate,
+    texts_spell_certificates, written_certificates_are_read,
+};
 
 #[cfg(test)]
 mod tests;

@@ -14,13 +14,16 @@ mod section;
 mod tree;
 
 use crate::certificate::{Certificate, Section};
+pub(crate) use basis::stands_in;
 use instance_reader::Instance;
+pub(crate) use label::scaled_limit;
 use root::root_fits;
 use section::section_fits;
+pub(crate) use tree::open_behind;
 use tree::{is_whole_tree, lines_fit};
 
 /// The greatest bound.
-const GREATEST_BOUND: u128 = 1 << 96;
+pub(crate) const GREATEST_BOUND: u128 = 1 << 96;
 
 impl Certificate {
     /// Whether the certificate is in the ranges of an instance of at most 128 customers, and its tree is one whole

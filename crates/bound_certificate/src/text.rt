@@ -1,5 +1,16 @@
 //! The text of certificates.
 
+mod cert_text;
+mod laws;
+mod reading;
 mod writing;
 
+pub use cert_text::CertText;
+pub use laws::{
+    certificate_faults_are_first, texts_spell_certificates, written_certificates_are_read,
+};
+pub use reading::read_certificate;
 pub use writing::push_certificate;
+
+#[cfg(test)]
+mod tests;

@@ -11,6 +11,7 @@ pub mod WholeLaws
 pub mod ListLaws
 pub mod MarkedLaws
 pub mod Loops
+pub mod RunLoops
 pub mod ReadingLaws
 pub mod RangedNumbers
 pub mod RunLaws

@@ -13,11 +13,11 @@ use Rattle.ev_text.proofs.Results.{no_bytes}
 abbrev pub in_front : {A : Type 0} → List A → Result (List A × (List ℕ × ℕ)) TextFault → Result (List A × (List ℕ × ℕ)) TextFault
 in_front items rest = and_then rest (λ found. Ok (items ++ found.0, found.1))
 
-in_front-twice : {A : Type 0} (items : List A) (item : A) (rest : Result (List A × (List ℕ × ℕ)) TextFault) → in_front items (in_front (item ∷ []) rest) ≡ in_front (items ++ item ∷ []) rest
+pub in_front-twice : {A : Type 0} (items : List A) (item : A) (rest : Result (List A × (List ℕ × ℕ)) TextFault) → in_front items (in_front (item ∷ []) rest) ≡ in_front (items ++ item ∷ []) rest
 in_front-twice items item (Ok found) = ap (λ xs. Ok (xs, found.1)) (sym (append_assoc items (item ∷ []) found.0))
 in_front-twice items item (Err fault) = refl
 
-in_front-none : {A : Type 0} (rest : Result (List A × (List ℕ × ℕ)) TextFault) → in_front [] rest ≡ rest
+pub in_front-none : {A : Type 0} (rest : Result (List A × (List ℕ × ℕ)) TextFault) → in_front [] rest ≡ rest
 in_front-none (Ok found) = refl
 in_front-none (Err fault) = refl
 

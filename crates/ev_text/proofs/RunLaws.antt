@@ -3,20 +3,11 @@ use Rattle.std.proofs.Common.{◌≡◌, ◌∙◌, ℕ, zero, suc, List, [], �
 use Rattle.std.specs.List.{All}
 use Rattle.std.proofs.lemmas.List.Elements.{All-cons, All-head, All-nil, All-tail}
 use Rattle.ev_text.specs.Readers.{Reader, answer, behind_word, exactly_from, many_from, so_many, then_reads}
-use Rattle.ev_text.specs.Texts.{AllFrom, joined_texts, marked_texts}
+use Rattle.ev_text.specs.Texts.{AreLooseRun, AreRun, ConsFrom, ConsLoose, joined_texts, marked_texts}
 use Rattle.ev_text.specs.declared.TextFault.{TextFault}
 use Rattle.ev_text.proofs.ListLaws.{cons_text}
 use Rattle.ev_text.proofs.MarkedLaws.{ended_text}
 use Rattle.ev_text.proofs.ReadingLaws.{Reads, reads-answer, reads-as, reads-behind, reads-then}
-
--- a first item in front of others, which depend on it
-abbrev pub ConsFrom : {A : Type 0} → (A → Type 0) → (A → List A → Type 0) → List A → Type 0
-ConsFrom Fits MoreFit [] = ⊥
-ConsFrom Fits MoreFit (a ∷ all) = Fits a × MoreFit a all
-
-abbrev pub ConsLoose : {A : Type 0} → (A → Type 0) → (List A → Type 0) → List A → Type 0
-ConsLoose Loose MoreLoose [] = ⊥
-ConsLoose Loose MoreLoose (a ∷ all) = Loose a × MoreLoose all
 
 abbrev front_or : {A : Type 0} → A → List A → A
 front_or some [] = some
@@ -107,16 +98,6 @@ module _ {A : Type 0} (Still : TextFault → List ℕ → List ℕ → Type 0) (
       before_front : (all : List A) (rest : List ℕ) → ConsFrom Fits MoreFit all → ConsBehind MoreBefore all rest → Before (front_or reader.example.0 all) (more_text (back all) ++ rest)
       before_front [] rest fit before = absurd fit
       before_front (a ∷ all) rest fit before = before_others a all rest fit.0 fit.1 before
-
--- so many items, each as the state before it asks, and so many loose ones
-abbrev pub AreRun : {A S : Type 0} → (S → A → Type 0) → (S → A → S) → ℕ → S → List A → Type 0
-AreRun Fits next count state items = AllFrom Fits next state items × (length items ≡ count)
-
-abbrev pub AreLooseRun : {A : Type 0} → (A → Type 0) → ℕ → List A → Type 0
-AreLooseRun Loose zero [] = Unit {0}
-AreLooseRun Loose zero (a ∷ items) = ⊥
-AreLooseRun Loose (suc count) [] = ⊥
-AreLooseRun Loose (suc count) (a ∷ items) = Loose a × AreLooseRun Loose count items
 
 -- so many items, one behind the other
 module _ {A S : Type 0} (Still : TextFault → List ℕ → List ℕ → Type 0) (read : S → Reader A) (next : S → A → S) (text : A → List ℕ) (Fits : S → A → Type 0) (Loose : A → Type 0) (Before : A → List ℕ → Type 0)

@@ -1,5 +1,5 @@
 -- Texts of values, put together from few, and what a fault from the left says of a text.
-use Rattle.std.specs.Prelude.{◌≡◌, ◌⊎◌, ℕ, Bool, true, List, [], ◌∷◌, ◌++◌, drop, if◌then◌else◌}
+use Rattle.std.specs.Prelude.{◌≡◌, ◌⊎◌, ℕ, zero, suc, Bool, true, List, [], ◌∷◌, ◌++◌, drop, length, if◌then◌else◌}
 use Rattle.std.specs.Char.{is_ascii_digit}
 use Rattle.ev_text.specs.declared.TextFault.{TextFault}
 use Rattle.ev_text.specs.declared.TextFault.TheVariants.{NotWhole, TooLarge, Word, End}
@@ -49,6 +49,26 @@ IsNoEnd (End at) = ⊥
 abbrev pub AllFrom : {A S : Type 0} → (S → A → Type 0) → (S → A → S) → S → List A → Type 0
 AllFrom Fits next state [] = Unit {0}
 AllFrom Fits next state (a ∷ others) = Fits state a × AllFrom Fits next (next state a) others
+
+-- so many items, each as the state before it asks
+abbrev pub AreRun : {A S : Type 0} → (S → A → Type 0) → (S → A → S) → ℕ → S → List A → Type 0
+AreRun Fits next count state items = AllFrom Fits next state items × (length items ≡ count)
+
+-- so many items, each by itself
+abbrev pub AreLooseRun : {A : Type 0} → (A → Type 0) → ℕ → List A → Type 0
+AreLooseRun Loose zero [] = Unit {0}
+AreLooseRun Loose zero (a ∷ items) = ⊥
+AreLooseRun Loose (suc count) [] = ⊥
+AreLooseRun Loose (suc count) (a ∷ items) = Loose a × AreLooseRun Loose count items
+
+-- a first item in front of others, which depend on it
+abbrev pub ConsFrom : {A : Type 0} → (A → Type 0) → (A → List A → Type 0) → List A → Type 0
+ConsFrom Fits MoreFit [] = ⊥
+ConsFrom Fits MoreFit (a ∷ all) = Fits a × MoreFit a all
+
+abbrev pub ConsLoose : {A : Type 0} → (A → Type 0) → (List A → Type 0) → List A → Type 0
+ConsLoose Loose MoreLoose [] = ⊥
+ConsLoose Loose MoreLoose (a ∷ all) = Loose a × MoreLoose all
 
 abbrev pub BeginsWithDigit : List ℕ → Type 0
 BeginsWithDigit [] = ⊥

@@ -1,8 +1,8 @@
 ghost use Rattle.ev_text.specs.declared.TextFault.TheVariants.{Word};
-ghost use Rattle.std.specs.Prelude.{◌≡◌, ◌≢◌, ◌<◌, ◌≤◌, ◌↔◌, [], Ok, Err, IfErr, IfNone, IfOk, IfSome, IsTrue, OnErr, OnOk, length};
+ghost use Rattle.std.specs.Prelude.{◌≡◌, ◌≢◌, ◌^◌, ◌<◌, ◌≤◌, ◌↔◌, [], Ok, Err, IfErr, IfNone, IfOk, IfSome, IsTrue, OnErr, OnOk, length};
 ghost use Rattle.std.specs.Str.Parse.{AllDigits, digits_value};
 ghost use Rattle.ev_text.specs.Numerals.{leading_digits, is_canonical};
-ghost use Rattle.ev_text.specs.Readers.{choice_at, optional_at, positive_at};
+ghost use Rattle.ev_text.specs.Readers.{below_zero, choice_at, negated, optional_at, positive_at, signed_at};
 ghost use Rattle.ev_text.specs.Scans.{TakesNumber, TakesWord, rest_of, whole_at, word_at};
 
 use crate::TextFault;
@@ -85,6 +85,44 @@ fn word_from(bytes: &[u8], at: usize, word: &[u8]) -> Result<usize, TextFault>
     } else {
         Err(TextFault::Word { at })
     }
+}
+
+/// The number below 0 whose digits stand behind a sign. A number out of range is told at the sign, at `at`, and so is 0.
+fn below_zero_from(
+    bytes: &[u8],
+    at: usize,
+    digits: usize,
+    limit: u128,
+) -> Result<(i128, usize), TextFault>
+    requires within { digits ≤ length bytes.now }
+    requires small { limit < 2 ^ 127 }
+    ensures ok { IfOk result (λ p.
+        below_zero at (whole_at limit (bytes.now, digits)) ≡ Ok (p.0, (bytes.now, p.1))) }
+    ensures behind { IfOk result (λ p. p.1 ≤ length bytes.now) }
+    ensures fault { IfErr result (λ fault.
+        below_zero at (whole_at limit (bytes.now, digits)) ≡ Err fault) }
+{
+    match whole_from(bytes, digits, limit) {
+        Ok((0, _)) => Err(TextFault::TooLarge { at }),
+        Ok((number, after)) => Ok((-(number as i128), after)),
+        Err(TextFault::TooLarge { .. }) => Err(TextFault::TooLarge { at }),
+        Err(fault) => Err(fault),
+    }
+}
+
+/// The number in front of the text from `at` on, with its sign, and the place behind its last digit.
+fn signed_from(bytes: &[u8], at: usize, limit: u128) -> Result<(i128, usize), TextFault>
+    requires within { at ≤ length bytes.now }
+    requires small { limit < 2 ^ 127 }
+    ensures ok { IfOk result (λ p. signed_at limit (bytes.now, at) ≡ Ok (p.0, (bytes.now, p.1))) }
+    ensures behind { IfOk result (λ p. p.1 ≤ length bytes.now) }
+    ensures fault { IfErr result (λ fault. signed_at limit (bytes.now, at) ≡ Err fault) }
+{
+    if let Ok(digits) = word_from(bytes, at, b"-") {
+        return below_zero_from(bytes, at, digits, limit);
+    }
+    let (number, after) = whole_from(bytes, at, limit)?;
+    Ok((number as i128, after))
 }
 
 /// A text in bytes that is read from its beginning on, and the place up to which it has been read.
@@ -181,6 +219,21 @@ impl<'a> Scan<'a> {
         if number == 0 {
             return Err(TextFault::NotWhole { at: self.at });
         }
+        self.at = after;
+        Ok(number)
+    }
+
+    /// Takes a number of at most `limit` in size, with a `-` in front where it is below 0; 0 has none.
+    ///
+    /// Refusals: those of `whole`, where `NotWhole` and `End` behind a sign are told at the digits. `TooLarge` is told at the
+    /// sign where there is one, and is told of `-0` too. The place stays after a refusal.
+    pub fn signed(&mut self, limit: u128) -> Result<i128, TextFault>
+        requires { limit < 2 ^ 127 }
+        ensures ok { IfOk result (λ n. signed_at limit self.old ≡ Ok (n, self.new)) }
+        ensures fault { IfErr result (λ fault. signed_at limit self.old ≡ Err fault) }
+        ensures err { OnErr result (self.new ≡ self.old) }
+    {
+        let (number, after) = signed_from(self.bytes, self.at, limit)?;
         self.at = after;
         Ok(number)
     }

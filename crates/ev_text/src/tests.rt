@@ -73,3 +73,22 @@ fn numbers_are_written_in_their_one_spelling(rt: HostRuntime) -> Result<(), Allo
     }
     Ok(())
 }
+
+#[test]
+fn signs_stand_in_front_of_numbers_below_0(rt: HostRuntime) {
+    for (text, wanted, place) in [
+        ("-12 ", Ok(-12), 3),
+        ("12", Ok(12), 2),
+        ("0", Ok(0), 1),
+        ("-0", Err(TextFault::TooLarge { at: 0 }), 0),
+        ("-13", Err(TextFault::TooLarge { at: 0 }), 0),
+        ("-", Err(TextFault::End { at: 1 }), 0),
+        ("-00", Err(TextFault::NotWhole { at: 1 }), 0),
+        ("--1", Err(TextFault::NotWhole { at: 1 }), 0),
+        ("13", Err(TextFault::TooLarge { at: 0 }), 0),
+    ] {
+        let mut scan = Scan::new(text.as_bytes());
+        assert_eq!(rt; scan.signed(12), wanted, "the number of {text}");
+        assert_eq!(rt; scan.place(), place, "the place in {text}");
+    }
+}

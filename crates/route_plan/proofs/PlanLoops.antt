@@ -9,7 +9,7 @@ use Rattle.ev_text.specs.declared.TextFault.TheVariants.{Word}
 use Rattle.ev_text.proofs.Loops.{IsReadTo, IsReadUpTo, each-begins, each-breaks, each-breaks_off, each-ends, each-goes_on, each-shorter, many-begins, many-breaks, many-ends, many-goes_on}
 use Rattle.ev_text.proofs.WholeLaws.{whole_text-end, whole_text-more}
 use Rattle.route_plan.specs.Limits.{most_bytes}
-use Rattle.route_plan.specs.PlanReading.{file_at, or_bad, plan_at, route_at, stop_at, unless_too_long}
+use Rattle.route_plan.specs.PlanReading.{file_at, or_bad, plan_at, route_at, stop_at, stops_at, unless_too_long}
 use Rattle.route_plan.specs.PlanTexts.{IsSmallStop, stop_text}
 use Rattle.route_plan.specs.declared.plan.RoutePlan.{RoutePlan}
 use Rattle.route_plan.specs.declared.text.plan_text.PlanText.{PlanText}
@@ -24,25 +24,25 @@ bad_since (Err bad) fault is = (bad, refl, cc)
 -- the stops of a line, one after another
 
 abbrev pub AreStopsTo : List ℕ × ℕ → List Stop → List ℕ × ℕ → Type 0
-AreStopsTo start stops s = IsReadTo 32 10 [] stop_at stop_text IsSmallStop BeforeStop reader-stop (plan_at start) stops s
+AreStopsTo start stops s = IsReadTo 32 10 [] stop_at stop_text IsSmallStop BeforeStop reader-stop (stops_at start) stops s
 
-pub begins_line : (start t u : List ℕ × ℕ) (stop : Stop) (stops : List Stop) → word_at (codes "route ") start ≡ Ok t → stop_at t ≡ Ok (stop, u) → stops ≡ stop ∷ [] → AreStopsTo start stops u
-begins_line start t u stop stops word found is = each-begins 32 10 [] stop_at stop_text IsSmallStop BeforeStop reader-stop (plan_at start) stops u (rw (word, found, is) refl)
+pub begins_stops : (start u : List ℕ × ℕ) (stop : Stop) (stops : List Stop) → stop_at start ≡ Ok (stop, u) → stops ≡ stop ∷ [] → AreStopsTo start stops u
+begins_stops start u stop stops found is = each-begins 32 10 [] stop_at stop_text IsSmallStop BeforeStop reader-stop (stops_at start) stops u (rw (found, is) refl)
 
 pub shorter_line : (s t u : List ℕ × ℕ) (stop : Stop) → optional_at (codes " ") s ≡ Ok (true, t) → stop_at t ≡ Ok (stop, u) → length (rest_of u) < length (rest_of s)
 shorter_line s t u stop space found = each-shorter 32 10 [] stop_at stop_text IsSmallStop BeforeStop reader-stop s t u stop space found
 
 pub next_stop : (start s t u : List ℕ × ℕ) (stops more : List Stop) (stop : Stop) → AreStopsTo start stops s → optional_at (codes " ") s ≡ Ok (true, t) → stop_at t ≡ Ok (stop, u) → more ≡ stops ++ stop ∷ [] → AreStopsTo start more u
-next_stop start s t u stops more stop so_far space found is = each-goes_on 32 10 [] stop_at stop_text IsSmallStop BeforeStop reader-stop (plan_at start) s t u stops more stop so_far space found is
+next_stop start s t u stops more stop so_far space found is = each-goes_on 32 10 [] stop_at stop_text IsSmallStop BeforeStop reader-stop (stops_at start) s t u stops more stop so_far space found is
 
-pub no_stop : (start s t : List ℕ × ℕ) (stops : List Stop) (fault : TextFault) → AreStopsTo start stops s → optional_at (codes " ") s ≡ Ok (true, t) → stop_at t ≡ Err fault → plan_at start ≡ Err fault
-no_stop start s t stops fault so_far space found = each-breaks 32 10 [] stop_at stop_text IsSmallStop BeforeStop reader-stop (plan_at start) s t stops fault so_far space found
+pub no_stop : (start s t : List ℕ × ℕ) (stops : List Stop) (fault : TextFault) → AreStopsTo start stops s → optional_at (codes " ") s ≡ Ok (true, t) → stop_at t ≡ Err fault → stops_at start ≡ Err fault
+no_stop start s t stops fault so_far space found = each-breaks 32 10 [] stop_at stop_text IsSmallStop BeforeStop reader-stop (stops_at start) s t stops fault so_far space found
 
-pub ends_line : (start s t u : List ℕ × ℕ) (stops : List Stop) → AreStopsTo start stops s → optional_at (codes " ") s ≡ Ok (false, t) → word_at (10 ∷ []) t ≡ Ok u → plan_at start ≡ Ok (stops, u)
-ends_line start s t u stops so_far none found = each-ends 32 10 [] stop_at stop_text IsSmallStop BeforeStop reader-stop (plan_at start) s t u stops so_far none found
+pub ends_line : (start s t u : List ℕ × ℕ) (stops : List Stop) → AreStopsTo start stops s → optional_at (codes " ") s ≡ Ok (false, t) → word_at (10 ∷ []) t ≡ Ok u → stops_at start ≡ Ok (stops, u)
+ends_line start s t u stops so_far none found = each-ends 32 10 [] stop_at stop_text IsSmallStop BeforeStop reader-stop (stops_at start) s t u stops so_far none found
 
-pub no_line_end : (start s t : List ℕ × ℕ) (stops : List Stop) (fault : TextFault) → AreStopsTo start stops s → optional_at (codes " ") s ≡ Ok (false, t) → word_at (10 ∷ []) t ≡ Err fault → plan_at start ≡ Err fault
-no_line_end start s t stops fault so_far none found = each-breaks_off 32 10 [] stop_at stop_text IsSmallStop BeforeStop reader-stop (plan_at start) s t stops fault so_far none found
+pub no_line_end : (start s t : List ℕ × ℕ) (stops : List Stop) (fault : TextFault) → AreStopsTo start stops s → optional_at (codes " ") s ≡ Ok (false, t) → word_at (10 ∷ []) t ≡ Err fault → stops_at start ≡ Err fault
+no_line_end start s t stops fault so_far none found = each-breaks_off 32 10 [] stop_at stop_text IsSmallStop BeforeStop reader-stop (stops_at start) s t stops fault so_far none found
 
 -- the lines of a file, one after another
 

@@ -26,9 +26,13 @@ stop_at =
     then_reads amount_at (λ added.
     answer (record { node = node; added = added; via = via }))))
 
--- the line of a plan: its word, a stop at least, and the line feed
+-- the stops of a plan, one at least, and the line feed behind them
+abbrev pub stops_at : Reader (List Stop)
+stops_at = list_at (codes " ") (10 ∷ []) stop_at
+
+-- the line of a plan: its word and its stops
 abbrev pub plan_at : Reader (List Stop)
-plan_at = behind_word (codes "route ") (list_at (codes " ") (10 ∷ []) stop_at)
+plan_at = behind_word (codes "route ") stops_at
 
 abbrev pub route_at : Reader RoutePlan
 route_at = then_reads plan_at (λ stops. answer (record { stops = stops }))

@@ -17,7 +17,7 @@ pub use plan::{FleetPlan, FracPlan, RoutePlan};
 pub use route::{RouteFault, read_route};
 pub use text::{
     PlanText, fleet_plan_faults_are_first, plan_faults_are_first, push_fleet_plan, push_plan,
-    read_fleet_plan, read_plan, texts_spell_plans, write_stops,
+    read_fleet_plan, read_plan, take_stops, texts_spell_plans, write_stops,
 };
 pub use walking::walk;
 pub use walks::{Walk, WalkFault};

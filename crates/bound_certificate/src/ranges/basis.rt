@@ -46,7 +46,7 @@ fn are_different(basis: &[BasisEntry]) -> bool
 }
 
 /// Whether the entry stands among others.
-fn stands_in(entry: BasisEntry, others: &[BasisEntry]) -> bool
+pub(crate) fn stands_in(entry: BasisEntry, others: &[BasisEntry]) -> bool
     ensures { result ≡ list_any (same_entry entry) others.now }
 {
     for other in others {

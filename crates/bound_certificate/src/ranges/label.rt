@@ -1,6 +1,6 @@
 //! Whether a label is in its ranges.
 
-ghost use Rattle.std.specs.Prelude.{◌≡◌, ◌↔◌, ◌*◌, ◌<◌, ◌≤◌, ℕ, IsTrue, length, true};
+ghost use Rattle.std.specs.Prelude.{◌≡◌, ◌↔◌, ◌*◌, ◌^◌, ◌<◌, ◌≤◌, ℕ, IsTrue, length, true};
 ghost use Rattle.std.specs.List.{All};
 ghost use Rattle.customer_sets.specs.CustSet.{has};
 ghost use Rattle.ev_model.specs.Network.{is_customer, node_count, scaled_limit};
@@ -70,8 +70,9 @@ fn point_fits(inst: &Instance, point: (u64, u64)) -> bool
 }
 
 /// The limit on the scaled time of a route.
-fn scaled_limit(inst: &Instance) -> u64
-    ensures { result ≡ scaled_limit inst.now }
+pub(crate) fn scaled_limit(inst: &Instance) -> u64
+    ensures value { result ≡ scaled_limit inst.now }
+    ensures small { result ≤ 10 ^ 18 }
 {
     inst.denominator() * inst.limit()
 }

@@ -29,7 +29,7 @@ fn closes(lines: &[TreeLine]) -> bool
 }
 
 /// How many trees are open behind a line, of those that are open before it.
-fn open_behind(line: TreeLine, trees: u128) -> u128
+pub(crate) fn open_behind(line: TreeLine, trees: u128) -> u128
     requires some { 0 < trees }
     requires small { trees < 2 ^ 127 }
     ensures { result ≡ open_behind line trees }

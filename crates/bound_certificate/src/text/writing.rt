@@ -56,7 +56,7 @@ fn write_head(alloc: Global, text: &mut Vec<u8>, inst: &Instance) -> Result<(), 
 }
 
 /// Whether the instance has neither a reserve nor a level at home.
-fn is_first_version(inst: &Instance) -> bool
+pub(crate) fn is_first_version(inst: &Instance) -> bool
     ensures { result ≡ is_first_version inst.now }
 {
     inst.min_q() == 0 && inst.home_q() == 0

@@ -4,7 +4,7 @@ ghost use Rattle.std.specs.Prelude.{◌≡◌, ◌≢◌, Ok, Err, IfErr, IfOk};
 ghost use Rattle.ev_text.specs.Readers.{so_many};
 ghost use Rattle.ev_text.specs.Scans.{whole_at};
 ghost use Rattle.route_plan.specs.Limits.{greatest_number};
-ghost use Rattle.route_plan.specs.PlanReading.{amount_at, file_at, fleet_plan_in, or_bad, plan_at, plan_in, plans_behind, route_at, routes_at, stop_at};
+ghost use Rattle.route_plan.specs.PlanReading.{amount_at, file_at, fleet_plan_in, or_bad, plan_at, plan_in, plans_behind, route_at, routes_at, stop_at, stops_at};
 ghost use Rattle.route_plan.specs.PlanTexts.{SpellsFleetPlan, SpellsPlan};
 ghost use Rattle.route_plan.specs.declared.text.plan_text.PlanText.TheVariants.{Bad, Memory};
 
@@ -130,14 +130,25 @@ fn take_routes(alloc: Global, scan: &mut Scan<'_>, count: u128) -> Result<Vec<Ro
     Ok(routes)
 }
 
-/// Takes the line of a plan: its word, the stops, of which there is one at least, and the line feed.
+/// Takes the line of a plan: its word, the stops, and the line feed.
 fn take_route(alloc: Global, scan: &mut Scan<'_>) -> Result<RoutePlan, PlanText>
     ensures ok { IfOk result (λ plan. plan_at scan.old ≡ Ok (plan.stops, scan.new)) }
     ensures fault { IfErr result (λ fault. fault ≢ PlanText.Memory →
         or_bad (plan_at scan.old) ≡ Err fault) }
 {
-    let mut stops = Vec::new(alloc);
     scan.word(b"route ")?;
+    take_stops(alloc, scan)
+}
+
+/// Takes the stops of a plan, of which there is one at least, parted by single spaces, and the line feed behind them.
+///
+/// The refusals are those of `read_plan` within a line. Where the scan stands after a refusal isn't said.
+pub fn take_stops(alloc: Global, scan: &mut Scan<'_>) -> Result<RoutePlan, PlanText>
+    ensures ok { IfOk result (λ plan. stops_at scan.old ≡ Ok (plan.stops, scan.new)) }
+    ensures fault { IfErr result (λ fault. fault ≢ PlanText.Memory →
+        or_bad (stops_at scan.old) ≡ Err fault) }
+{
+    let mut stops = Vec::new(alloc);
     let first = take_stop(scan)?;
     stops.push(first)?;
     while scan.take_if(b" ") {

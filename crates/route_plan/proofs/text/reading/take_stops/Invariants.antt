@@ -1,7 +1,7 @@
 use Rattle.std.proofs.Common.{length}
 use Rattle.ev_text.specs.Scans.{rest_of}
 use Rattle.route_plan.proofs.PlanLoops.{AreStopsTo}
-use Rattle.route_plan.proofs.text.reading.take_route.Given as goal
+use Rattle.route_plan.proofs.text.reading.take_stops.Given as goal
 
 abbrev pub invariant-loop-scan : goal.invariant-loop-scan
 invariant-loop-scan l = AreStopsTo l.fn.scan l.stops.items l.scan

@@ -1,0 +1,25 @@
+use Rattle.std.proofs.Common.{arith, rules, ◌≡◌, ◌≢◌, Err, false}
+use Rattle.bound_certificate.specs.CertificateIn.{certificate_in, has_other_version}
+use Rattle.bound_certificate.specs.Written.{written}
+use Rattle.bound_certificate.specs.declared.text.cert_text.CertText.TheVariants.{Memory}
+use Rattle.bound_certificate.proofs.BodyReading.{all_is_read, fault_behind, fault_inside}
+use Rattle.bound_certificate.proofs.text.reading.read_certificate.Goals as goal
+
+pub returns-in_err-certificate-clause-fault : goal.returns-in_err-certificate-clause-fault
+returns-in_err-certificate-clause-fault c =
+    let fault = c.in_err-certificate.field-0.0 in
+    let own : has_other_version c.args.inst.now c.args.bytes.now ≡ false = search rules in
+    let broken : fault ≢ Memory → certificate_in c.args.inst.now c.args.bytes.now ≡ Err fault =
+    λ known. fault_inside c.args.inst.now c.args.bytes.now (omega arith) own c.new-scan.result c.new-scan.ensures fault (c.in_err-certificate.ensures.fault known) in
+    search rules
+
+pub returns-in_err-end-clause-fault : goal.returns-in_err-end-clause-fault
+returns-in_err-end-clause-fault c =
+    let own : has_other_version c.args.inst.now c.args.bytes.now ≡ false = search rules in
+    let broken = fault_behind c.args.inst.now c.args.bytes.now (omega arith) own c.new-scan.result c.new-scan.ensures c.take_certificate.new.scan (written c.args.inst.now c.in_ok-certificate.certificate) _ c.in_ok-certificate.ensures.ok c.in_err-end.ensures.fault in
+    search rules
+
+pub returns-clause-ok : goal.returns-clause-ok
+returns-clause-ok c =
+    let own : has_other_version c.args.inst.now c.args.bytes.now ≡ false = search rules in
+    all_is_read c.args.inst.now c.args.bytes.now (omega arith) own c.new-scan.result c.new-scan.ensures c.take_certificate.new.scan (written c.args.inst.now c.in_ok-certificate.certificate) c.in_ok-certificate.ensures.ok c.in_ok-end.ensures.ok

@@ -1,0 +1,9 @@
+use Rattle.std.proofs.Common.{◌-◌}
+use Rattle.std.specs.List.{All}
+use Rattle.bound_certificate.specs.Ranges.{ColumnFits}
+use Rattle.bound_certificate.specs.Reading.{column_at}
+use Rattle.bound_certificate.proofs.CertificateLoops.{AreManyTo}
+use Rattle.bound_certificate.proofs.text.reading.root.take_columns.Given as goal
+
+abbrev pub invariant-loop : goal.invariant-loop
+invariant-loop l = AreManyTo column_at l.fn.scan l.count l.columns.items (l.count - l.counter) l.scan × All ColumnFits l.columns.items

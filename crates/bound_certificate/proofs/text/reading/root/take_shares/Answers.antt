@@ -1,0 +1,40 @@
+use Rattle.std.proofs.Common.{arith, rules, ◌≡◌, ◌≢◌, ◌+◌, ◌-◌, Err, subst, sym}
+use Rattle.std.specs.List.{All}
+use Rattle.std.proofs.lemmas.List.Elements.{All-nil}
+use Rattle.ev_text.specs.Readers.{so_many}
+use Rattle.ev_text.proofs.Loops.{many-begins, many-ends}
+use Rattle.bound_certificate.specs.CertificateIn.{or_refused}
+use Rattle.bound_certificate.specs.Ranges.{ShareFits}
+use Rattle.bound_certificate.specs.Reading.{share_at}
+use Rattle.bound_certificate.specs.declared.text.cert_text.CertText.TheVariants.{Memory}
+use Rattle.bound_certificate.proofs.CertificateLoops.{all_more, breaks, goes_on, many_length}
+use Rattle.bound_certificate.proofs.text.reading.root.take_shares.Goals as goal
+
+pub loop-init : goal.loop-init
+loop-init c = (
+  many-begins share_at c.args.count (c.args.count - 0) c.new-shares.result.items c.args.scan.now (omega arith) c.new-shares.ensures.items,
+  subst (All ShareFits) (sym c.new-shares.ensures.items) (All-nil ShareFits),
+)
+
+pub loop-preserved : goal.loop-preserved
+loop-preserved c = (
+  goes_on share_at c.args.scan.now c.loop.scan c.take_share.new.scan c.args.count (c.args.count - c.loop.counter) (c.args.count - (c.loop.counter + 1)) c.loop.shares.items c.push.new.self.items c.in_ok-share.share
+      (omega arith) c.loop.invariant.0 c.in_ok-share.ensures.ok c.in_ok-push.ensures.items,
+  all_more ShareFits c.loop.shares.items c.push.new.self.items c.in_ok-share.share c.loop.invariant.1 c.in_ok-share.ensures.fits c.in_ok-push.ensures.items,
+)
+
+pub returns-in_err-share-clause-fault : goal.returns-in_err-share-clause-fault
+returns-in_err-share-clause-fault c =
+    let fault = c.in_err-share.field-0.0 in
+    let broken : fault ≢ Memory → or_refused (so_many c.args.count share_at c.args.scan.now) ≡ Err fault =
+    λ known. breaks share_at c.args.scan.now c.loop.scan c.args.count (c.args.count - c.loop.counter) (c.args.count - (c.loop.counter + 1)) c.loop.shares.items fault (omega arith) c.loop.invariant.0 (c.in_err-share.ensures.fault known) in
+    search rules
+
+pub returns-clause-ok : goal.returns-clause-ok
+returns-clause-ok c = many-ends share_at (so_many c.args.count share_at c.args.scan.now) c.loop.scan _ c.loop.shares.items (omega arith) c.loop.invariant.0
+
+pub returns-clause-fits : goal.returns-clause-fits
+returns-clause-fits c = c.loop.invariant.1
+
+pub returns-clause-count : goal.returns-clause-count
+returns-clause-count c = many_length share_at c.args.count c.args.scan.now c.loop.scan c.loop.shares.items (returns-clause-ok c)

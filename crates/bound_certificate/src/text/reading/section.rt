@@ -1,0 +1,204 @@
+//! Reading sections.
+
+ghost use Rattle.std.specs.Prelude.{◌≡◌, ◌≢◌, ◌≤◌, ◌<◌, ℤ, Err, IfErr, IfOk, Ok, codes, length, map, nat_le, ◌∷◌, []};
+ghost use Rattle.std.specs.List.{All};
+ghost use Rattle.ev_model.specs.Network.{Network};
+ghost use Rattle.ev_text.specs.Readers.{number_where, so_many};
+ghost use Rattle.instance_reader.specs.Instance.{customer_nodes};
+ghost use Rattle.bound_certificate.specs.CertificateIn.{or_refused};
+ghost use Rattle.bound_certificate.specs.Limits.{greatest_weight, most_items};
+ghost use Rattle.bound_certificate.specs.Ranges.{LabelFits, SectionFits, customer_count};
+ghost use Rattle.bound_certificate.specs.Reading.{label_at, price_row, prices_at, section_at, section_behind, sections_at};
+ghost use Rattle.bound_certificate.specs.Written.{written_label, written_section};
+ghost use Rattle.bound_certificate.specs.declared.text.cert_text.CertText.TheVariants.{Memory};
+
+use crate::certificate::Section;
+use crate::text::CertText;
+use crate::text::reading::label::take_label;
+use crate::text::reading::pairs::take_pairs;
+use ev_list::Listed;
+use ev_text::{Scan, TextFault};
+use instance_reader::Instance;
+use piece_fn::Label;
+use std::alloc::Global;
+
+/// The greatest weight of a section.
+const GREATEST_WEIGHT: u128 = 1 << 40;
+
+/// The greatest size of a price.
+const GREATEST_PRICE: u128 = 1 << 84;
+
+/// The most forbidden pairs: those of 129 places, each with itself too.
+const MOST_PAIRS: u128 = 16_641;
+
+/// The most sections, and the most labels of a section.
+const MOST_ITEMS: u128 = u64::MAX as u128;
+
+/// Takes the line with the number of sections, and the lines of each.
+pub(crate) fn take_sections(
+    alloc: Global,
+    inst: &Instance,
+    scan: &mut Scan<'_>,
+) -> Result<Vec<Section>, CertText>
+    requires few { length (customer_nodes inst.now) ≤ 128 }
+    ensures ok { IfOk result (λ sections. sections_at inst.now scan.old
+        ≡ Ok (map (written_section inst.now) sections.items, scan.new)) }
+    ensures some { IfOk result (λ sections. 1 ≤ length sections.items) }
+    ensures few { IfOk result (λ sections. length sections.items ≤ most_items) }
+    ensures fits { IfOk result (λ sections. All (SectionFits inst.now) sections.items) }
+    ensures fault { IfErr result (λ fault. fault ≢ CertText.Memory →
+        or_refused (sections_at inst.now scan.old) ≡ Err fault) }
+{
+    scan.word(b"sections ")?;
+    let count = take_count(scan)?;
+    scan.word(b"\n")?;
+    take_each_section(alloc, inst, scan, count)
+}
+
+/// Takes the number of sections, which is above 0.
+fn take_count(scan: &mut Scan<'_>) -> Result<u128, TextFault>
+    ensures ok { IfOk result (λ count.
+        number_where most_items (λ n. nat_le 1 n) scan.old ≡ Ok (count, scan.new)) }
+    ensures range { IfOk result (λ count. (1 ≤ count) × (count ≤ most_items)) }
+    ensures fault { IfErr result (λ fault.
+        number_where most_items (λ n. nat_le 1 n) scan.old ≡ Err fault) }
+{
+    let at = scan.place();
+    let count = scan.whole(MOST_ITEMS)?;
+    if count >= 1 {
+        Ok(count)
+    } else {
+        Err(TextFault::TooLarge { at })
+    }
+}
+
+fn take_each_section(
+    alloc: Global,
+    inst: &Instance,
+    scan: &mut Scan<'_>,
+    count: u128,
+) -> Result<Vec<Section>, CertText>
+    requires few { length (customer_nodes inst.now) ≤ 128 }
+    ensures ok { IfOk result (λ sections. so_many count (section_at inst.now) scan.old
+        ≡ Ok (map (written_section inst.now) sections.items, scan.new)) }
+    ensures count { IfOk result (λ sections. length sections.items ≡ count) }
+    ensures fits { IfOk result (λ sections. All (SectionFits inst.now) sections.items) }
+    ensures fault { IfErr result (λ fault. fault ≢ CertText.Memory →
+        or_refused (so_many count (section_at inst.now) scan.old) ≡ Err fault) }
+{
+    let mut sections = Vec::new(alloc);
+    for _ in 0..count {
+        let section = take_section(alloc, inst, scan)?;
+        sections.push(section)?;
+    }
+    Ok(sections)
+}
+
+/// Takes the lines of a section.
+fn take_section(alloc: Global, inst: &Instance, scan: &mut Scan<'_>) -> Result<Section, CertText>
+    requires few { length (customer_nodes inst.now) ≤ 128 }
+    ensures ok { IfOk result (λ section. section_at inst.now scan.old
+        ≡ Ok (written_section inst.now section, scan.new)) }
+    ensures fits { IfOk result (SectionFits inst.now) }
+    ensures fault { IfErr result (λ fault. fault ≢ CertText.Memory →
+        or_refused (section_at inst.now scan.old) ≡ Err fault) }
+{
+    let head = take_section_head(scan)?;
+    let prices = take_prices(alloc, inst, scan)?;
+    let pairs = take_pairs(inst, scan, head.pairs)?;
+    let labels = take_labels(alloc, inst, scan, head.labels)?;
+    Ok(Section {
+        weight: head.weight,
+        prices: Listed::from_vec(prices),
+        pairs,
+        labels: Listed::from_vec(labels),
+    })
+}
+
+/// What the first line of a section says.
+#[derive(Clone, Copy)]
+struct SectionHead {
+    weight: u64,
+    pairs: u128,
+    labels: u128,
+}
+
+/// Takes the first line of a section: its weight and its counts of pairs and labels.
+fn take_section_head(scan: &mut Scan<'_>) -> Result<SectionHead, TextFault>
+    ensures ok { IfOk result (λ head. (g : Network) → section_at g scan.old
+        ≡ section_behind g head.weight head.pairs head.labels scan.new) }
+    ensures weight { IfOk result (λ head. head.weight ≤ greatest_weight) }
+    ensures labels { IfOk result (λ head. head.labels ≤ most_items) }
+    ensures fault { IfErr result (λ fault. (g : Network) → section_at g scan.old ≡ Err fault) }
+{
+    scan.word(b"section ")?;
+    let weight = scan.whole(GREATEST_WEIGHT)? as u64;
+    scan.word(b" ")?;
+    let pairs = scan.whole(MOST_PAIRS)?;
+    scan.word(b" ")?;
+    let labels = scan.whole(MOST_ITEMS)?;
+    scan.word(b"\n")?;
+    Ok(SectionHead {
+        weight,
+        pairs,
+        labels,
+    })
+}
+
+/// Takes the line of prices, one for each customer.
+fn take_prices(alloc: Global, inst: &Instance, scan: &mut Scan<'_>) -> Result<Vec<i128>, CertText>
+    ensures ok { IfOk result (λ prices. prices_at inst.now scan.old
+        ≡ Ok (prices.items, scan.new)) }
+    ensures fault { IfErr result (λ fault. fault ≢ CertText.Memory →
+        or_refused (prices_at inst.now scan.old) ≡ Err fault) }
+{
+    let count = inst.customers().len();
+    if count == 0 {
+        scan.word(b"prices\n")?;
+        return Ok(Vec::new(alloc));
+    }
+    scan.word(b"prices ")?;
+    take_each_price(alloc, scan, count)
+}
+
+/// Takes so many prices, parted by spaces, and the line feed.
+fn take_each_price(alloc: Global, scan: &mut Scan<'_>, count: usize) -> Result<Vec<i128>, CertText>
+    requires { 0 < count }
+    ensures ok { IfOk result (λ prices. price_row count scan.old ≡ Ok (prices.items, scan.new)) }
+    ensures fault { IfErr result (λ fault. fault ≢ CertText.Memory →
+        or_refused (price_row count scan.old) ≡ Err fault) }
+{
+    let mut prices = Vec::new(alloc);
+    let first = scan.signed(GREATEST_PRICE)?;
+    prices.push(first)?;
+    for _ in 1..count {
+        scan.word(b" ")?;
+        let price = scan.signed(GREATEST_PRICE)?;
+        prices.push(price)?;
+    }
+    scan.word(b"\n")?;
+    Ok(prices)
+}
+
+/// Takes the lines of so many labels.
+fn take_labels(
+    alloc: Global,
+    inst: &Instance,
+    scan: &mut Scan<'_>,
+    count: u128,
+) -> Result<Vec<Label>, CertText>
+    requires few { length (customer_nodes inst.now) ≤ 128 }
+    ensures ok { IfOk result (λ labels. so_many count (label_at inst.now) scan.old
+        ≡ Ok (map (written_label inst.now) labels.items, scan.new)) }
+    ensures count { IfOk result (λ labels. length labels.items ≡ count) }
+    ensures fits { IfOk result (λ labels. All (LabelFits inst.now) labels.items) }
+    ensures fault { IfErr result (λ fault. fault ≢ CertText.Memory →
+        or_refused (so_many count (label_at inst.now) scan.old) ≡ Err fault) }
+{
+    let mut labels = Vec::new(alloc);
+    for _ in 0..count {
+        let label = take_label(alloc, inst, scan)?;
+        labels.push(label)?;
+    }
+    Ok(labels)
+}
