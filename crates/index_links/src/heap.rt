@@ -64,7 +64,7 @@ impl IndexHeap {
     {
         self.keys[i] = Some(key);
         if let Some(root) = self.root {
-            let (winner, loser) = ranked(self.keys.as_slice(), i, root);
+            let (winner, loser) = winner_and_loser(self.keys.as_slice(), i, root);
             self.children.link_last(winner, loser);
             self.root = Some(winner);
         } else {
@@ -143,7 +143,7 @@ fn comes_before(keys: &[Option<u64>], i: usize, j: usize) -> bool
 }
 
 /// The two items, the one that comes before first.
-fn ranked(keys: &[Option<u64>], a: usize, b: usize) -> (usize, usize)
+fn winner_and_loser(keys: &[Option<u64>], a: usize, b: usize) -> (usize, usize)
     requires a { (key : ℕ) × HasPair keys.now key a }
     requires b { (key : ℕ) × HasPair keys.now key b }
     requires apart { a ≢ b }
@@ -193,7 +193,7 @@ fn meld(keys: &[Option<u64>], children: &mut Rings, parent: usize, a: usize, b: 
         < length (list_at children.old.lists parent) }
     ensures winner { IsIn result (list_at children.new.lists parent) }
 {
-    let (winner, loser) = ranked(keys, a, b);
+    let (winner, loser) = winner_and_loser(keys, a, b);
     children.unlink(loser);
     children.link_last(winner, loser);
     winner

@@ -13,7 +13,7 @@ use crate::stations::plug_times;
 use std::alloc::{AllocError, Global};
 
 /// The process times of all nodes: those that are missing are 0.
-fn padded(mut process_times: Vec<u64>, nodes: usize) -> Result<Vec<u64>, AllocError>
+fn pad_with_zeros(mut process_times: Vec<u64>, nodes: usize) -> Result<Vec<u64>, AllocError>
     requires { length process_times.items ≤ nodes }
     ensures { IfOk result
         (λ v. v.items ≡ process_times.items ++ replicate (nodes - length process_times.items) 0) }
@@ -40,7 +40,7 @@ pub(crate) fn build(
 {
     let Customers { nodes, numbers } = numbered_customers(alloc, curve_numbers.as_slice())?;
     let plug_times = plug_times(alloc, fields.curves.as_slice(), curve_numbers.as_slice())?;
-    let process_times = padded(fields.process_times, curve_numbers.len())?;
+    let process_times = pad_with_zeros(fields.process_times, curve_numbers.len())?;
     Ok(Instance {
         max_q: fields.max_q,
         min_q: fields.min_q,

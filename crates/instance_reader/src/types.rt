@@ -20,7 +20,7 @@ fn type_place(key: Key, index: usize) -> Place
 }
 
 /// The types in the order of their entries, or the place of the first that is listed already.
-fn numbered<'a>(
+fn number_names<'a>(
     alloc: Global,
     curves: &'a [CurveEntry],
 ) -> Result<IndexSet<&'a TypeName>, PlaceFault>
@@ -101,6 +101,6 @@ pub(crate) fn station_types<'a>(
     ensures err { IfErr result
         (RefusesAt (wrong_type_in (map curve_view curves.now) (map station_view stations.now))) }
 {
-    let names = numbered(alloc, curves)?;
+    let names = number_names(alloc, curves)?;
     type_numbers(alloc, &names, stations)
 }

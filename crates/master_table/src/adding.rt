@@ -12,7 +12,7 @@ use customer_sets::CustSet;
 use std::alloc::{AllocError, Global};
 
 /// The number where the customer is in the set, and else 0.
-fn counted(set: CustSet, c: usize, number: i128) -> i128
+fn number_if_in(set: CustSet, c: usize, number: i128) -> i128
     requires { c < 128 }
     ensures { result ≡ cond (serves (route set 0) c) number (pos 0) }
 {
@@ -28,7 +28,7 @@ fn total_over(multipliers: &[i128], set: CustSet) -> i128
 {
     let mut sum = 0;
     for c in 0..multipliers.len() {
-        sum += counted(set, c, multipliers[c]);
+        sum += number_if_in(set, c, multipliers[c]);
     }
     sum
 }
@@ -45,11 +45,11 @@ fn new_entry(row: &Row, n: usize, i: usize, set: CustSet, cost: u64) -> i128
     if i > n {
         return total;
     }
-    charged(row.weight, cost) + total
+    cost_times_weight(row.weight, cost) + total
 }
 
 /// The cost, times the weight.
-fn charged(weight: i128, cost: u64) -> i128
+fn cost_times_weight(weight: i128, cost: u64) -> i128
     requires { unsigned_abs weight ≤ 2 ^ 40 }
     ensures value { result ≡ weight *ℤ pos cost }
     ensures small { unsigned_abs result ≤ 2 ^ 104 }

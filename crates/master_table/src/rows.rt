@@ -31,7 +31,7 @@ fn times(a: i128, b: i128) -> i128
 }
 
 /// An entry of a combination: own times x less by times y.
-fn crossed(own: i128, x: i128, by: i128, y: i128) -> i128
+fn combined_entry(own: i128, x: i128, by: i128, y: i128) -> i128
     requires own { unsigned_abs own ≤ 2 ^ 40 }
     requires x { unsigned_abs x ≤ 2 ^ 84 }
     requires by { unsigned_abs by ≤ 2 ^ 85 }
@@ -60,7 +60,7 @@ fn combine(
 {
     let mut out = Vec::with_capacity(alloc, row.len())?;
     for i in 0..row.len() {
-        out.push(crossed(own, row[i], by, turned[i]))?;
+        out.push(combined_entry(own, row[i], by, turned[i]))?;
     }
     Ok(out)
 }
@@ -133,7 +133,7 @@ fn divide_all(xs: &mut Vec<i128>, d: i128, by: Inverse)
 }
 
 /// The row divided by `d`, without a division where `d` is 1.
-fn divided(row: Row, d: i128) -> Row
+fn divide_row(row: Row, d: i128) -> Row
     requires { pos 0 <ℤ d }
     ensures { equation_of result ≡ divided_row d (equation_of row) }
 {
@@ -179,7 +179,7 @@ fn combined_with(
     )?;
     Ok(Row {
         weight: times(own, row.weight),
-        right: crossed(own, row.right, by, turned.right),
+        right: combined_entry(own, row.right, by, turned.right),
         entries,
     })
 }
@@ -214,11 +214,11 @@ fn next_row(
 {
     let next = combined_with(alloc, own, by, row, turned)?;
     let divisor = divisor_of(&next, n);
-    Ok(divided(next, divisor as i128))
+    Ok(divide_row(next, divisor as i128))
 }
 
 /// The row, turned so that its entry at the column is above 0.
-pub fn turned(alloc: Global, row: &Row, col: usize) -> Result<Row, AllocError>
+pub fn turn_row(alloc: Global, row: &Row, col: usize) -> Result<Row, AllocError>
     requires col { col < vec_len row.now.entries }
     requires small { IsSmallRow (2 ^ 40) (equation_of row.now) }
     ensures { IfOk result (λ v. equation_of v ≡ turned_row col (equation_of row.now)) }
@@ -227,7 +227,7 @@ pub fn turned(alloc: Global, row: &Row, col: usize) -> Result<Row, AllocError>
         return Ok(Row {
             weight: row.weight,
             right: -row.right,
-            entries: negated(alloc, row.entries.as_slice())?,
+            entries: negate_all(alloc, row.entries.as_slice())?,
         });
     }
     Ok(Row {
@@ -246,7 +246,7 @@ fn opposite(x: i128) -> i128
 }
 
 /// Each number with the other sign.
-fn negated(alloc: Global, xs: &[i128]) -> Result<Vec<i128>, AllocError>
+fn negate_all(alloc: Global, xs: &[i128]) -> Result<Vec<i128>, AllocError>
     requires { All (λ x. unsigned_abs x ≤ 2 ^ 40) xs.now }
     ensures { IfOk result (λ v. v.items ≡ map neg_ℤ xs.now) }
 {
@@ -293,17 +293,17 @@ fn row_after(
         ≡ row_after n r col (equation_of turned.now) i (equation_of row.now)) }
 {
     if i == r {
-        return copied(alloc, turned);
+        return copy_row(alloc, turned);
     }
     let by = excess(row, n, col, i);
     if by == 0 {
-        return copied(alloc, row);
+        return copy_row(alloc, row);
     }
     next_row(alloc, turned.entries[col], by, row, turned, n)
 }
 
 /// A row with the same numbers.
-fn copied(alloc: Global, row: &Row) -> Result<Row, AllocError>
+fn copy_row(alloc: Global, row: &Row) -> Result<Row, AllocError>
     ensures { IfOk result (λ v. equation_of v ≡ equation_of row.now) }
 {
     Ok(Row {

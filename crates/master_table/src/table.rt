@@ -14,7 +14,7 @@ ghost use Rattle.master_table.specs.Tableau.{basis_columns, entry_at, row_at, si
 use crate::adding::{make_room, new_entries, past_row, push_entries};
 use crate::caps::{Caps, TableFault};
 use crate::fresh::{fresh_basis, fresh_rows};
-use crate::rows::{Row, rows_after, turned};
+use crate::rows::{Row, rows_after, turn_row};
 use customer_sets::CustSet;
 use std::alloc::Global;
 use std::marker::Model;
@@ -203,7 +203,7 @@ impl Table {
     {
         let alloc = *self.basis.allocator();
         let n = self.basis.len();
-        let Ok(turn) = turned(alloc, &self.rows[row], col) else {
+        let Ok(turn) = turn_row(alloc, &self.rows[row], col) else {
             return Err(TableFault::Memory);
         };
         let rows = rows_after(alloc, self.rows.as_slice(), n, row, col, &turn, self.caps)?;

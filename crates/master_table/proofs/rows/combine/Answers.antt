@@ -10,8 +10,8 @@ loop-i-preserved c =
     let by : FitsSigned w128 c.args.by = c.ranges.by in
     let in_row : FitsSigned w128 (get_or c.args.row.now c.loop-i.i (pos 0)) = search rules in
     let in_turned : FitsSigned w128 (get_or c.args.turned.now c.loop-i.i (pos 0)) = search rules in
-    let fits : FitsSigned w128 c.crossed.result = search rules in
-    let is : c.crossed.result ≡ c.args.own *ℤ get_or c.args.row.now c.loop-i.i (pos 0) -ℤ c.args.by *ℤ get_or c.args.turned.now c.loop-i.i (pos 0) = simp to_z-of_z at c.crossed.ensures in
+    let fits : FitsSigned w128 c.combined_entry.result = search rules in
+    let is : c.combined_entry.result ≡ c.args.own *ℤ get_or c.args.row.now c.loop-i.i (pos 0) -ℤ c.args.by *ℤ get_or c.args.turned.now c.loop-i.i (pos 0) = simp to_z-of_z at c.combined_entry.ensures in
     let before = simp to_z-of_z at c.loop-i.invariant in
-    let more = combined_push c.args.own c.args.by c.crossed.result c.loop-i.i c.args.row.now c.args.turned.now c.loop-i.out.items c.requires.same (omega arith) is before in
+    let more = combined_push c.args.own c.args.by c.combined_entry.result c.loop-i.i c.args.row.now c.args.turned.now c.loop-i.out.items c.requires.same (omega arith) is before in
     simp to_z-of_z (search (rules, more))

@@ -26,8 +26,8 @@ overflow_cast-divisor c =
     let small = divisor_small c.args.n c.args.own c.args.by (equation_of c.args.row.now) (equation_of c.args.turned.now) c.requires.own c.requires.by c.requires.row c.requires.turned c.requires.some in
     omega (arith, ints)
 
-pub divided-requires : goal.divided-requires
-divided-requires c =
+pub divide_row-requires : goal.divide_row-requires
+divide_row-requires c =
     let own : FitsSigned w128 c.args.own = c.ranges.own in
     let by : FitsSigned w128 c.args.by = c.ranges.by in
     let all = combined_row c.args.own c.args.by (equation_of c.args.row.now) (equation_of c.args.turned.now) in
@@ -46,4 +46,4 @@ returns c =
     let same : c.divisor_of-divisor.result ≡ divisor c.args.n all = c.divisor_of-divisor.ensures ∙ ap (divisor c.args.n) is in
     let small = divisor_small c.args.n c.args.own c.args.by (equation_of c.args.row.now) (equation_of c.args.turned.now) c.requires.own c.requires.by c.requires.row c.requires.turned c.requires.some in
     let d : to_z w128 c.divisor_of-divisor.result ≡ pos (divisor c.args.n all) = omega (arith, ints) in
-    c.divided.ensures ∙ ap₂ divided_row d is
+    c.divide_row.ensures ∙ ap₂ divided_row d is

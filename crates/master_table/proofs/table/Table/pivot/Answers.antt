@@ -5,8 +5,8 @@ use Rattle.master_table.specs.Pivoting.{pivoted}
 use Rattle.master_table.proofs.PastCaps.{is_past}
 use Rattle.master_table.proofs.table.Table.pivot.Goals as goal
 
-pub turned-requires-clause-small : goal.turned-requires-clause-small
-turned-requires-clause-small c = index_small c.self.inside c.args.self.now c.self.view_is c.self.invariant c.args.row c.args.col c.requires.row c.requires.col c.requires.entry c.index.result.now c.index.ensures
+pub turn_row-requires-clause-small : goal.turn_row-requires-clause-small
+turn_row-requires-clause-small c = index_small c.self.inside c.args.self.now c.self.view_is c.self.invariant c.args.row c.args.col c.requires.row c.requires.col c.requires.entry c.index.result.now c.index.ensures
 
 pub returns-in_default-clause-tableau : goal.returns-in_default-clause-tableau
 returns-in_default-clause-tableau c = pivot_tableau c.self.inside c.args.self.now c.self.view_is c.self.invariant c.args.row c.args.col c.requires.row c.requires.col c.requires.entry

@@ -1,7 +1,7 @@
 use Rattle.std.proofs.Common.{◌≡◌, [], map, take, drop}
 use Rattle.instance_reader.specs.Types.{names_of, repeated_in}
 use Rattle.instance_reader.specs.Views.{curve_view, name_view}
-use Rattle.instance_reader.proofs.types.numbered.Given as goal
+use Rattle.instance_reader.proofs.types.number_names.Given as goal
 
 abbrev pub invariant-loop-index : goal.invariant-loop-index
 invariant-loop-index l = record {

@@ -2,7 +2,7 @@ use Rattle.std.proofs.Common.{◌≡◌, ◌∙◌, ◌∷◌, ◌++◌, [], tru
 use Rattle.instance_reader.proofs.TypesLemmas.{fresh_here, fresh_key, known_key, next_name, repeated_here}
 use Rattle.instance_reader.specs.Types.{is_among, names_of}
 use Rattle.instance_reader.specs.Views.{curve_view, name_view}
-use Rattle.instance_reader.proofs.types.numbered.Goals as goal
+use Rattle.instance_reader.proofs.types.number_names.Goals as goal
 
 pub loop-index-preserved : goal.loop-index-preserved
 loop-index-preserved c =

@@ -3,7 +3,7 @@ use Rattle.std.specs.Int.{w128}
 use Rattle.std.proofs.lemmas.Int.{ints}
 use Rattle.master_table.proofs.Reduced.{divided_one}
 use Rattle.master_table.specs.RowView.{equation_of}
-use Rattle.master_table.proofs.rows.divided.Goals as goal
+use Rattle.master_table.proofs.rows.divide_row.Goals as goal
 
 pub returns-then-d-eq1 : goal.returns-then-d-eq1
 returns-then-d-eq1 c =

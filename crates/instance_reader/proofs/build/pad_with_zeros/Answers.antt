@@ -1,6 +1,6 @@
 use Rattle.std.proofs.Common.{◌≡◌, ◌+◌, ◌-◌, ◌≤◌, length, refl, arith, append_assoc, rules}
 use Rattle.std.proofs.lemmas.Grind.{replicate_next}
-use Rattle.instance_reader.proofs.build.padded.Goals as goal
+use Rattle.instance_reader.proofs.build.pad_with_zeros.Goals as goal
 
 pub loop-node-preserved : goal.loop-node-preserved
 loop-node-preserved c =

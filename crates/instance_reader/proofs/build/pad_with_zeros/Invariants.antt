@@ -1,5 +1,5 @@
 use Rattle.std.proofs.Common.{◌≡◌, ◌-◌, ◌++◌, length, replicate}
-use Rattle.instance_reader.proofs.build.padded.Given as goal
+use Rattle.instance_reader.proofs.build.pad_with_zeros.Given as goal
 
 abbrev pub invariant-loop-node : goal.invariant-loop-node
 invariant-loop-node l =

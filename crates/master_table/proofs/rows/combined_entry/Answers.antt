@@ -3,7 +3,7 @@ use Rattle.std.specs.Int.{w128}
 use Rattle.std.specs.Prelude.{unsigned_abs}
 use Rattle.std.proofs.lemmas.Int.{ints, to_z-of_z}
 use Rattle.master_table.proofs.Products.{small_product}
-use Rattle.master_table.proofs.rows.crossed.Goals as goal
+use Rattle.master_table.proofs.rows.combined_entry.Goals as goal
 
 pub overflow_sub-result : goal.overflow_sub-result
 overflow_sub-result c =
