@@ -17,3 +17,4 @@ pub mod Divisors
 pub mod Equations
 pub mod Basis
 pub mod Wide
+pub mod Strong
