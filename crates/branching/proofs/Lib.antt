@@ -1,0 +1,12 @@
+pub mod Elements
+pub mod Shapes
+pub mod Places
+pub mod Keys
+pub mod Under
+pub mod Children
+pub mod Counts
+pub mod Works
+pub mod Next
+pub mod Least
+pub mod Plans
+pub mod Stored

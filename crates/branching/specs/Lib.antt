@@ -1,0 +1,6 @@
+pub mod Nodes
+pub mod SearchTree
+pub mod Shape
+pub mod TreeCode
+pub mod Work
+pub mod Stored

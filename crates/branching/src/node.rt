@@ -1,0 +1,136 @@
+//! The nodes of the tree that are not split.
+
+ghost use Rattle.std.specs.Prelude.{◌≡◌, ◌↔◌, ◌≢◌, ◌<◌, ◌≤◌, IsNone, IfSome};
+ghost use Rattle.customer_sets.specs.Pairs.{IsPairs};
+ghost use Rattle.branching.specs.Nodes.{awaits, IsLeastBound, IsNext, least_of, lives, next_of, NoneIsLive, NoneIsOpen};
+ghost use Rattle.branching.specs.SearchTree.{AreChildren};
+ghost use Rattle.branching.specs.declared.node.Node.{Node};
+ghost use Rattle.branching.specs.declared.node.NodeState.TheVariants.{Open};
+
+use customer_sets::Pairs;
+
+/// How far the search has come with a node.
+#[derive(Clone, Copy, Debug, PartialEq, Eq)]
+pub enum NodeState {
+    /// It waits to be taken.
+    Open,
+    /// It was taken, and is neither split nor closed yet.
+    Taken,
+    /// Nothing is left to be done with it.
+    Closed,
+}
+
+/// A node that is not split: a leaf of the tree.
+#[derive(Clone, Copy, Debug, PartialEq, Eq)]
+pub struct Node {
+    pub state: NodeState,
+    /// The pairs of places that are forbidden on the way to it.
+    pub pairs: Pairs,
+    /// The number of the section that its leaf names.
+    pub section: usize,
+    /// What no fleet plan that keeps the pairs costs less than, as the caller has it.
+    pub bound: u128,
+}
+
+impl Node {
+    fn is_open(&self) -> bool
+        ensures { result ≡ awaits self.now.state }
+    {
+        match self.state {
+            NodeState::Open => true,
+            NodeState::Taken | NodeState::Closed => false,
+        }
+    }
+
+    fn is_live(&self) -> bool
+        ensures { result ≡ lives self.now.state }
+    {
+        match self.state {
+            NodeState::Open | NodeState::Taken => true,
+            NodeState::Closed => false,
+        }
+    }
+}
+
+/// The key of the open node of least bound, of several the least key. `None` comes exactly where no
+/// node is open.
+pub(crate) fn next_open(nodes: &[Node]) -> Option<usize>
+    ensures none { IsNone result ↔ NoneIsOpen nodes.now }
+    ensures next { IfSome result (λ key. (node : Node) × IsNext nodes.now key node) }
+{
+    let mut next = None;
+    for (key, node) in nodes.iter().enumerate() {
+        next = next_of(next, key, node);
+    }
+    match next {
+        Some((key, _)) => Some(key),
+        None => None,
+    }
+}
+
+/// The key and the bound of the next node among those so far and another one behind them.
+fn next_of(next: Option<(usize, u128)>, key: usize, node: &Node) -> Option<(usize, u128)>
+    ensures { result ≡ next_of next key node.now }
+{
+    match next {
+        Some((_, bound)) if !node.is_open() || bound <= node.bound => next,
+        _ if !node.is_open() => None,
+        _ => Some((key, node.bound)),
+    }
+}
+
+/// The least bound of the open and taken nodes. `None` comes exactly where there is none.
+pub(crate) fn least_live(nodes: &[Node]) -> Option<u128>
+    ensures none { IsNone result ↔ NoneIsLive nodes.now }
+    ensures least { IfSome result (IsLeastBound nodes.now) }
+{
+    let mut least = None;
+    for node in nodes {
+        least = least_of(least, node);
+    }
+    least
+}
+
+/// The least bound among the nodes so far and another one.
+fn least_of(least: Option<u128>, node: &Node) -> Option<u128>
+    ensures { result ≡ least_of least node.now }
+{
+    if !node.is_live() {
+        return least;
+    }
+    match least {
+        Some(bound) => Some(bound.min(node.bound)),
+        None => Some(node.bound),
+    }
+}
+
+/// The children of a node that is split on `i` and `j`: that in which `j` may not follow `i`, and
+/// that in which it has to.
+pub(crate) fn children(node: &Node, i: usize, j: usize, section: usize, bound: u128) -> (Node, Node)
+    requires first { (0 < i) × (i ≤ node.now.pairs.customers) }
+    requires second { (0 < j) × (j ≤ node.now.pairs.customers) }
+    requires apart { i ≢ j }
+    ensures children { AreChildren node.now i j section bound result.0 result.1 }
+    ensures pairs { IsPairs result.1.pairs }
+{
+    let mut apart = node.pairs;
+    apart.forbid(i, j);
+    let mut together = node.pairs;
+    together.require(i, j);
+    let _customers = together.customers();
+    (
+        open_node(apart, section, bound),
+        open_node(together, section, bound),
+    )
+}
+
+fn open_node(pairs: Pairs, section: usize, bound: u128) -> Node
+    ensures { result ≡ record { state = Open; pairs = pairs; section = section; bound = bound } }
+{
+    Node {
+        state: NodeState::Open,
+        pairs,
+        section,
+        bound,
+    }
+}

@@ -1,0 +1,1 @@
+//! Each call once, and a small tree by hand.
