@@ -1,4 +1,4 @@
--- How a table goes from the start of m entries to that of one more: which helper makes room for the entry.
+-- From the table of the first m entries to that of one more: which helper makes room.
 use Rattle.std.specs.Prelude.{◌≡◌, ◌≢◌, ℕ, zero, suc, ◌+◌, ◌<◌, pos, false, cond, nat_eq, Option, Some, None, List, [], ◌∷◌, ◌++◌, map, length, take, get_or}
 use Rattle.std.specs.List.{range_with_len}
 use Rattle.customer_sets.specs.CustSet.{has}
@@ -10,7 +10,8 @@ use Rattle.wide_bases.specs.Listed.{route_columns}
 use Rattle.wide_bases.specs.declared.listed.ListedRoute.{ListedRoute}
 
 -- the table of the helpers' basis, with the columns of some routes
-pub record IsHelperTable (n : ℕ) (caps : Limits) (routes : List ListedRoute) (t : Tableau) : Type 0 where
+pub record IsHelperTable (n : ℕ) (caps : Limits) (routes : List ListedRoute)
+    (t : Tableau) : Type 0 where
   pub tableau : IsTableau t
   pub limits : t.caps ≡ caps
   pub basis : t.basis ≡ range_with_len 0 n
@@ -29,8 +30,8 @@ abbrev pub AreOnce : List ℕ → Type 0
 AreOnce [] = Unit {0}
 AreOnce (x ∷ xs) = (has xs x ≡ false) × AreOnce xs
 
--- the table's basis is that of the first m entries. The taken rows hold these entries, in the order that is told. Each other
--- row still has its own customer's helper, and nothing of the helper of an earlier customer.
+-- the table's basis is that of the first m entries: the taken rows hold these, in the order that is
+-- told; each other row still has its own customer's helper, and nothing of an earlier customer's
 pub record IsStart (t : Tableau) (entries : List ℕ) (m : ℕ) (taken : List ℕ) : Type 0 where
   pub tableau : IsTableau t
   pub order : List ℕ
@@ -42,7 +43,7 @@ pub record IsStart (t : Tableau) (entries : List ℕ) (m : ℕ) (taken : List �
   pub own : (i : ℕ) → i < size t → has taken i ≡ false → get_or t.basis i 0 ≡ i
   pub later : (i x : ℕ) → i < size t → has taken i ≡ false → x < i → entry_at t i x ≡ pos 0
 
--- the helper of the row may make room for the column: it holds no entry, and has something of the column
+-- the row's helper may make room for the column: the row holds no entry, and has some of the column
 abbrev pub MayGo : Tableau → List ℕ → ℕ → ℕ → Type 0
 MayGo t taken col i = (has taken i ≡ false) × (entry_at t i col ≢ pos 0)
 
@@ -52,6 +53,6 @@ IsLastToGo t taken col k None = (i : ℕ) → i < k → MayGo t taken col i → 
 IsLastToGo t taken col k (Some r) =
     (r < k) × MayGo t taken col r × ((i : ℕ) → r < i → i < k → MayGo t taken col i → ⊥)
 
--- the table with the column in the row's place of the basis: as it is, where it stands there already
+-- the table with the column in the row's place of the basis: the same, where it stands there already
 abbrev pub brought : ℕ → ℕ → Tableau → Tableau
 brought row col t = cond (nat_eq (get_or t.basis row 0) col) t (pivoted row col t)

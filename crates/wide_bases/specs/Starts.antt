@@ -4,7 +4,7 @@ use Rattle.fleet_model.specs.Equations.{Column, helper}
 use Rattle.fleet_model.specs.Basis.{AreIndependent}
 use Rattle.fleet_model.specs.Wide.{Follow, IsPast}
 
--- the first m entries are independent, and with the helpers that follow they are a basis past the caps
+-- the first m entries are independent, and with the helpers that follow are a basis past the caps
 pub record IsStartPast (body cost n : ℕ) (columns entries : List Column) (m : ℕ) : Type 0 where
   pub independent : AreIndependent n (take m entries)
   pub customers : List ℕ

@@ -8,7 +8,7 @@ use customer_sets::CustSet;
 use master_simplex::share_weight;
 use master_table::{Table, TableFault};
 
-/// Whether the table's basis is past its caps. No number of a table is, so it is the share weight that tells.
+/// Whether the table's basis is past its caps. No number of a table is, so the share weight tells.
 pub fn is_past(t: &Table) -> bool
     ensures { IsTrue result ↔ IsBasisPast t.now }
 {
@@ -17,7 +17,8 @@ pub fn is_past(t: &Table) -> bool
     share_weight(t).is_none()
 }
 
-/// Whether the row's helper may make room for the column: it holds no entry, and has something of the column.
+/// Whether the row's helper may make room for the column: the row holds no entry, and has something
+/// of the column.
 fn may_go(t: &Table, taken: CustSet, col: usize, row: usize) -> bool
     requires row { row < size t.now }
     requires col { col < length t.now.columns }

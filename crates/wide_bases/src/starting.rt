@@ -8,7 +8,9 @@ use crate::listed::ListedRoute;
 use master_table::{Caps, Table, TableFault};
 use std::alloc::{AllocError, Global};
 
-/// The table of the helpers' basis, with the columns of all routes. Its numbers are at most 1 or `n`, or a time.
+/// The table of the helpers' basis, with the columns of all routes.
+///
+/// Its numbers are at most 1 or `n`, or a time, so adding a column is never wide.
 pub fn helper_table(
     alloc: Global,
     caps: Caps,
