@@ -16,6 +16,7 @@ mod shares;
 pub use fault::LpFault;
 pub use laws::{an_optimum_is_the_least_cover, beside_a_ray_there_is_no_cover};
 pub use method::solve;
+pub use over::share_weight;
 pub use prices::Lp;
 
 #[cfg(test)]

@@ -1,0 +1,9 @@
+mod Moves
+mod Dependence
+mod Within
+mod Following
+mod Exchange
+mod Testing
+mod Reached
+mod Going
+mod Beginning
