@@ -1,11 +1,11 @@
 -- The children of a node have the pairs that are forbidden on the way to them.
-use Rattle.std.proofs.Common.{◌≡◌, ◌≢◌, ◌∙◌, ℕ, zero, suc, ◌+◌, ◌-◌, ◌<◌, ◌≤◌, Bool, true, false, not, ◌&&◌, ◌||◌, List, ◌⊎◌, inl, inr, refl, sym, ap, subst, arith, Some}
-use Rattle.std.specs.Prelude.{cond, nat_eq, nat_lt, slice_get}
-use Rattle.std.proofs.lemmas.Bool.{cases_Bool, cases_eq, cases_lt, eqb-true, and_parts}
+use Rattle.std.proofs.Common.{◌≡◌, ◌∙◌, ℕ, zero, suc, ◌-◌, ◌<◌, ◌≤◌, Bool, true, false, not, ◌&&◌, ◌||◌, List, ◌⊎◌, inl, inr, refl, sym, ap, subst, arith, Some}
+use Rattle.std.specs.Prelude.{nat_eq, slice_get}
+use Rattle.std.proofs.lemmas.Bool.{cases_Bool, cases_lt, eqb-true, and_parts}
 use Rattle.customer_sets.specs.Pairs.{ForbiddenPairs, allows_of, forbid, is_forbidden, IsPairs, require}
 use Rattle.fleet_model.specs.Tree.{BranchTree, leaf, split}
 use Rattle.branching.specs.Nodes.{HasNode}
-use Rattle.branching.specs.SearchTree.{AreChildren, HasPairs, IsBranchPair, IsSearchTree, IsTreeUnder, leaves_with, SearchTree}
+use Rattle.branching.specs.SearchTree.{AreChildren, HasPairs, IsBranchPair, IsTreeUnder, leaves_with}
 use Rattle.branching.specs.declared.node.Node.{Node}
 use Rattle.branching.proofs.Under.{Splits}
 
@@ -39,9 +39,14 @@ module _ (n i j : ℕ) (allows : ℕ → ℕ → Bool) (p : ForbiddenPairs) (has
         let facts = pair.narrows in
         let a = facts.0 in
         let b = facts.1 in
-        let same = has.same a b facts.2 facts.3 in
-        (a, b, facts.2, facts.3, sym same ∙ facts.4,
-        sym (ap (λ t. t && (nat_eq a b || (not (nat_eq a i && not (nat_eq b j)) && not (nat_eq b j && not (nat_eq a i))))) same) ∙ facts.5);
+        let same = has.same a b facts.2 facts.3 in (
+          a,
+          b,
+          facts.2,
+          facts.3,
+          sym same ∙ facts.4,
+          sym (ap (λ t. t && (nat_eq a b || (not (nat_eq a i && not (nat_eq b j)) && not (nat_eq b j && not (nat_eq a i))))) same) ∙ facts.5,
+        );
   }
 
   pub apart_pairs : (q : ForbiddenPairs) → q.customers ≡ p.customers → ((a b : ℕ) → allows_of q a b ≡ forbid i j (allows_of p) a b) → HasPairs n (forbid i j allows) q

@@ -1,9 +1,9 @@
 -- Fewer pairs are allowed in each child of a node than in the node.
-use Rattle.std.proofs.Common.{◌≡◌, ◌∙◌, ℕ, zero, suc, ◌+◌, ◌<◌, ◌≤◌, Bool, true, false, not, ◌&&◌, ◌||◌, ◌⊎◌, inl, inr, refl, sym, ap, subst, arith}
+use Rattle.std.proofs.Common.{◌≡◌, ◌∙◌, ℕ, zero, suc, ◌<◌, ◌≤◌, Bool, true, false, not, ◌&&◌, ◌||◌, inl, inr, refl, sym, subst, arith}
 use Rattle.std.specs.Prelude.{cond, nat_eq}
 use Rattle.std.specs.Int.{sum_through}
-use Rattle.std.proofs.lemmas.Bool.{cases_Bool, cases_eq, eq-eqb, and_parts}
-use Rattle.customer_sets.specs.Pairs.{ForbiddenPairs, allows_of, forbid, require}
+use Rattle.std.proofs.lemmas.Bool.{cases_eq, eq-eqb, and_parts}
+use Rattle.customer_sets.specs.Pairs.{ForbiddenPairs, allows_of, forbid}
 use Rattle.branching.specs.SearchTree.{AreChildren, IsBranchPair}
 use Rattle.branching.specs.Work.{allowed_pairs}
 use Rattle.branching.specs.declared.node.Node.{Node}

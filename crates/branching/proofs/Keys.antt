@@ -1,7 +1,7 @@
 -- Each node is that of one leaf, also where a leaf is split.
-use Rattle.std.proofs.Common.{◌≡◌, ◌∙◌, ℕ, suc, ◌+◌, ◌<◌, ◌≤◌, Bool, true, false, inl, inr, refl, sym, ap, arith}
-use Rattle.std.specs.Prelude.{cond, nat_eq, nat_lt}
-use Rattle.std.proofs.lemmas.Bool.{cases_Bool, cases_eq, eq-eqb, eqb-true, ne_eqb}
+use Rattle.std.proofs.Common.{◌≡◌, ℕ, ◌+◌, Bool, true, false, inl, inr, refl, arith}
+use Rattle.std.specs.Prelude.{cond, nat_eq}
+use Rattle.std.proofs.lemmas.Bool.{cases_Bool, eqb-true}
 use Rattle.fleet_model.specs.Tree.{BranchTree, leaf, split}
 use Rattle.branching.specs.SearchTree.{grown, leaves_with}
 

@@ -1,6 +1,6 @@
 -- The least bound among the first n nodes.
-use Rattle.std.proofs.Common.{◌≡◌, ◌∙◌, ℕ, suc, ◌+◌, ◌<◌, ◌≤◌, Bool, true, false, List, length, inl, inr, refl, sym, ap, subst, arith, min, Option, Some, None}
-use Rattle.std.specs.Prelude.{◌↔◌, IfSome, IsNone, cond, slice_get}
+use Rattle.std.proofs.Common.{◌≡◌, ◌∙◌, ℕ, ◌+◌, ◌<◌, ◌≤◌, false, List, length, inl, inr, refl, sym, subst, arith, min, Option, Some, None}
+use Rattle.std.specs.Prelude.{◌↔◌, IfSome, IsNone, slice_get}
 use Rattle.std.proofs.lemmas.Bool.{cases_Bool, cases_eq, cases_lt, false≢true}
 use Rattle.std.proofs.lemmas.Option.{same_Some, slice_get_within}
 use Rattle.branching.specs.Nodes.{HasNode, IsLeastBound, IsLive, least_of, lives, NoneIsLive}

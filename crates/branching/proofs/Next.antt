@@ -1,10 +1,9 @@
 -- The next open node among the first n nodes.
-use Rattle.std.proofs.Common.{◌≡◌, ◌∙◌, ℕ, suc, ◌+◌, ◌<◌, ◌≤◌, Bool, true, false, ◌&&◌, List, length, ◌⊎◌, ◌↔◌, inl, inr, refl, sym, ap, subst, arith, Option, Some, None}
-use Rattle.std.specs.Prelude.{IsNone, cond, nat_lt, slice_get}
-use Rattle.std.specs.Option.{MatchOption}
+use Rattle.std.proofs.Common.{◌≡◌, ◌∙◌, ℕ, ◌+◌, ◌<◌, ◌≤◌, false, List, length, ◌⊎◌, ◌↔◌, inl, inr, refl, sym, ap, subst, arith, Option, Some, None}
+use Rattle.std.specs.Prelude.{IsNone, nat_lt, slice_get}
 use Rattle.std.proofs.lemmas.Bool.{cases_Bool, cases_eq, cases_lt, false≢true, lt-ltb, ltb-true}
 use Rattle.std.proofs.lemmas.Option.{same_Some, slice_get_within}
-use Rattle.branching.specs.Nodes.{awaits, HasNode, IsNext, IsOpen, next_of, NoneIsOpen}
+use Rattle.branching.specs.Nodes.{awaits, IsNext, IsOpen, next_of, NoneIsOpen}
 use Rattle.branching.specs.declared.node.Node.{Node}
 
 module _ (nodes : List Node) where
@@ -77,7 +76,7 @@ module _ (nodes : List Node) where
         | inl less ↦
             let smaller : node.bound < next.1 = ltb-true node.bound next.1 less in
             rw (is, less) (taken_up (Some next) is (λ other o below at open_.
-              elim (holds.least other o below at open_) [ inl lt ↦ omega (arith, smaller, lt) | inr tie ↦ omega (arith, smaller, tie.0) ]))
+            elim (holds.least other o below at open_) [ inl lt ↦ omega (arith, smaller, lt) | inr tie ↦ omega (arith, smaller, tie.0) ]))
         | inr miss ↦
             let larger : next.1 ≤ node.bound = elim (cases_lt node.bound next.1) [ inl less ↦ absurd (false≢true (sym miss ∙ lt-ltb node.bound next.1 less)) | inr le ↦ le ] in
             rw (is, miss) (kept next.0 next.1 holds (λ _. larger))
@@ -86,11 +85,14 @@ module _ (nodes : List Node) where
     ]
 
   next-end : (n key bound : ℕ) → length nodes ≤ n → IsNextSoFar n (Some (key, bound)) → (node : Node) × IsNext nodes key node
-  next-end n key bound all holds = (holds.node, record {
-    here = holds.here;
-    waits = holds.waits;
-    least = λ other o at open_. rw holds.bounds (holds.least other o (omega (arith, all, slice_get_within nodes other o at)) at open_);
-  })
+  next-end n key bound all holds = (
+    holds.node,
+    record {
+      here = holds.here;
+      waits = holds.waits;
+      least = λ other o at open_. rw holds.bounds (holds.least other o (omega (arith, all, slice_get_within nodes other o at)) at open_);
+    },
+  )
 
   next-none : (n : ℕ) → length nodes ≤ n → IsNextSoFar n None → NoneIsOpen nodes
   next-none n all holds key has = holds key has.node (omega (arith, all, slice_get_within nodes key has.node has.here)) has.here has.is

@@ -1,5 +1,5 @@
 -- What the pairs of nodes say of fleet plans and of sections.
-use Rattle.std.proofs.Common.{◌≡◌, ◌∙◌, ℕ, ◌<◌, ◌≤◌, Bool, true, List, [], ◌∷◌, inl, inr, refl, sym, ap, subst, Option, Some, arith}
+use Rattle.std.proofs.Common.{◌≡◌, ℕ, ◌≤◌, Bool, true, List, [], ◌∷◌, inl, inr, sym, ap, subst, Option, Some, arith}
 use Rattle.std.specs.Prelude.{get_or, slice_get}
 use Rattle.customer_sets.specs.Pairs.{allows_of, forbid, require}
 use Rattle.ev_model.specs.Network.{Network}
@@ -22,11 +22,14 @@ weaker_fleet g allows new plans more keeps = λ k d l. weaker allows new (places
 
 pub keeps_node : (g : Network) (n : ℕ) (nodes : List Node) (allows : ℕ → ℕ → Bool) (t : BranchTree) (plans : List (List Stop)) → IsTreeUnder n nodes allows t → KeepsSomeLeaf g allows t plans
     → (key : ℕ) × HasNode nodes key (λ node. FleetKeepsPairs g (allows_of node.pairs) plans)
-keeps_node g n nodes allows (leaf key) plans under keeps = (key, record {
-  node = under.node;
-  here = under.here;
-  is = weaker_fleet g allows (allows_of under.node.pairs) plans under.is.more keeps;
-})
+keeps_node g n nodes allows (leaf key) plans under keeps = (
+  key,
+  record {
+    node = under.node;
+    here = under.here;
+    is = weaker_fleet g allows (allows_of under.node.pairs) plans under.is.more keeps;
+  },
+)
 keeps_node g n nodes allows (split i j apart together) plans under keeps = elim keeps [
   | inl first ↦ keeps_node g n nodes (forbid i j allows) apart plans under.1.0 first
   | inr second ↦ keeps_node g n nodes (require i j allows) together plans under.1.1 second
@@ -37,9 +40,12 @@ is_branch g n nodes allows (leaf key) all under = tt
 is_branch g n nodes allows (split i j apart together) all under =
     let pair = under.0 in
     let first : i ≤ customer_count g = omega (arith, all, pair.first.1) in
-    let second : j ≤ customer_count g = omega (arith, all, pair.second.1) in
-    (pair.first.0, first, (pair.second.0, second),
-    (is_branch g n nodes (forbid i j allows) apart all under.1.0, is_branch g n nodes (require i j allows) together all under.1.1))
+    let second : j ≤ customer_count g = omega (arith, all, pair.second.1) in (
+      pair.first.0,
+      first,
+      (pair.second.0, second),
+      (is_branch g n nodes (forbid i j allows) apart all under.1.0, is_branch g n nodes (require i j allows) together all under.1.1),
+    )
 
 pub named_branch : (g : Network) (nodes : List Node) (t : BranchTree) → IsBranchTree g t → IsBranchTree g (sections_named nodes t)
 named_branch g nodes (leaf key) is = tt

@@ -1,6 +1,6 @@
 -- The lines of a shape give their tree back, and grow as it does.
-use Rattle.std.proofs.Common.{◌≡◌, ◌∙◌, ℕ, Bool, true, false, List, [], ◌∷◌, ◌++◌, map, inl, inr, refl, sym, ap, append_assoc, append-nil, arith}
-use Rattle.std.specs.Prelude.{cond, nat_eq}
+use Rattle.std.proofs.Common.{◌≡◌, ◌∙◌, ℕ, List, [], ◌∷◌, ◌++◌, map, inl, inr, refl, sym, ap, append_assoc, append-nil}
+use Rattle.std.specs.Prelude.{nat_eq}
 use Rattle.std.specs.List.{flat_map}
 use Rattle.std.proofs.lemmas.Bool.{cases_Bool}
 use Rattle.std.proofs.lemmas.Grind.{flat_map-append}
@@ -12,7 +12,7 @@ use Rattle.branching.specs.SearchTree.{grown, sections_named}
 use Rattle.branching.specs.Shape.{first_tree, joined, key_lines, named_line, split_line, tree_of, trees_of}
 use Rattle.branching.specs.declared.node.Node.{Node}
 use Rattle.branching.specs.declared.shape.Line.{Line}
-use Rattle.branching.specs.declared.shape.Line.TheVariants.{Split, Leaf}
+use Rattle.branching.specs.declared.shape.Line.TheVariants.{Split}
 
 trees_of-append : (t : BranchTree) (lines : List Line) → trees_of (key_lines t ++ lines) ≡ t ∷ trees_of lines
 trees_of-append (leaf key) lines = refl

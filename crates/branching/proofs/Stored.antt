@@ -1,12 +1,11 @@
 -- The tree is sound after a node is written and after one is split.
-use Rattle.std.proofs.Common.{◌≡◌, ◌∙◌, ℕ, suc, ◌+◌, ◌<◌, ◌≤◌, Bool, true, false, List, [], ◌∷◌, ◌++◌, length, length-append, length-set, set, inl, inr, refl, sym, ap, subst, arith, Some}
+use Rattle.std.proofs.Common.{◌≡◌, ◌∙◌, ℕ, ◌+◌, ◌<◌, ◌≤◌, false, List, [], ◌∷◌, ◌++◌, length, length-append, length-set, set, inl, inr, refl, sym, ap, subst, arith, Some}
 use Rattle.std.specs.Prelude.{cond, nat_eq, nat_lt, slice_get}
 use Rattle.std.specs.List.{All, flat_map}
-use Rattle.std.proofs.lemmas.Bool.{cases_Bool, cases_eq, cases_lt, eq-eqb, eqb-true, false≢true, lt-ltb, ltb-true, ne_eqb}
+use Rattle.std.proofs.lemmas.Bool.{cases_Bool, cases_eq, cases_lt, eq-eqb, lt-ltb, ltb-true, ne_eqb}
 use Rattle.std.proofs.lemmas.Option.{slice_get_within}
 use Rattle.customer_sets.specs.Pairs.{allows_of, any_pair, IsPairs}
 use Rattle.fleet_model.specs.Tree.{BranchTree}
-use Rattle.branching.specs.Nodes.{HasNode}
 use Rattle.branching.specs.SearchTree.{AreChildren, grown, IsBranchPair, IsSearchTree, leaves_with, SearchTree}
 use Rattle.branching.specs.Shape.{key_lines, NamesNode, split_line, stands, tree_of}
 use Rattle.branching.specs.declared.node.Node.{Node}
@@ -98,11 +97,11 @@ tree-split t shape key i j other is = ap tree_of (lines-split t shape key i j ot
 
 pub names_nodes : (t : SearchTree) (shape : List Line) → IsSearchTree t → shape ≡ key_lines t.tree → All (NamesNode (length t.nodes)) shape
 names_nodes t shape is lines = names_all (length t.nodes) shape (λ key some.
-  let counted : stands key shape ≡ one_below (length t.nodes) key = ap (stands key) lines ∙ stands-lines key t.tree ∙ is.leaves key in
-  elim (cases_lt key (length t.nodes)) [
-    | inl less ↦ less
-    | inr le ↦ absurd (omega (arith, some, counted, above (length t.nodes) key le))
-  ])
+    let counted : stands key shape ≡ one_below (length t.nodes) key = ap (stands key) lines ∙ stands-lines key t.tree ∙ is.leaves key in
+    elim (cases_lt key (length t.nodes)) [
+      | inl less ↦ less
+      | inr le ↦ absurd (omega (arith, some, counted, above (length t.nodes) key le))
+    ])
 
 pub stands_once : (t : SearchTree) (shape : List Line) (key : ℕ) (node : Node) → IsSearchTree t → shape ≡ key_lines t.tree → slice_get t.nodes key ≡ Some node → stands key shape ≡ 1
 stands_once t shape key node is lines here = ap (stands key) lines ∙ stands-lines key t.tree ∙ one_leaf t key node is here

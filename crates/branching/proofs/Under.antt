@@ -1,9 +1,9 @@
 -- The tree stands under its pairs after a node is written and after a leaf is split.
-use Rattle.std.proofs.Common.{rules, ◌≡◌, ◌∙◌, ℕ, ◌+◌, ◌<◌, ◌≤◌, Bool, true, false, not, ◌&&◌, ◌||◌, List, [], ◌∷◌, ◌++◌, length, set, inl, inr, refl, sym, ap, subst, arith, Some}
-use Rattle.std.specs.Prelude.{cond, nat_eq, slice_get}
-use Rattle.std.proofs.lemmas.Bool.{cases_Bool, cases_eq, eq-eqb, eqb-true, ne_eqb, and_parts}
+use Rattle.std.proofs.Common.{rules, ◌≡◌, ◌∙◌, ℕ, Bool, true, false, List, [], ◌∷◌, ◌++◌, length, set, inl, inr, sym, ap, subst, Some}
+use Rattle.std.specs.Prelude.{nat_eq, slice_get}
+use Rattle.std.proofs.lemmas.Bool.{cases_eq, eq-eqb, ne_eqb}
 use Rattle.std.proofs.lemmas.Option.{same_Some}
-use Rattle.customer_sets.specs.Pairs.{ForbiddenPairs, allows_of, forbid, require}
+use Rattle.customer_sets.specs.Pairs.{forbid, require}
 use Rattle.fleet_model.specs.Tree.{BranchTree, leaf, split}
 use Rattle.branching.specs.Nodes.{HasNode}
 use Rattle.branching.specs.SearchTree.{grown, HasPairs, IsBranchPair, IsTreeUnder}
@@ -24,8 +24,10 @@ under_set n nodes key old new allows (leaf k) here same under = elim (cases_eq k
 ]
 under_set n nodes key old new allows (split i j apart together) here same under = (
   under.0,
-  (under_set n nodes key old new (forbid i j allows) apart here same under.1.0,
-  under_set n nodes key old new (require i j allows) together here same under.1.1),
+  (
+    under_set n nodes key old new (forbid i j allows) apart here same under.1.0,
+    under_set n nodes key old new (require i j allows) together here same under.1.1,
+  ),
 )
 
 -- a node may be split into two under whatever is allowed where it stands
@@ -65,6 +67,8 @@ under_grown n nodes key i j node one two allows (leaf k) here splits under = eli
 ]
 under_grown n nodes key i j node one two allows (split a b apart together) here splits under = (
   under.0,
-  (under_grown n nodes key i j node one two (forbid a b allows) apart here splits under.1.0,
-  under_grown n nodes key i j node one two (require a b allows) together here splits under.1.1),
+  (
+    under_grown n nodes key i j node one two (forbid a b allows) apart here splits under.1.0,
+    under_grown n nodes key i j node one two (require a b allows) together here splits under.1.1,
+  ),
 )

@@ -1,5 +1,5 @@
--- The nodes of a search by key, and which of them comes next (best-first search in branch and bound: Land, Doig
--- 1960).
+-- The nodes of a search by key, and which of them comes next (best-first search in branch and bound:
+-- Land, Doig 1960).
 use Rattle.std.specs.Prelude.{◌≡◌, ◌⊎◌, ℕ, ◌<◌, ◌≤◌, Bool, true, false, ◌&&◌, cond, min, nat_lt, List, Option, Some, None, slice_get}
 use Rattle.branching.specs.declared.node.Node.{Node}
 use Rattle.branching.specs.declared.node.NodeState.{NodeState}

@@ -14,8 +14,8 @@ pub record SearchTree : Type 0 where
   -- a leaf names its node by its key
   pub tree : BranchTree
 
--- a split on the places i and j of n customers is possible under these pairs: j may follow i, and to require it
--- would forbid a further pair
+-- a split on the places i and j of n customers is possible under these pairs: j may follow i, and to
+-- require it would forbid a further pair
 pub record IsBranchPair (n : ℕ) (allows : ℕ → ℕ → Bool) (i j : ℕ) : Type 0 where
   pub first : (0 < i) × (i ≤ n)
   pub second : (0 < j) × (j ≤ n)
@@ -30,8 +30,8 @@ pub record HasPairs (n : ℕ) (allows : ℕ → ℕ → Bool) (p : ForbiddenPair
   pub same : (a b : ℕ) → a ≤ n → b ≤ n → allows_of p a b ≡ allows a b
   pub more : (a b : ℕ) → allows a b ≡ true → allows_of p a b ≡ true
 
--- under what is allowed at the root of the tree, each split is possible where it stands, and each leaf names a
--- node with the pairs that are forbidden on the way to it
+-- under what is allowed at the root of the tree, each split is possible where it stands, and each
+-- leaf names a node with the pairs that are forbidden on the way to it
 abbrev pub IsTreeUnder : ℕ → List Node → (ℕ → ℕ → Bool) → BranchTree → Type 0
 IsTreeUnder n nodes allows (leaf key) = HasNode nodes key (λ node. HasPairs n allows node.pairs)
 IsTreeUnder n nodes allows (split i j apart together) =
@@ -80,15 +80,15 @@ with_node t key node = record t { nodes = set t.nodes key node }
 abbrev pub closed_with : ℕ → Node → Node
 closed_with section node = record node { state = Closed; section = section }
 
--- in place of each leaf that names the key a split, whose first child names the key too, and whose second names
--- another
+-- in place of each leaf that names the key a split, whose first child names the key too, and whose
+-- second names another
 abbrev pub grown : ℕ → ℕ → ℕ → ℕ → BranchTree → BranchTree
 grown key i j other (leaf k) = cond (nat_eq k key) (split i j (leaf key) (leaf other)) (leaf k)
 grown key i j other (split a b apart together) =
     split a b (grown key i j other apart) (grown key i j other together)
 
--- The children of a node that is split are open. Their section and bound are the given ones. In the first j may
--- not follow i, in the second it has to.
+-- The children of a node that is split are open. Their section and bound are the given ones. In the
+-- first j may not follow i, in the second it has to.
 pub record AreChildren (node : Node) (i j section bound : ℕ) (apart together : Node) : Type 0 where
   pub waiting : (apart.state ≡ Open) × (together.state ≡ Open)
   pub sections : (apart.section ≡ section) × (together.section ≡ section)
@@ -100,7 +100,8 @@ pub record AreChildren (node : Node) (i j section bound : ℕ) (apart together :
       allows_of together.pairs a b ≡ require i j (allows_of node.pairs) a b
 
 -- the first child takes the key of the node that is split, and the second the next free one
-pub record IsSplitOf (old : SearchTree) (key i j section bound : ℕ) (new : SearchTree) : Type 0 where
+pub record IsSplitOf (old : SearchTree) (key i j section bound : ℕ)
+    (new : SearchTree) : Type 0 where
   pub node : Node
   pub here : slice_get old.nodes key ≡ Some node
   pub apart : Node

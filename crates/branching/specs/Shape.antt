@@ -8,8 +8,8 @@ use Rattle.branching.specs.declared.node.Node.{Node}
 use Rattle.branching.specs.declared.shape.Line.{Line}
 use Rattle.branching.specs.declared.shape.Line.TheVariants.{Split, Leaf}
 
--- behind a split stand the lines of the tree where the second place may not follow the first, and then those of
--- the tree where it has to
+-- behind a split stand the lines of the tree where the second place may not follow the first, and
+-- then those of the tree where it has to
 abbrev pub key_lines : BranchTree → List Line
 key_lines (leaf key) = Leaf key ∷ []
 key_lines (split i j apart together) = Split i j ∷ (key_lines apart ++ key_lines together)

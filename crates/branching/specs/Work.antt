@@ -1,4 +1,5 @@
--- What is left of a search at most: it ends, since a split forbids a further pair in both of its children.
+-- What is left of a search at most: it ends, since a split forbids a further pair in both of its
+-- children.
 use Rattle.std.specs.Prelude.{ℕ, ◌^◌, cond, List}
 use Rattle.std.specs.Int.{sum_through}
 use Rattle.std.specs.List.{sum_by}

@@ -1,9 +1,9 @@
 //! The nodes of the tree that are not split.
 
-ghost use Rattle.std.specs.Prelude.{◌≡◌, ◌↔◌, ◌≢◌, ◌<◌, ◌≤◌, IsNone, IfSome};
-ghost use Rattle.customer_sets.specs.Pairs.{IsPairs};
+ghost use Rattle.std.specs.Prelude.{◌≡◌, ◌↔◌, ◌≢◌, ◌<◌, ◌≤◌, IsNone, IsTrue, IfSome};
+ghost use Rattle.customer_sets.specs.Pairs.{allows_of, IsNarrowedBy, IsPairs};
 ghost use Rattle.branching.specs.Nodes.{awaits, IsLeastBound, IsNext, least_of, lives, next_of, NoneIsLive, NoneIsOpen};
-ghost use Rattle.branching.specs.SearchTree.{AreChildren};
+ghost use Rattle.branching.specs.SearchTree.{AreChildren, IsBranchPair};
 ghost use Rattle.branching.specs.declared.node.Node.{Node};
 ghost use Rattle.branching.specs.declared.node.NodeState.TheVariants.{Open};
 
@@ -102,6 +102,33 @@ fn least_of(least: Option<u128>, node: &Node) -> Option<u128>
         Some(bound) => Some(bound.min(node.bound)),
         None => Some(node.bound),
     }
+}
+
+/// Whether `i` and `j` are places of customers, `j` may follow `i`, and to require it would forbid
+/// a further pair.
+pub(crate) fn is_branch_pair(pairs: &Pairs, i: usize, j: usize) -> bool
+    ensures { IsTrue result ↔ IsBranchPair pairs.now.customers (allows_of pairs.now) i j }
+{
+    let customers = pairs.customers();
+    if i == 0 || customers < i || j == 0 || customers < j || i == j {
+        return false;
+    }
+    pairs.allows(i, j) && is_narrowed(pairs, i, j)
+}
+
+/// Whether requiring that `j` follows `i` would forbid a further pair.
+fn is_narrowed(pairs: &Pairs, i: usize, j: usize) -> bool
+    requires first { i ≤ pairs.now.customers }
+    requires second { j ≤ pairs.now.customers }
+    requires apart { i ≢ j }
+    ensures { IsTrue result ↔ IsNarrowedBy pairs.now i j }
+{
+    for other in 0..pairs.customers() + 1 {
+        if other != i && other != j && (pairs.allows(i, other) || pairs.allows(other, j)) {
+            return true;
+        }
+    }
+    false
 }
 
 /// The children of a node that is split on `i` and `j`: that in which `j` may not follow `i`, and

@@ -1,1 +1,93 @@
-//! Each call once, and a small tree by hand.
+//! A small tree by hand, in which each call runs.
+
+ghost use Rattle.branching.specs.Nodes.{HasNode, IsLive, IsTaken};
+
+use crate::Tree;
+use bound_certificate::TreeLine;
+use customer_sets::Pairs;
+use std::process::Abort;
+
+/// Takes the next node, which has to be this one, with this section and bound.
+fn take_next(rt: &impl Abort, tree: &mut Tree, key: usize, section: usize, bound: u128)
+    ensures taken { HasNode tree.new.nodes key IsTaken }
+    ensures live { HasNode tree.new.nodes key IsLive }
+{
+    let taken = tree.take();
+    assert_eq!(rt; taken, Some(key));
+    assert_eq!(rt; tree.section(key), section);
+    assert_eq!(rt; tree.bound(key), bound);
+}
+
+fn allows(rt: &impl Abort, pairs: &Pairs, i: usize, j: usize) -> bool {
+    assert!(rt; i <= pairs.customers() && j <= pairs.customers());
+    pairs.allows(i, j)
+}
+
+/// Splits the node, and answers the keys of its children.
+fn split(
+    rt: &impl Abort,
+    tree: &mut Tree,
+    key: usize,
+    i: usize,
+    j: usize,
+    bound: u128,
+) -> (usize, usize)
+    requires taken { HasNode tree.old.nodes key IsTaken }
+    requires live { HasNode tree.old.nodes key IsLive }
+{
+    let can_split = tree.can_split(key, i, j);
+    assert!(rt; can_split);
+    tree.split(key, i, j, 5, bound).expect(rt, "memory")
+}
+
+/// Closes the next node, which has to be this one.
+fn close_next(
+    rt: &impl Abort,
+    tree: &mut Tree,
+    key: usize,
+    section: usize,
+    bound: u128,
+    to: usize,
+) {
+    take_next(rt, tree, key, section, bound);
+    assert_eq!(rt; tree.least_bound(), Some(bound));
+    tree.close(key, to);
+}
+
+#[test]
+fn a_small_tree_is_searched_by_bounds(rt: HostRuntime) {
+    let alloc = rt.alloc();
+    let mut tree = Tree::new(alloc, 3).expect(&rt, "memory");
+    assert_eq!(rt; tree.least_bound(), Some(0));
+    take_next(&rt, &mut tree, 0, 0, 0);
+    assert!(rt; !tree.can_split(0, 0, 1));
+    assert!(rt; !tree.can_split(0, 2, 2));
+    assert!(rt; !tree.can_split(0, 4, 1));
+    assert!(rt; allows(&rt, tree.pairs(0), 1, 0));
+    let keys = split(&rt, &mut tree, 0, 1, 2, 40);
+    assert_eq!(rt; keys, (0, 1));
+    // of equal bounds the least key
+    close_next(&rt, &mut tree, 0, 5, 40, 8);
+    take_next(&rt, &mut tree, 1, 5, 40);
+    assert!(rt; !tree.can_split(1, 1, 2));
+    assert!(rt; allows(&rt, tree.pairs(1), 1, 2));
+    assert!(rt; !allows(&rt, tree.pairs(1), 1, 0));
+    let keys = split(&rt, &mut tree, 1, 2, 3, 50);
+    assert_eq!(rt; keys, (1, 2));
+    close_next(&rt, &mut tree, 1, 5, 50, 9);
+    let lines = tree.lines(alloc).expect(&rt, "memory");
+    assert_eq!(rt;
+        lines.as_slice(),
+        [
+            TreeLine::Split { i: 1, j: 2 },
+            TreeLine::Leaf { section: 8 },
+            TreeLine::Split { i: 2, j: 3 },
+            TreeLine::Leaf { section: 9 },
+            TreeLine::Leaf { section: 5 },
+        ]
+        .as_slice()
+    );
+    close_next(&rt, &mut tree, 2, 5, 50, 10);
+    assert_eq!(rt; tree.least_bound(), None);
+    assert_eq!(rt; tree.take(), None);
+}

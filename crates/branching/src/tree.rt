@@ -1,6 +1,6 @@
 //! The tree.
 
-ghost use Rattle.std.specs.Prelude.{◌≡◌, ◌↔◌, ◌<◌, ◌≤◌, ℕ, length, slice_get, IsNone, IfOk, IfSome, OnErr, OnOk, Some};
+ghost use Rattle.std.specs.Prelude.{◌≡◌, ◌↔◌, ◌<◌, ◌≤◌, ℕ, length, slice_get, IsNone, IsTrue, IfOk, IfSome, OnErr, OnOk, Some};
 ghost use Rattle.customer_sets.specs.Pairs.{allows_of};
 ghost use Rattle.bound_certificate.specs.Meaning.{IsTreeOf};
 ghost use Rattle.branching.specs.Nodes.{HasNode, IsLeastBound, IsLive, IsNext, IsTaken, NoneIsLive, NoneIsOpen};
@@ -9,8 +9,8 @@ ghost use Rattle.branching.specs.Work.{work_left};
 ghost use Rattle.branching.specs.declared.node.Node.{Node};
 ghost use Rattle.branching.specs.declared.node.NodeState.TheVariants.{Taken};
 
-use crate::node::{children, least_live, next_open, Node, NodeState};
-use crate::shape::{named_lines, split_leaf, Line};
+use crate::node::{Node, NodeState, children, is_branch_pair, least_live, next_open};
+use crate::shape::{Line, named_lines, split_leaf};
 use bound_certificate::TreeLine;
 use customer_sets::Pairs;
 use std::alloc::{AllocError, Global};
@@ -74,6 +74,7 @@ impl Tree {
         ensures none { IsNone result ↔ NoneIsOpen self.old.nodes }
         ensures next { IfSome result (λ key. (node : Node) × IsNext self.old.nodes key node
             × (self.new ≡ with_node self.old key (record node { state = Taken }))) }
+        ensures taken { IfSome result (λ key. HasNode self.new.nodes key IsTaken) }
         ensures unchanged { IsNone result → self.new ≡ self.old }
         ensures work { work_left self.new.nodes ≡ work_left self.old.nodes }
     {
@@ -111,6 +112,17 @@ impl Tree {
             result ≡ node.bound }
     {
         self.nodes[key].bound
+    }
+
+    /// Whether an open or taken node may be split on `i` and `j`: both are places of customers, `j`
+    /// may follow `i` under the pairs of the node, and to require it would forbid a further pair.
+    /// It takes no memory.
+    pub fn can_split(&self, key: usize, i: usize, j: usize) -> bool
+        requires { HasNode self.now.nodes key IsLive }
+        ensures { (node : Node) → slice_get self.now.nodes key ≡ Some node →
+            IsTrue result ↔ IsBranchPair self.now.customers (allows_of node.pairs) i j }
+    {
+        is_branch_pair(&self.nodes[key].pairs, i, j)
     }
 
     /// Splits a taken node on the customers' places `i` and `j`, and answers the keys of its

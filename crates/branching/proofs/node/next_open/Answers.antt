@@ -1,4 +1,4 @@
-use Rattle.std.proofs.Common.{◌≡◌, ◌↔◌, Some, sym, subst}
+use Rattle.std.proofs.Common.{◌↔◌, subst}
 use Rattle.std.specs.Prelude.{IsNone}
 use Rattle.branching.specs.Nodes.{NoneIsOpen}
 use Rattle.branching.proofs.Next.{next-is, next-told}

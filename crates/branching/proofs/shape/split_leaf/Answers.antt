@@ -1,8 +1,7 @@
-use Rattle.std.proofs.Common.{◌≡◌, ◌∙◌, suc, ◌+◌, List, set, sym, ap, subst, arith, Some}
+use Rattle.std.proofs.Common.{◌≡◌, ◌∙◌, suc, ◌+◌, set, sym, ap, subst, arith, Some}
 use Rattle.std.specs.Prelude.{slice_get}
 use Rattle.std.specs.List.{flat_map, insert}
 use Rattle.branching.specs.Shape.{split_line, stands}
-use Rattle.branching.specs.declared.shape.Line.{Line}
 use Rattle.branching.specs.declared.shape.Line.TheVariants.{Split, Leaf}
 use Rattle.branching.proofs.Places.{spliced-more}
 use Rattle.branching.proofs.shape.split_leaf.Goals as goal

@@ -1,4 +1,4 @@
-use Rattle.std.proofs.Common.{◌≡◌, ◌∙◌, ◌↔◌, ap, subst}
+use Rattle.std.proofs.Common.{◌∙◌, ◌↔◌, ap, subst}
 use Rattle.std.specs.Prelude.{IsNone}
 use Rattle.branching.specs.Nodes.{NoneIsLive}
 use Rattle.branching.specs.SearchTree.{SearchTree}

@@ -4,7 +4,7 @@ use Rattle.std.proofs.lemmas.Result.{IfOk-weaker}
 use Rattle.bound_certificate.specs.Meaning.{IsTreeOf}
 use Rattle.bound_certificate.specs.Trees.{lines_of}
 use Rattle.branching.specs.SearchTree.{SearchTree, sections_named}
-use Rattle.branching.specs.Shape.{key_lines, named_line, NamesNode, tree_of}
+use Rattle.branching.specs.Shape.{named_line, NamesNode, tree_of}
 use Rattle.branching.proofs.Shapes.{named-lines}
 use Rattle.branching.proofs.Stored.{names_nodes}
 use Rattle.branching.proofs.tree.Tree.lines.Goals as goal

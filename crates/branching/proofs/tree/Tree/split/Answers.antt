@@ -1,4 +1,4 @@
-use Rattle.std.proofs.Common.{◌≡◌, ◌≢◌, ◌∙◌, ℕ, ◌+◌, ◌<◌, ◌≤◌, List, [], ◌∷◌, ◌++◌, length, set, refl, sym, ap, subst, arith, Some, vec_len}
+use Rattle.std.proofs.Common.{◌≡◌, ◌∙◌, ◌<◌, [], ◌∷◌, ◌++◌, length, set, sym, ap, subst, arith, Some, vec_len}
 use Rattle.std.specs.Prelude.{slice_get}
 use Rattle.std.specs.List.{flat_map}
 use Rattle.std.proofs.lemmas.Option.{same_Some, slice_get_within}
@@ -6,13 +6,13 @@ use Rattle.customer_sets.specs.Pairs.{allows_of}
 use Rattle.fleet_model.specs.Tree.{BranchTree}
 use Rattle.branching.specs.Nodes.{IsTaken}
 use Rattle.branching.specs.SearchTree.{grown, IsBranchPair, IsSearchTree, IsSplitOf, SearchTree}
-use Rattle.branching.specs.Shape.{key_lines, split_line, stands, tree_of}
+use Rattle.branching.specs.Shape.{key_lines, split_line, tree_of}
 use Rattle.branching.specs.Work.{work_left}
 use Rattle.branching.specs.declared.node.Node.{Node}
 use Rattle.branching.proofs.Counts.{fewer_apart, fewer_together}
 use Rattle.branching.proofs.Elements.{read_at}
 use Rattle.branching.proofs.Shapes.{tree_of-lines}
-use Rattle.branching.proofs.Stored.{lines-split, node_customers, same_tree, sound-split, split_tree, stands_once}
+use Rattle.branching.proofs.Stored.{lines-split, node_customers, same_tree, sound-split, stands_once}
 use Rattle.branching.proofs.Works.{work_splits}
 use Rattle.branching.proofs.tree.Tree.split.Goals as goal
 

@@ -1,14 +1,13 @@
-use Rattle.std.proofs.Common.{◌≡◌, ◌∙◌, ◌↔◌, ℕ, ◌<◌, List, length, set, refl, sym, ap, subst, arith, true, false, Some, None, vec_len}
+use Rattle.std.proofs.Common.{◌≡◌, ◌∙◌, ◌↔◌, length, set, refl, sym, ap, subst, arith, Some, vec_len}
 use Rattle.std.specs.Prelude.{IsNone, slice_get}
-use Rattle.std.proofs.lemmas.Bool.{false≢true}
 use Rattle.std.proofs.lemmas.Option.{same_Some, slice_get_within}
-use Rattle.branching.specs.Nodes.{IsNext, IsOpen, lives, NoneIsOpen}
+use Rattle.branching.specs.Nodes.{IsNext, IsOpen, NoneIsOpen}
 use Rattle.branching.specs.SearchTree.{SearchTree, with_node}
 use Rattle.branching.specs.Shape.{tree_of}
 use Rattle.branching.specs.Work.{work_left}
 use Rattle.branching.specs.declared.node.Node.{Node}
 use Rattle.branching.specs.declared.node.NodeState.TheVariants.{Taken}
-use Rattle.branching.proofs.Elements.{read_at}
+use Rattle.branching.proofs.Elements.{read_at, set_here}
 use Rattle.branching.proofs.Stored.{sound-set}
 use Rattle.branching.proofs.Works.{open_lives, work_stays}
 use Rattle.branching.proofs.tree.Tree.take.Goals as goal
@@ -68,3 +67,16 @@ returns-clause-work c =
     let waits : IsOpen old = subst IsOpen (same_Some next.0 old (sym first.here ∙ here)) first.waits in
     subst (λ (p : SearchTree). work_left (set t.nodes key (record old { state = Taken })) ≡ work_left p.nodes) c.self.view_is
     (work_stays t.nodes key old (record old { state = Taken }) here (open_lives old waits) refl refl)
+
+pub returns-clause-taken : goal.returns-clause-taken
+returns-clause-taken c =
+    let nodes = c.self.inside.nodes.items in
+    let key = c.in-Some.key in
+    let old = c.index_mut.result.now in
+    let next = c.in-Some.ensures.next in
+    let there : slice_get nodes key ≡ Some next.0 = subst (λ xs. slice_get xs key ≡ Some next.0) c.as_slice.ensures.value next.1.here in
+    record {
+      node = record old { state = Taken };
+      here = set_here nodes key (record old { state = Taken }) next.0 there;
+      is = refl;
+    }
