@@ -1,13 +1,15 @@
 -- What a label covers, and what the labels of a section cover together.
-use Rattle.std.proofs.Common.{◌≡◌, ◌≢◌, ◌∙◌, ℕ, ◌+◌, ◌-◌, ◌*◌, ◌/◌, ◌<◌, ◌≤◌, ◌^◌, List, length, sym, ap, subst, arith, inl, inr, pos, ◌+ℤ◌, ◌≤ℤ◌}
-use Rattle.std.specs.List.{Contains}
+use Rattle.std.proofs.Common.{◌≡◌, ◌≢◌, ◌∙◌, ℕ, ◌+◌, ◌-◌, ◌*◌, ◌/◌, ◌<◌, ◌≤◌, ◌^◌, List, length, sym, ap, subst, arith, inl, inr, pos, ◌+ℤ◌, ◌-ℤ◌, ◌<ℤ◌, ◌≤ℤ◌, false}
+use Rattle.std.specs.List.{All, Contains}
 use Rattle.std.specs.Prelude.{slice_index, slice_index_or}
 use Rattle.std.proofs.lemmas.Bool.{cases_eq, cases_lt}
-use Rattle.std.proofs.lemmas.List.{get_or-map, length-map}
-use Rattle.std.proofs.Math.Nat.{mul-add-div_right, div-eq_of_lt}
+use Rattle.std.proofs.lemmas.Int.{ints}
+use Rattle.std.proofs.lemmas.List.{get_or_default, get_or-map, length-map}
+use Rattle.std.proofs.Math.Nat.{mul-add-div_right, mul_comm, mul-le-mul_left, div-eq_of_lt}
 use Rattle.customer_sets.specs.CustSet.{IsWithin}
 use Rattle.dominance.specs.Coverage.{Reaches}
 use Rattle.dominance.specs.LevelTimes.{time_at}
+use Rattle.ev_model.specs.Network.{node_count}
 use Rattle.fleet_model.specs.Coverage.{IsCovered}
 use Rattle.fleet_model.specs.Labels.{Label as PaidLabel, State}
 use Rattle.fleet_model.specs.Margins.{Covers, CoversBy, IsMargin}
@@ -15,9 +17,11 @@ use Rattle.fleet_model.specs.Prices.{price_sum}
 use Rattle.fleet_model.proofs.Margins.{covers_by_margin, earlier}
 use Rattle.piece_fn.specs.PieceFn.{IsReach, level_times}
 use Rattle.piece_fn.specs.declared.label.Label.{Label}
-use Rattle.closed_lists.specs.Links.{IsEnd, key_of}
+use Rattle.closed_lists.specs.Links.{AreEntries, IsEntry, IsEntryOf, TellsTime}
+use Rattle.closed_lists.specs.Looking.{Misses}
+use Rattle.closed_lists.specs.declared.links.Entry.{Entry}
 use Rattle.closed_lists.specs.Questions.{Question, section}
-use Rattle.closed_lists.specs.Sections.{paid_label}
+use Rattle.closed_lists.specs.Sections.{IsLabelOf, paid_label}
 use Rattle.closed_lists.specs.Targets.{IsCoveredTo, state_of}
 use Rattle.closed_lists.proofs.Linking.{some_of}
 use Rattle.closed_lists.specs.declared.coverage.Target.{Target}
@@ -77,47 +81,102 @@ key_tells nodes a b x y b_in y_in same =
     let first : a ≡ x = sym left ∙ ap (λ k. k / nodes) same ∙ right in
     (first, omega (arith, same, ap (λ k. k * nodes) first))
 
--- the labels before an end are left to be looked at: none of the others covers the state
-pub record IsLeft (q : Question) (nodes key : ℕ) (b : State) (end : ℕ) : Type 0 where
-  pub within : end ≤ length q.labels
-  pub there : (d : Label) → 0 < end → key_of nodes (slice_index_or q.labels (end - 1) d) ≡ key
-  pub rest : (i : ℕ) (d : Label) → end ≤ i → i < length q.labels → Covers q.weight (paid_label q.prices (slice_index_or q.labels i d)) b → ⊥
+-- the label of an entry with the key of two nodes is at these
+pub at_nodes : (q : Question) (e : Entry) (last node : ℕ) → All (IsLabelOf q.network) q.labels → IsEntry (node_count q.network) q.prices q.labels e → e.key ≡ last * node_count q.network + node → node < node_count q.network
+    → (d : Label) → ((slice_index_or q.labels e.number d).last ≡ last) × ((slice_index_or q.labels e.number d).node ≡ node)
+at_nodes q e last node all is key inside d =
+    let l = slice_index_or q.labels e.number d in
+    let known = all e.number d is.known in
+    key_tells (node_count q.network) l.last l.node last node known.node inside (sym (is.told d).key ∙ key)
 
-module _ (q : Question) (nodes : ℕ) (b : State) (key : ℕ) (is : b.last * nodes + b.node ≡ key) where
-  other_key : (l : Label) → key_of nodes l ≢ key → Covers q.weight (paid_label q.prices l) b → ⊥
-  other_key l apart covers =
-      let last : l.last ≡ b.last = covers.2.last in
-      let node : l.node ≡ b.node = covers.2.node in
-      let same : l.last * nodes + l.node ≡ b.last * nodes + b.node = ap (λ k. k * nodes + l.node) last ∙ ap (λ k. b.last * nodes + k) node in
-      apart (same ∙ is)
+-- what an entry tells of its label
+pub entry_tells : (q : Question) (nodes : ℕ) (e : Entry) (l : Label) → IsEntry nodes q.prices q.labels e → ((d : Label) → l ≡ slice_index_or q.labels e.number d) → IsEntryOf nodes q.prices l e
+entry_tells q nodes e l is at = subst (λ (k : Label). IsEntryOf nodes q.prices k e) (sym (at l)) (is.told l)
 
-  pub left_first : (end : ℕ) → IsEnd nodes q.labels key (length q.labels) end → IsLeft q nodes key b end
-  left_first end at = record {
-    within = at.within;
-    there = at.there;
-    rest = λ i d low high. other_key (slice_index_or q.labels i d) (at.last i d low high);
+-- the label of an entry with another key is not at the state's nodes
+other_key : (q : Question) (nodes : ℕ) (b : State) (e : Entry) → IsEntry nodes q.prices q.labels e → e.key ≢ b.last * nodes + b.node → Misses q b e
+other_key q nodes b e is apart d covers =
+    let l = slice_index_or q.labels e.number d in
+    let last : l.last ≡ b.last = covers.2.last in
+    let node : l.node ≡ b.node = covers.2.node in
+    let same : l.last * nodes + l.node ≡ b.last * nodes + b.node = ap (λ k. k * nodes + l.node) last ∙ ap (λ k. b.last * nodes + k) node in
+    apart ((is.told d).key ∙ same)
+
+-- the label of an entry whose time is later than the state's covers nothing so early
+too_late : (q : Question) (nodes : ℕ) (b : State) (e : Entry) → IsEntry nodes q.prices q.labels e → b.time < e.time → Misses q b e
+too_late q nodes b e is late d covers =
+    let first = (is.told d).earliest covers.0 covers.1 in
+    let good = covers.2.time in
+    omega (arith, first, good, late)
+
+-- a label that would have to be earlier than its first time to make up for what it has paid less
+pub too_dear : (q : Question) (nodes : ℕ) (b : State) (e : Entry) → IsEntry nodes q.prices q.labels e → pos (q.weight * (b.time - e.time)) <ℤ (b.paid -ℤ e.paid) → Misses q b e
+too_dear q nodes b e is dear d covers =
+    let l = slice_index_or q.labels e.number d in
+    let own = slice_index (level_times l.value).times (covers.0 - (level_times l.value).first) in
+    let good = covers.2 in
+    let first : e.time ≤ own = (is.told d).earliest covers.0 covers.1 in
+    let paid : e.paid ≡ price_sum q.prices l.set = (is.told d).paid in
+    let enough : b.paid ≤ℤ (price_sum q.prices l.set +ℤ pos ((b.time - own) * q.weight)) = earlier q.weight own b.time (price_sum q.prices l.set) b.paid good.time good.cost in
+    let fewer : b.time - own ≤ b.time - e.time = omega (arith, first) in
+    let scaled : q.weight * (b.time - own) ≤ q.weight * (b.time - e.time) = mul-le-mul_left q.weight fewer in
+    let turned : (b.time - own) * q.weight ≡ q.weight * (b.time - own) = mul_comm (b.time - own) q.weight in
+    omega (arith, ints, dear, enough, paid, scaled, turned)
+
+-- the entries from a place on are left to be looked at: none of the labels of the others covers the state
+pub record IsLeft (q : Question) (b : State) (entries : List Entry) (begin at : ℕ) : Type 0 where
+  pub from : begin ≤ at
+  pub within : at ≤ length entries
+  pub passed : (i : ℕ) (d : Entry) → i < at → Misses q b (slice_index_or entries i d)
+
+module _ (q : Question) (nodes : ℕ) (b : State) (entries : List Entry) (are : AreEntries nodes q.prices q.labels entries) (key : ℕ) (is : key ≡ b.last * nodes + b.node) where
+  pub left_first : (begin : ℕ) → begin ≤ length entries → ((i : ℕ) (d : Entry) → i < begin → (slice_index_or entries i d).key < key) → IsLeft q b entries begin begin
+  left_first begin within before = record {
+    from = omega arith;
+    within = within;
+    passed = λ i d less.
+        let low = before i d less in
+        other_key q nodes b (slice_index_or entries i d) (are.each i d (omega (arith, less, within))) (λ same. omega (arith, low, same, is));
   }
 
-  pub left_next : (end next : ℕ) → 0 < end → IsLeft q nodes key b end → ((d : Label) → IsEnd nodes q.labels (key_of nodes (slice_index_or q.labels (end - 1) d)) (end - 1) next)
-      → ((d : Label) → Covers q.weight (paid_label q.prices (slice_index_or q.labels (end - 1) d)) b → ⊥) → IsLeft q nodes key b next
-  left_next end next some left before none = record {
-    within =
-        let d = some_of q.labels (end - 1) (omega (arith, left.within, some)) in
-        let at = (before d).within in
-        omega (arith, at, left.within);
-    there = λ d more. (before d).there d more ∙ left.there d some;
-    rest = λ i d low high. elim (cases_lt i (end - 1)) [
-      | inl under ↦ other_key (slice_index_or q.labels i d) (λ same. (before d).last i d low under (same ∙ sym (left.there d some)))
-      | inr over ↦ elim (cases_eq i (end - 1)) [
-        | inl here ↦ subst (λ k. Covers q.weight (paid_label q.prices (slice_index_or q.labels k d)) b → ⊥) (sym here) (none d)
-        | inr past ↦ left.rest i d (omega (arith, over, past, some)) high
-      ]
+  pub left_next : (begin at : ℕ) (e : Entry) → at < length entries → e ≡ slice_index_or entries at e → Misses q b e → IsLeft q b entries begin at → IsLeft q b entries begin (at + 1)
+  left_next begin at e less here misses left = record {
+    from = omega (arith, left.from);
+    within = omega (arith, less);
+    passed = λ i d low. elim (cases_eq i at) [
+      | inl same ↦
+          let value : e ≡ slice_index_or entries i d = here ∙ get_or_default entries at e d less ∙ ap (λ k. slice_index_or entries k d) (sym same) in
+          subst (λ (f : Entry). Misses q b f) value misses
+      | inr other ↦ left.passed i d (omega (arith, low, other))
     ];
   }
 
-  pub left_nothing : IsLeft q nodes key b 0 → IsCovered (section q) b → ⊥
-  left_nothing left covered =
+  pub left_nothing : (begin at : ℕ) → ((i : ℕ) (d : Entry) → begin ≤ i → i < length entries → key ≤ (slice_index_or entries i d).key) → TellsTime entries at key b.time false → IsLeft q b entries begin at → IsCovered (section q) b → ⊥
+  left_nothing begin at behind ends left covered =
       let l = covered.0 in
-      let at = from_section q l covered.1 in
-      let d = some_of q.labels at.0 at.1 in
-      left.rest at.0 d (omega arith) at.1 (subst (λ (m : PaidLabel). Covers q.weight m b) (sym (at.2 d)) covered.2)
+      let number = from_section q l covered.1 in
+      let d = some_of q.labels number.0 number.1 in
+      let has = are.every number.0 number.1 in
+      let e = has.0 in
+      let p = has.1.0 in
+      let less = has.1.1 in
+      let value : slice_index_or entries has.1.0 has.0 ≡ has.0 = has.1.2 in
+      let known : IsEntry nodes q.prices q.labels has.0 = subst (λ (f : Entry). IsEntry nodes q.prices q.labels f) value (are.each has.1.0 has.0 less) in
+      let covers : Covers q.weight (paid_label q.prices (slice_index_or q.labels has.0.number d)) b =
+      subst (λ k. Covers q.weight (paid_label q.prices (slice_index_or q.labels k d)) b) (sym has.2) (subst (λ (m : PaidLabel). Covers q.weight m b) (sym (number.2 d)) covered.2) in
+      elim (cases_lt p at) [
+        | inl before ↦ subst (λ (f : Entry). Misses q b f) value (left.passed has.1.0 has.0 before) d covers
+        | inr after ↦ elim (cases_eq has.0.key key) [
+          | inl same ↦
+              let inside : at < length entries = omega (arith, after, less) in
+              let low = behind at has.0 left.from inside in
+              let up = are.order.keys at has.1.0 has.0 after less in
+              let its : (slice_index_or entries has.1.0 has.0).key ≡ has.0.key = ap (λ (f : Entry). f.key) value in
+              let when : (slice_index_or entries has.1.0 has.0).time ≡ has.0.time = ap (λ (f : Entry). f.time) value in
+              let here : (slice_index_or entries at has.0).key ≡ key = omega (arith, low, up, its, same) in
+              let late = ends has.0 inside here in
+              let times = are.order.times at has.1.0 has.0 after less (omega (arith, here, its, same)) in
+              too_late q nodes b has.0 known (omega (arith, late, times, when)) d covers
+          | inr other ↦ other_key q nodes b has.0 known (λ other_is. other (other_is ∙ sym is)) d covers
+        ]
+      ]

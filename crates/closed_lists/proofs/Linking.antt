@@ -1,75 +1,83 @@
--- Labels linked one by one.
-use Rattle.std.proofs.Common.{◌≡◌, ◌≢◌, ◌∙◌, ℕ, ◌+◌, ◌-◌, ◌*◌, ◌<◌, ◌≤◌, List, [], ◌∷◌, ◌++◌, length, sym, ap, subst, arith, inl, inr, ℤ, set, get_or-set_same, get_or-set_other, length-set, length-append, unsigned_abs, ◌^◌}
-use Rattle.std.specs.Prelude.{slice_index_or}
-use Rattle.std.proofs.lemmas.Bool.{cases_eq, cases_lt}
-use Rattle.std.proofs.lemmas.List.{get_or_append_left, get_or_default}
+-- Entries of labels, made one by one and put in order.
+use Rattle.std.proofs.Common.{◌≡◌, ◌∙◌, ℕ, zero, suc, ◌+◌, ◌-◌, ◌<◌, ◌≤◌, List, [], ◌∷◌, ◌++◌, length, sym, ap, subst, arith, inl, inr, ℤ, unsigned_abs, ◌^◌}
+use Rattle.std.specs.List.Sorted.{IsNonDecreasingBy}
+use Rattle.std.specs.Prelude.{slice_index, slice_index_or}
+use Rattle.std.proofs.lemmas.Bool.{cases_eq}
+use Rattle.std.proofs.lemmas.List.{get_or_append_left, get_or_default, length-append}
 use Rattle.std.proofs.Math.Seq.{get_or-append_right}
+use Rattle.dominance.specs.LevelTimes.{IsLevel, IsValue, LevelTimes, time_at}
 use Rattle.fleet_model.specs.Prices.{price_sum}
+use Rattle.piece_fn.specs.PieceFn.{level_times}
 use Rattle.piece_fn.specs.declared.label.Label.{Label}
-use Rattle.closed_lists.specs.Links.{AreLinks, IsEnd, IsLink, key_of}
-use Rattle.closed_lists.specs.declared.links.Link.{Link}
+use Rattle.closed_lists.specs.Links.{AreInOrder, HasEntries, IsEntry, IsEntryOf, key_of}
+use Rattle.closed_lists.specs.declared.links.Entry.{Entry}
 
 -- one of some labels
 pub some_of : (labels : List Label) (n : ℕ) → n < length labels → Label
 some_of [] n less = absurd (omega (arith, less))
 some_of (l ∷ ls) n less = l
 
-end_here : (nodes : ℕ) (labels : List Label) (n : ℕ) (label : Label) → n < length labels → label ≡ slice_index_or labels n label → IsEnd nodes labels (key_of nodes label) (n + 1) (n + 1)
-end_here nodes labels n label less is = record {
-  within = omega arith;
-  there = λ d some.
-      let place : n + 1 - 1 ≡ n = omega arith in
-      rw place (ap (key_of nodes) (get_or_default labels n d label less ∙ sym is));
-  last = λ i d low high. absurd (omega (arith, low, high));
+-- no level has an earlier time than the first
+pub least_time : (v : LevelTimes) → IsValue v → (level : ℕ) → IsLevel v level → time_at v v.first ≤ time_at v level
+least_time v is level at =
+    let none : v.first - v.first ≡ 0 = omega arith in
+    let rises = is.rising 0 (level - v.first) 0 (omega arith) (omega (arith, at.0, at.1)) in
+    omega (arith, rises, ap (slice_index v.times) none)
+
+-- the entry of a label
+pub entry_of : (nodes : ℕ) (prices : List ℤ) (labels : List Label) (e : Entry) (l : Label) → e.number < length labels → l ≡ slice_index_or labels e.number l → e.key ≡ key_of nodes l → e.set ≡ l.set → e.paid ≡ price_sum prices l.set → unsigned_abs e.paid ≤ 2 ^ 91
+    → IsValue (level_times l.value) → e.time ≡ time_at (level_times l.value) (level_times l.value).first → IsEntry nodes prices labels e
+entry_of nodes prices labels e l less is key set paid small value time = record {
+  known = less;
+  told = λ d.
+      let here : l ≡ slice_index_or labels e.number d = is ∙ get_or_default labels e.number l d less in
+      let mine : IsEntryOf nodes prices l e = record {
+        key = key;
+        set = set;
+        paid = paid;
+        small = small;
+        earliest = λ level at. (let least = least_time (level_times l.value) value level at in omega (arith, least, time));
+      } in
+      subst (λ (k : Label). IsEntryOf nodes prices k e) here mine;
 }
 
-end_other : (nodes : ℕ) (labels : List Label) (n key end : ℕ) (label : Label) → n < length labels → label ≡ slice_index_or labels n label → key_of nodes label ≢ key → IsEnd nodes labels key n end → IsEnd nodes labels key (n + 1) end
-end_other nodes labels n key end label less is apart old = record {
-  within = omega (arith, old.within);
-  there = old.there;
-  last = λ i d low high same. elim (cases_eq i n) [
-    | inl here ↦
-        let there : key_of nodes (slice_index_or labels n d) ≡ key = ap (λ k. key_of nodes (slice_index_or labels k d)) (sym here) ∙ same in
-        apart (ap (key_of nodes) (is ∙ get_or_default labels n label d less) ∙ there)
-    | inr before ↦ old.last i d low (omega (arith, high, before)) same
-  ];
-}
-
-ends_more : (nodes : ℕ) (prices : List ℤ) (labels : List Label) (n : ℕ) (lasts : List ℕ) (kept : List Link) (label : Label) → AreLinks nodes prices labels n lasts kept → n < length labels → label ≡ slice_index_or labels n label
-    → key_of nodes label < nodes * nodes → (key : ℕ) → key < nodes * nodes → IsEnd nodes labels key (n + 1) (slice_index_or (set lasts (key_of nodes label) (n + 1)) key 0)
-ends_more nodes prices labels n lasts kept label are less is inside key below = elim (cases_eq key (key_of nodes label)) [
-  | inl same ↦
-      let value : slice_index_or (set lasts (key_of nodes label) (n + 1)) key 0 ≡ n + 1 = ap (λ k. slice_index_or (set lasts (key_of nodes label) (n + 1)) k 0) same ∙ get_or-set_same lasts (key_of nodes label) (n + 1) 0 (omega (arith, inside, are.room)) in
-      let here : IsEnd nodes labels key (n + 1) (n + 1) = subst (λ k. IsEnd nodes labels k (n + 1) (n + 1)) (sym same) (end_here nodes labels n label less is) in
-      subst (λ e. IsEnd nodes labels key (n + 1) e) (sym value) here
+-- one more label has an entry
+pub every_more : (n : ℕ) (entries : List Entry) (e : Entry) → HasEntries n entries → e.number ≡ n → HasEntries (n + 1) (entries ++ e ∷ [])
+every_more n entries e have is i less = elim (cases_eq i n) [
+  | inl here ↦
+      let past : length entries - length entries ≡ 0 = omega arith in
+      let value : slice_index_or (entries ++ e ∷ []) (length entries) e ≡ e = get_or-append_right entries (e ∷ []) (length entries) e (omega arith) ∙ ap (λ k. slice_index_or (e ∷ []) k e) past in
+      let more = length-append entries (e ∷ []) in
+      (e, (length entries, omega (arith, more), value), is ∙ sym here)
   | inr other ↦
-      let value : slice_index_or (set lasts (key_of nodes label) (n + 1)) key 0 ≡ slice_index_or lasts key 0 = get_or-set_other lasts (key_of nodes label) key (n + 1) 0 other in
-      subst (λ e. IsEnd nodes labels key (n + 1) e) (sym value) (end_other nodes labels n key (slice_index_or lasts key 0) label less is (λ same. other (sym same)) (are.ends key below))
+      let old = have i (omega (arith, less, other)) in
+      let more = length-append entries (e ∷ []) in
+      let inside = old.1.1 in
+      (old.0, (old.1.0, omega (arith, more, inside), get_or_append_left entries (e ∷ []) old.0 old.1.0 inside ∙ old.1.2), old.2)
 ]
 
--- one more label is linked
-pub links_more : (nodes : ℕ) (prices : List ℤ) (labels : List Label) (n : ℕ) (lasts : List ℕ) (kept : List Link) (label : Label) (link : Link) → AreLinks nodes prices labels n lasts kept → n < length labels → label ≡ slice_index_or labels n label
-    → key_of nodes label < nodes * nodes → link.paid ≡ price_sum prices label.set → unsigned_abs link.paid ≤ 2 ^ 91 → link.before ≡ slice_index_or lasts (key_of nodes label) 0 → AreLinks nodes prices labels (n + 1) (set lasts (key_of nodes label) (n + 1)) (kept ++ link ∷ [])
-links_more nodes prices labels n lasts kept label link are less is inside paid small before = record {
-  count = length-append kept (link ∷ []) ∙ ap (λ k. k + 1) are.count;
-  room = length-set lasts (key_of nodes label) (n + 1) ∙ are.room;
-  ends = ends_more nodes prices labels n lasts kept label are less is inside;
-  links = λ i d e high. elim (cases_lt i n) [
-    | inl old ↦
-        let value : slice_index_or (kept ++ link ∷ []) i e ≡ slice_index_or kept i e = get_or_append_left kept (link ∷ []) e i (omega (arith, old, are.count)) in
-        subst (λ k. IsLink nodes prices labels i (slice_index_or labels i d) k) (sym value) (are.links i d e old)
-    | inr new ↦
-        let here : i ≡ n = omega (arith, new, high) in
-        let past : i - length kept ≡ 0 = omega (arith, here, are.count) in
-        let value : slice_index_or (kept ++ link ∷ []) i e ≡ link = get_or-append_right kept (link ∷ []) i e (omega (arith, here, are.count)) ∙ ap (λ k. slice_index_or (link ∷ []) k e) past in
-        let at : slice_index_or labels i d ≡ label = ap (λ k. slice_index_or labels k d) here ∙ get_or_default labels n d label less ∙ sym is in
-        let mine : IsLink nodes prices labels n label link = record {
-          paid = paid;
-          small = small;
-          before = subst (λ b. IsEnd nodes labels (key_of nodes label) n b) (sym before) (are.ends (key_of nodes label) inside);
-        } in
-        let placed : IsLink nodes prices labels i label link = subst (λ k. IsLink nodes prices labels k label link) (sym here) mine in
-        let told : IsLink nodes prices labels i label (slice_index_or (kept ++ link ∷ []) i e) = subst (λ k. IsLink nodes prices labels i label k) (sym value) placed in
-        subst (λ l. IsLink nodes prices labels i l (slice_index_or (kept ++ link ∷ []) i e)) (sym at) told
-  ];
-}
+module _ (entries : List Entry) (keys : IsNonDecreasingBy (λ (e : Entry). e.key) entries) (ties : (k : ℕ) (d : Entry) → k + 1 < length entries → (slice_index_or entries k d).key ≡ (slice_index_or entries (k + 1) d).key → (slice_index_or entries k d).time ≤ (slice_index_or entries (k + 1) d).time) where
+  far : (i n : ℕ) (d : Entry) → i + n < length entries → (slice_index_or entries i d).key ≡ (slice_index_or entries (i + n) d).key → (slice_index_or entries i d).time ≤ (slice_index_or entries (i + n) d).time
+  far i zero d less same =
+      let here : i + 0 ≡ i = omega arith in
+      omega (arith, ap (λ k. (slice_index_or entries k d).time) here)
+  far i (suc n) d less same =
+      let next : i + suc n ≡ i + n + 1 = omega arith in
+      let key : (slice_index_or entries (i + suc n) d).key ≡ (slice_index_or entries (i + n + 1) d).key = ap (λ k. (slice_index_or entries k d).key) next in
+      let time : (slice_index_or entries (i + suc n) d).time ≡ (slice_index_or entries (i + n + 1) d).time = ap (λ k. (slice_index_or entries k d).time) next in
+      let up = keys i (i + n) d (omega arith) (omega (arith, less)) in
+      let last = keys (i + n) (i + n + 1) d (omega arith) (omega (arith, less)) in
+      let before = far i n d (omega (arith, less)) (omega (arith, up, last, same, key)) in
+      let behind = ties (i + n) d (omega (arith, less)) (omega (arith, up, last, same, key)) in
+      omega (arith, before, behind, time)
+
+  pub in_order : AreInOrder entries
+  in_order = record {
+    keys = keys;
+    times = λ i j d up less same.
+        let at : i + (j - i) ≡ j = omega (arith, up) in
+        let key : (slice_index_or entries (i + (j - i)) d).key ≡ (slice_index_or entries j d).key = ap (λ k. (slice_index_or entries k d).key) at in
+        let time : (slice_index_or entries (i + (j - i)) d).time ≡ (slice_index_or entries j d).time = ap (λ k. (slice_index_or entries k d).time) at in
+        let is = far i (j - i) d (omega (arith, at, less)) (same ∙ sym key) in
+        omega (arith, is, time);
+  }

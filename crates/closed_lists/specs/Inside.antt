@@ -1,7 +1,6 @@
 -- What contracts see of a section under test.
-use Rattle.std.specs.Prelude.{length}
 use Rattle.ev_model.specs.Network.{IsNetwork, node_count}
-use Rattle.closed_lists.specs.Links.{AreLinks}
+use Rattle.closed_lists.specs.Links.{AreEntries}
 use Rattle.closed_lists.specs.Questions.{IsQuestion, Question}
 use Rattle.closed_lists.specs.declared.section.Section.TheInside.{Inside}
 
@@ -17,5 +16,4 @@ question s = record {
 pub record IsSection (s : Inside) : Type 0 where
   pub ranges : IsQuestion (question s)
   pub network : IsNetwork s.inst.now
-  pub links : AreLinks (node_count s.inst.now) s.prices.now s.labels.now
-      (length s.labels.now) s.links.ends.items s.links.links.items
+  pub entries : AreEntries (node_count s.inst.now) s.prices.now s.labels.now s.entries.items

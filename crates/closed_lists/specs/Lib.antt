@@ -1,6 +1,7 @@
 pub mod Sections
 pub mod Questions
 pub mod Links
+pub mod Looking
 pub mod Inside
 pub mod Arrivals
 pub mod Targets

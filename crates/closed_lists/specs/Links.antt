@@ -1,32 +1,53 @@
--- Labels found by their last customer's node and their node: each leads to the one before it with the same two.
-use Rattle.std.specs.Prelude.{◌≡◌, ◌≢◌, ℕ, ◌+◌, ◌-◌, ◌*◌, ◌<◌, ◌≤◌, List, length, slice_index, slice_index_or, ℤ, unsigned_abs, ◌^◌}
+-- Labels found by their last customer's node and their node, those of least time first.
+use Rattle.std.specs.Prelude.{◌≡◌, ℕ, ◌+◌, ◌*◌, ◌<◌, ◌≤◌, Bool, List, MatchBool, length, slice_index_or, ℤ, unsigned_abs, ◌^◌}
+use Rattle.std.specs.List.{All, Contains}
+use Rattle.std.specs.List.Sorted.{IsNonDecreasingBy}
+use Rattle.dominance.specs.LevelTimes.{IsLevel, time_at}
 use Rattle.fleet_model.specs.Prices.{price_sum}
+use Rattle.piece_fn.specs.PieceFn.{level_times}
 use Rattle.piece_fn.specs.declared.label.Label.{Label}
-use Rattle.closed_lists.specs.declared.links.Link.{Link}
+use Rattle.closed_lists.specs.declared.links.Entry.{Entry}
 
 -- one number for a label's last customer's node and its node
 abbrev pub key_of : ℕ → Label → ℕ
 key_of nodes l = l.last * nodes + l.node
 
--- `end` is one more than the number of the last of the first n labels with a key, 0 where none of them has it
-pub record IsEnd (nodes : ℕ) (labels : List Label) (key n end : ℕ) : Type 0 where
-  pub within : end ≤ n
-  pub there : (d : Label) → 0 < end → key_of nodes (slice_index_or labels (end - 1) d) ≡ key
-  pub last : (i : ℕ) (d : Label) → end ≤ i → i < n →
-      key_of nodes (slice_index_or labels i d) ≢ key
+-- what an entry tells of its label; no level has an earlier time than the entry's
+pub record IsEntryOf (nodes : ℕ) (prices : List ℤ) (l : Label) (e : Entry) : Type 0 where
+  pub key : e.key ≡ key_of nodes l
+  pub set : e.set ≡ l.set
+  pub paid : e.paid ≡ price_sum prices l.set
+  pub small : unsigned_abs e.paid ≤ 2 ^ 91
+  pub earliest : (level : ℕ) → IsLevel (level_times l.value) level →
+      e.time ≤ time_at (level_times l.value) level
 
--- what holds of the link of a label: the sum that the label has paid, and the end of the labels before it with its key
-pub record IsLink (nodes : ℕ) (prices : List ℤ) (labels : List Label) (i : ℕ)
-    (label : Label) (link : Link) : Type 0 where
-  pub paid : link.paid ≡ price_sum prices label.set
-  pub small : unsigned_abs link.paid ≤ 2 ^ 91
-  pub before : IsEnd nodes labels (key_of nodes label) i link.before
+-- an entry is that of the label with its number
+pub record IsEntry (nodes : ℕ) (prices : List ℤ) (labels : List Label) (e : Entry) : Type 0 where
+  pub known : e.number < length labels
+  pub told : (d : Label) → IsEntryOf nodes prices (slice_index_or labels e.number d) e
 
--- the ends by key and the links of the first n labels
-pub record AreLinks (nodes : ℕ) (prices : List ℤ) (labels : List Label) (n : ℕ)
-    (lasts : List ℕ) (kept : List Link) : Type 0 where
-  pub count : length kept ≡ n
-  pub room : length lasts ≡ nodes * nodes
-  pub ends : (key : ℕ) → key < nodes * nodes → IsEnd nodes labels key n (slice_index lasts key)
-  pub links : (i : ℕ) (d : Label) (e : Link) → i < n →
-      IsLink nodes prices labels i (slice_index_or labels i d) (slice_index_or kept i e)
+-- each of the first n labels has an entry
+abbrev pub HasEntries : ℕ → List Entry → Type 0
+HasEntries n entries = (i : ℕ) → i < n → (e : Entry) × Contains entries e × (e.number ≡ i)
+
+-- keys rise, and for each key times rise
+pub record AreInOrder (entries : List Entry) : Type 0 where
+  pub keys : IsNonDecreasingBy (λ (e : Entry). e.key) entries
+  pub times : (i j : ℕ) (d : Entry) → i ≤ j → j < length entries →
+      (slice_index_or entries i d).key ≡ (slice_index_or entries j d).key →
+      (slice_index_or entries i d).time ≤ (slice_index_or entries j d).time
+
+-- the entries of all labels
+pub record AreEntries (nodes : ℕ) (prices : List ℤ) (labels : List Label)
+    (entries : List Entry) : Type 0 where
+  pub each : All (IsEntry nodes prices labels) entries
+  pub every : HasEntries (length labels) entries
+  pub order : AreInOrder entries
+
+-- whether there is an entry at a place, with a key and a time that is no later than one
+abbrev pub TellsTime : List Entry → ℕ → ℕ → ℕ → Bool → Type 0
+TellsTime entries at key time is = MatchBool is
+    ((at < length entries) × ((d : Entry) →
+    ((slice_index_or entries at d).key ≡ key) × ((slice_index_or entries at d).time ≤ time)))
+    ((d : Entry) → at < length entries → (slice_index_or entries at d).key ≡ key →
+    time < (slice_index_or entries at d).time)

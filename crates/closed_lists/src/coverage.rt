@@ -4,14 +4,15 @@ ghost use Rattle.std.specs.Prelude.{◌≡◌, ◌^◌, ◌<◌, ◌≤◌, ℕ,
 ghost use Rattle.dominance.specs.LevelTimes.{IsLevel, time_at};
 ghost use Rattle.ev_model.specs.Network.{node_count};
 ghost use Rattle.fleet_model.specs.Coverage.{IsCovered};
-ghost use Rattle.fleet_model.specs.Margins.{Covers};
 ghost use Rattle.piece_fn.specs.PieceFn.{level_times};
 ghost use Rattle.piece_fn.specs.declared.label.Label.{Label};
+ghost use Rattle.closed_lists.specs.Links.{IsEntry};
+ghost use Rattle.closed_lists.specs.Looking.{Misses};
 ghost use Rattle.closed_lists.specs.Questions.{section};
-ghost use Rattle.closed_lists.specs.Sections.{paid_label};
 ghost use Rattle.closed_lists.specs.Targets.{IsCoveredAll, IsCoveredTo, IsMissed, state_of};
 
-use crate::paid::margin;
+use crate::links::{Entry, first, is_in_time};
+use crate::paid::{is_too_dear, margin};
 use crate::section::Section;
 use customer_sets::CustSet;
 use dominance::LabelValue;
@@ -67,39 +68,56 @@ impl Section<'_> {
         ensures none { IfNone result
             (IsCovered (section self.now) (state_of target.now value.now level) → ⊥) }
     {
+        let Some(time) = value.at(level) else {
+            return None;
+        };
         let key = target.last * self.inst.nodes() + target.node;
-        let mut end = self.end(key);
-        while end > 0 {
-            match self.reach_of(end - 1, target, value, level) {
+        let entries = self.entries();
+        let begin = first(entries, key);
+        let mut at = begin;
+        while is_in_time(entries, at, key, time) {
+            match self.reach_of(&entries[at], target, value, level, time) {
                 Some(to) => return Some(to),
-                None => end = self.before(end - 1),
+                None => at += 1,
             }
         }
         None
     }
 
-    /// The same by one label, which is at the same node after the same customer.
-    fn reach_of(&self, number: usize, target: &Target, value: &PieceFn, level: u64) -> Option<u64>
-        requires number { number < length self.now.labels }
+    /// The same by the label of an entry, which is at the same node after the same customer and has a time that is no
+    /// later than the state's.
+    fn reach_of(
+        &self,
+        entry: &Entry,
+        target: &Target,
+        value: &PieceFn,
+        level: u64,
+        time: u64,
+    ) -> Option<u64>
+        requires entry { IsEntry (node_count self.now.network) self.now.prices
+            self.now.labels entry.now }
         requires last { (d : Label) →
-            (slice_index_or self.now.labels number d).last ≡ target.now.last }
+            (slice_index_or self.now.labels entry.now.number d).last ≡ target.now.last }
         requires node { (d : Label) →
-            (slice_index_or self.now.labels number d).node ≡ target.now.node }
+            (slice_index_or self.now.labels entry.now.number d).node ≡ target.now.node }
         requires paid { unsigned_abs target.now.paid ≤ 2 ^ 92 }
-        requires times { (y : ℕ) → IsLevel (level_times value.now) y →
-            time_at (level_times value.now) y ≤ 10 ^ 18 }
+        requires small { time ≤ 10 ^ 18 }
         requires level { IsLevel (level_times value.now) level }
+        requires time { time ≡ time_at (level_times value.now) level }
+        requires early { entry.now.time ≤ time }
+        requires own { unsigned_abs entry.now.paid ≤ 2 ^ 91 }
         ensures some { IfSome result (IsCoveredTo (section self.now) target.now value.now level) }
-        ensures none { IfNone result ((d : Label) → Covers self.now.weight
-            (paid_label self.now.prices (slice_index_or self.now.labels number d))
-            (state_of target.now value.now level) → ⊥) }
+        ensures none { IfNone result (Misses self.now (state_of target.now value.now level)
+            entry.now) }
     {
-        let label = self.label(number);
-        if !label.set.is_subset(target.set) {
+        if !entry.set.is_subset(target.set) {
             return None;
         }
-        match margin(self.weight, self.paid(number), target.paid) {
-            Some(extra) => label.value.reach(value, extra, level),
+        if is_too_dear(self.weight, time - entry.time, entry.paid, target.paid) {
+            return None;
+        }
+        match margin(self.weight, entry.paid, target.paid) {
+            Some(extra) => self.label(entry.number).value.reach(value, extra, level),
             None => None,
         }
     }

@@ -1,6 +1,6 @@
 //! The price sum of a set, and by how much earlier a label has to be that has paid less.
 
-ghost use Rattle.std.specs.Prelude.{◌≡◌, ◌*◌, ◌+◌, ◌^◌, ◌<◌, ◌≤◌, ℕ, ℤ, pos, ◌+ℤ◌, ◌≤ℤ◌, All, IfNone, IfSome, cond, length, unsigned_abs};
+ghost use Rattle.std.specs.Prelude.{◌≡◌, ◌↔◌, ◌*◌, ◌+◌, ◌^◌, ◌<◌, ◌≤◌, ℕ, ℤ, pos, ◌+ℤ◌, ◌-ℤ◌, ◌<ℤ◌, ◌≤ℤ◌, All, IfNone, IfSome, IsTrue, cond, length, unsigned_abs};
 ghost use Rattle.customer_sets.specs.CustSet.{has};
 ghost use Rattle.fleet_model.specs.Margins.{IsMargin};
 ghost use Rattle.fleet_model.specs.Prices.{price_sum};
@@ -50,4 +50,20 @@ pub fn margin(weight: u64, own: i128, theirs: i128) -> Option<u64>
     let gap = (theirs - own).unsigned_abs();
     let margin = gap.div_ceil(u128::from(weight));
     u64::try_from(margin).ok()
+}
+
+/// Whether a time, times the weight, is less than what is paid.
+pub(crate) fn earns(weight: u64, time: u64, paid: i128) -> bool
+    ensures { IsTrue result ↔ (pos (weight * time) <ℤ paid) }
+{
+    paid > 0 && u128::from(weight) * u128::from(time) < paid.unsigned_abs()
+}
+
+/// Whether so many time units, times the weight, do not make up for what is paid less.
+pub(crate) fn is_too_dear(weight: u64, units: u64, own: i128, theirs: i128) -> bool
+    requires own { unsigned_abs own ≤ 2 ^ 92 }
+    requires theirs { unsigned_abs theirs ≤ 2 ^ 92 }
+    ensures { IsTrue result ↔ (pos (weight * units) <ℤ (theirs -ℤ own)) }
+{
+    earns(weight, units, theirs - own)
 }

@@ -7,11 +7,12 @@ ghost use Rattle.fleet_model.specs.Places.{place_of};
 ghost use Rattle.fleet_model.specs.Prices.{price_of, price_sum};
 ghost use Rattle.instance_reader.specs.Instance.{customer_nodes, IsCustomerNumber};
 ghost use Rattle.piece_fn.specs.declared.label.Label.{Label};
-ghost use Rattle.closed_lists.specs.Links.{IsEnd, key_of};
+ghost use Rattle.closed_lists.specs.Links.{AreEntries};
 ghost use Rattle.closed_lists.specs.Sections.{IsLabelOf};
 ghost use Rattle.closed_lists.specs.Questions.{IsQuestion};
 
-use crate::links::{Links, linked};
+use crate::links::{Entry, entries};
+use crate::paid::price_sum;
 use customer_sets::Pairs;
 use instance_reader::Instance;
 use piece_fn::Label;
@@ -28,7 +29,7 @@ pub struct Section<'a> {
     pub(crate) weight: u64,
     pub(crate) prices: &'a [i128],
     pub(crate) labels: &'a [Label],
-    pub(crate) links: Links,
+    pub(crate) entries: Vec<Entry>,
 }
 
 impl<'a> Model for Section<'a> {
@@ -67,14 +68,14 @@ impl<'a> Section<'a> {
           labels = labels.now;
         }) }
     {
-        let links = linked(alloc, inst, prices, labels)?;
+        let entries = entries(alloc, inst, prices, labels)?;
         Ok(Section {
             inst,
             pairs,
             weight,
             prices,
             labels,
-            links,
+            entries,
         })
     }
 
@@ -126,26 +127,15 @@ impl<'a> Section<'a> {
             ≡ price_sum self.now.prices (slice_index_or self.now.labels number d).set }
         ensures small { unsigned_abs result ≤ 2 ^ 91 }
     {
-        self.links.links[number].paid
+        price_sum(self.prices, self.label(number).set)
     }
 
-    /// One more than the number of the last label with a key, 0 where there is none.
-    pub(crate) fn end(&self, key: usize) -> usize
-        requires { key < node_count self.now.network * node_count self.now.network }
-        ensures { IsEnd (node_count self.now.network) self.now.labels key
-            (length self.now.labels) result }
+    /// The entries of the labels.
+    pub(crate) fn entries(&self) -> &[Entry]
+        ensures { AreEntries (node_count self.now.network) self.now.prices self.now.labels
+            result.now }
     {
-        self.links.ends[key]
-    }
-
-    /// One more than the number of the last label before one with the same key, 0 where there is none.
-    pub(crate) fn before(&self, number: usize) -> usize
-        requires { number < length self.now.labels }
-        ensures { (d : Label) → IsEnd (node_count self.now.network) self.now.labels
-            (key_of (node_count self.now.network) (slice_index_or self.now.labels number d))
-            number result }
-    {
-        self.links.links[number].before
+        self.entries.as_slice()
     }
 
     /// The reserve. It takes no memory.

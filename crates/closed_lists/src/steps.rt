@@ -14,6 +14,7 @@ ghost use Rattle.closed_lists.specs.Targets.{TellsCharges};
 ghost use Rattle.closed_lists.specs.Tellings.{TellsFirst, TellsHome, TellsStep};
 
 use crate::coverage::Target;
+use crate::paid::earns;
 use crate::section::Section;
 use charge_curve::Scaled;
 use dominance::LabelValue;
@@ -219,11 +220,4 @@ impl Section<'_> {
             None => Ok(false),
         }
     }
-}
-
-/// Whether a time, times the weight, is less than what is paid.
-fn earns(weight: u64, time: u64, paid: i128) -> bool
-    ensures { IsTrue result ↔ (pos (weight * time) <ℤ paid) }
-{
-    paid > 0 && u128::from(weight) * u128::from(time) < paid.unsigned_abs()
 }

@@ -11,10 +11,13 @@ use Rattle.fleet_model.specs.Places.{customer_number}
 use Rattle.fleet_model.proofs.Counts.{number_less}
 use Rattle.fleet_model.proofs.Numbers.{counted}
 use Rattle.instance_reader.specs.Instance.{customer_nodes}
+use Rattle.charge_curve.specs.Points.{ArePoints, time_on}
+use Rattle.piece_fn.proofs.Exact.{Each, each_support, IsWithin}
+use Rattle.piece_fn.proofs.Levels.{is_level, time_at-level_times}
 use Rattle.piece_fn.specs.declared.label.Label.{Label}
 use Rattle.closed_lists.specs.Questions.{Question}
 use Rattle.closed_lists.specs.Sections.{IsLabelOf}
-use Rattle.pricing.specs.Answers.{IsInRange}
+use Rattle.pricing.specs.Answers.{HasPoints, IsInRange, IsPointOf}
 use Rattle.pricing.specs.Steps.{IsLeft, IsStep, label_of, Leads}
 use Rattle.pricing.specs.declared.steps.Target.{Target}
 
@@ -36,6 +39,23 @@ label_in_range g l network range = record {
   last = elim (range.last) [ inl depot ↦ (let some = network.depot in omega (arith, depot, some)) | inr customer ↦ customer.0 ];
   node = range.node;
   levels = range.levels;
+}
+
+-- each of some supporting points of a label in range is in range
+points_within : (g : Network) (l : Label) → IsInRange g l → ArePoints l.value → (ps : List (ℕ × ℕ))
+    → Each (λ p. (time_on l.value p.0 ≡ p.1) × IsWithin l.value p.0) ps → All (IsPointOf g) ps
+points_within g l range are [] each = All-nil (IsPointOf g)
+points_within g l range are (p ∷ ps) each =
+    let level = is_level l.value p.0 are each.0.1.0 each.0.1.1 in
+    let time = time_at-level_times l.value p.0 are level in
+    let low = range.levels p.0 level in
+    let early = range.times p.0 level in
+    All-cons (IsPointOf g) p ps (low, omega (arith, time, early, each.0.0)) (points_within g l range are ps each.1)
+
+pub has_points : (g : Network) (l : Label) → IsInRange g l → ArePoints l.value → HasPoints g l
+has_points g l range are = record {
+  valid = are;
+  points = points_within g l range are l.value (each_support l.value are);
 }
 
 number_within : (g : Network) (x : ℕ) → x < node_count g → is_customer g x ≡ true → customer_number g x < length (customer_nodes g)

@@ -1,6 +1,7 @@
 -- What pricing answers.
 use Rattle.std.specs.Prelude.{◌≡◌, ℕ, ◌<◌, ◌≤◌, ◌⊎◌, List, true, length}
 use Rattle.std.specs.List.{All}
+use Rattle.charge_curve.specs.Points.{ArePoints}
 use Rattle.customer_sets.specs.CustSet.{has}
 use Rattle.dominance.specs.LevelTimes.{IsLevel, time_at}
 use Rattle.ev_model.specs.Network.{is_customer, Network, node_count, scaled_limit}
@@ -25,6 +26,15 @@ pub record IsInRange (g : Network) (l : Label) : Type 0 where
   pub times : (level : ℕ) → IsLevel (level_times l.value) level →
       time_at (level_times l.value) level ≤ scaled_limit g
 
+-- a supporting point of a label: a level with its time
+abbrev pub IsPointOf : Network → ℕ × ℕ → Type 0
+IsPointOf g p = (p.0 ≤ g.capacity) × (p.1 ≤ scaled_limit g)
+
+-- the supporting points of a label are those of a value, and each is in range
+pub record HasPoints (g : Network) (l : Label) : Type 0 where
+  pub valid : ArePoints l.value
+  pub points : All (IsPointOf g) l.value
+
 abbrev pub IsBetterRoute : Question → PricedRoute → Type 0
 IsBetterRoute q r = IsBetter q r.plan.stops r.order.items
 
@@ -32,6 +42,7 @@ IsBetterRoute q r = IsBetter q r.plan.stops r.order.items
 pub record AreClosed (q : Question) (labels : List Label) : Type 0 where
   pub closed : IsClosed q.network (section_of q.pairs q.weight q.prices labels)
   pub ranges : All (IsInRange q.network) labels
+  pub points : All (HasPoints q.network) labels
 
 -- one or more routes that earn more than they take, or labels that show that there is none
 abbrev pub IsPriced : Question → Priced → Type 0

@@ -7,7 +7,8 @@ ghost use Rattle.closed_lists.specs.Questions.{section};
 ghost use Rattle.closed_lists.specs.Sections.{IsLabelOf, paid_label, section_of};
 ghost use Rattle.closed_lists.specs.Tellings.{IsUncovered, TellsHome};
 ghost use Rattle.closed_lists.specs.Verdicts.{IsTold};
-ghost use Rattle.pricing.specs.Answers.{IsInRange};
+ghost use Rattle.charge_curve.specs.Points.{ArePoints};
+ghost use Rattle.pricing.specs.Answers.{HasPoints, IsInRange};
 ghost use Rattle.pricing.specs.Tree.{AreCopies, AreSteps, HasOrigin, IsFurther, IsGrown, IsMended, IsSearch, IsTree};
 ghost use Rattle.pricing.specs.declared.found.Found.{Found};
 
@@ -257,6 +258,7 @@ impl Search {
         ensures copies { IfOk result (λ labels.
             AreCopies self.now.tree.found.items self.now.listed.items labels.items) }
         ensures ranges { IfOk result (λ labels. All (IsInRange terms.now.network) labels.items) }
+        ensures points { IfOk result (λ labels. All (HasPoints terms.now.network) labels.items) }
     {
         let mut labels = Vec::with_capacity(alloc, self.listed.len())?;
         for number in &self.listed {
@@ -413,7 +415,8 @@ impl Search {
 
 /// A label with the same numbers.
 fn copy_of(alloc: Global, label: &Label) -> Result<Label, AllocError>
-    ensures { IfOk result (λ copy. copy ≡ label.now) }
+    ensures same { IfOk result (λ copy. copy ≡ label.now) }
+    ensures valid { IfOk result (λ copy. ArePoints copy.value) }
 {
     Ok(Label {
         last: label.last,

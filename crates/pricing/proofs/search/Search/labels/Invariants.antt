@@ -1,6 +1,6 @@
 use Rattle.std.proofs.Common.{◌≡◌, length}
 use Rattle.std.specs.List.{All}
-use Rattle.pricing.specs.Answers.{IsInRange}
+use Rattle.pricing.specs.Answers.{HasPoints, IsInRange}
 use Rattle.pricing.specs.Tree.{AreCopiesAt}
 use Rattle.pricing.proofs.search.Search.labels.Given as goal
 
@@ -9,4 +9,5 @@ invariant-loop-number l = record {
   count : length l.labels.items ≡ l.number-index;
   same : AreCopiesAt l.self.tree.found.items l.self.listed.items l.labels.items;
   ranges : All (IsInRange l.terms.network) l.labels.items;
+  points : All (HasPoints l.terms.network) l.labels.items;
 }
