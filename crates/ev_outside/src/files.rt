@@ -23,6 +23,13 @@ impl<S: Storage> FileShelf<S> {
     {
         FileShelf { storage }
     }
+
+    /// The storage.
+    pub fn storage(&self) -> &S
+        ensures { result.now ≡ self.now.storage }
+    {
+        &self.storage
+    }
 }
 
 impl<S: Storage> Shelf for FileShelf<S> {

@@ -6,6 +6,7 @@
 //! test wants them to, those of [`SureShelf`] and [`SureSink`] never do.
 #![tactic(auto)]
 
+mod failure;
 mod files;
 mod memory_shelf;
 mod memory_sink;
@@ -19,6 +20,7 @@ mod sure_shelf;
 mod sure_sink;
 mod system;
 
+pub use failure::Failure;
 pub use files::FileShelf;
 pub use memory_shelf::MemoryShelf;
 pub use memory_sink::MemorySink;

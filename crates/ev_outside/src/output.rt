@@ -20,6 +20,13 @@ impl<S: Stream> OutSink<S> {
     {
         OutSink { stream }
     }
+
+    /// The stream.
+    pub fn stream(&self) -> &S
+        ensures { result.now ≡ self.now.stream }
+    {
+        &self.stream
+    }
 }
 
 impl<S: Stream> Sink for OutSink<S> {

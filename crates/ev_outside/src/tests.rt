@@ -1,6 +1,7 @@
 use super::*;
 use std::alloc::Global;
 use std::fs;
+use std::rt::Files;
 use std::test::Fail;
 
 /// What a read of at most `most` bytes appends to a buffer that holds one byte already.
@@ -28,11 +29,19 @@ fn put_into<K: Sink>(sink: &mut K, bytes: &[u8]) -> Result<(), SinkFault> {
     sink.put(bytes)
 }
 
+/// What the files tell people of their last failure.
+fn last_failure<R: Files>(alloc: Global, files: &SystemFiles<'_, R>) -> Result<String, Fail> {
+    match files.last_failure() {
+        Some(failure) => Ok(failure.to_string(alloc)?),
+        None => Ok(String::new(alloc)),
+    }
+}
+
 #[test]
 fn real_files_and_the_output_take_what_is_written(rt: HostRuntime) -> Result<(), Fail> {
     let alloc = rt.alloc();
     let name = "ev_outside_real_file";
-    let mut shelf = FileShelf::new(SystemFiles::new(&rt));
+    let mut shelf = FileShelf::new(SystemFiles::new(rt.alloc(), &rt));
 
     // A file of several pieces, read whole, and up to a byte inside a piece.
     let mut long = Vec::new(alloc);
@@ -71,11 +80,20 @@ fn real_files_and_the_output_take_what_is_written(rt: HostRuntime) -> Result<(),
         read_from(alloc, &mut shelf, name, 100).err(),
         Some(ShelfFault::Failed)
     );
+    assert_eq!(rt;
+        last_failure(alloc, shelf.storage())?.as_str(),
+        "ev_outside_real_file: No such file or directory (os error 2)"
+    );
     assert_eq!(rt; write_to(&mut shelf, "/", b"text"), Err(ShelfFault::Failed));
+    assert_eq!(rt;
+        last_failure(alloc, shelf.storage())?.as_str(),
+        "/: Is a directory (os error 21)"
+    );
 
     let mut out = OutSink::new(SystemOutput::new(&rt));
     put_into(&mut out, b"the output takes this line\n")?;
     put_into(&mut out, b"")?;
+    assert!(rt; out.stream().last_failure().is_none());
     Ok(())
 }
 

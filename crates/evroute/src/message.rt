@@ -1,0 +1,41 @@
+//! What people are told on standard error where the exit status alone would leave them without a cause.
+
+use super::status::Status;
+use ev_outside::Failure;
+use std::fmt::{self, Display, Formatter};
+use std::io::Error;
+
+/// Why the program ended without an answer. Standard output is never told of it.
+#[derive(Clone, Copy)]
+pub enum Message<'a> {
+    /// A file or the output failed.
+    Failure(Failure<'a>),
+    /// Memory was refused.
+    Memory,
+    /// The system gives no words.
+    Words(Error),
+}
+
+impl<'a> Message<'a> {
+    /// The message at an exit status, where the last call of the system that failed is this one. There is none where
+    /// the job was answered.
+    pub fn at(code: u8, failure: Option<Failure<'a>>) -> Option<Message<'a>> {
+        if code == Status::Memory.code() {
+            return Some(Message::Memory);
+        }
+        if code == Status::Fault.code() {
+            return failure.map(Message::Failure);
+        }
+        None
+    }
+}
+
+impl Display for Message<'_> {
+    fn fmt<W: fmt::Write>(&self, f: &mut Formatter<W>) -> fmt::Result {
+        match self {
+            Message::Failure(failure) => write!(f, "evroute: {failure}"),
+            Message::Memory => write!(f, "evroute: out of memory"),
+            Message::Words(cause) => write!(f, "evroute: the words can't be had: {cause}"),
+        }
+    }
+}
