@@ -51,6 +51,40 @@ const ROWS: [Row<'static>; 5] = [
     },
 ];
 
+/// The same in another order, with a label that is later than one behind it.
+const TURNED: [Row<'static>; 6] = [
+    Row {
+        last: 1,
+        node: 1,
+        points: &[(4, 21)],
+    },
+    Row {
+        last: 1,
+        node: 2,
+        points: &[(2, 26), (8, 32), (10, 44)],
+    },
+    Row {
+        last: 1,
+        node: 1,
+        points: &[(5, 22), (6, 23), (8, 35)],
+    },
+    Row {
+        last: 0,
+        node: 2,
+        points: &[(7, 16), (8, 17), (10, 29)],
+    },
+    Row {
+        last: 1,
+        node: 1,
+        points: &[(4, 20)],
+    },
+    Row {
+        last: 0,
+        node: 0,
+        points: &[(10, 0)],
+    },
+];
+
 /// The label of a row.
 fn label_of(alloc: Global, row: &Row<'_>) -> Option<Label> {
     if !PieceFn::is_points(row.points) {
@@ -152,5 +186,19 @@ fn a_worked_list_is_closed_and_without_a_label_it_is_not(rt: HostRuntime) {
         ),
     ] {
         assert_eq!(rt; judged(alloc, text, price, &ROWS, left_out), Some(verdict));
+    }
+}
+
+#[test]
+fn a_label_is_found_wherever_it_stands(rt: HostRuntime) {
+    let alloc = rt.alloc();
+    for (left_out, verdict) in [
+        (9usize, Ok(())),
+        (
+            4,
+            Err(ClosedFault::Step { label: 4, node: 1 }),
+        ),
+    ] {
+        assert_eq!(rt; judged(alloc, ONE_STATION, 43, &TURNED, left_out), Some(verdict));
     }
 }
