@@ -10,11 +10,12 @@ no_fixed (a ∷ []) rows other = refl
 no_fixed (a ∷ b ∷ []) rows other = absurd (other refl)
 no_fixed (a ∷ b ∷ c ∷ rest) rows other = refl
 
-pub no_check : (rest : List (Bor Text)) (rows : List Row) → length rest ≢ 2 → None ≡ check_of (texts rest) rows
+pub no_check : (rest : List (Bor Text)) (rows : List Row) → length rest ≢ 3 → None ≡ check_of (texts rest) rows
 no_check [] rows other = refl
 no_check (a ∷ []) rows other = refl
-no_check (a ∷ b ∷ []) rows other = absurd (other refl)
-no_check (a ∷ b ∷ c ∷ rest) rows other = refl
+no_check (a ∷ b ∷ []) rows other = refl
+no_check (a ∷ b ∷ c ∷ []) rows other = absurd (other refl)
+no_check (a ∷ b ∷ c ∷ d ∷ rest) rows other = refl
 
 pub no_convert : (rest : List (Bor Text)) (rows : List Row) → length rest ≢ 2 → None ≡ convert_of (texts rest) rows
 no_convert [] rows other = refl

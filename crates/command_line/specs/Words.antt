@@ -14,10 +14,11 @@ pub record FixedJob : Type 0 where
   pub route : Text
   pub options : Options
 
--- the job of judging a plan: the names of its files, and the limit where one is given
+-- the job of judging a plan and a certificate: the names of its files, and the limit where one is given
 pub record CheckJob : Type 0 where
   pub file : Text
   pub plan : Text
+  pub cert : Text
   pub limit : Option ℕ
 
 -- the job of making the decimals of a file whole: the names of the files, and how many digits are kept
@@ -135,15 +136,20 @@ fixed_of (file ∷ route ∷ []) rows =
     else None
 fixed_of rest rows = None
 
--- `check FILE PLAN [--limit N]`
-abbrev pub check_with : Text → Text → Option (Option ℕ) → Option Job
-check_with file plan limit =
-    option_map (λ n. CheckPlan (record { file = file; plan = plan; limit = n })) limit
+-- the job of these words with this limit
+abbrev pub check_job_of : Text → Text → Text → Option ℕ → CheckJob
+check_job_of file plan cert limit =
+    record { file = file; plan = plan; cert = cert; limit = limit }
+
+-- `check FILE PLAN CERT [--limit N]`
+abbrev pub check_with : Text → Text → Text → Option (Option ℕ) → Option Job
+check_with file plan cert limit =
+    option_map (λ n. CheckPlan (check_job_of file plan cert n)) limit
 
 abbrev pub check_of : List Text → List Row → Option Job
-check_of (file ∷ plan ∷ []) rows =
-    if gives_only (codes "limit" ∷ []) rows && are_different (file ∷ plan ∷ [])
-    then check_with file plan (limit_in rows)
+check_of (file ∷ plan ∷ cert ∷ []) rows =
+    if gives_only (codes "limit" ∷ []) rows && are_different (file ∷ plan ∷ cert ∷ [])
+    then check_with file plan cert (limit_in rows)
     else None
 check_of rest rows = None
 

@@ -12,7 +12,7 @@ use crate::{CheckWords, Job};
 use clap::ArgMatches;
 use std::alloc::{AllocError, Global};
 
-/// The job of judging the plan of a file over the instance of another.
+/// The job of judging the plan of a file and the certificate of another over the instance of a third.
 pub(crate) fn check_job(
     alloc: Global,
     rest: &[&str],
@@ -20,7 +20,7 @@ pub(crate) fn check_job(
 ) -> Result<Option<Job>, AllocError>
     ensures { AnswersJob result (check_of (texts rest.now) (rows_in matches.now)) }
 {
-    let [file, plan] = rest else {
+    let [file, plan, cert] = rest else {
         return Ok(None);
     };
     if !gives_only(matches, &["limit"]) || !are_different(rest) {
@@ -32,6 +32,7 @@ pub(crate) fn check_job(
     Ok(Some(Job::Check(CheckWords {
         file: String::from_str(alloc, file)?,
         plan: String::from_str(alloc, plan)?,
+        cert: String::from_str(alloc, cert)?,
         limit,
     })))
 }

@@ -37,12 +37,13 @@ pub struct FixedWords {
     pub options: Options,
 }
 
-/// The words of the job `check`: the file of the instance, another one with the plan, and the limit on the
-/// time of each route in place of the instance's, in units of time.
+/// The words of the job `check`: the file of the instance, another one with the plan, a third one with the
+/// certificate, and the limit on the time of each route in place of the instance's, in units of time.
 #[derive(Debug, Drop, PartialEq, Eq)]
 pub struct CheckWords {
     pub file: String,
     pub plan: String,
+    pub cert: String,
     pub limit: Option<u64>,
 }
 
@@ -71,7 +72,7 @@ pub struct MakeWords {
 pub enum Job {
     /// A route is charged.
     Fixed(FixedWords),
-    /// The plan of a file is judged.
+    /// The plan of a file and the certificate of another are judged.
     Check(CheckWords),
     /// The decimals of a file become whole.
     Convert(ConvertWords),
@@ -80,7 +81,7 @@ pub enum Job {
 }
 
 /// The job of the words, which stand behind the program's name, read by one `clap` command:
-/// `fixed FILE ROUTE [--limit N] [--charge N]`, `check FILE PLAN [--limit N]`,
+/// `fixed FILE ROUTE [--limit N] [--charge N]`, `check FILE PLAN CERT [--limit N]`,
 /// `convert FILE OUTFILE --time-digits N --energy-digits N` or `make SEED CUSTOMERS STATIONS OUTFILE`. `None` comes
 /// exactly where the words are no such job.
 ///

@@ -22,7 +22,10 @@ fn job_text(alloc: Global, line: &str) -> Result<String, AllocError> {
             )
         }
         Some(Job::Check(job)) => {
-            format!(in alloc; "check {} {} {:?}", job.file, job.plan, job.limit)
+            format!(in alloc;
+                "check {} {} {} {:?}",
+                job.file, job.plan, job.cert, job.limit
+            )
         }
         Some(Job::Convert(job)) => {
             format!(in alloc;
@@ -66,11 +69,14 @@ fn words_name_jobs(rt: HostRuntime) {
         ("fixed A 0,1,0 --lim 1", "none"),
         ("fixed -A 0,1,0", "none"),
         ("fixed A", "none"),
-        ("check A P", "check A P None"),
-        ("check A --limit 3 P", "check A P Some(3)"),
-        ("check A P --charge 3", "none"),
-        ("check A A", "none"),
-        ("check A P Q", "none"),
+        ("check A P Q", "check A P Q None"),
+        ("check A --limit 3 P Q", "check A P Q Some(3)"),
+        ("check A P Q --charge 3", "none"),
+        ("check A A Q", "none"),
+        ("check A P A", "none"),
+        ("check A P P", "none"),
+        ("check A P", "none"),
+        ("check A P Q R", "none"),
         ("fleet A P Q", "none"),
         (
             "convert A W --time-digits 2 --energy-digits=1000000000",

@@ -1,17 +1,28 @@
--- What `check` puts: that a plan is accepted, and its cost, or the first rule that it breaks.
-use Rattle.std.specs.Prelude.{ℕ, ◌++◌, ◌∷◌, [], List, Option, None, Some, decimal, codes}
+-- What `check` puts: that a plan and a certificate are accepted, with cost, bound and gap, or the first broken rule.
+use Rattle.std.specs.Prelude.{◌≢◌, ℕ, ◌-◌, ◌≤◌, ◌++◌, ◌∷◌, [], List, Option, None, Some, decimal, codes}
+use Rattle.certificate_check.specs.declared.verdict.Verdict.{Verdict}
+use Rattle.certificate_check.specs.declared.verdict.Verdict.TheVariants as verdict
 use Rattle.plan_check.specs.declared.fault.PlanFault.{PlanFault}
 use Rattle.plan_check.specs.declared.fault.PlanFault.TheVariants as plan
 use Rattle.route_plan.specs.declared.walks.WalkFault.{WalkFault}
 use Rattle.route_plan.specs.declared.walks.WalkFault.TheVariants as walk
 use Rattle.plan_writer.specs.FixedText.{over}
 use Rattle.plan_writer.specs.declared.check.Judgement.{Judgement}
-use Rattle.plan_writer.specs.declared.check.Judgement.TheVariants.{Accepted, Plan}
+use Rattle.plan_writer.specs.declared.check.Judgement.TheVariants.{Accepted, Certificate, Plan}
 
--- the scaled cost over the denominator, where there is a plan
-abbrev pub cost_text : ℕ → Option ℕ → List ℕ
-cost_text denominator None = codes "none"
-cost_text denominator (Some cost) = over denominator cost
+-- a scaled cost or bound over the denominator, where there is one
+abbrev pub scaled_text : ℕ → Option ℕ → List ℕ
+scaled_text denominator None = codes "none"
+scaled_text denominator (Some scaled) = over denominator scaled
+
+-- how far the bound is below the cost, where both stand
+abbrev pub gap_of : Option ℕ → Option ℕ → Option ℕ
+gap_of (Some cost) (Some bound) = Some (cost - bound)
+gap_of cost bound = None
+
+-- a word, a cost or a bound, and the end of the line
+abbrev pub scaled_line : List ℕ → ℕ → Option ℕ → List ℕ
+scaled_line word denominator scaled = word ++ scaled_text denominator scaled ++ 10 ∷ []
 
 -- the number of the rule that a walk breaks, and the position of the stop that breaks it
 abbrev pub walk_text : WalkFault → List ℕ
@@ -32,7 +43,40 @@ rule_text (plan.Unserved customer) = codes "3 customer " ++ decimal customer
 rule_text (plan.EmptyRoute route) = codes "4 route " ++ decimal route
 rule_text (plan.Stray route at) = codes "5 route " ++ decimal route ++ codes " at " ++ decimal at
 
+-- the number of the rule that a certificate breaks, and the section, label, node or leaf that breaks it. No rule is broken by
+-- one that is accepted; the text is empty here
+abbrev pub verdict_text : Verdict → List ℕ
+verdict_text verdict.Accepted = []
+verdict_text (verdict.Start section) = codes "1 section " ++ decimal section
+verdict_text (verdict.Step section label node) =
+    codes "2 section " ++ decimal section ++ codes " label " ++ decimal label
+    ++ codes " node " ++ decimal node
+verdict_text (verdict.End section label) =
+    codes "3 section " ++ decimal section ++ codes " label " ++ decimal label
+verdict_text (verdict.Pairs leaf) = codes "4 leaf " ++ decimal leaf
+verdict_text (verdict.Bound leaf) = codes "5 leaf " ++ decimal leaf
+verdict_text verdict.Root = codes "6"
+
+-- the bound is no greater than the cost, where both stand
+abbrev pub IsBoundOf : Option ℕ → Option ℕ → Type 0
+IsBoundOf (Some cost) (Some bound) = bound ≤ cost
+IsBoundOf cost bound = Unit {0}
+
+-- what is accepted has no bound above its cost, and a broken rule of a certificate is one
+abbrev pub IsJudged : Judgement → Type 0
+IsJudged (Accepted cost bound) = IsBoundOf cost bound
+IsJudged (Plan fault) = Unit {0}
+IsJudged (Certificate found) = found ≢ verdict.Accepted
+
+-- a line `accepted`, and what the plan costs, the bound of the certificate, and how far this is below it
+abbrev pub accepted_text : ℕ → Option ℕ → Option ℕ → List ℕ
+accepted_text denominator cost bound =
+    codes "accepted" ++ 10 ∷ scaled_line (codes "cost ") denominator cost
+    ++ scaled_line (codes "bound ") denominator bound
+    ++ scaled_line (codes "gap ") denominator (gap_of cost bound)
+
 abbrev pub check_text : ℕ → Judgement → List ℕ
-check_text denominator (Accepted cost) =
-    codes "accepted" ++ 10 ∷ codes "cost " ++ cost_text denominator cost ++ 10 ∷ []
+check_text denominator (Accepted cost bound) = accepted_text denominator cost bound
 check_text denominator (Plan fault) = codes "rejected plan " ++ rule_text fault ++ 10 ∷ []
+check_text denominator (Certificate found) =
+    codes "rejected certificate " ++ verdict_text found ++ 10 ∷ []

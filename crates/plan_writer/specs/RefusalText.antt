@@ -1,6 +1,8 @@
 -- The line of a refusal: its kind, the number of the broken rule, and the place or the number that breaks it.
 -- Want of memory is no rule; it has no line, and its text here is empty.
 use Rattle.std.specs.Prelude.{◌≢◌, ℕ, ◌++◌, ◌∷◌, [], List, Option, None, Some, decimal, codes}
+use Rattle.bound_certificate.specs.declared.text.cert_text.CertText.{CertText}
+use Rattle.bound_certificate.specs.declared.text.cert_text.CertText.TheVariants as certificate
 use Rattle.charge_curve.specs.declared.fault.CurveFault.{CurveFault}
 use Rattle.charge_curve.specs.declared.fault.CurveFault.TheVariants as curve
 use Rattle.decimal_import.specs.declared.fault.ImportFault.{ImportFault}
@@ -17,7 +19,7 @@ use Rattle.route_plan.specs.declared.text.plan_text.PlanText.TheVariants as plan
 use Rattle.route_plan.specs.declared.route.RouteFault.{RouteFault}
 use Rattle.route_plan.specs.declared.route.RouteFault.TheVariants as route
 use Rattle.plan_writer.specs.declared.refusal.Refusal.{Refusal}
-use Rattle.plan_writer.specs.declared.refusal.Refusal.TheVariants.{Instance, Limit, Charge, Route, Customers, Plan, Literal, Maker}
+use Rattle.plan_writer.specs.declared.refusal.Refusal.TheVariants.{Instance, Limit, Charge, Route, Customers, Plan, Certificate, Literal, Maker}
 
 -- the fault of an instance is a rule: neither it nor the fault of a curve in it is want of memory
 pub record IsInstanceRule (fault : ReadFault) : Type 0 where
@@ -29,6 +31,7 @@ abbrev pub IsRule : Refusal → Type 0
 IsRule (Instance fault) = IsInstanceRule fault
 IsRule (Route fault) = fault ≢ route.Memory
 IsRule (Plan fault) = fault ≢ plan.Memory
+IsRule (Certificate fault) = fault ≢ certificate.Memory
 IsRule (Literal fault) = fault ≢ literal.Memory
 IsRule other = Unit {0}
 
@@ -95,6 +98,14 @@ plan_fault_text (plan.Bad fault) = fault_text fault
 plan_fault_text (plan.TooLong len) = codes "5 " ++ decimal len
 plan_fault_text plan.Memory = []
 
+-- a place is a byte of the certificate's file
+abbrev pub certificate_fault_text : CertText → List ℕ
+certificate_fault_text (certificate.Text at) = codes "1 at " ++ decimal at
+certificate_fault_text (certificate.Range at) = codes "2 at " ++ decimal at
+certificate_fault_text certificate.Version = codes "3"
+certificate_fault_text (certificate.TooLong len) = codes "4 " ++ decimal len
+certificate_fault_text certificate.Memory = []
+
 -- a place is a byte of the file that is converted
 abbrev pub literal_text : ImportFault → List ℕ
 literal_text (literal.Token at) = codes "1 at " ++ decimal at
@@ -111,6 +122,7 @@ cause_text (Charge level) = codes "charge " ++ decimal level
 cause_text (Route fault) = codes "route " ++ route_text fault
 cause_text (Customers count) = codes "customers " ++ decimal count
 cause_text (Plan fault) = codes "plan " ++ plan_fault_text fault
+cause_text (Certificate fault) = codes "certificate " ++ certificate_fault_text fault
 cause_text (Literal fault) = codes "literal " ++ literal_text fault
 cause_text Maker = codes "maker 1"
 

@@ -1,31 +1,39 @@
 //! The text of `check`.
 
-ghost use Rattle.std.specs.Prelude.{◌≡◌, ◌++◌, ◌∷◌, [], OnErr, OnOk, codes};
+ghost use Rattle.std.specs.Prelude.{◌≡◌, ◌≢◌, ◌++◌, ◌∷◌, [], OnErr, OnOk, codes};
+ghost use Rattle.certificate_check.specs.declared.verdict.Verdict.TheVariants as verdict;
 ghost use Rattle.ev_text.specs.Scans.{IsPrefixOf};
 ghost use Rattle.plan_check.specs.declared.fault.PlanFault.TheVariants as plan;
-ghost use Rattle.plan_writer.specs.CheckText.{check_text, cost_text, rule_text, walk_text};
+ghost use Rattle.plan_writer.specs.CheckText.{IsBoundOf, IsJudged, accepted_text, check_text, gap_of, rule_text, scaled_line, scaled_text, verdict_text, walk_text};
 ghost use Rattle.plan_writer.specs.FixedText.{over};
-ghost use Rattle.plan_writer.specs.declared.check.Judgement.TheVariants as judgement;
 
 use crate::words::{push_numbered, push_word};
+use certificate_check::Verdict;
 use ev_text::push_whole;
 use instance_reader::Instance;
 use plan_check::PlanFault;
 use route_plan::WalkFault;
 use std::alloc::{AllocError, Global};
 
-/// What the judge of a plan file says.
+/// What the judges of a plan file and of a certificate say.
 #[derive(Clone, Copy, Debug, Drop, PartialEq, Eq)]
 pub enum Judgement {
-    /// The file holds a fleet plan of this scaled cost, or says that there is none.
-    Accepted { cost: Option<u128> },
+    /// The plan file holds a fleet plan of this scaled cost, or says that there is none, and the certificate shows this
+    /// scaled bound, or that there is no fleet plan.
+    Accepted {
+        cost: Option<u128>,
+        bound: Option<u128>,
+    },
     /// The plan breaks a rule.
     Plan(PlanFault),
+    /// The certificate breaks a rule.
+    Certificate(Verdict),
 }
 
-/// Appends what `check` puts: that a plan is accepted, and its scaled cost over the instance's denominator,
-/// never reduced, or that there is no plan; or else the number of the first rule that the plan breaks, and
-/// the route, the customer or the stop that breaks it.
+/// Appends what `check` puts: that plan and certificate are accepted, and the scaled cost, the scaled bound, and the
+/// bound taken from the cost, each over the instance's denominator, never reduced, or that there is none; or else
+/// the number of the first rule that is broken, and what breaks it: the route, the customer or the stop of a plan,
+/// the section, the label, the node or the leaf of a certificate.
 ///
 /// After an `Err` `out` has kept its old bytes as a prefix.
 pub fn push_check_report(
@@ -34,44 +42,79 @@ pub fn push_check_report(
     inst: &Instance,
     judgement: &Judgement,
 ) -> Result<(), AllocError>
+    requires { IsJudged judgement.now }
     ensures ok { OnOk result
         (out.new.items ≡ out.old.items ++ check_text inst.now.denominator judgement.now) }
     ensures err { OnErr result (IsPrefixOf out.old.items out.new.items) }
 {
     match judgement {
-        Judgement::Accepted { cost } => push_accepted(alloc, out, *cost, inst.denominator()),
-        Judgement::Plan(fault) => push_rejected(alloc, out, fault),
+        Judgement::Accepted { cost, bound } => {
+            push_accepted(alloc, out, *cost, *bound, inst.denominator())
+        }
+        Judgement::Plan(fault) => push_rejected_plan(alloc, out, fault),
+        Judgement::Certificate(verdict) => push_rejected_certificate(alloc, out, verdict),
     }
 }
 
-/// Appends that a plan is accepted, and its scaled cost, or that there is none.
+/// Appends that a plan and a certificate are accepted, with cost, bound and gap.
 fn push_accepted(
     alloc: Global,
     out: &mut Vec<u8>,
     cost: Option<u128>,
+    bound: Option<u128>,
+    denominator: u64,
+) -> Result<(), AllocError>
+    requires { IsBoundOf cost bound }
+    ensures ok { OnOk result
+        (out.new.items ≡ out.old.items ++ accepted_text denominator cost bound) }
+    ensures err { OnErr result (IsPrefixOf out.old.items out.new.items) }
+{
+    out.extend_from_slice(b"accepted\n")?;
+    push_scaled_line(alloc, out, b"cost ", cost, denominator)?;
+    push_scaled_line(alloc, out, b"bound ", bound, denominator)?;
+    push_scaled_line(alloc, out, b"gap ", gap(cost, bound), denominator)
+}
+
+/// How far the bound is below the cost, where both stand.
+fn gap(cost: Option<u128>, bound: Option<u128>) -> Option<u128>
+    requires { IsBoundOf cost bound }
+    ensures { result ≡ gap_of cost bound }
+{
+    match (cost, bound) {
+        (Some(cost), Some(bound)) => Some(cost - bound),
+        _ => None,
+    }
+}
+
+/// Appends a line of a word and a scaled number over the denominator, or none.
+fn push_scaled_line(
+    alloc: Global,
+    out: &mut Vec<u8>,
+    word: &[u8],
+    scaled: Option<u128>,
     denominator: u64,
 ) -> Result<(), AllocError>
     ensures ok { OnOk result
-        (out.new.items ≡ out.old.items ++ check_text denominator (judgement.Accepted cost)) }
+        (out.new.items ≡ out.old.items ++ scaled_line word.now denominator scaled) }
     ensures err { OnErr result (IsPrefixOf out.old.items out.new.items) }
 {
-    out.extend_from_slice(b"accepted\ncost ")?;
-    push_cost(alloc, out, cost, denominator)?;
+    out.extend_from_slice(word)?;
+    push_scaled(alloc, out, scaled, denominator)?;
     out.extend_from_slice(b"\n")
 }
 
-/// Appends the scaled cost of a plan, or that there is none.
-fn push_cost(
+/// Appends a scaled number over the denominator, or that there is none.
+fn push_scaled(
     alloc: Global,
     out: &mut Vec<u8>,
-    cost: Option<u128>,
+    scaled: Option<u128>,
     denominator: u64,
 ) -> Result<(), AllocError>
-    ensures ok { OnOk result (out.new.items ≡ out.old.items ++ cost_text denominator cost) }
+    ensures ok { OnOk result (out.new.items ≡ out.old.items ++ scaled_text denominator scaled) }
     ensures err { OnErr result (IsPrefixOf out.old.items out.new.items) }
 {
-    match cost {
-        Some(cost) => push_over(alloc, out, cost, denominator),
+    match scaled {
+        Some(scaled) => push_over(alloc, out, scaled, denominator),
         None => push_word(out, b"none"),
     }
 }
@@ -91,7 +134,7 @@ fn push_over(
 }
 
 /// Appends the line of a plan that is rejected.
-fn push_rejected(alloc: Global, out: &mut Vec<u8>, fault: &PlanFault) -> Result<(), AllocError>
+fn push_rejected_plan(alloc: Global, out: &mut Vec<u8>, fault: &PlanFault) -> Result<(), AllocError>
     ensures ok { OnOk result
         (out.new.items ≡ out.old.items
         ++ (codes "rejected plan " ++ rule_text fault.now ++ 10 ∷ [])) }
@@ -165,4 +208,75 @@ fn push_stray(alloc: Global, out: &mut Vec<u8>, route: usize, at: usize) -> Resu
 {
     push_numbered(alloc, out, b"5 route ", route as u128)?;
     push_numbered(alloc, out, b" at ", at as u128)
+}
+
+/// Appends the line of a certificate that is rejected.
+fn push_rejected_certificate(
+    alloc: Global,
+    out: &mut Vec<u8>,
+    verdict: &Verdict,
+) -> Result<(), AllocError>
+    requires { verdict.now ≢ Verdict.Accepted }
+    ensures ok { OnOk result
+        (out.new.items ≡ out.old.items
+        ++ (codes "rejected certificate " ++ verdict_text verdict.now ++ 10 ∷ [])) }
+    ensures err { OnErr result (IsPrefixOf out.old.items out.new.items) }
+{
+    out.extend_from_slice(b"rejected certificate ")?;
+    push_verdict(alloc, out, verdict)?;
+    out.extend_from_slice(b"\n")
+}
+
+/// Appends the number of the rule that a certificate breaks, and what breaks it.
+fn push_verdict(alloc: Global, out: &mut Vec<u8>, verdict: &Verdict) -> Result<(), AllocError>
+    requires { verdict.now ≢ Verdict.Accepted }
+    ensures ok { OnOk result (out.new.items ≡ out.old.items ++ verdict_text verdict.now) }
+    ensures err { OnErr result (IsPrefixOf out.old.items out.new.items) }
+{
+    match verdict {
+        Verdict::Start { section } => push_numbered(alloc, out, b"1 section ", *section as u128),
+        Verdict::Step {
+            section,
+            label,
+            node,
+        } => push_step(alloc, out, *section, *label, *node),
+        Verdict::End { section, label } => push_end(alloc, out, *section, *label),
+        Verdict::Pairs { leaf } => push_numbered(alloc, out, b"4 leaf ", *leaf as u128),
+        Verdict::Bound { leaf } => push_numbered(alloc, out, b"5 leaf ", *leaf as u128),
+        Verdict::Root => push_word(out, b"6"),
+        // No broken rule, and excluded by the condition.
+        Verdict::Accepted => Ok(()),
+    }
+}
+
+/// Appends the rule on steps, and the section, the label and the node of the step.
+fn push_step(
+    alloc: Global,
+    out: &mut Vec<u8>,
+    section: usize,
+    label: usize,
+    node: usize,
+) -> Result<(), AllocError>
+    ensures ok { OnOk result
+        (out.new.items ≡ out.old.items ++ verdict_text (verdict.Step section label node)) }
+    ensures err { OnErr result (IsPrefixOf out.old.items out.new.items) }
+{
+    push_numbered(alloc, out, b"2 section ", section as u128)?;
+    push_numbered(alloc, out, b" label ", label as u128)?;
+    push_numbered(alloc, out, b" node ", node as u128)
+}
+
+/// Appends the rule on steps home, and the section and the label of the step.
+fn push_end(
+    alloc: Global,
+    out: &mut Vec<u8>,
+    section: usize,
+    label: usize,
+) -> Result<(), AllocError>
+    ensures ok { OnOk result
+        (out.new.items ≡ out.old.items ++ verdict_text (verdict.End section label)) }
+    ensures err { OnErr result (IsPrefixOf out.old.items out.new.items) }
+{
+    push_numbered(alloc, out, b"3 section ", section as u128)?;
+    push_numbered(alloc, out, b" label ", label as u128)
 }

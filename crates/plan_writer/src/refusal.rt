@@ -2,9 +2,10 @@
 
 ghost use Rattle.std.specs.Prelude.{◌≡◌, ◌≢◌, ◌++◌, OnErr, OnOk, codes, decimal};
 ghost use Rattle.ev_text.specs.Scans.{IsPrefixOf};
-ghost use Rattle.plan_writer.specs.RefusalText.{IsInstanceRule, IsRule, cause_text, curve_fault_text, curve_text, fault_text, instance_text, literal_text, place_text, plan_fault_text, refusal_text, route_text, slash_index, slash_part};
+ghost use Rattle.plan_writer.specs.RefusalText.{IsInstanceRule, IsRule, cause_text, certificate_fault_text, curve_fault_text, curve_text, fault_text, instance_text, literal_text, place_text, plan_fault_text, refusal_text, route_text, slash_index, slash_part};
 
 use crate::words::{push_numbered, push_word};
+use bound_certificate::CertText;
 use charge_curve::CurveFault;
 use decimal_import::ImportFault;
 use ev_text::TextFault;
@@ -27,6 +28,8 @@ pub enum Refusal {
     Customers(usize),
     /// The bytes of the plan's file are no text of a fleet plan.
     Plan(PlanText),
+    /// The bytes of the certificate's file are no text of a certificate.
+    Certificate(CertText),
     /// The bytes of the file aren't converted to whole units.
     Literal(ImportFault),
     /// No instance is made of these numbers.
@@ -68,6 +71,10 @@ fn push_cause(alloc: Global, out: &mut Vec<u8>, refusal: &Refusal) -> Result<(),
         Refusal::Plan(fault) => {
             out.extend_from_slice(b"plan ")?;
             push_plan_fault(alloc, out, fault)
+        }
+        Refusal::Certificate(fault) => {
+            out.extend_from_slice(b"certificate ")?;
+            push_certificate_fault(alloc, out, fault)
         }
         Refusal::Literal(fault) => {
             out.extend_from_slice(b"literal ")?;
@@ -220,6 +227,27 @@ fn push_plan_fault(alloc: Global, out: &mut Vec<u8>, fault: &PlanText) -> Result
         PlanText::TooLong { len } => push_numbered(alloc, out, b"5 ", *len as u128),
         // No rule, and excluded by the condition.
         PlanText::Memory => Ok(()),
+    }
+}
+
+/// Appends the number of a broken rule of a certificate's text, and its place or the text's length.
+fn push_certificate_fault(
+    alloc: Global,
+    out: &mut Vec<u8>,
+    fault: &CertText,
+) -> Result<(), AllocError>
+    requires { fault.now ≢ CertText.Memory }
+    ensures ok { OnOk result
+        (out.new.items ≡ out.old.items ++ certificate_fault_text fault.now) }
+    ensures err { OnErr result (IsPrefixOf out.old.items out.new.items) }
+{
+    match fault {
+        CertText::Text { at } => push_numbered(alloc, out, b"1 at ", *at as u128),
+        CertText::Range { at } => push_numbered(alloc, out, b"2 at ", *at as u128),
+        CertText::Version => push_word(out, b"3"),
+        CertText::TooLong { len } => push_numbered(alloc, out, b"4 ", *len as u128),
+        // No rule, and excluded by the condition.
+        CertText::Memory => Ok(()),
     }
 }
 

@@ -1,4 +1,6 @@
 use crate::{Judgement, Refusal, push_check_report, push_fixed, push_make_report, push_refusal};
+use bound_certificate::CertText;
+use certificate_check::Verdict;
 use charge_curve::CurveFault;
 use decimal_import::ImportFault;
 use ev_list::Listed;
@@ -85,6 +87,22 @@ fn refusals_have_their_lines(rt: HostRuntime) {
         (Refusal::Route(RouteFault::Ends), "refused route 4\n"),
         (Refusal::Customers(129), "refused customers 129\n"),
         (
+            Refusal::Certificate(CertText::Text { at: 22 }),
+            "refused certificate 1 at 22\n",
+        ),
+        (
+            Refusal::Certificate(CertText::Range { at: 125 }),
+            "refused certificate 2 at 125\n",
+        ),
+        (
+            Refusal::Certificate(CertText::Version),
+            "refused certificate 3\n",
+        ),
+        (
+            Refusal::Certificate(CertText::TooLong { len: 268435457 }),
+            "refused certificate 4 268435457\n",
+        ),
+        (
             Refusal::Literal(ImportFault::Token { at: 12 }),
             "refused literal 1 at 12\n",
         ),
@@ -141,16 +159,58 @@ fn refused_plans_have_their_lines(rt: HostRuntime) {
 fn judgements_have_their_lines(rt: HostRuntime) {
     let alloc = rt.alloc();
     let inst = read_instance(alloc, ONE_STATION.as_bytes()).expect(&rt, "an instance");
-    let accepted = |cost| Judgement::Accepted { cost };
+    let accepted = |cost, bound| Judgement::Accepted { cost, bound };
+    let certificate = |verdict| Judgement::Certificate(verdict);
     let walk = |route, fault| Judgement::Plan(PlanFault::Walk { route, fault });
     let cases = [
-        (accepted(Some(86)), "accepted\ncost 86/2\n"),
-        (accepted(Some(0)), "accepted\ncost 0/2\n"),
         (
-            accepted(Some(18446744073709551616)),
-            "accepted\ncost 18446744073709551616/2\n",
+            accepted(Some(43), Some(40)),
+            "accepted\ncost 43/2\nbound 40/2\ngap 3/2\n",
         ),
-        (accepted(None), "accepted\ncost none\n"),
+        (
+            accepted(Some(0), Some(0)),
+            "accepted\ncost 0/2\nbound 0/2\ngap 0/2\n",
+        ),
+        (
+            accepted(Some(18446744073709551616), Some(18446744073709551615)),
+            "accepted\ncost 18446744073709551616/2\nbound 18446744073709551615/2\ngap 1/2\n",
+        ),
+        (
+            accepted(None, Some(40)),
+            "accepted\ncost none\nbound 40/2\ngap none\n",
+        ),
+        (
+            accepted(None, None),
+            "accepted\ncost none\nbound none\ngap none\n",
+        ),
+        (
+            certificate(Verdict::Start { section: 3 }),
+            "rejected certificate 1 section 3\n",
+        ),
+        (
+            certificate(Verdict::Step {
+                section: 0,
+                label: 12,
+                node: 2,
+            }),
+            "rejected certificate 2 section 0 label 12 node 2\n",
+        ),
+        (
+            certificate(Verdict::End {
+                section: 1,
+                label: 4,
+            }),
+            "rejected certificate 3 section 1 label 4\n",
+        ),
+        (
+            certificate(Verdict::Pairs { leaf: 5 }),
+            "rejected certificate 4 leaf 5\n",
+        ),
+        (
+            certificate(Verdict::Bound { leaf: 6 }),
+            "rejected certificate 5 leaf 6\n",
+        ),
+        (certificate(Verdict::Root), "rejected certificate 6\n"),
         (walk(0, WalkFault::Ends), "rejected plan 1 route 0 walk 1\n"),
         (
             walk(1, WalkFault::Unknown { at: 2 }),
