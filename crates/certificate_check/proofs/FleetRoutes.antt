@@ -1,0 +1,259 @@
+-- Routes of a fleet, and the test stop by stop.
+use Rattle.std.proofs.Common.{◌≡◌, ◌≢◌, ◌∙◌, ℕ, zero, suc, ◌+◌, ◌<◌, ◌≤◌, Bool, true, false, ◌||◌, List, [], ◌∷◌, Option, Some, None, map, refl, sym, ap, subst, arith, ◌⊎◌, inl, inr}
+use Rattle.std.specs.Prelude.{is_some, nat_eq}
+use Rattle.std.specs.List.{list_any}
+use Rattle.std.proofs.lemmas.Bool.{cases_Bool, cases_eq, eq-eqb, false≢true, ne_eqb, or_left, or_right}
+use Rattle.std.proofs.lemmas.List.Elements.{All-cons, All-nil}
+use Rattle.std.proofs.lemmas.Option.{same_Some}
+use Rattle.customer_sets.specs.CustSet.{has, with_customer}
+use Rattle.customer_sets.proofs.Ranges.{has-with_customer}
+use Rattle.ev_model.specs.Feasible.{IsFeasible}
+use Rattle.ev_model.specs.Fleet.{customers_of, ServesOnly, times_in}
+use Rattle.ev_model.specs.Network.{is_customer, Network, node_count}
+use Rattle.ev_model.specs.Plan.{AreStopsFrom, EndsAtDepot}
+use Rattle.ev_model.specs.declared.Stop.{Stop}
+use Rattle.fleet_model.specs.Cover.{IsFleetRoute}
+use Rattle.fleet_model.specs.Places.{customer_number, numbers_of}
+use Rattle.fleet_model.proofs.Counts.{number_apart}
+use Rattle.fleet_model.proofs.Numbers.{numbered}
+use Rattle.instance_reader.specs.Instance.{IsCustomerNumber}
+use Rattle.plan_check.specs.FirstFaults.{first_stray, serves}
+use Rattle.plan_check.specs.FleetRules.{IsStray}
+use Rattle.plan_check.specs.Tallies.{AreKnown}
+use Rattle.plan_check.proofs.Served.{no_stray, serves_only}
+use Rattle.plan_check.proofs.Strays.{customers_of-inserted, customers_of-served, customers_of-stray, first_stray-None, first_stray-Some, inserted, kind_of, served, stray}
+use Rattle.route_plan.specs.FirstPlaces.{behind_first}
+use Rattle.certificate_check.specs.Routes.{IsServedBy, served_once, visits}
+
+-- ---- the nodes of a feasible plan
+
+stops_known : (g : Network) (from : ℕ) (ss : List Stop) → AreStopsFrom g from ss → AreKnown g ss
+stops_known g from [] stops = All-nil (λ (s : Stop). s.node < node_count g)
+stops_known g from (s ∷ ss) stops = All-cons (λ (s : Stop). s.node < node_count g) s ss stops.1.known (stops_known g s.node ss stops.2)
+
+some_known : (g : Network) (from : ℕ) (ss : List Stop) → AreStopsFrom g from ss → EndsAtDepot ss → 0 < node_count g
+some_known g from [] stops ends = absurd ends
+some_known g from (s ∷ ss) stops ends = omega (arith, stops.1.known)
+
+pub plan_known : (g : Network) (stops : List Stop) → IsFeasible g 1 g.capacity stops → AreKnown g stops
+plan_known g [] feasible = absurd feasible.plan
+plan_known g (first ∷ ss) feasible =
+    let plan = feasible.plan in
+    let depot : first.node ≡ 0 = ap (λ (s : Stop). s.node) plan.1 in
+    let begins : first.node < node_count g = rw depot (some_known g first.node ss plan.3 plan.2) in
+    All-cons (λ (s : Stop). s.node < node_count g) first ss begins (stops_known g first.node ss plan.3)
+
+-- ---- stray stops
+
+pub only_without_stray : (g : Network) (stops : List Stop) → IsFeasible g 1 g.capacity stops → is_some (first_stray g 1 (behind_first stops)) ≡ false → ServesOnly g stops
+only_without_stray g [] feasible none = absurd feasible.plan
+only_without_stray g (first ∷ ss) feasible none =
+    serves_only g first ss feasible.plan.1 feasible.plan.2 (first_stray-None g (first ∷ ss) (none_of (first_stray g 1 (behind_first (first ∷ ss))) none))
+  where
+    none_of : (o : Option ℕ) → is_some o ≡ false → o ≡ None
+    none_of None is = refl
+    none_of (Some n) is = absurd (cc)
+
+pub not_only_with_stray : (g : Network) (stops : List Stop) → IsFeasible g 1 g.capacity stops → is_some (first_stray g 1 (behind_first stops)) ≡ true → ServesOnly g stops → ⊥
+not_only_with_stray g [] feasible some only = absurd feasible.plan
+not_only_with_stray g (first ∷ ss) feasible some only = by (first_stray g 1 (behind_first (first ∷ ss))) refl some
+  where
+    by : (o : Option ℕ) → first_stray g 1 (behind_first (first ∷ ss)) ≡ o → is_some o ≡ true → ⊥
+    by None is found = cc
+    by (Some at) is found = no_stray g first ss feasible.plan.1 feasible.plan.2 only at (first_stray-Some g (first ∷ ss) at is).is
+
+-- the customer whom a stop serves
+pub served_told : (g : Network) (s : Stop) (o : Option ℕ) → s.via ≡ false → IsCustomerNumber g s.node o → IsServedBy g s o
+served_told g s None own other = rw (own, other) refl
+served_told g s (Some n) own is = (rw (own, is.0) refl, numbered g n s.node is.1)
+
+-- ---- each customer once
+
+pub record OnceFrom (g : Network) (set : List ℕ) (stops : List Stop) (found : List ℕ) : Type 0 where
+  pub members : (c : ℕ) → has found c ≡ (has set c || has (numbers_of g stops) c)
+  pub once : (node : ℕ) → is_customer g node ≡ true → times_in (customers_of g stops) node ≤ 1
+  pub apart : (node : ℕ) → is_customer g node ≡ true → has set (customer_number g node) ≡ true → times_in (customers_of g stops) node ≡ 0
+
+moved : (a b c : Bool) → ((a || b) || c) ≡ (b || (a || c))
+moved true true c = refl
+moved true false c = refl
+moved false true c = refl
+moved false false c = refl
+
+or_none : (b : Bool) → b ≡ (b || false)
+or_none true = refl
+or_none false = refl
+
+module _ (g : Network) (set : List ℕ) (s : Stop) (ss : List Stop) where
+  one_more : (found : List ℕ) → is_customer g s.node ≡ true → customers_of g (s ∷ ss) ≡ s.node ∷ customers_of g ss → has set (customer_number g s.node) ≡ false
+      → OnceFrom g (with_customer (customer_number g s.node) set) ss found → OnceFrom g set (s ∷ ss) found
+  one_more found customer more new rest = record {
+    members = λ c.
+        rest.members c
+        ∙ ap (λ b. b || has (numbers_of g ss) c) (has-with_customer (customer_number g s.node) set c)
+        ∙ moved (nat_eq (customer_number g s.node) c) (has set c) (has (numbers_of g ss) c)
+        ∙ ap (λ cs. has set c || has (map (customer_number g) cs) c) (sym more);
+    once = λ node is. subst (λ cs. times_in cs node ≤ 1) (sym more) (once_at node is);
+    apart = λ node is stands. subst (λ cs. times_in cs node ≡ 0) (sym more) (apart_at node is stands);
+  }
+    where
+      stands_with : (node : ℕ) → has set (customer_number g node) ≡ true → has (with_customer (customer_number g s.node) set) (customer_number g node) ≡ true
+      stands_with node stands = has-with_customer (customer_number g s.node) set (customer_number g node) ∙ or_right (nat_eq (customer_number g s.node) (customer_number g node)) (has set (customer_number g node)) stands
+
+      once_at : (node : ℕ) → is_customer g node ≡ true → times_in (s.node ∷ customers_of g ss) node ≤ 1
+      once_at node is = elim (cases_eq s.node node) [
+        | inl same ↦
+            let number : nat_eq (customer_number g s.node) (customer_number g node) ≡ true = eq-eqb (customer_number g s.node) (customer_number g node) (ap (customer_number g) same) in
+            let stands : has (with_customer (customer_number g s.node) set) (customer_number g node) ≡ true =
+            has-with_customer (customer_number g s.node) set (customer_number g node) ∙ or_left (nat_eq (customer_number g s.node) (customer_number g node)) (has set (customer_number g node)) number in
+            rw (eq-eqb s.node node same) (omega (arith, rest.apart node is stands))
+        | inr other ↦ rw (ne_eqb s.node node other) (omega (arith, rest.once node is))
+      ]
+
+      apart_at : (node : ℕ) → is_customer g node ≡ true → has set (customer_number g node) ≡ true → times_in (s.node ∷ customers_of g ss) node ≡ 0
+      apart_at node is stands = elim (cases_eq s.node node) [
+        | inl same ↦ absurd (false≢true (sym new ∙ ap (λ x. has set (customer_number g x)) same ∙ stands))
+        | inr other ↦ rw (ne_eqb s.node node other) (omega (arith, rest.apart node is (stands_with node stands)))
+      ]
+
+  passed : (found : List ℕ) → customers_of g (s ∷ ss) ≡ customers_of g ss → OnceFrom g set ss found → OnceFrom g set (s ∷ ss) found
+  passed found same rest = record {
+    members = λ c. rest.members c ∙ ap (λ cs. has set c || has (map (customer_number g) cs) c) (sym same);
+    once = λ node is. subst (λ cs. times_in cs node ≤ 1) (sym same) (rest.once node is);
+    apart = λ node is stands. subst (λ cs. times_in cs node ≡ 0) (sym same) (rest.apart node is stands);
+  }
+
+pub once_from : (g : Network) (set : List ℕ) (stops : List Stop) (found : List ℕ) → served_once g set stops ≡ Some found → OnceFrom g set stops found
+once_from g set [] found is = record {
+  members = λ c. ap (λ xs. has xs c) (sym (same_Some set found is)) ∙ or_none (has set c);
+  once = λ node customer. omega arith;
+  apart = λ node customer stands. refl;
+}
+once_from g set (s ∷ ss) found is = elim (kind_of g s) [
+  | inserted via _ skip ↦ passed g set s ss found (customers_of-inserted g s ss via) (once_from g set ss found (rw skip at is))
+  | served own customer _ here ↦ elim (cases_Bool (has set (customer_number g s.node))) [
+    | inl stands ↦ let none : None ≡ Some found = rw (here, stands) at is in absurd (cc)
+    | inr new ↦ one_more g set s ss found customer (customers_of-served g s ss own customer) new (once_from g (with_customer (customer_number g s.node) set) ss found (rw (here, new) at is))
+  ]
+  | stray own other _ skip ↦ passed g set s ss found (customers_of-stray g s ss own other) (once_from g set ss found (rw skip at is))
+]
+
+pub record TwiceFrom (g : Network) (set : List ℕ) (stops : List Stop) : Type 0 where
+  pub node : ℕ
+  pub customer : is_customer g node ≡ true
+  pub twice : ((has set (customer_number g node) ≡ true) × (1 ≤ times_in (customers_of g stops) node)) ⊎ (2 ≤ times_in (customers_of g stops) node)
+
+module _ (g : Network) (set : List ℕ) (s : Stop) (ss : List Stop) where
+  stands_again : is_customer g s.node ≡ true → customers_of g (s ∷ ss) ≡ s.node ∷ customers_of g ss → has set (customer_number g s.node) ≡ true → TwiceFrom g set (s ∷ ss)
+  stands_again customer more stands = record {
+    node = s.node;
+    customer = customer;
+    twice = inl (stands, subst (λ cs. 1 ≤ times_in cs s.node) (sym more) (rw (eq-eqb s.node s.node refl) (omega arith)));
+  }
+
+  later : is_customer g s.node ≡ true → customers_of g (s ∷ ss) ≡ s.node ∷ customers_of g ss → TwiceFrom g (with_customer (customer_number g s.node) set) ss → TwiceFrom g set (s ∷ ss)
+  later customer more rest = record {
+    node = rest.node;
+    customer = rest.customer;
+    twice = by rest.twice;
+  }
+    where
+      more_times : (k : ℕ) → k ≤ times_in (customers_of g ss) rest.node → k ≤ times_in (customers_of g (s ∷ ss)) rest.node
+      more_times k le = subst (λ cs. k ≤ times_in cs rest.node) (sym more) (omega (arith, le))
+
+      by : ((has (with_customer (customer_number g s.node) set) (customer_number g rest.node) ≡ true) × (1 ≤ times_in (customers_of g ss) rest.node)) ⊎ (2 ≤ times_in (customers_of g ss) rest.node)
+          → ((has set (customer_number g rest.node) ≡ true) × (1 ≤ times_in (customers_of g (s ∷ ss)) rest.node)) ⊎ (2 ≤ times_in (customers_of g (s ∷ ss)) rest.node)
+      by (inr two) = inr (more_times 2 two)
+      by (inl one) = elim (cases_eq s.node rest.node) [
+        | inl same ↦ inr (subst (λ cs. 2 ≤ times_in cs rest.node) (sym more) (rw (eq-eqb s.node rest.node same) (omega (arith, one.1))))
+        | inr other ↦
+            let apart = ne_eqb (customer_number g s.node) (customer_number g rest.node) (number_apart g s.node rest.node customer rest.customer other) in
+            let stands : has set (customer_number g rest.node) ≡ true = rw apart at (sym (has-with_customer (customer_number g s.node) set (customer_number g rest.node)) ∙ one.0) in
+            inl (stands, more_times 1 one.1)
+      ]
+
+  passed_twice : customers_of g (s ∷ ss) ≡ customers_of g ss → TwiceFrom g set ss → TwiceFrom g set (s ∷ ss)
+  passed_twice same rest = record {
+    node = rest.node;
+    customer = rest.customer;
+    twice = subst (λ cs. ((has set (customer_number g rest.node) ≡ true) × (1 ≤ times_in cs rest.node)) ⊎ (2 ≤ times_in cs rest.node)) (sym same) rest.twice;
+  }
+
+pub twice_from : (g : Network) (set : List ℕ) (stops : List Stop) → served_once g set stops ≡ None → TwiceFrom g set stops
+twice_from g set [] is = absurd (cc)
+twice_from g set (s ∷ ss) is = elim (kind_of g s) [
+  | inserted via _ skip ↦ passed_twice g set s ss (customers_of-inserted g s ss via) (twice_from g set ss (rw skip at is))
+  | served own customer _ here ↦ elim (cases_Bool (has set (customer_number g s.node))) [
+    | inl stands ↦ stands_again g set s ss customer (customers_of-served g s ss own customer) stands
+    | inr new ↦ later g set s ss customer (customers_of-served g s ss own customer) (twice_from g (with_customer (customer_number g s.node) set) ss (rw (here, new) at is))
+  ]
+  | stray own other _ skip ↦ passed_twice g set s ss (customers_of-stray g s ss own other) (twice_from g set ss (rw skip at is))
+]
+
+-- a route that serves a customer twice is none of a fleet
+pub twice_is_none : (g : Network) (stops : List Stop) → served_once g [] stops ≡ None → IsFleetRoute g 1 stops → ⊥
+twice_is_none g stops is route = by (twice_from g [] stops is)
+  where
+    by : TwiceFrom g [] stops → ⊥
+    by twice = elim twice.twice [
+      | inl stands ↦ let no = stands.0 in cc
+      | inr two ↦ omega (arith, two, route.once twice.node twice.customer)
+    ]
+
+-- ---- some customer
+
+none_has : (xs : List ℕ) → ((c : ℕ) → has xs c ≡ false) → xs ≡ []
+none_has [] none = refl
+none_has (x ∷ xs) none = absurd (false≢true (sym (none x) ∙ or_left (nat_eq x x) (has xs x) (eq-eqb x x refl)))
+
+no_numbers : (g : Network) (cs : List ℕ) → map (customer_number g) cs ≡ [] → cs ≡ []
+no_numbers g [] is = refl
+no_numbers g (c ∷ cs) is = absurd (cc)
+
+pub some_where_found : (g : Network) (stops : List Stop) (found : List ℕ) → served_once g [] stops ≡ Some found → found ≢ [] → customers_of g stops ≢ []
+some_where_found g stops found is some none =
+    let from = once_from g [] stops found is in
+    some (none_has found (λ c. from.members c ∙ ap (λ cs. has (map (customer_number g) cs) c) none))
+
+pub none_where_none_found : (g : Network) (stops : List Stop) (found : List ℕ) → served_once g [] stops ≡ Some found → found ≡ [] → customers_of g stops ≡ []
+none_where_none_found g stops found is empty =
+    let from = once_from g [] stops found is in
+    no_numbers g (customers_of g stops) (none_has (numbers_of g stops) (λ c. sym (from.members c) ∙ ap (λ xs. has xs c) empty))
+
+-- ---- stops at a node
+
+visited_by : (g : Network) (node : ℕ) → is_customer g node ≡ true → (s : Stop) (ss : List Stop) → list_any (visits node) (s ∷ ss) ≡ true
+    → (list_any (visits node) ss ≡ true → 1 ≤ times_in (customers_of g ss) node) → 1 ≤ times_in (customers_of g (s ∷ ss)) node
+visited_by g node is s ss any rest = elim (kind_of g s) [
+  | inserted via _ _ ↦ subst (λ cs. 1 ≤ times_in cs node) (sym (customers_of-inserted g s ss via)) (rest (rw via at any))
+  | served own customer _ _ ↦ subst (λ cs. 1 ≤ times_in cs node) (sym (customers_of-served g s ss own customer)) (elim (cases_eq s.node node) [
+    | inl same ↦ rw (eq-eqb s.node node same) (omega arith)
+    | inr other ↦ rw (ne_eqb s.node node other) (omega (arith, rest (rw (own, ne_eqb s.node node other) at any)))
+  ])
+  | stray own other _ _ ↦ subst (λ cs. 1 ≤ times_in cs node) (sym (customers_of-stray g s ss own other)) (elim (cases_eq s.node node) [
+    | inl same ↦ absurd (false≢true (sym other ∙ ap (is_customer g) same ∙ is))
+    | inr apart ↦ rest (rw (own, ne_eqb s.node node apart) at any)
+  ])
+]
+
+pub visited : (g : Network) (node : ℕ) → is_customer g node ≡ true → (stops : List Stop) → list_any (visits node) stops ≡ true → 1 ≤ times_in (customers_of g stops) node
+visited g node is [] any = absurd (cc)
+visited g node is (s ∷ ss) any = visited_by g node is s ss any (visited g node is ss)
+
+unvisited_by : (g : Network) (node : ℕ) → (s : Stop) (ss : List Stop) → list_any (visits node) (s ∷ ss) ≡ false
+    → (list_any (visits node) ss ≡ false → times_in (customers_of g ss) node ≡ 0) → times_in (customers_of g (s ∷ ss)) node ≡ 0
+unvisited_by g node s ss none rest = elim (kind_of g s) [
+  | inserted via _ _ ↦ subst (λ cs. times_in cs node ≡ 0) (sym (customers_of-inserted g s ss via)) (rest (rw via at none))
+  | served own customer _ _ ↦ subst (λ cs. times_in cs node ≡ 0) (sym (customers_of-served g s ss own customer)) (elim (cases_eq s.node node) [
+    | inl same ↦ let yes : true ≡ false = rw (own, eq-eqb s.node node same) at none in absurd (cc)
+    | inr other ↦ rw (ne_eqb s.node node other) (omega (arith, rest (rw (own, ne_eqb s.node node other) at none)))
+  ])
+  | stray own other _ _ ↦ subst (λ cs. times_in cs node ≡ 0) (sym (customers_of-stray g s ss own other)) (elim (cases_eq s.node node) [
+    | inl same ↦ let yes : true ≡ false = rw (own, eq-eqb s.node node same) at none in absurd (cc)
+    | inr apart ↦ rest (rw (own, ne_eqb s.node node apart) at none)
+  ])
+]
+
+pub unvisited : (g : Network) (node : ℕ) → (stops : List Stop) → list_any (visits node) stops ≡ false → times_in (customers_of g stops) node ≡ 0
+unvisited g node [] none = refl
+unvisited g node (s ∷ ss) none = unvisited_by g node s ss none (unvisited g node ss)

@@ -1,0 +1,17 @@
+pub mod Passed
+pub mod Along
+pub mod PairLaws
+pub mod Verdicts
+pub mod SectionSteps
+pub mod LeafLoop
+pub mod SectionBounds
+pub mod Products
+pub mod FleetRoutes
+pub mod ShareSums
+pub mod Even
+pub mod Alike
+pub mod Columns
+pub mod Costs
+pub mod Roots
+pub mod Truths
+pub mod Rules

@@ -1,0 +1,59 @@
+-- The bound of a section as a number, and the sum of its prices.
+use Rattle.std.proofs.Common.{◌≡◌, ◌∙◌, ℕ, suc, ◌+◌, ◌*◌, ◌<◌, ◌≤◌, ap, sym, List, [], ◌∷◌, length, get_or, drop, Option, Some, None, arith, ◌↔◌, inl, inr}
+use Rattle.std.specs.Prelude.{ℤ, pos, ◌+ℤ◌, ◌*ℤ◌, ◌≤ℤ◌, ◌<ℤ◌}
+use Rattle.std.proofs.Math.ListN.{drop_of_length-le}
+use Rattle.std.proofs.Math.Seq.{drop-cons}
+use Rattle.std.proofs.lemmas.Int.{ints}
+use Rattle.ev_units.specs.Units.{IsCeiling}
+use Rattle.fleet_model.specs.Prices.{sum_of}
+use Rattle.fleet_model.specs.Section.{IsAtMostBound, Section, ShowsNoPlan}
+use Rattle.fleet_model.specs.Tree.{IsBoundedBy}
+use Rattle.fleet_model.proofs.Bounds.{bound_rounds_up}
+use Rattle.certificate_check.specs.Bounds.{IsBoundOf}
+
+no_more : (a b c : ℤ) → a ≤ℤ b → b ≤ℤ c → a ≤ℤ c
+no_more a b c first second = omega (arith, ints, first, second)
+
+-- a weight above 0
+pub rounded : (s : Section) (q : ℤ) → 0 < s.weight → IsCeiling (sum_of s.prices) s.weight q → IsBoundOf s (Some q)
+rounded s q some is = (
+  λ shows. omega (arith, shows.0, some),
+  λ bound. (
+    λ at_most. (bound_rounds_up s bound some).0 at_most q is.above,
+    λ le. (bound_rounds_up s bound some).1 (λ z above. no_more (pos bound) q z le (is.least z above)),
+  ),
+)
+
+times_none : (bound w : ℕ) → w ≡ 0 → bound * w ≡ 0
+times_none bound w none = let zero : bound * 0 ≡ 0 = omega arith in ap (λ v. bound * v) none ∙ zero
+
+-- no weight, and a price sum that isn't above 0
+pub zero_bound : (s : Section) → s.weight ≡ 0 → sum_of s.prices ≤ℤ pos 0 → IsBoundOf s (Some (pos 0))
+zero_bound s none le = (
+  λ shows. let more = shows.1 in omega (arith, ints, more, le),
+  λ bound. (
+    λ at_most. elim at_most [
+      | inl less ↦ let zero = times_none bound s.weight none in absurd (omega (arith, ints, less, le, none, zero))
+      | inr is ↦ let same = is.1 in omega (arith, ints, same)
+    ],
+    λ few. inr (none, omega (arith, ints, few)),
+  ),
+)
+
+-- no plan is above every number
+pub above_all : (s : Section) → ShowsNoPlan s → (bound : Option ℕ) → IsBoundedBy s bound
+above_all s shows None = shows
+above_all s shows (Some b) =
+    let zero = times_none b s.weight shows.0 in
+    let more = shows.1 in
+    let none = shows.0 in
+    inl (omega (arith, ints, zero, more, none))
+
+-- the prices from a place on
+pub sum_step : (xs : List ℤ) (i : ℕ) → i < length xs → sum_of (drop i xs) ≡ get_or xs i (pos 0) +ℤ sum_of (drop (i + 1) xs)
+sum_step xs i less =
+    let next : suc i ≡ i + 1 = omega arith in
+    ap sum_of (drop-cons xs i (pos 0) less) ∙ ap (λ n. get_or xs i (pos 0) +ℤ sum_of (drop n xs)) next
+
+pub sum_end : (xs : List ℤ) (i : ℕ) → length xs ≤ i → sum_of (drop i xs) ≡ pos 0
+sum_end xs i past = ap sum_of (drop_of_length-le xs past)

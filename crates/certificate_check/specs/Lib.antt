@@ -1,0 +1,10 @@
+pub mod Leaves
+pub mod Accepted
+pub mod Rules
+pub mod Verdicts
+pub mod Firsts
+pub mod Bounds
+pub mod Routes
+pub mod Shares
+pub mod Columns
+pub mod Truth

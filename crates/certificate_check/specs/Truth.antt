@@ -1,0 +1,41 @@
+-- What an accepted certificate shows of all fleet plans and all fractional covers.
+use Rattle.std.specs.Prelude.{◌≡◌, ℕ, ◌*◌, ◌≤◌, ◌⊎◌, List, Option, None, Some, pos, ◌*ℤ◌, ◌≤ℤ◌}
+use Rattle.ev_model.specs.Fleet.{cost_of, IsFleetPlan}
+use Rattle.ev_model.specs.Network.{Network}
+use Rattle.ev_model.specs.declared.Stop.{Stop}
+use Rattle.fleet_model.specs.Cover.{cost_of_shares, IsFractionalCover, Share}
+use Rattle.fleet_model.specs.Places.{customer_count}
+use Rattle.fleet_model.specs.Prices.{sum_of}
+use Rattle.fleet_model.specs.Section.{Section}
+use Rattle.fleet_model.specs.Wide.{IsTooWide}
+use Rattle.bound_certificate.specs.Meaning.{basis_columns, route_columns}
+use Rattle.bound_certificate.specs.declared.certificate.Root.{Root}
+use Rattle.bound_certificate.specs.declared.certificate.Root.TheVariants as root
+
+-- the bound is true: no fleet plan costs less, in any fraction of a unit of charge; no bound says that there is no
+-- fleet plan, in any fraction
+abbrev pub IsTrueBound : Network → Option ℕ → Type 0
+IsTrueBound g None = (k : ℕ) (plans : List (List Stop)) → IsFleetPlan g k plans → ⊥
+IsTrueBound g (Some bound) =
+    (k : ℕ) (plans : List (List Stop)) → IsFleetPlan g k plans → k * bound ≤ cost_of g k plans
+
+-- no fractional cover costs less than the price sum of the section over its weight, in any fraction of a unit: the
+-- cost of one is the sum of share times time, over k and the weight of the cover
+abbrev pub IsLeastCost : Network → Section → Type 0
+IsLeastCost g s =
+    (k weight : ℕ) (others : List Share) → IsFractionalCover g k weight others →
+    (pos (k * weight) *ℤ sum_of s.prices) ≤ℤ pos (s.weight * cost_of_shares g k others)
+
+-- the shares are a fractional cover in whole plans that costs the price sum of the section over its weight
+pub record CostExactly (g : Network) (s : Section) (over : ℕ) (shares : List Share) : Type 0 where
+  pub cover : IsFractionalCover g 1 over shares
+  pub some_weight : 1 ≤ s.weight
+  pub cost : pos (cost_of_shares g 1 shares * s.weight) ≡ sum_of s.prices *ℤ pos over
+
+-- whether the basis of a wide root is too wide, is settled
+abbrev pub IsSettled : Network → Root → Type 0
+IsSettled g root.None = Unit {0}
+IsSettled g (root.Exact over shares) = Unit {0}
+IsSettled g (root.Wide columns basis) =
+    IsTooWide (customer_count g) (route_columns g columns) (basis_columns g columns basis)
+    ⊎ (IsTooWide (customer_count g) (route_columns g columns) (basis_columns g columns basis) → ⊥)

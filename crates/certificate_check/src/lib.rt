@@ -1,0 +1,24 @@
+//! The judge of certificates: whether a certificate shows that no fleet plan costs less than its bound, and
+//! that the bound of its first section is the linear optimum; or the first rule that it breaks.
+#![tactic(auto)]
+
+mod bound;
+mod judge;
+mod laws;
+mod leaves;
+mod product;
+mod root;
+mod routes;
+mod sections;
+mod shares;
+mod verdict;
+mod wide;
+
+pub use judge::check_certificate;
+pub use laws::{
+    accepted_bounds_are_true, accepted_where_no_rule_is_broken, exact_roots_are_least_covers,
+};
+pub use verdict::Verdict;
+
+#[cfg(test)]
+mod tests;

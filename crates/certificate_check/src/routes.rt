@@ -1,0 +1,102 @@
+//! Routes of a fleet.
+
+ghost use Rattle.std.specs.Prelude.{◌≡◌, ◌<◌, ◌≤◌, [], IfNone, IfSome, length};
+ghost use Rattle.std.specs.List.{list_any};
+ghost use Rattle.certificate_check.specs.Routes.{IsListedRoute, IsServedBy, served_once, visits};
+ghost use Rattle.ev_model.specs.Network.{node_count};
+ghost use Rattle.fleet_model.specs.Cover.{IsFleetRoute};
+ghost use Rattle.instance_reader.specs.Instance.{customer_nodes};
+ghost use Rattle.plan_check.specs.FirstFaults.{first_stray, strays};
+ghost use Rattle.plan_check.specs.Tallies.{AreKnown};
+ghost use Rattle.route_plan.specs.FirstPlaces.{behind_first};
+
+use customer_sets::CustSet;
+use instance_reader::Instance;
+use route_plan::{Stop, walk};
+use wide_bases::ListedRoute;
+
+/// The customers and the scaled time of a route of a fleet: a feasible plan from full that serves customers alone,
+/// one at least and each once. `None` exactly where the stops are none. It takes no memory.
+pub(crate) fn fleet_route(inst: &Instance, stops: &[Stop]) -> Option<ListedRoute>
+    requires few { length (customer_nodes inst.now) ≤ 128 }
+    ensures route { IfSome result (IsListedRoute inst.now stops.now) }
+    ensures none { IfNone result (IsFleetRoute inst.now 1 stops.now → ⊥) }
+{
+    let Ok(end) = walk(inst, inst.max_q(), stops) else {
+        return None;
+    };
+    let Some(set) = served_once(inst, stops) else {
+        return None;
+    };
+    if set.is_empty() || stray_stop(inst, stops).is_some() {
+        return None;
+    }
+    Some(ListedRoute {
+        set,
+        time: end.time,
+    })
+}
+
+/// The customers that the stops serve, or `None` where they serve one twice.
+fn served_once(inst: &Instance, stops: &[Stop]) -> Option<CustSet>
+    requires few { length (customer_nodes inst.now) ≤ 128 }
+    requires known { AreKnown inst.now stops.now }
+    ensures { result ≡ served_once inst.now [] stops.now }
+{
+    let mut set = CustSet::empty();
+    for stop in stops {
+        if let Some(number) = served_by(inst, *stop) {
+            if set.has(number) {
+                return None;
+            }
+            set = set.with(number);
+        }
+    }
+    Some(set)
+}
+
+/// The number of the customer whom a stop serves, if it serves one.
+fn served_by(inst: &Instance, stop: Stop) -> Option<usize>
+    requires few { length (customer_nodes inst.now) ≤ 128 }
+    requires known { stop.node < node_count inst.now }
+    ensures number { IsServedBy inst.now stop result }
+    ensures small { IfSome result (λ number. number < 128) }
+{
+    if stop.via {
+        return None;
+    }
+    inst.customer_number(stop.node)
+}
+
+/// The first stop between the ends that wasn't inserted and isn't at a customer.
+fn stray_stop(inst: &Instance, stops: &[Stop]) -> Option<usize>
+    requires { AreKnown inst.now stops.now }
+    ensures { result ≡ first_stray inst.now 1 (behind_first stops.now) }
+{
+    for at in 1..stops.len().saturating_sub(1) {
+        if is_stray(inst, stops[at]) {
+            return Some(at);
+        }
+    }
+    None
+}
+
+/// Whether a stop wasn't inserted and isn't at a customer.
+fn is_stray(inst: &Instance, stop: Stop) -> bool
+    requires { stop.node < node_count inst.now }
+    ensures { result ≡ strays inst.now stop }
+{
+    !stop.via && inst.customer_number(stop.node).is_none()
+}
+
+/// Whether some stop that wasn't inserted is at the node.
+pub(crate) fn visits(stops: &[Stop], node: usize) -> bool
+    ensures { result ≡ list_any (visits node) stops.now }
+{
+    for stop in stops {
+        if !stop.via && stop.node == node {
+            return true;
+        }
+    }
+    false
+}
