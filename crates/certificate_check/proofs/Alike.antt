@@ -1,8 +1,8 @@
 -- Columns that serve the same customers at the same cost: what is said of one basis holds of another with columns alike.
-use Rattle.std.proofs.Common.{◌≡◌, ◌≢◌, ◌∙◌, ℕ, zero, suc, ◌+◌, ◌*◌, ◌^◌, ◌<◌, ◌≤◌, Bool, List, [], ◌∷◌, ◌++◌, length, get_or, map, take, refl, sym, ap, subst, arith, ◌⊎◌, inl, inr, ℤ, pos, ◌+ℤ◌, ◌-ℤ◌, ◌*ℤ◌, cond, unsigned_abs}
-use Rattle.std.specs.Prelude.{◌<ℤ◌, ◌≤ℤ◌}
+use Rattle.std.proofs.Common.{◌≡◌, ◌∙◌, ℕ, zero, suc, ◌*◌, ◌^◌, ◌<◌, ◌≤◌, Bool, List, [], ◌∷◌, ◌++◌, length, map, take, refl, sym, ap, subst, ◌⊎◌, inl, inr, ℤ, pos, ◌+ℤ◌, ◌-ℤ◌, ◌*ℤ◌, cond, unsigned_abs}
+use Rattle.std.specs.Prelude.{◌<ℤ◌}
 use Rattle.std.specs.Int.{◌∣◌}
-use Rattle.fleet_model.specs.Basis.{AreIndependent, covering, IsBasis, IsBody, IsHelperList, IsPriceList, IsShareWeight, MakesSharesWhole, Pays, PaysLeast}
+use Rattle.fleet_model.specs.Basis.{AreIndependent, covering, IsBasis, IsBody, IsShareWeight, MakesSharesWhole, Pays, PaysLeast}
 use Rattle.fleet_model.specs.Equations.{Column, column_at, cost_of, entry, help_of, helper, helpers, right_side, route, serves, total}
 use Rattle.fleet_model.specs.Wide.{Follow, IsBodyPast, IsHelperListPast, IsPast, IsPastAt, IsPriceListPast, IsShareWeightPast, IsTooWide}
 

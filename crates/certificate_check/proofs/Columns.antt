@@ -1,12 +1,12 @@
 -- The exact test of wide bases, on the columns of a certificate.
-use Rattle.std.proofs.Common.{◌≡◌, ◌∙◌, ℕ, zero, suc, ◌+◌, ◌<◌, ◌≤◌, Bool, true, false, List, [], ◌∷◌, ◌++◌, Option, Some, None, Result, Ok, Err, length, get_or, map, slice_get, take, refl, sym, ap, subst, arith, inl, inr}
+use Rattle.std.proofs.Common.{◌≡◌, ◌∙◌, ℕ, zero, suc, ◌+◌, ◌<◌, ◌≤◌, Bool, true, false, List, [], ◌∷◌, ◌++◌, Option, Some, Result, Ok, Err, length, get_or, map, take, refl, sym, ap, subst, arith, inr}
 use Rattle.std.specs.List.{All, range_with_len}
 use Rattle.std.specs.Prelude.{IfOk, option_map}
 use Rattle.std.proofs.lemmas.List.{take_all}
 use Rattle.std.proofs.lemmas.List.Elements.{All-cons, All-head, All-nil, All-tail}
 use Rattle.ev_model.specs.Network.{Network}
 use Rattle.fleet_model.specs.Cover.{IsFleetRoute}
-use Rattle.fleet_model.specs.Equations.{Column as TableColumn, column_at, helper, helpers, route}
+use Rattle.fleet_model.specs.Equations.{Column as TableColumn, column_at, helper, helpers}
 use Rattle.fleet_model.specs.Places.{customer_count}
 use Rattle.fleet_model.specs.Wide.{IsTooWide}
 use Rattle.route_plan.specs.declared.plan.RoutePlan.{RoutePlan}

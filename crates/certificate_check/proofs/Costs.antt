@@ -1,5 +1,5 @@
 -- What the shares of a cover cost, against the price sum over the weight.
-use Rattle.std.proofs.Common.{◌≡◌, ◌≢◌, ◌∙◌, ℕ, suc, ◌+◌, ◌*◌, ◌^◌, ◌<◌, ◌≤◌, Bool, true, false, IsTrue, refl, sym, ap, subst, arith, ◌↔◌, inl, inr, List, unsigned_abs}
+use Rattle.std.proofs.Common.{◌≡◌, ◌≢◌, ◌∙◌, ℕ, suc, ◌+◌, ◌*◌, ◌≤◌, Bool, true, false, IsTrue, refl, sym, ap, arith, ◌↔◌, inr, List, unsigned_abs}
 use Rattle.std.specs.Prelude.{ℤ, pos, negsuc, neg_ℤ, ◌*ℤ◌, ◌≤ℤ◌, ◌<ℤ◌}
 use Rattle.std.proofs.Math.IntN.{negsuc-*ℤ-pos, pos-*ℤ-pos}
 use Rattle.std.proofs.lemmas.Bool.{false≢true}

@@ -1,9 +1,9 @@
 -- What is told of the shares of customers.
-use Rattle.std.proofs.Common.{◌≡◌, ◌≢◌, ◌∙◌, ℕ, Bool, true, false, not, List, Option, Some, None, nat_eq, refl, sym, ap, arith, inl, inr}
+use Rattle.std.proofs.Common.{◌≡◌, ◌≢◌, ◌∙◌, ℕ, Bool, true, false, not, List, Option, Some, None, nat_eq, refl, sym, inl, inr}
 use Rattle.std.specs.Prelude.{is_none}
 use Rattle.std.specs.List.{find}
-use Rattle.std.proofs.lemmas.Bool.{cases_eq, eq-eqb, false≢true, ne_eqb}
-use Rattle.ev_model.specs.Network.{is_customer, Network}
+use Rattle.std.proofs.lemmas.Bool.{cases_eq, eq-eqb, ne_eqb}
+use Rattle.ev_model.specs.Network.{Network}
 use Rattle.instance_reader.specs.Instance.{customer_nodes}
 use Rattle.plan_check.proofs.Customers.{first_customer, no_customer}
 use Rattle.bound_certificate.specs.Meaning.{route_shares}

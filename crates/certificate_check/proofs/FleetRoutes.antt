@@ -1,5 +1,5 @@
 -- Routes of a fleet, and the test stop by stop.
-use Rattle.std.proofs.Common.{◌≡◌, ◌≢◌, ◌∙◌, ℕ, zero, suc, ◌+◌, ◌<◌, ◌≤◌, Bool, true, false, ◌||◌, List, [], ◌∷◌, Option, Some, None, map, refl, sym, ap, subst, arith, ◌⊎◌, inl, inr}
+use Rattle.std.proofs.Common.{◌≡◌, ◌≢◌, ◌∙◌, ℕ, ◌<◌, ◌≤◌, Bool, true, false, ◌||◌, List, [], ◌∷◌, Option, Some, None, map, refl, sym, ap, subst, arith, ◌⊎◌, inl, inr}
 use Rattle.std.specs.Prelude.{is_some, nat_eq}
 use Rattle.std.specs.List.{list_any}
 use Rattle.std.proofs.lemmas.Bool.{cases_Bool, cases_eq, eq-eqb, false≢true, ne_eqb, or_left, or_right}
@@ -17,8 +17,7 @@ use Rattle.fleet_model.specs.Places.{customer_number, numbers_of}
 use Rattle.fleet_model.proofs.Counts.{number_apart}
 use Rattle.fleet_model.proofs.Numbers.{numbered}
 use Rattle.instance_reader.specs.Instance.{IsCustomerNumber}
-use Rattle.plan_check.specs.FirstFaults.{first_stray, serves}
-use Rattle.plan_check.specs.FleetRules.{IsStray}
+use Rattle.plan_check.specs.FirstFaults.{first_stray}
 use Rattle.plan_check.specs.Tallies.{AreKnown}
 use Rattle.plan_check.proofs.Served.{no_stray, serves_only}
 use Rattle.plan_check.proofs.Strays.{customers_of-inserted, customers_of-served, customers_of-stray, first_stray-None, first_stray-Some, inserted, kind_of, served, stray}

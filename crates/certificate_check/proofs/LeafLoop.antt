@@ -1,8 +1,8 @@
 -- Going along the lines of a tree, with the pairs of the subtrees that are open.
-use Rattle.std.proofs.Common.{◌≡◌, ◌∙◌, ℕ, zero, suc, ◌+◌, ◌<◌, ◌≤◌, Bool, true, List, [], ◌∷◌, ◌++◌, Option, Some, None, length, length-append, drop, get_or, map, slice_get, refl, reverse, sym, ap, subst, arith, append_assoc, append-nil, inl, inr}
+use Rattle.std.proofs.Common.{◌≡◌, ◌∙◌, ℕ, zero, suc, ◌+◌, ◌<◌, ◌≤◌, Bool, true, List, [], ◌∷◌, ◌++◌, Option, Some, None, length, length-append, drop, get_or, slice_get, refl, reverse, sym, ap, subst, arith, append_assoc, append-nil}
 use Rattle.std.proofs.Math.ListN.{drop_of_length-le}
 use Rattle.std.proofs.Math.Seq.{drop-cons}
-use Rattle.std.proofs.lemmas.Option.{none-some, same_Some}
+use Rattle.std.proofs.lemmas.Option.{none-some}
 use Rattle.customer_sets.specs.Pairs.{allows_of, any_pair, ForbiddenPairs, forbid, IsPairs, require}
 use Rattle.fleet_model.specs.Section.{Section as PricedSection}
 use Rattle.ev_model.specs.Network.{Network}

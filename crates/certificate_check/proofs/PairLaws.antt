@@ -1,11 +1,10 @@
 -- Pairs of places of customers, and what is allowed among all numbers.
-use Rattle.std.proofs.Common.{◌≡◌, ◌∙◌, ℕ, zero, suc, ◌+◌, ◌-◌, ◌<◌, ◌≤◌, Bool, true, not, List, [], ◌∷◌, ◌++◌, Option, Some, None, refl, reverse, sym, ap, subst, arith, inl, inr}
+use Rattle.std.proofs.Common.{◌≡◌, ◌∙◌, ℕ, zero, suc, ◌-◌, ◌≤◌, Bool, true, not, List, [], ◌∷◌, ◌++◌, Option, Some, None, refl, reverse, sym, arith, inl, inr}
 use Rattle.std.specs.Prelude.{nat_eq}
 use Rattle.std.proofs.lemmas.Bool.{cases_Bool, cases_lt, or_right}
 use Rattle.std.proofs.lemmas.List.{reverse-append}
 use Rattle.customer_sets.specs.Pairs.{allows_of, any_pair, ForbiddenPairs, forbid, is_forbidden, IsPairs, require}
 use Rattle.fleet_model.specs.Section.{Section}
-use Rattle.fleet_model.specs.Tree.{IsUnder}
 use Rattle.certificate_check.specs.Bounds.{AreChildren, Tell, TellEach}
 use Rattle.certificate_check.specs.Firsts.{HoldsUnder, IsBrokenUnder, Tells}
 use Rattle.certificate_check.specs.Rules.{AllowsEach}

@@ -1,11 +1,11 @@
 -- What is told of the root, from what is told of its kind.
-use Rattle.std.proofs.Common.{◌≡◌, ◌∙◌, ℕ, ◌≤◌, ◌<◌, ◌*◌, Bool, true, false, List, [], ◌∷◌, Option, Some, None, Result, Ok, Err, refl, sym, ap, subst, arith, ◌⊎◌, inl, inr}
+use Rattle.std.proofs.Common.{ℕ, ◌≤◌, Bool, true, false, List, [], ◌∷◌, Option, Some, None, Result, Ok, Err, inr}
 use Rattle.std.specs.Prelude.{IfOk, is_none, ℤ}
 use Rattle.std.specs.List.{All}
 use Rattle.std.proofs.lemmas.List.Elements.{All-cons, All-head, All-nil, All-tail}
 use Rattle.ev_model.specs.Network.{Network}
 use Rattle.fleet_model.specs.Cover.{IsFractionalCover, Share as RouteShare}
-use Rattle.fleet_model.specs.Section.{Section, ShowsNoPlan}
+use Rattle.fleet_model.specs.Section.{Section}
 use Rattle.route_plan.specs.declared.plan.RoutePlan.{RoutePlan}
 use Rattle.bound_certificate.specs.Meaning.{route_shares}
 use Rattle.bound_certificate.specs.Ranges.{ShareFits, SharesFit}
@@ -15,7 +15,7 @@ use Rattle.bound_certificate.specs.declared.certificate.Share.{Share}
 use Rattle.certificate_check.specs.Accepted.{AllowsAll}
 use Rattle.certificate_check.specs.Bounds.{IsBoundOf, TellsRoot}
 use Rattle.certificate_check.specs.Columns.{TellsWide}
-use Rattle.certificate_check.specs.Shares.{AreEven, AreRoutes, CostTheBound, TellsCost, TellsEven, TellsExact, TellsRoutes}
+use Rattle.certificate_check.specs.Shares.{AreEven, AreRoutes, TellsCost, TellsExact}
 
 pub none_told : (g : Network) (s : Section) (o : Option ℤ) → AllowsAll s → IsBoundOf s o → TellsRoot g s root.None (is_none o)
 none_told g s None all is = record { all = all; holds = is }

@@ -1,18 +1,17 @@
 -- A certificate is accepted exactly where none of its rules is broken.
-use Rattle.std.proofs.Common.{◌≡◌, ◌≢◌, ◌∙◌, ℕ, zero, suc, ◌+◌, ◌*◌, ◌<◌, ◌≤◌, Bool, true, false, List, [], ◌∷◌, Option, Some, None, Result, Ok, Err, length, get_or, map, slice_get, refl, sym, ap, subst, arith, ◌⊎◌, ◌↔◌, inl, inr}
+use Rattle.std.proofs.Common.{◌≡◌, ◌≢◌, ◌∙◌, ℕ, zero, suc, ◌*◌, ◌<◌, ◌≤◌, Bool, true, false, List, [], ◌∷◌, Option, Some, None, Result, Ok, Err, length, get_or, slice_get, refl, sym, ap, subst, arith, ◌⊎◌, inl, inr}
 use Rattle.std.specs.List.{All}
-use Rattle.std.specs.Prelude.{is_some, ℤ, pos, ◌+ℤ◌, ◌*ℤ◌, ◌≤ℤ◌, ◌<ℤ◌}
+use Rattle.std.specs.Prelude.{is_some, ℤ, pos, ◌+ℤ◌, ◌*ℤ◌}
 use Rattle.std.proofs.lemmas.Bool.{cases_Bool, cases_eq, false≢true}
 use Rattle.std.proofs.lemmas.Int.{ints}
 use Rattle.std.proofs.lemmas.List.Elements.{All-cons, All-head, All-nil, All-tail}
 use Rattle.std.proofs.lemmas.Option.{none-some, same_Some, slice_get-get_or}
 use Rattle.customer_sets.specs.Pairs.{any_pair, forbid, require}
 use Rattle.ev_model.specs.Feasible.{IsFeasible}
-use Rattle.ev_model.specs.Fleet.{customers_of}
-use Rattle.ev_model.specs.Network.{is_customer, Network, node_count}
+use Rattle.ev_model.specs.Network.{Network}
 use Rattle.ev_model.specs.declared.Stop.{Stop}
 use Rattle.fleet_model.specs.ClosedList.{IsClosed}
-use Rattle.fleet_model.specs.Cover.{cost_of_shares, IsExactRoot, IsFleetRoute, Share as RouteShare, shares_of}
+use Rattle.fleet_model.specs.Cover.{cost_of_shares, IsFleetRoute, Share as RouteShare, shares_of}
 use Rattle.fleet_model.specs.Prices.{sum_of}
 use Rattle.fleet_model.specs.Section.{Section as PricedSection, ShowsNoPlan}
 use Rattle.fleet_model.specs.Tree.{IsBoundedBy}
@@ -28,7 +27,6 @@ use Rattle.route_plan.proofs.Feasibly.{walked_is_feasible}
 use Rattle.route_plan.proofs.Walked.{feasible_is_walked}
 use Rattle.bound_certificate.specs.Meaning.{priced_section, priced_sections, route_shares}
 use Rattle.bound_certificate.specs.Ranges.{customer_count as count_customers, Fits, LineFits, RootFits, ShareFits}
-use Rattle.bound_certificate.specs.declared.certificate.BasisEntry.{BasisEntry}
 use Rattle.bound_certificate.specs.declared.certificate.Certificate.{Certificate}
 use Rattle.bound_certificate.specs.declared.certificate.Root.{Root}
 use Rattle.bound_certificate.specs.declared.certificate.Root.TheVariants as root

@@ -1,12 +1,12 @@
 -- The bound of a section as a number, and the sum of its prices.
-use Rattle.std.proofs.Common.{◌≡◌, ◌∙◌, ℕ, suc, ◌+◌, ◌*◌, ◌<◌, ◌≤◌, ap, sym, List, [], ◌∷◌, length, get_or, drop, Option, Some, None, arith, ◌↔◌, inl, inr}
-use Rattle.std.specs.Prelude.{ℤ, pos, ◌+ℤ◌, ◌*ℤ◌, ◌≤ℤ◌, ◌<ℤ◌}
+use Rattle.std.proofs.Common.{◌≡◌, ◌∙◌, ℕ, suc, ◌+◌, ◌*◌, ◌<◌, ◌≤◌, ap, List, length, get_or, drop, Option, Some, None, arith, inl, inr}
+use Rattle.std.specs.Prelude.{ℤ, pos, ◌+ℤ◌, ◌≤ℤ◌}
 use Rattle.std.proofs.Math.ListN.{drop_of_length-le}
 use Rattle.std.proofs.Math.Seq.{drop-cons}
 use Rattle.std.proofs.lemmas.Int.{ints}
 use Rattle.ev_units.specs.Units.{IsCeiling}
 use Rattle.fleet_model.specs.Prices.{sum_of}
-use Rattle.fleet_model.specs.Section.{IsAtMostBound, Section, ShowsNoPlan}
+use Rattle.fleet_model.specs.Section.{Section, ShowsNoPlan}
 use Rattle.fleet_model.specs.Tree.{IsBoundedBy}
 use Rattle.fleet_model.proofs.Bounds.{bound_rounds_up}
 use Rattle.certificate_check.specs.Bounds.{IsBoundOf}

@@ -6,8 +6,8 @@ use Rattle.std.proofs.lemmas.List.{length-map}
 use Rattle.std.proofs.lemmas.List.FromFn.{length-range_with_len}
 use Rattle.charge_curve.specs.Points.{ArePoints, last_level, time_on}
 use Rattle.std.proofs.lemmas.Bool.{cases_eq, false≢true}
-use Rattle.std.proofs.lemmas.List.Elements.{All-cons, All-head, All-nil, All-tail, All-weaker}
-use Rattle.std.proofs.lemmas.Option.{none-some, same_Some, slice_get-get_or, slice_get-map, slice_get_within}
+use Rattle.std.proofs.lemmas.List.Elements.{All-head, All-tail, All-weaker}
+use Rattle.std.proofs.lemmas.Option.{same_Some, slice_get_within}
 use Rattle.ev_model.specs.Network.{Network, node_count}
 use Rattle.fleet_model.specs.ClosedList.{IsClosed}
 use Rattle.fleet_model.specs.Section.{Section as PricedSection}
@@ -24,7 +24,6 @@ use Rattle.bound_certificate.specs.declared.certificate.Section.{Section}
 use Rattle.fleet_model.specs.ClosedListRules.{at_home, at_start, at_step}
 use Rattle.certificate_check.specs.Firsts.{AllHold, IsFirst, IsSectionFault, Tells, ToldAs}
 use Rattle.certificate_check.specs.declared.verdict.Verdict.{Verdict}
-use Rattle.certificate_check.specs.declared.verdict.Verdict.TheVariants.{End, Start, Step}
 
 -- ---- a section of a certificate is that of its labels
 

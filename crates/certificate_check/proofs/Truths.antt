@@ -1,19 +1,16 @@
 -- The bound of an accepted certificate is true, and its exact root is the linear optimum.
-use Rattle.std.proofs.Common.{◌≡◌, ◌∙◌, ℕ, Bool, ◌*◌, ◌≤◌, true, List, [], ◌∷◌, Option, Some, None, length, slice_get, refl, sym, ap, subst, arith}
+use Rattle.std.proofs.Common.{◌≡◌, ◌∙◌, ℕ, Bool, true, List, [], ◌∷◌, Option, Some, None, slice_get, refl, sym, subst}
 use Rattle.std.specs.List.{All}
 use Rattle.std.proofs.lemmas.List.Elements.{All-cons, All-get_or, All-nil}
 use Rattle.std.proofs.lemmas.Option.{get_or_from_slice_get, same_Some, slice_get_within}
 use Rattle.customer_sets.specs.Pairs.{any_pair}
-use Rattle.ev_model.specs.Feasible.{IsFeasible}
-use Rattle.ev_model.specs.Fleet.{cost_of, IsFleetPlan}
 use Rattle.ev_model.specs.Network.{IsNetwork, Network}
-use Rattle.ev_model.specs.Route.{FollowsRoute, route_of}
-use Rattle.ev_model.specs.declared.Stop.{Stop}
+use Rattle.ev_model.specs.Route.{route_of}
 use Rattle.fleet_model.specs.ClosedList.{IsClosed}
-use Rattle.fleet_model.specs.Cover.{IsFractionalCover, Share as RouteShare}
+use Rattle.fleet_model.specs.Cover.{Share as RouteShare}
 use Rattle.fleet_model.specs.Section.{IsSectionOf, Section}
 use Rattle.fleet_model.specs.Tree.{BranchTree, IsBranchTree, LeavesAreUnder}
-use Rattle.fleet_model.specs.Whole.{HasWhole, NoFractionIsFaster}
+use Rattle.fleet_model.specs.Whole.{NoFractionIsFaster}
 use Rattle.fleet_model.specs.Cover.{CoverKeepsPairs}
 use Rattle.fleet_model.specs.Pairs.{PlanKeepsPairs}
 use Rattle.fleet_model.specs.Places.{places_of}

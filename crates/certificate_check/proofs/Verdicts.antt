@@ -1,5 +1,5 @@
 -- What is told of the sections, of the leaves and of the root is the verdict.
-use Rattle.std.proofs.Common.{◌≡◌, ◌∙◌, ℕ, ◌<◌, Bool, true, false, List, [], ◌∷◌, Option, Some, None, length, slice_get, get_or, refl, sym, ap, subst, arith, ◌⊎◌, inl, inr}
+use Rattle.std.proofs.Common.{◌≡◌, ◌∙◌, ℕ, ◌<◌, true, false, [], ◌∷◌, Option, Some, slice_get, get_or, sym, ap, subst, ◌⊎◌, inl, inr}
 use Rattle.std.specs.List.{All}
 use Rattle.std.proofs.lemmas.Option.{same_Some, slice_get-get_or}
 use Rattle.customer_sets.specs.Pairs.{any_pair}
@@ -15,7 +15,7 @@ use Rattle.bound_certificate.specs.declared.certificate.Certificate.{Certificate
 use Rattle.certificate_check.specs.Accepted.{IsAccepted, IsSectionAt}
 use Rattle.certificate_check.specs.Bounds.{TellsRoot}
 use Rattle.certificate_check.specs.Firsts.{AllHold, IsFirst, IsLeafFault, IsSectionFault, LeafHolds, leaves_along, Names}
-use Rattle.certificate_check.specs.Leaves.{leaves_of, TreeLeaf}
+use Rattle.certificate_check.specs.Leaves.{TreeLeaf}
 use Rattle.certificate_check.specs.Rules.{AllowsEach, at_bound, at_pairs, at_root, CertificateFault, ComesBefore, in_section, IsBroken, IsFirstBroken, NamesAt}
 use Rattle.certificate_check.specs.Verdicts.{IsVerdict}
 use Rattle.certificate_check.specs.declared.verdict.Verdict.{Verdict}

@@ -1,7 +1,6 @@
 -- The rules of an accepted certificate one by one, and which of them is the first that is broken.
-use Rattle.std.specs.Prelude.{◌≡◌, ◌≢◌, ℕ, ◌*◌, ◌<◌, ◌⊎◌, Bool, true, List, Option, Some, slice_get, pos, ◌*ℤ◌}
+use Rattle.std.specs.Prelude.{◌≡◌, ◌≢◌, ℕ, ◌*◌, ◌<◌, ◌⊎◌, Bool, true, List, Some, slice_get, pos, ◌*ℤ◌}
 use Rattle.ev_model.specs.Network.{is_customer, Network, node_count}
-use Rattle.ev_model.specs.declared.Stop.{Stop}
 use Rattle.fleet_model.specs.ClosedListRules.{ClosedFault, ComesBefore as ComesBeforeInSection, IsFault}
 use Rattle.fleet_model.specs.Cover.{cost_of_shares, IsFleetRoute, Share, shares_of}
 use Rattle.fleet_model.specs.Places.{customer_count}

@@ -1,5 +1,4 @@
 -- What the verdict on a certificate says.
-use Rattle.std.specs.Prelude.{ℕ}
 use Rattle.ev_model.specs.Network.{Network}
 use Rattle.fleet_model.specs.ClosedListRules.{at_home, at_start, at_step}
 use Rattle.bound_certificate.specs.declared.certificate.Certificate.{Certificate}

@@ -37,6 +37,11 @@ fn judged(alloc: Global, instance: &str, parts: &[&str]) -> Option<Verdict> {
     check_certificate(alloc, &inst, &cert).ok()
 }
 
+/// What the judge says of a certificate in four parts on the instance with one station.
+fn judged_with_one_station(alloc: Global, parts: [&str; 4]) -> Option<Verdict> {
+    judged(alloc, ONE_STATION, &parts)
+}
+
 #[test]
 fn a_worked_certificate_is_accepted_and_its_broken_variants_are_not(rt: HostRuntime) {
     let alloc = rt.alloc();
@@ -80,7 +85,7 @@ fn a_worked_certificate_is_accepted_and_its_broken_variants_are_not(rt: HostRunt
         ([HEAD, narrow, SECTION, LEAF], Verdict::Root),
         ([HEAD, "root none\n", SECTION, LEAF], Verdict::Root),
     ] {
-        assert_eq!(rt; judged(alloc, ONE_STATION, &parts), Some(verdict));
+        assert_eq!(rt; judged_with_one_station(alloc, parts), Some(verdict));
     }
 }
 

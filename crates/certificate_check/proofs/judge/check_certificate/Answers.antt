@@ -1,4 +1,4 @@
-use Rattle.std.proofs.Common.{◌≡◌, ◌∷◌, [], Bool, List, Option, None, Some, get_or, true, false, subst}
+use Rattle.std.proofs.Common.{◌≡◌, ◌∷◌, [], List, None, Some, get_or, subst}
 use Rattle.customer_sets.specs.Pairs.{any_pair}
 use Rattle.fleet_model.specs.ClosedList.{IsClosed}
 use Rattle.bound_certificate.specs.Meaning.{priced_section, priced_sections}
@@ -7,7 +7,6 @@ use Rattle.certificate_check.specs.Bounds.{TellsRoot}
 use Rattle.certificate_check.specs.Firsts.{IsLeafFault, IsSectionFault, LeafHolds, leaves_along, TellsFirst}
 use Rattle.certificate_check.proofs.Passed.{there}
 use Rattle.certificate_check.proofs.Verdicts.{accepted, leaf_verdict, root_broken, section_verdict}
-use Rattle.certificate_check.specs.declared.verdict.Verdict.{Verdict}
 use Rattle.certificate_check.proofs.judge.check_certificate.Goals as goal
 
 pub returns-in-Some : goal.returns-in-Some

@@ -1,6 +1,5 @@
-use Rattle.std.proofs.Common.{◌≡◌, ◌∙◌, ◌≤◌, ◌<◌, ◌^◌, sym, subst, arith}
+use Rattle.std.proofs.Common.{◌≤◌, ◌<◌, ◌^◌, sym, subst, arith}
 use Rattle.bound_certificate.specs.Meaning.{route_shares}
-use Rattle.fleet_model.specs.Cover.{cost_of_shares}
 use Rattle.fleet_model.specs.Places.{customer_count}
 use Rattle.fleet_model.proofs.Numbers.{counted}
 use Rattle.certificate_check.proofs.ShareSums.{small_cost}

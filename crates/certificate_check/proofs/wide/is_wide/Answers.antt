@@ -1,10 +1,8 @@
-use Rattle.std.proofs.Common.{◌≡◌, ◌∙◌, ◌<◌, ◌+◌, ℕ, List, ap, length, map, subst, sym}
+use Rattle.std.proofs.Common.{◌≡◌, ◌∙◌, ◌<◌, ◌+◌, ap, length, map, subst, sym}
 use Rattle.std.specs.List.{All}
-use Rattle.fleet_model.specs.Places.{customer_count}
 use Rattle.fleet_model.proofs.Numbers.{counted}
 use Rattle.bound_certificate.specs.Ranges.{EntryFits}
 use Rattle.certificate_check.specs.Columns.{AreListed, entry_number}
-use Rattle.wide_bases.specs.declared.listed.ListedRoute.{ListedRoute}
 use Rattle.certificate_check.proofs.Columns.{columns_listed, numbers_small, same_many, told_result}
 use Rattle.certificate_check.proofs.wide.is_wide.Goals as goal
 

@@ -1,4 +1,4 @@
-use Rattle.std.proofs.Common.{◌∷◌, ◌++◌, [], subst, sym, take, ◌+◌}
+use Rattle.std.proofs.Common.{subst, sym, take, ◌+◌}
 use Rattle.certificate_check.specs.Columns.{AreListed}
 use Rattle.certificate_check.specs.Routes.{IsListedRoute}
 use Rattle.certificate_check.proofs.Columns.{listed_more}
