@@ -15,7 +15,7 @@ use Rattle.evroute.specs.Ended.{IsCheckEnded}
 use Rattle.evroute.specs.FixedAnswer.{FixedAnswers}
 use Rattle.evroute.specs.MakeAnswer.{HasNoInstance, MakeAnswers, text_made}
 use Rattle.evroute.specs.Found.{Finds, status_of}
-use Rattle.evroute.specs.Run.{AreRead, ComesToPlan, ComesToWrite, HasFailedRead, HasFailedWrite, HasFileFault, HasMadeFault, HasWriteFault, IsAnswered, JobAnswers, LeavesFiles, LeavesMade, LeavesWhole, MakesNothing, WritesMade, most_bytes}
+use Rattle.evroute.specs.Run.{AreRead, AreReadUpTo, ComesToCertificate, ComesToPlan, ComesToWrite, HasFailedRead, HasFailedWrite, HasFileFault, HasMadeFault, HasWriteFault, IsAnswered, IsCertificateRead, JobAnswers, LeavesFiles, LeavesMade, LeavesWhole, MakesNothing, WritesMade, most_bytes, most_certificate_bytes}
 use Rattle.evroute.specs.declared.answer.Answer.{Answer}
 use Rattle.evroute.specs.declared.answer.Ended.{Ended}
 use Rattle.evroute.specs.declared.answer.Ended.TheVariants.{Refused}
@@ -26,11 +26,11 @@ use Rattle.plan_writer.specs.declared.refusal.Refusal.{Refusal}
 use Rattle.plan_writer.specs.declared.refusal.Refusal.TheVariants as refusal
 
 -- a read into an empty buffer
-pub are_read : (files : Option Files) (name old new : List ℕ) → old ≡ [] → AppendsFile files name most_bytes old new → AreRead files name new
-are_read None name old new empty appends =
+pub are_read : (most : ℕ) (files : Option Files) (name old new : List ℕ) → old ≡ [] → AppendsFile files name most old new → AreReadUpTo most files name new
+are_read most None name old new empty appends =
     let none : length old ≡ 0 = ap (λ xs. length xs) empty in
     omega (arith, none, appends.1)
-are_read (Some files) name old new empty appends = appends ∙ ap (λ xs. xs ++ take most_bytes (bytes_under files name)) empty
+are_read most (Some files) name old new empty appends = appends ∙ ap (λ xs. xs ++ take most (bytes_under files name)) empty
 
 -- what `fixed` answers to the bytes of its file
 pub fixed_answers : (job : FixedJob) (files : Option Files) (bytes given : List ℕ) (answered : Status) (text : List ℕ) →
@@ -39,35 +39,53 @@ fixed_answers job files bytes given answered text read same answers =
     (bytes, read, subst (λ (bs : List ℕ). FixedAnswers job.options job.route bs answered text) same answers)
 
 -- what `check` answers to the bytes of its files
-pub check_answers : (job : CheckJob) (files : Option Files) (bytes plan_bytes given : List ℕ) (answered : Status) (text : List ℕ) →
-    AreRead files job.file bytes → AreRead files job.plan plan_bytes → given ≡ plan_bytes → CheckAnswers job.limit bytes given answered text → JobAnswers (CheckPlan job) files answered text
-check_answers job files bytes plan_bytes given answered text read read_plan same answers =
-    (bytes, read, (plan_bytes, read_plan, subst (λ (bs : List ℕ). CheckAnswers job.limit bytes bs answered text) same answers))
+pub check_answers : (job : CheckJob) (files : Option Files) (bytes plan_bytes cert_bytes given : List ℕ) (answered : Status) (text : List ℕ) →
+    AreRead files job.file bytes → AreRead files job.plan plan_bytes → IsCertificateRead files job.cert cert_bytes → given ≡ cert_bytes
+    → CheckAnswers job.limit bytes plan_bytes given answered text → JobAnswers (CheckPlan job) files answered text
+check_answers job files bytes plan_bytes cert_bytes given answered text read read_plan read_cert same answers =
+    (bytes, read, (plan_bytes, read_plan, (cert_bytes, read_cert, subst (λ (bs : List ℕ). CheckAnswers job.limit bytes plan_bytes bs answered text) same answers)))
 
 -- whatever stands under a name, some bytes are read
-some_read : (files : Option Files) (name : List ℕ) → (bytes : List ℕ) × AreRead files name bytes
-some_read None name = ([], omega arith)
-some_read (Some files) name = (take most_bytes (bytes_under files name), refl)
+some_read : (most : ℕ) (files : Option Files) (name : List ℕ) → (bytes : List ℕ) × AreReadUpTo most files name bytes
+some_read most None name = ([], omega arith)
+some_read most (Some files) name = (take most (bytes_under files name), refl)
 
--- a refusal before the plan is read is the answer whatever the plan holds
-refused_early : (job : CheckJob) (files : Option Files) (bytes given : List ℕ) (ended : Ended) (refusal : Refusal) →
-    AreRead files job.file bytes → given ≡ bytes → ended ≡ Refused refusal → ((plan_bytes : List ℕ) → IsCheckEnded job.limit given plan_bytes ended)
+-- the line of a refusal, whatever a certificate holds
+refused_line : (job : CheckJob) (files : Option Files) (bytes plan_bytes : List ℕ) (refusal : Refusal) →
+    AreRead files job.file bytes → AreRead files job.plan plan_bytes → ((cert_bytes : List ℕ) → IsCheckEnded job.limit bytes plan_bytes cert_bytes (Refused refusal))
+    → JobAnswers (CheckPlan job) files status.Refused (refusal_text refusal)
+refused_line job files bytes plan_bytes refusal read read_plan first =
+    let cert = some_read most_certificate_bytes files job.cert in
+    (bytes, read, (plan_bytes, read_plan, (cert.0, cert.1, record { refusal = refusal; rule = (first cert.0).0; refused = (first cert.0).1; text_is = refl })))
+
+-- a refusal before the plan is read is the answer whatever the plan and the certificate hold
+pub refused_early : (job : CheckJob) (files : Option Files) (bytes given : List ℕ) (ended : Ended) (refusal : Refusal) →
+    AreRead files job.file bytes → given ≡ bytes → ended ≡ Refused refusal → ((plan_bytes cert_bytes : List ℕ) → IsCheckEnded job.limit given plan_bytes cert_bytes ended)
     → JobAnswers (CheckPlan job) files status.Refused (refusal_text refusal)
 refused_early job files bytes given ended refusal read same is refused =
-    let plan = some_read files job.plan in
-    let first : IsCheckEnded job.limit bytes plan.0 (Refused refusal) = subst (λ (e : Ended). IsCheckEnded job.limit bytes plan.0 e) is (subst (λ (bs : List ℕ). IsCheckEnded job.limit bs plan.0 ended) same (refused plan.0)) in
-    (bytes, read, (plan.0, plan.1, record { refusal = refusal; rule = first.0; refused = first.1; text_is = refl }))
+    let plan = some_read most_bytes files job.plan in
+    refused_line job files bytes plan.0 refusal read plan.1
+    (λ cert_bytes. subst (λ (e : Ended). IsCheckEnded job.limit bytes plan.0 cert_bytes e) is
+    (subst (λ (bs : List ℕ). IsCheckEnded job.limit bs plan.0 cert_bytes ended) same (refused plan.0 cert_bytes)))
+
+-- a refusal before the certificate is read is the answer whatever the certificate holds
+pub refused_by_plan : (job : CheckJob) (files : Option Files) (bytes plan_bytes given : List ℕ) (ended : Ended) (refusal : Refusal) →
+    AreRead files job.file bytes → AreRead files job.plan plan_bytes → given ≡ plan_bytes → ended ≡ Refused refusal
+    → ((cert_bytes : List ℕ) → IsCheckEnded job.limit bytes given cert_bytes ended)
+    → JobAnswers (CheckPlan job) files status.Refused (refusal_text refusal)
+refused_by_plan job files bytes plan_bytes given ended refusal read read_plan same is refused =
+    refused_line job files bytes plan_bytes refusal read read_plan
+    (λ cert_bytes. subst (λ (e : Ended). IsCheckEnded job.limit bytes plan_bytes cert_bytes e) is
+    (subst (λ (bs : List ℕ). IsCheckEnded job.limit bytes bs cert_bytes ended) same (refused cert_bytes)))
 
 -- the line of the refusal is the answer to the job
-pub refusal_answers : (job : CheckJob) (files : Option Files) (bytes given : List ℕ) (ended : Ended) (refusal : Refusal) (made : Result Answer ShelfFault) →
-    AreRead files job.file bytes → given ≡ bytes → ended ≡ Refused refusal → ((plan_bytes : List ℕ) → IsCheckEnded job.limit given plan_bytes ended)
+line_answers : (job : Job) (files : Option Files) (refusal : Refusal) (made : Result Answer ShelfFault) → JobAnswers job files status.Refused (refusal_text refusal)
     → IfOk made (λ a. a.status ≡ status.Refused) → IfOk made (λ a. a.text.items ≡ refusal_text refusal)
-    → IfOk made (λ a. JobAnswers (CheckPlan job) files a.status a.text.items)
-refusal_answers job files bytes given ended refusal (Err none) read same is refused answered text = tt
-refusal_answers job files bytes given ended refusal (Ok a) read same is refused answered text =
-    let early = refused_early job files bytes given ended refusal read same is refused in
-    subst (λ (s : Status). JobAnswers (CheckPlan job) files s a.text.items) (sym answered)
-    (subst (λ (t : List ℕ). JobAnswers (CheckPlan job) files status.Refused t) (sym text) early)
+    → IfOk made (λ a. JobAnswers job files a.status a.text.items)
+line_answers job files refusal (Err none) line answered text = tt
+line_answers job files refusal (Ok a) line answered text =
+    subst (λ (s : Status). JobAnswers job files s a.text.items) (sym answered)
+    (subst (λ (t : List ℕ). JobAnswers job files status.Refused t) (sym text) line)
 
 -- ---- from an earlier state of the shelf on, from which its files and its counts stayed
 
@@ -77,6 +95,9 @@ failed_since before later after name stays failed =
 
 comes_since : (job : CheckJob) (files later : Option Files) → later ≡ files → ComesToPlan job later → ComesToPlan job files
 comes_since job files later same comes = subst (λ (fs : Option Files). ComesToPlan job fs) same comes
+
+comes_on_since : (job : CheckJob) (files later : Option Files) → later ≡ files → ComesToCertificate job later → ComesToCertificate job files
+comes_on_since job files later same comes = subst (λ (fs : Option Files). ComesToCertificate job fs) same comes
 
 write_fault_since : (job : ConvertJob) (before later after : ShelfState) → later.files ≡ before.files → CountsStay before later → HasWriteFault job later after → HasWriteFault job before after
 write_fault_since job before later after same stays (failed, comes) = (
@@ -91,8 +112,10 @@ made_fault_since job before later after stays (failed, within) =
 fault_since : (job : Job) (before later after : ShelfState) → later.files ≡ before.files → CountsStay before later → HasFileFault job later after → HasFileFault job before after
 fault_since (FixedRoute job) before later after same stays failed = failed_since before later after job.file stays failed
 fault_since (CheckPlan job) before later after same stays (inl failed) = inl (failed_since before later after job.file stays failed)
-fault_since (CheckPlan job) before later after same stays (inr (failed, comes)) =
-    inr (failed_since before later after job.plan stays failed, comes_since job before.files later.files same comes)
+fault_since (CheckPlan job) before later after same stays (inr (inl (failed, comes))) =
+    inr (inl (failed_since before later after job.plan stays failed, comes_since job before.files later.files same comes))
+fault_since (CheckPlan job) before later after same stays (inr (inr (failed, comes))) =
+    inr (inr (failed_since before later after job.cert stays failed, comes_on_since job before.files later.files same comes))
 fault_since (ConvertFile job) before later after same stays (inl failed) = inl (failed_since before later after job.file stays failed)
 fault_since (ConvertFile job) before later after same stays (inr failed) = inr (write_fault_since job before later after same stays failed)
 fault_since (MakeInstance job) before later after same stays failed = made_fault_since job before later after stays failed
@@ -238,12 +261,12 @@ finds_refused job before after made reads answers answered memory stays falls fi
   files = leaves_refused job before after made reads answered files;
 }
 
-pub finds_refusal : (job : CheckJob) (before after : ShelfState) (bytes given : List ℕ) (ended : Ended) (refusal : Refusal) (made : Result Answer ShelfFault) →
-    AreRead before.files job.file bytes → given ≡ bytes → ended ≡ Refused refusal → ((plan_bytes : List ℕ) → IsCheckEnded job.limit given plan_bytes ended)
+pub finds_refusal : (job : CheckJob) (before after : ShelfState) (refusal : Refusal) (made : Result Answer ShelfFault) →
+    JobAnswers (CheckPlan job) before.files status.Refused (refusal_text refusal)
     → IfOk made (λ a. a.status ≡ status.Refused) → IfOk made (λ a. a.text.items ≡ refusal_text refusal) → IfErr made (λ fault. fault ≡ Memory)
     → CountsStay before after → CountsNeverFall before after → after.files ≡ before.files → Finds (CheckPlan job) before after made
-finds_refusal job before after bytes given ended refusal made read same is refused answered text memory stays falls files =
-    finds_refused (CheckPlan job) before after made tt (refusal_answers job before.files bytes given ended refusal made read same is refused answered text)
+finds_refusal job before after refusal made line answered text memory stays falls files =
+    finds_refused (CheckPlan job) before after made tt (line_answers (CheckPlan job) before.files refusal made line answered text)
     answered memory stays falls files
 
 -- ---- `convert`

@@ -31,5 +31,6 @@ refused_has_none limit bytes (refusal.Customers count) g rule is has = absurd is
 refused_has_none limit bytes (refusal.Charge level) g rule is has = absurd is
 refused_has_none limit bytes (refusal.Route e) g rule is has = absurd is
 refused_has_none limit bytes (refusal.Plan e) g rule is has = absurd is
+refused_has_none limit bytes (refusal.Certificate e) g rule is has = absurd is
 refused_has_none limit bytes (refusal.Literal e) g rule is has = absurd is
 refused_has_none limit bytes refusal.Maker g rule is has = absurd is

@@ -1,7 +1,11 @@
 pub mod Task
 pub mod Instances
+pub mod Sets
+pub mod OneCertificate
+pub mod Accepting
 pub mod OneStatus
 pub mod Refused
+pub mod Reported
 pub mod Finding
 pub mod Making
 pub mod Performed

@@ -1,5 +1,9 @@
 -- The causes of the statuses exclude each other.
 use Rattle.std.proofs.Common.{◌≡◌, ◌∙◌, ℕ, ◌<◌, ◌≤◌, List, Option, None, Some, Ok, Err, take, ap, arith, refl, subst, sym}
+use Rattle.bound_certificate.specs.CertificateIn.{certificate_in}
+use Rattle.bound_certificate.specs.Written.{written}
+use Rattle.bound_certificate.specs.declared.certificate.Certificate.{Certificate}
+use Rattle.certificate_check.specs.Accepted.{IsAccepted}
 use Rattle.command_line.specs.Words.{CheckJob, CheckPlan, ConvertFile, ConvertJob, FixedJob, FixedRoute, Job, MakeInstance, MakeJob}
 use Rattle.command_line.specs.declared.Options.{Options}
 use Rattle.ev_model.specs.Fastest.{HasNoPlan}
@@ -7,7 +11,10 @@ use Rattle.ev_model.specs.Network.{Network, node_count}
 use Rattle.ev_outside.specs.Shelf.{Files, bytes_under}
 use Rattle.ev_text.proofs.Results.{Err-ne-Ok, Ok-injective}
 use Rattle.plan_check.proofs.FleetPlans.{fleet_plan_keeps}
+use Rattle.plan_check.specs.declared.fault.PlanFault.{PlanFault}
 use Rattle.plan_writer.specs.RefusalText.{IsRule}
+use Rattle.plan_writer.specs.declared.check.Judgement.{Judgement}
+use Rattle.plan_writer.specs.declared.check.Judgement.TheVariants as judgement
 use Rattle.plan_writer.specs.declared.refusal.Refusal.{Refusal}
 use Rattle.plan_writer.specs.declared.refusal.Refusal.TheVariants as refusal
 use Rattle.route_plan.proofs.PlanLaws.{fleet_plan_is_spelled}
@@ -18,12 +25,14 @@ use Rattle.route_plan.specs.RouteRules.{route_fault, route_in}
 use Rattle.route_plan.specs.RouteWords.{nodes_in}
 use Rattle.route_plan.specs.declared.plan.FleetPlan.{FleetPlan}
 use Rattle.instance_reader.proofs.LawsLemmas.{one_network}
+use Rattle.evroute.proofs.Accepting.{accepted_is_no_rejection, accepted_same}
+use Rattle.evroute.proofs.OneCertificate.{AreSame, one_certificate}
 use Rattle.evroute.proofs.Instances.{one_limited, refused_has_none}
-use Rattle.evroute.specs.CheckAnswer.{CheckAnswers, HasFleetNetwork, IsCheckRefused, IsValid, PutsAccepted, PutsRejected, customer_count}
+use Rattle.evroute.specs.CheckAnswer.{BreaksFirst, CheckAnswers, HasFleetNetwork, Holds, IsCertificateOf, IsCheckRefused, IsRejection, IsValid, PutsAccepted, PutsRejected, customer_count}
 use Rattle.evroute.specs.ConvertAnswer.{BecomesWhole, ConvertAnswers, IsConvertRefused}
 use Rattle.evroute.specs.FixedAnswer.{FixedAnswers, IsRefused, IsTask, PutsInfeasible, PutsPlan, start_of}
 use Rattle.evroute.specs.MakeAnswer.{IsMakeRefused, MakeAnswers, MakesNetwork, PutsNoTime, PutsTime, route_of_all}
-use Rattle.evroute.specs.Run.{HasCause, IsAnswered, TellsRead, most_bytes}
+use Rattle.evroute.specs.Run.{HasCause, IsAnswered, TellsRead, most_bytes, most_certificate_bytes}
 use Rattle.evroute.specs.declared.status.Status.{Status}
 use Rattle.evroute.specs.declared.status.Status.TheVariants as status
 
@@ -96,6 +105,7 @@ refused_is_no_task options word bytes g route (refusal.Route e) task rule (h, st
     Err-ne-Ok e route (sym (subst (λ (x : Network). route_in (node_count x) word ≡ Err e) same fault) ∙ read)
 refused_is_no_task options word bytes g route (refusal.Customers count) task rule is = absurd is
 refused_is_no_task options word bytes g route (refusal.Plan e) task rule is = absurd is
+refused_is_no_task options word bytes g route (refusal.Certificate e) task rule is = absurd is
 refused_is_no_task options word bytes g route (refusal.Literal e) task rule is = absurd is
 refused_is_no_task options word bytes g route refusal.Maker task rule is = absurd is
 
@@ -138,51 +148,72 @@ same_fleet limit bytes g h p q = one_limited limit bytes g h p.network q.network
 same_plan : (bytes : List ℕ) (p q : Option FleetPlan) → SpellsFleetPlan bytes p → SpellsFleetPlan bytes q → p ≡ q
 same_plan bytes p q is other = Ok-injective p q (sym ((fleet_plan_is_spelled bytes p).1 is) ∙ (fleet_plan_is_spelled bytes q).1 other)
 
-refused_is_no_plan : (limit : Option ℕ) (bytes plan_bytes : List ℕ) (g : Network) (plan : Option FleetPlan) (r : Refusal) →
-    HasFleetNetwork limit bytes g → SpellsFleetPlan plan_bytes plan → IsRule r → IsCheckRefused limit bytes plan_bytes r → ⊥
-refused_is_no_plan limit bytes plan_bytes g plan (refusal.Instance e) fleet spelled rule first =
-    refused_has_none limit bytes (refusal.Instance e) g rule first fleet.network
-refused_is_no_plan limit bytes plan_bytes g plan (refusal.Limit given) fleet spelled rule past =
-    refused_has_none limit bytes (refusal.Limit given) g rule past fleet.network
-refused_is_no_plan limit bytes plan_bytes g plan (refusal.Customers count) fleet spelled rule (h, network, is, many) =
-    let same : h ≡ g = one_limited limit bytes h g network fleet.network in
-    let counts : count ≡ customer_count g = is ∙ ap (λ (x : Network). customer_count x) same in
-    omega (arith, counts, many, fleet.few)
-refused_is_no_plan limit bytes plan_bytes g plan (refusal.Plan e) fleet spelled rule (h, other, fault) =
-    Err-ne-Ok e plan (sym fault ∙ (fleet_plan_is_spelled plan_bytes plan).1 spelled)
-refused_is_no_plan limit bytes plan_bytes g plan (refusal.Charge level) fleet spelled rule is = absurd is
-refused_is_no_plan limit bytes plan_bytes g plan (refusal.Route e) fleet spelled rule is = absurd is
-refused_is_no_plan limit bytes plan_bytes g plan (refusal.Literal e) fleet spelled rule is = absurd is
-refused_is_no_plan limit bytes plan_bytes g plan refusal.Maker fleet spelled rule is = absurd is
+-- what the files hold breaks no rule of a text
+refused_holds_not : (limit : Option ℕ) (bytes plan_bytes cert_bytes : List ℕ) (h : Holds limit bytes plan_bytes cert_bytes) (r : Refusal) →
+    IsRule r → IsCheckRefused limit bytes plan_bytes cert_bytes r → ⊥
+refused_holds_not limit bytes plan_bytes cert_bytes h (refusal.Instance e) rule first =
+    refused_has_none limit bytes (refusal.Instance e) h.network rule first h.fleet.network.network
+refused_holds_not limit bytes plan_bytes cert_bytes h (refusal.Limit given) rule past =
+    refused_has_none limit bytes (refusal.Limit given) h.network rule past h.fleet.network.network
+refused_holds_not limit bytes plan_bytes cert_bytes h (refusal.Customers count) rule (g, network, is, many) =
+    let same : g ≡ h.network = one_limited limit bytes g h.network network h.fleet.network.network in
+    let counts : count ≡ customer_count h.network = is ∙ ap (λ (x : Network). customer_count x) same in
+    omega (arith, counts, many, h.fleet.network.few)
+refused_holds_not limit bytes plan_bytes cert_bytes h (refusal.Plan e) rule (g, other, fault) =
+    Err-ne-Ok e h.plan (sym fault ∙ (fleet_plan_is_spelled plan_bytes h.plan).1 h.fleet.spelled)
+refused_holds_not limit bytes plan_bytes cert_bytes h (refusal.Certificate e) rule (g, plan, fleet, fault) =
+    let same : g ≡ h.network = same_fleet limit bytes g h.network fleet.network h.fleet.network in
+    let none : certificate_in h.network cert_bytes ≡ Err e = subst (λ (x : Network). certificate_in x cert_bytes ≡ Err e) same fault in
+    Err-ne-Ok e (written h.network h.certificate) (sym none ∙ h.certificate_is.read)
+refused_holds_not limit bytes plan_bytes cert_bytes h (refusal.Charge level) rule is = absurd is
+refused_holds_not limit bytes plan_bytes cert_bytes h (refusal.Route e) rule is = absurd is
+refused_holds_not limit bytes plan_bytes cert_bytes h (refusal.Literal e) rule is = absurd is
+refused_holds_not limit bytes plan_bytes cert_bytes h refusal.Maker rule is = absurd is
 
-accepted_is_unbroken : (limit : Option ℕ) (bytes plan_bytes text other : List ℕ) → PutsAccepted limit bytes plan_bytes text → PutsRejected limit bytes plan_bytes other → ⊥
-accepted_is_unbroken limit bytes plan_bytes text other p q =
-    let network : p.network ≡ q.network = same_fleet limit bytes p.network q.network p.fleet q.fleet in
-    let plan : p.plan ≡ Some q.plan = same_plan plan_bytes p.plan (Some q.plan) p.spelled q.spelled in
-    let valid : IsValid q.network (Some q.plan) p.cost =
-    subst (λ (x : Option FleetPlan). IsValid q.network x p.cost) plan (subst (λ (x : Network). IsValid x p.plan p.cost) network p.valid) in
-    fleet_plan_keeps q.network q.plan.routes valid.0 q.fault q.broken.broken
+-- a valid plan breaks no rule
+valid_breaks_none : (g : Network) (plan : Option FleetPlan) (cost : Option ℕ) (fault : PlanFault) → IsValid g plan cost → BreaksFirst g plan fault → ⊥
+valid_breaks_none g None cost fault valid broken = broken
+valid_breaks_none g (Some plan) cost fault valid broken = fleet_plan_keeps g plan.routes valid.0 fault broken.broken
 
-CheckCause : Option ℕ → List ℕ → List ℕ → Status → Type 0
-CheckCause limit bytes plan_bytes s = (text : List ℕ) × CheckAnswers limit bytes plan_bytes s text
+no_rejection : (g : Network) (plan : Option FleetPlan) (c d : Certificate) (cost : Option ℕ) (found : Judgement) → IsValid g plan cost → IsAccepted g c → AreSame c d → IsRejection g plan d found → ⊥
+no_rejection g plan c d cost (judgement.Accepted other bound) valid accepted same rejected = rejected
+no_rejection g plan c d cost (judgement.Plan fault) valid accepted same broken = valid_breaks_none g plan cost fault valid broken
+no_rejection g plan c d cost (judgement.Certificate found) valid accepted same (other, (broken, first)) =
+    accepted_is_no_rejection g d found (accepted_same g c d same accepted) broken first
 
-check_answered : (limit : Option ℕ) (bytes plan_bytes : List ℕ) (s : Status) → CheckCause limit bytes plan_bytes s → IsAnswered s
+accepted_is_unbroken : (limit : Option ℕ) (bytes plan_bytes cert_bytes text other : List ℕ) → PutsAccepted limit bytes plan_bytes cert_bytes text
+    → PutsRejected limit bytes plan_bytes cert_bytes other → ⊥
+accepted_is_unbroken limit bytes plan_bytes cert_bytes text other p q =
+    let network : q.files.network ≡ p.files.network = same_fleet limit bytes q.files.network p.files.network q.files.fleet.network p.files.fleet.network in
+    let plan : q.files.plan ≡ p.files.plan = same_plan plan_bytes q.files.plan p.files.plan q.files.fleet.spelled p.files.fleet.spelled in
+    let is : IsCertificateOf p.files.network cert_bytes q.files.certificate =
+    subst (λ (x : Network). IsCertificateOf x cert_bytes q.files.certificate) network q.files.certificate_is in
+    let rejected : IsRejection p.files.network p.files.plan q.files.certificate q.found =
+    subst (λ (x : Option FleetPlan). IsRejection p.files.network x q.files.certificate q.found) plan
+    (subst (λ (x : Network). IsRejection x q.files.plan q.files.certificate q.found) network q.rejected) in
+    no_rejection p.files.network p.files.plan p.files.certificate q.files.certificate p.cost q.found p.valid p.accepted
+    (one_certificate p.files.network cert_bytes p.files.certificate q.files.certificate p.files.certificate_is is) rejected
+
+CheckCause : Option ℕ → List ℕ → List ℕ → List ℕ → Status → Type 0
+CheckCause limit bytes plan_bytes cert_bytes s = (text : List ℕ) × CheckAnswers limit bytes plan_bytes cert_bytes s text
+
+check_answered : (limit : Option ℕ) (bytes plan_bytes cert_bytes : List ℕ) (s : Status) → CheckCause limit bytes plan_bytes cert_bytes s → IsAnswered s
 unfolding CheckCause
-check_answered limit bytes plan_bytes status.Done p = tt
-check_answered limit bytes plan_bytes status.Negative p = tt
-check_answered limit bytes plan_bytes status.Refused p = tt
-check_answered limit bytes plan_bytes status.Words p = absurd p.1
-check_answered limit bytes plan_bytes status.Fault p = absurd p.1
-check_answered limit bytes plan_bytes status.Memory p = absurd p.1
-check_answered limit bytes plan_bytes status.Stopped p = absurd p.1
+check_answered limit bytes plan_bytes cert_bytes status.Done p = tt
+check_answered limit bytes plan_bytes cert_bytes status.Negative p = tt
+check_answered limit bytes plan_bytes cert_bytes status.Refused p = tt
+check_answered limit bytes plan_bytes cert_bytes status.Words p = absurd p.1
+check_answered limit bytes plan_bytes cert_bytes status.Fault p = absurd p.1
+check_answered limit bytes plan_bytes cert_bytes status.Memory p = absurd p.1
+check_answered limit bytes plan_bytes cert_bytes status.Stopped p = absurd p.1
 
-check_exclude : (limit : Option ℕ) (bytes plan_bytes : List ℕ) → ExcludeEachOther (CheckCause limit bytes plan_bytes)
+check_exclude : (limit : Option ℕ) (bytes plan_bytes cert_bytes : List ℕ) → ExcludeEachOther (CheckCause limit bytes plan_bytes cert_bytes)
 unfolding CheckCause
-check_exclude limit bytes plan_bytes = record {
-  answered = check_answered limit bytes plan_bytes;
-  done_negative = λ p q. accepted_is_unbroken limit bytes plan_bytes p.0 q.0 p.1 q.1;
-  done_refused = λ p q. refused_is_no_plan limit bytes plan_bytes p.1.network p.1.plan q.1.refusal p.1.fleet p.1.spelled q.1.rule q.1.refused;
-  negative_refused = λ p q. refused_is_no_plan limit bytes plan_bytes p.1.network (Some p.1.plan) q.1.refusal p.1.fleet p.1.spelled q.1.rule q.1.refused;
+check_exclude limit bytes plan_bytes cert_bytes = record {
+  answered = check_answered limit bytes plan_bytes cert_bytes;
+  done_negative = λ p q. accepted_is_unbroken limit bytes plan_bytes cert_bytes p.0 q.0 p.1 q.1;
+  done_refused = λ p q. refused_holds_not limit bytes plan_bytes cert_bytes p.1.files q.1.refusal q.1.rule q.1.refused;
+  negative_refused = λ p q. refused_holds_not limit bytes plan_bytes cert_bytes p.1.files q.1.refusal q.1.rule q.1.refused;
 }
 
 -- ---- `convert`
@@ -195,6 +226,7 @@ refused_becomes_nothing job bytes whole (refusal.Customers count) becomes is = a
 refused_becomes_nothing job bytes whole (refusal.Charge level) becomes is = absurd is
 refused_becomes_nothing job bytes whole (refusal.Route e) becomes is = absurd is
 refused_becomes_nothing job bytes whole (refusal.Plan e) becomes is = absurd is
+refused_becomes_nothing job bytes whole (refusal.Certificate e) becomes is = absurd is
 refused_becomes_nothing job bytes whole refusal.Maker becomes is = absurd is
 
 ConvertCause : ConvertJob → List ℕ → Status → Type 0
@@ -232,6 +264,7 @@ refused_makes_nothing job g (refusal.Customers count) makes is = absurd is
 refused_makes_nothing job g (refusal.Charge level) makes is = absurd is
 refused_makes_nothing job g (refusal.Route e) makes is = absurd is
 refused_makes_nothing job g (refusal.Plan e) makes is = absurd is
+refused_makes_nothing job g (refusal.Certificate e) makes is = absurd is
 refused_makes_nothing job g (refusal.Literal e) makes is = absurd is
 
 time_is_some : (job : MakeJob) (text other : List ℕ) → PutsTime job text → PutsNoTime job other → ⊥
@@ -277,12 +310,17 @@ unfolding FixedCause
 told_fixed job files s (text, (bytes, read, answers)) =
     (text, subst (λ (bs : List ℕ). FixedAnswers job.options job.route bs s text) read answers)
 
-told_check : (job : CheckJob) (files : Files) (s : Status) → HasCause (CheckPlan job) (Some files) s → CheckCause job.limit (take_under files job.file) (take_under files job.plan) s
+abbrev certificate_under : Files → List ℕ → List ℕ
+certificate_under files name = take most_certificate_bytes (bytes_under files name)
+
+told_check : (job : CheckJob) (files : Files) (s : Status) → HasCause (CheckPlan job) (Some files) s
+    → CheckCause job.limit (take_under files job.file) (take_under files job.plan) (certificate_under files job.cert) s
 unfolding CheckCause
-told_check job files s (text, (bytes, read, (plan_bytes, read_plan, answers))) = (
+told_check job files s (text, (bytes, read, (plan_bytes, read_plan, (cert_bytes, read_cert, answers)))) = (
   text,
-  subst (λ (bs : List ℕ). CheckAnswers job.limit (take_under files job.file) bs s text) read_plan
-      (subst (λ (bs : List ℕ). CheckAnswers job.limit bs plan_bytes s text) read answers),
+  subst (λ (bs : List ℕ). CheckAnswers job.limit (take_under files job.file) (take_under files job.plan) bs s text) read_cert
+      (subst (λ (bs : List ℕ). CheckAnswers job.limit (take_under files job.file) bs cert_bytes s text) read_plan
+      (subst (λ (bs : List ℕ). CheckAnswers job.limit bs plan_bytes cert_bytes s text) read answers)),
 )
 
 told_convert : (job : ConvertJob) (files : Files) (s : Status) → HasCause (ConvertFile job) (Some files) s → ConvertCause job (take_under files job.file) s
@@ -295,7 +333,8 @@ one_status (FixedRoute job) (Some files) s t told p q =
     one_of (FixedCause job.options job.route (take_under files job.file)) (fixed_exclude job.options job.route (take_under files job.file)) s t
     (told_fixed job files s p) (told_fixed job files t q)
 one_status (CheckPlan job) (Some files) s t told p q =
-    one_of (CheckCause job.limit (take_under files job.file) (take_under files job.plan)) (check_exclude job.limit (take_under files job.file) (take_under files job.plan)) s t
+    one_of (CheckCause job.limit (take_under files job.file) (take_under files job.plan) (certificate_under files job.cert))
+    (check_exclude job.limit (take_under files job.file) (take_under files job.plan) (certificate_under files job.cert)) s t
     (told_check job files s p) (told_check job files t q)
 one_status (ConvertFile job) (Some files) s t told p q =
     one_of (ConvertCause job (take_under files job.file)) (convert_exclude job (take_under files job.file)) s t

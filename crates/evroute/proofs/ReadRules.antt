@@ -1,19 +1,19 @@
 -- The first fault of bytes names a rule: neither it nor the fault of a curve in it is want of memory.
-use Rattle.std.proofs.Common.{◌≡◌, ◌≢◌, ◌+◌, ℕ, Bool, true, false, List, [], ◌∷◌, Option, None, Some, inl, inr, length, subst}
+use Rattle.std.proofs.Common.{◌+◌, ℕ, Bool, true, false, List, [], ◌∷◌, Option, None, Some, inl, inr, length, subst}
 use Rattle.std.specs.Bool.{then_some}
 use Rattle.std.specs.Option.{option_map, option_or}
-use Rattle.std.specs.Prelude.{nat_le, nat_lt, if◌then◌else◌}
+use Rattle.std.specs.Prelude.{nat_le, if◌then◌else◌}
 use Rattle.charge_curve.specs.CutCurve.{most_breakpoints}
 use Rattle.charge_curve.specs.Faults.{curve_fault, end_fault, first_fall, first_faster, has_start, or_concave, or_rise}
 use Rattle.charge_curve.specs.declared.fault.CurveFault.{CurveFault}
 use Rattle.charge_curve.specs.declared.fault.CurveFault.TheVariants as curve
 use Rattle.ev_model.specs.Curve.{last_charge}
 use Rattle.instance_reader.specs.Contents.{Contents, CurveOfType, contents_of, points_of}
-use Rattle.instance_reader.specs.Curves.{bad_curve, bad_curve_in}
-use Rattle.instance_reader.specs.Faults.{IsFirstFault, IsFirstFaultOf, early_fault, late_fault, size_fault, station_fault, value_fault}
+use Rattle.instance_reader.specs.Curves.{bad_curve}
+use Rattle.instance_reader.specs.Faults.{IsFirstFault, IsFirstFaultOf, early_fault, late_fault, value_fault}
 use Rattle.instance_reader.specs.Kinds.{first_wrong_kind}
 use Rattle.instance_reader.specs.Levels.{first_level_past_full}
-use Rattle.instance_reader.specs.Limits.{large_denominator, past_horizon}
+use Rattle.instance_reader.specs.Limits.{past_horizon}
 use Rattle.instance_reader.specs.Meaning.{given_limit}
 use Rattle.instance_reader.specs.Nodes.{first_wrong_node}
 use Rattle.instance_reader.specs.RequiredKeys.{first_missing}

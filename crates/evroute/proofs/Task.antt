@@ -57,6 +57,7 @@ ended_of options word bytes (Refused (refusal.Customers count)) is = absurd is.1
 ended_of options word bytes (Refused (refusal.Charge level)) is = absurd is.1
 ended_of options word bytes (Refused (refusal.Route fault)) is = absurd is.1
 ended_of options word bytes (Refused (refusal.Plan fault)) is = absurd is.1
+ended_of options word bytes (Refused (refusal.Certificate fault)) is = absurd is.1
 ended_of options word bytes (Refused (refusal.Literal fault)) is = absurd is.1
 ended_of options word bytes (Refused refusal.Maker) is = absurd is.1
 

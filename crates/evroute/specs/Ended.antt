@@ -24,7 +24,7 @@ IsEnded options word bytes (Refused refusal) = IsRule refusal × IsRefused optio
 IsEnded options word bytes Memory = Unit {0}
 
 -- of `check`
-abbrev pub IsCheckEnded : Option ℕ → List ℕ → List ℕ → Ended → Type 0
-IsCheckEnded limit bytes plan_bytes (Refused refusal) =
-    IsRule refusal × IsCheckRefused limit bytes plan_bytes refusal
-IsCheckEnded limit bytes plan_bytes Memory = Unit {0}
+abbrev pub IsCheckEnded : Option ℕ → List ℕ → List ℕ → List ℕ → Ended → Type 0
+IsCheckEnded limit bytes plan_bytes cert_bytes (Refused refusal) =
+    IsRule refusal × IsCheckRefused limit bytes plan_bytes cert_bytes refusal
+IsCheckEnded limit bytes plan_bytes cert_bytes Memory = Unit {0}

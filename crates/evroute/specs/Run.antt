@@ -7,7 +7,8 @@ use Rattle.ev_model.specs.Network.{Network}
 use Rattle.ev_outside.specs.Counts.{Rose}
 use Rattle.ev_outside.specs.Shelf.{CountsStay, Files, HoldsUnder, KeepsOthers, ShelfState, bytes_under}
 use Rattle.ev_outside.specs.Sink.{Adds, AddsPrefix, SinkState}
-use Rattle.evroute.specs.CheckAnswer.{CheckAnswers, HasFleetNetwork}
+use Rattle.route_plan.specs.declared.plan.FleetPlan.{FleetPlan}
+use Rattle.evroute.specs.CheckAnswer.{CheckAnswers, HasFleet, HasFleetNetwork}
 use Rattle.evroute.specs.ConvertAnswer.{BecomesWhole, ConvertAnswers}
 use Rattle.evroute.specs.FixedAnswer.{FixedAnswers}
 use Rattle.evroute.specs.MakeAnswer.{HasNoInstance, MakeAnswers, text_made}
@@ -22,10 +23,21 @@ job_named words = job_of (map (λ word. string_bytes word) words)
 abbrev pub most_bytes : ℕ
 most_bytes = 2 ^ 26 + 1
 
--- the bytes that a read of the name gives; where the shelf does not tell them, any of this count
+-- of a certificate
+abbrev pub most_certificate_bytes : ℕ
+most_certificate_bytes = 2 ^ 28 + 1
+
+-- the bytes that a read of the name for so many gives; where the shelf does not tell them, any of this count
+abbrev pub AreReadUpTo : ℕ → Option Files → List ℕ → List ℕ → Type 0
+AreReadUpTo most None name bytes = length bytes ≤ most
+AreReadUpTo most (Some files) name bytes = bytes ≡ take most (bytes_under files name)
+
 abbrev pub AreRead : Option Files → List ℕ → List ℕ → Type 0
-AreRead None name bytes = length bytes ≤ most_bytes
-AreRead (Some files) name bytes = bytes ≡ take most_bytes (bytes_under files name)
+AreRead files name bytes = AreReadUpTo most_bytes files name bytes
+
+-- the same of a certificate
+abbrev pub IsCertificateRead : Option Files → List ℕ → List ℕ → Type 0
+IsCertificateRead files name bytes = AreReadUpTo most_certificate_bytes files name bytes
 
 -- the status and the text that a job answers to the bytes of its files
 abbrev pub JobAnswers : Job → Option Files → Status → List ℕ → Type 0
@@ -35,7 +47,8 @@ JobAnswers (FixedRoute job) files answered text =
 JobAnswers (CheckPlan job) files answered text =
     (bytes : List ℕ) × AreRead files job.file bytes
     × ((plan_bytes : List ℕ) × AreRead files job.plan plan_bytes
-    × CheckAnswers job.limit bytes plan_bytes answered text)
+    × ((cert_bytes : List ℕ) × IsCertificateRead files job.cert cert_bytes
+    × CheckAnswers job.limit bytes plan_bytes cert_bytes answered text))
 JobAnswers (ConvertFile job) files answered text =
     (bytes : List ℕ) × AreRead files job.file bytes × ConvertAnswers job bytes answered text
 JobAnswers (MakeInstance job) files answered text = MakeAnswers job answered text
@@ -86,6 +99,14 @@ ComesToPlan job files =
     (bytes : List ℕ) × AreRead files job.file bytes
     × ((g : Network) × HasFleetNetwork job.limit bytes g)
 
+-- `check` comes to its certificate: no rule of a step before it is broken, of the plan's text neither
+abbrev pub ComesToCertificate : CheckJob → Option Files → Type 0
+ComesToCertificate job files =
+    (bytes : List ℕ) × AreRead files job.file bytes
+    × ((plan_bytes : List ℕ) × AreRead files job.plan plan_bytes
+    × ((g : Network) × ((plan : Option FleetPlan)
+    × HasFleet job.limit bytes plan_bytes g plan)))
+
 -- a write of the name failed
 abbrev pub HasFailedWrite : ShelfState → ShelfState → List ℕ → Type 0
 HasFailedWrite before after name = Rose (before.failed_writes name) (after.failed_writes name)
@@ -112,6 +133,7 @@ HasFileFault (FixedRoute job) before after = HasFailedRead before after job.file
 HasFileFault (CheckPlan job) before after =
     HasFailedRead before after job.file
     ⊎ (HasFailedRead before after job.plan × ComesToPlan job before.files)
+    ⊎ (HasFailedRead before after job.cert × ComesToCertificate job before.files)
 HasFileFault (ConvertFile job) before after =
     HasFailedRead before after job.file ⊎ HasWriteFault job before after
 HasFileFault (MakeInstance job) before after = HasMadeFault job before after

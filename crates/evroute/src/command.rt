@@ -23,9 +23,10 @@ use std::alloc::{AllocError, Global};
 /// The program: its words after its name, the files and the output.
 ///
 /// `fixed FILE ROUTE [--limit N] [--charge N]` reads FILE as an instance and puts a fastest plan of the route
-/// ([`Status::Done`]), or that none is feasible ([`Status::Negative`]). `check FILE PLAN [--limit N]` reads PLAN
-/// as a fleet plan on the instance of FILE and puts that it is accepted and its cost ([`Status::Done`]), or the
-/// first rule that the plan breaks ([`Status::Negative`]).
+/// ([`Status::Done`]), or that none is feasible ([`Status::Negative`]). `check FILE PLAN CERT [--limit N]` reads
+/// PLAN as a fleet plan and CERT as a certificate on the instance of FILE, and puts that they are accepted, with cost, bound
+/// and gap ([`Status::Done`]), or the first rule that is broken, the plan's before the certificate's
+/// ([`Status::Negative`]).
 /// `convert FILE OUTFILE --time-digits N --energy-digits N` reads FILE, writes it into OUTFILE with the numbers under
 /// the keys of times and energies as whole ones, each rounded up, and puts nothing ([`Status::Done`]).
 /// `make SEED CUSTOMERS STATIONS OUTFILE` makes an instance from SEED, writes it into OUTFILE, and puts how many nodes it
@@ -111,6 +112,7 @@ fn find_answer<S: Shelf>(alloc: Global, job: &Job, shelf: &mut S) -> Result<Answ
             alloc,
             job.file.as_str(),
             job.plan.as_str(),
+            job.cert.as_str(),
             job.limit,
             shelf,
         ),

@@ -8,7 +8,7 @@ ghost use Rattle.evroute.specs.Run.{AreRead};
 
 use crate::answer::{Answer, refuse_job};
 use crate::status::Status;
-use crate::steps::read_file;
+use crate::steps::{MOST_BYTES, read_file};
 use decimal_import::ImportFault;
 use ev_outside::{Shelf, ShelfFault};
 use plan_writer::Refusal;
@@ -26,7 +26,7 @@ pub fn convert<S: Shelf>(
     ensures { Finds (ConvertFile (convert_job_of file.now outfile.now time_digits energy_digits))
         (S.state shelf.old) (S.state shelf.new) result }
 {
-    let bytes = match read_file(alloc, file, shelf) {
+    let bytes = match read_file(alloc, file, MOST_BYTES, shelf) {
         Ok(bytes) => bytes,
         Err(fault) => return Err(fault),
     };

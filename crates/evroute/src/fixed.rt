@@ -18,7 +18,7 @@ ghost use Rattle.route_plan.specs.RouteWords.{SpellsRoute};
 use crate::answer::{Answer, Ended, refuse};
 use crate::instance::limited_instance;
 use crate::status::Status;
-use crate::steps::read_file;
+use crate::steps::{MOST_BYTES, read_file};
 use command_line::Options;
 use ev_outside::{Shelf, ShelfFault};
 use frvcp_labels::solve_route;
@@ -38,7 +38,7 @@ pub fn fixed<S: Shelf>(
     ensures { Finds (FixedRoute (job_with file.now route.now options))
         (S.state shelf.old) (S.state shelf.new) result }
 {
-    let bytes = match read_file(alloc, file, shelf) {
+    let bytes = match read_file(alloc, file, MOST_BYTES, shelf) {
         Ok(bytes) => bytes,
         Err(fault) => return Err(fault),
     };

@@ -7,6 +7,7 @@ mod command;
 mod convert;
 mod fixed;
 mod instance;
+mod judging;
 mod make;
 mod message;
 mod status;

@@ -4,19 +4,28 @@ ghost use Rattle.std.specs.Prelude.{◌≡◌, ◌≢◌, IfOk, IsErrOf, []};
 ghost use Rattle.ev_outside.specs.Shelf.{CountsNeverFall, CountsStay};
 ghost use Rattle.ev_outside.specs.Counts.{Rose};
 ghost use Rattle.ev_outside.specs.Sink.{Adds, AddsPrefix};
-ghost use Rattle.evroute.specs.Run.{AreRead, HasFailedRead, IsAnswered};
+ghost use Rattle.evroute.specs.Run.{AreReadUpTo, HasFailedRead, IsAnswered};
 
 use crate::answer::Answer;
 use crate::status::Status;
 use ev_outside::{Shelf, ShelfFault, Sink, SinkFault};
 use std::alloc::Global;
 
-/// One byte more than the longest file that is read.
-const MOST_BYTES: usize = (1 << 26) + 1;
+/// One byte more than the longest file that is read, but for certificates.
+pub const MOST_BYTES: usize = (1 << 26) + 1;
 
-/// The bytes of a file, or its first where there are more than the longest file that is read has.
-pub fn read_file<S: Shelf>(alloc: Global, name: &str, shelf: &mut S) -> Result<Vec<u8>, ShelfFault>
-    ensures bytes { IfOk result (λ bytes. AreRead (S.state shelf.old).files name.now bytes.items) }
+/// One byte more than the longest certificate that is read.
+pub const MOST_CERTIFICATE_BYTES: usize = (1 << 28) + 1;
+
+/// The bytes of a file, or its first `most` where there are more.
+pub fn read_file<S: Shelf>(
+    alloc: Global,
+    name: &str,
+    most: usize,
+    shelf: &mut S,
+) -> Result<Vec<u8>, ShelfFault>
+    ensures bytes { IfOk result
+        (λ bytes. AreReadUpTo most (S.state shelf.old).files name.now bytes.items) }
     ensures fault { IsErrOf result ShelfFault.Failed
         → HasFailedRead (S.state shelf.old) (S.state shelf.new) name.now }
     ensures stays { (IsErrOf result ShelfFault.Failed → ⊥)
@@ -25,7 +34,7 @@ pub fn read_file<S: Shelf>(alloc: Global, name: &str, shelf: &mut S) -> Result<V
     ensures files { (S.state shelf.new).files ≡ (S.state shelf.old).files }
 {
     let mut bytes = Vec::new(alloc);
-    match shelf.read(name, MOST_BYTES, &mut bytes) {
+    match shelf.read(name, most, &mut bytes) {
         Ok(()) => Ok(bytes),
         Err(fault) => Err(fault),
     }

@@ -12,7 +12,17 @@ const DECIMALS: &str =
 const MADE: &str =
     r#"{"breakpoints_by_type":[{"charge":[0,1360,1520,1600],"cs_type":"fast","time":[0,310,390,510]},{"charge":[0,1360,1520,1600],"cs_type":"slow","time":[0,1260,1540,2040]}],"css":[],"energy_matrix":[[0,772],[772,0]],"max_q":1600,"process_times":[0,5],"time_matrix":[[0,772],[772,0]]}"#;
 
-/// Files in memory where `A` holds an instance and `P` a plan, and the calls with these numbers fail.
+/// A certificate of the instance with one station, behind its first two lines.
+const SHOWN: &str =
+    "root exact 1 1\nshare 1 0 v2+1 1 0\nsections 1\nsection 1 0 5\nprices 43\nlabel 0 0 - 10:0\nlabel 1 1 1 4:20\nlabel 0 2 - 7:16 8:17 10:29\nlabel 1 2 1 2:26 8:32 10:44\nlabel 1 1 1 5:22 6:23 8:35\nleaf 0\n";
+
+/// The certificate with a bound, whether that is true or not.
+fn certificate_with(alloc: Global, bound: &str) -> Result<String, AllocError> {
+    format!(in alloc; "evroute certificate 1\nbound {bound}\n{SHOWN}")
+}
+
+/// Files in memory where `A` holds an instance, `P` a plan and `Q` the certificate with the bound 43, and the calls with
+/// these numbers fail.
 fn shelf_with(
     alloc: Global,
     instance: &str,
@@ -22,6 +32,7 @@ fn shelf_with(
     let mut shelf = MemoryShelf::new(alloc, Vec::from_slice(alloc, failing)?);
     shelf.set("A", instance.as_bytes())?;
     shelf.set("P", plan.as_bytes())?;
+    shelf.set("Q", certificate_with(alloc, "43")?.as_bytes())?;
     Ok(shelf)
 }
 
@@ -131,70 +142,131 @@ const CHARGED: &str = "evroute plan 1\nroutes 1\nroute 0 v2+1 1 0\n";
 #[test]
 fn a_plan_is_accepted_or_its_first_broken_rule_named(rt: HostRuntime) {
     let alloc = rt.alloc();
-    let accepted = "accepted\ncost 43/2\n";
+    let accepted = "accepted\ncost 43/2\nbound 43/2\ngap 0/2\n";
     let uncharged = "evroute plan 1\nroutes 1\nroute 0 1 0\n";
     let twice = "evroute plan 1\nroutes 2\nroute 0 v2+1 1 0\nroute 0 v2+1 1 0\n";
     let empty = "evroute plan 1\nroutes 2\nroute 0 v2+1 1 0\nroute 0 v2 0\n";
     let stray = "evroute plan 1\nroutes 1\nroute 0 2+1 1 0\n";
     let cases = [
-        ("check A P", CHARGED, Status::Done, accepted),
+        ("check A P Q", CHARGED, Status::Done, accepted),
         (
-            "check A P",
+            "check A P Q",
             "evroute plan 1\nnone\n",
             Status::Done,
-            "accepted\ncost none\n",
+            "accepted\ncost none\nbound 43/2\ngap none\n",
         ),
-        ("check A P", "", Status::Refused, "refused plan 4 at 0\n"),
+        ("check A P Q", "", Status::Refused, "refused plan 4 at 0\n"),
         (
-            "check A P",
+            "check A P Q",
             uncharged,
             Status::Negative,
             "rejected plan 1 route 0 walk 4 at 2\n",
         ),
         (
-            "check A P --limit 21",
+            "check A P Q --limit 21",
             CHARGED,
             Status::Negative,
             "rejected plan 1 route 0 walk 7 at 3\n",
         ),
         (
-            "check A P",
+            "check A P Q",
             twice,
             Status::Negative,
             "rejected plan 2 customer 1\n",
         ),
         (
-            "check A P",
+            "check A P Q",
             "evroute plan 1\nroutes 0\n",
             Status::Negative,
             "rejected plan 3 customer 1\n",
         ),
         (
-            "check A P",
+            "check A P Q",
             empty,
             Status::Negative,
             "rejected plan 4 route 1\n",
         ),
         (
-            "check A P",
+            "check A P Q",
             stray,
             Status::Negative,
             "rejected plan 5 route 0 at 1\n",
         ),
         (
-            "check A P --limit 500000000000000001",
+            "check A P Q --limit 500000000000000001",
             CHARGED,
             Status::Refused,
             "refused limit 500000000000000001\n",
         ),
-        ("check A B", CHARGED, Status::Fault, ""),
-        ("check A A", CHARGED, Status::Words, usage()),
+        ("check A B Q", CHARGED, Status::Fault, ""),
+        ("check A P P", CHARGED, Status::Words, usage()),
     ];
     for (line, plan, status, put) in cases {
         let ended = run_on(alloc, line, ONE_STATION, plan, &[], &[]).expect(&rt, "memory");
         assert_eq!(rt; ended.0, status, "{line}");
         assert_eq!(rt; ended.1.as_slice(), put.as_bytes());
     }
+}
+
+#[test]
+fn a_certificate_is_accepted_or_its_first_broken_rule_named(rt: HostRuntime) {
+    let alloc = rt.alloc();
+    let uncharged = "evroute plan 1\nroutes 1\nroute 0 1 0\n";
+    let cases = [
+        (
+            CHARGED,
+            "40",
+            Status::Done,
+            "accepted\ncost 43/2\nbound 40/2\ngap 3/2\n",
+        ),
+        (
+            CHARGED,
+            "44",
+            Status::Negative,
+            "rejected certificate 5 leaf 0\n",
+        ),
+        (
+            CHARGED,
+            "none",
+            Status::Negative,
+            "rejected certificate 5 leaf 0\n",
+        ),
+        (
+            uncharged,
+            "44",
+            Status::Negative,
+            "rejected plan 1 route 0 walk 4 at 2\n",
+        ),
+        (
+            uncharged,
+            "044",
+            Status::Refused,
+            "refused certificate 1 at 28\n",
+        ),
+        (
+            CHARGED,
+            "79228162514264337593543950337",
+            Status::Refused,
+            "refused certificate 2 at 28\n",
+        ),
+        ("", "044", Status::Refused, "refused plan 4 at 0\n"),
+    ];
+    for (plan, bound, status, put) in cases {
+        let mut shelf = shelf_with(alloc, ONE_STATION, plan, &[]).expect(&rt, "memory");
+        let certificate = certificate_with(alloc, bound).expect(&rt, "memory");
+        shelf.set("Q", certificate.as_bytes()).expect(&rt, "memory");
+        let ended = run_with(alloc, "check A P Q", &mut shelf, &[]).expect(&rt, "memory");
+        assert_eq!(rt; ended.0, status, "{bound}");
+        assert_eq!(rt; ended.1.as_slice(), put.as_bytes());
+    }
+}
+
+#[test]
+fn a_broken_plan_file_is_refused_before_the_certificate_is_read(rt: HostRuntime) {
+    let alloc = rt.alloc();
+    let ended = run_on(alloc, "check A P Q", ONE_STATION, "", &[2], &[]).expect(&rt, "memory");
+    assert_eq!(rt; ended.0, Status::Refused);
+    assert_eq!(rt; ended.1.as_slice(), "refused plan 4 at 0\n".as_bytes());
 }
 
 #[test]
@@ -207,7 +279,7 @@ fn the_reserve_is_kept(rt: HostRuntime) {
             "time 46/2\nat 0\nat 1\nvia 2 charge 4\nat 0\n",
         ),
         (
-            "check A P",
+            "check A P Q",
             Status::Negative,
             "rejected plan 1 route 0 walk 4 at 3\n",
         ),
@@ -363,10 +435,11 @@ fn a_failing_file_or_output_is_a_fault(rt: HostRuntime) {
             Status::Fault,
             "time 43/2\nat 0\nvia 2",
         ),
-        ("check A P", ONE_STATION, Some(0), None, Status::Fault, ""),
-        ("check A P", ONE_STATION, Some(1), None, Status::Fault, ""),
+        ("check A P Q", ONE_STATION, Some(0), None, Status::Fault, ""),
+        ("check A P Q", ONE_STATION, Some(1), None, Status::Fault, ""),
+        ("check A P Q", ONE_STATION, Some(2), None, Status::Fault, ""),
         (
-            "check A P",
+            "check A P Q",
             "{",
             Some(1),
             None,
@@ -374,12 +447,12 @@ fn a_failing_file_or_output_is_a_fault(rt: HostRuntime) {
             "refused instance 2\n",
         ),
         (
-            "check A P",
+            "check A P Q",
             ONE_STATION,
             None,
             Some(0),
             Status::Fault,
-            "accepted\n",
+            "accepted\ncost 43/2\n",
         ),
         (whole, ONE_STATION, Some(1), None, Status::Fault, ""),
         (whole, ONE_STATION, None, Some(0), Status::Done, ""),
