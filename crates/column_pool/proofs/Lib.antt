@@ -1,0 +1,5 @@
+mod Putting
+mod Growing
+mod Alone
+mod Known
+mod Filling
