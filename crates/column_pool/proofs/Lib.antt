@@ -2,4 +2,7 @@ mod Putting
 mod Growing
 mod Alone
 mod Known
+mod Alike
+mod ColumnPast
+mod Independent
 mod Filling
