@@ -6,3 +6,6 @@ mod Alike
 mod ColumnPast
 mod Independent
 mod Filling
+mod Covering
+mod Exactness
+mod Fitting

@@ -2,11 +2,15 @@
 //! prices them in (column generation: Desaulniers, Desrosiers, Solomon 2005).
 #![tactic(auto)]
 
+mod bound;
+mod exact;
 mod fault;
 mod keeping;
 mod master;
 mod own;
 mod pool;
+mod rounds;
 mod taking;
 
+pub use bound::NodeBound;
 pub use pool::ColumnPool;
