@@ -1,3 +1,4 @@
 pub mod Pool
 pub mod Columns
 pub mod Faults
+pub mod Bounds
