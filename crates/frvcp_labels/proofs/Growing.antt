@@ -1,10 +1,12 @@
 -- Labels after one was added.
-use Rattle.std.proofs.Common.{◌≡◌, ℕ, ◌+◌, ◌*◌, ◌/◌, ◌<◌, ◌⊎◌, inl, inr, List, [], ◌∷◌, ◌++◌, length, map, refl, sym, ◌∙◌, ap, subst, arith, Option, Some, None, true, false}
+use Rattle.std.proofs.Common.{◌≡◌, ℕ, ◌+◌, ◌-◌, ◌*◌, ◌/◌, ◌<◌, ◌≤◌, ◌⊎◌, inl, inr, List, [], ◌∷◌, ◌++◌, length, map, refl, sym, ◌∙◌, ap, subst, arith, Option, Some, None, true, false}
 use Rattle.std.specs.Prelude.{Bool, IfSome, IsNone, nat_eq, option_map, slice_get}
 use Rattle.std.proofs.lemmas.Option.{same_Some, none-some, slice_get-map}
 use Rattle.std.proofs.lemmas.Bool.{and_parts, and_from, eqb-true, eq-eqb, false≢true}
 use Rattle.std.proofs.lemmas.Nat.{div-mul-add}
 use Rattle.ev_model.specs.Network.{node_count}
+use Rattle.ev_model.specs.Time.{time_from}
+use Rattle.ev_model.specs.declared.Stop.{Stop}
 use Rattle.dominance.specs.Coverage.{CoversEach, Reaches, does_cover}
 use Rattle.dominance.specs.Laws.{covers_exactly, dominates_itself}
 use Rattle.dominance.specs.LevelTimes.{IsValue, LevelTimes, time_at}
@@ -14,7 +16,7 @@ use Rattle.label_pool.proofs.Elements.{appended_before, appended_cases}
 use Rattle.piece_fn.specs.PieceFn.{level_times}
 use Rattle.frvcp_labels.specs.Search.{AreSound, HasOrigin, Holds, IsGrown, IsSound, IsSoundPool, IsSoundState, IsStep, Reached, settled_count}
 use Rattle.frvcp_labels.specs.Trips.{Journey}
-use Rattle.frvcp_labels.specs.Ways.{Leaving}
+use Rattle.frvcp_labels.specs.Ways.{IsRest, Leaving}
 use Rattle.frvcp_labels.specs.declared.state.State.{State}
 use Rattle.frvcp_labels.proofs.FirstLevel.{first_is_least}
 
@@ -102,13 +104,14 @@ sound_stays t old new label stays is = record {
   state = is.state;
   bucket = is.bucket;
   first = is.first;
-  key = is.key;
   least = is.least;
+  home = is.home;
+  ahead = is.ahead;
   origin = origin_stays t old new label.parent label.value stays is.origin;
 }
 
 still_sound : (t : Journey) (labels : List (Label State)) (label : Label State) (live : Bool) → IsSound t labels label → IsSound t labels (record label { live = live })
-still_sound t labels label live is = record { state = is.state; bucket = is.bucket; first = is.first; key = is.key; least = is.least; origin = is.origin }
+still_sound t labels label live is = record { state = is.state; bucket = is.bucket; first = is.first; least = is.least; home = is.home; ahead = is.ahead; origin = is.origin }
 
 module _ (t : Journey) (old : List (Label State)) (new : Label State) (sound : AreSound t old) (is_new : IsSound t old new) (waits : new.settled ≡ false) where
   pub with_value : (i : ℕ) (label : Label State) → slice_get old i ≡ Some label → (other : Label State) × (slice_get (labels_with by_value old new) i ≡ Some other) × (other.value ≡ label.value)
@@ -192,19 +195,25 @@ module _ (t : Journey) (old now : Labels State) (new : Label State) where
         reached = λ v holds. covered_reached t now.labels new.value v pool.labels is.state.node (subst (λ b. IsCovered by_value now.labels b new.value) is.bucket own) holds;
       }
 
--- a new label with its least time as its key
-pub new_sound : (t : Journey) (labels : List (Label State)) (s : State) (bucket level key : ℕ) (parent : Option ℕ) → IsSoundState t s → bucket ≡ s.passed * node_count t.network + s.node → IsValue (level_times s.value)
-    → level ≡ (level_times s.value).first → key ≡ time_at (level_times s.value) level → HasOrigin t labels parent s
+-- a new label, with its least time and a bound on the rest in its key
+pub new_sound : (t : Journey) (labels : List (Label State)) (s : State) (bucket level time rest key : ℕ) (parent : Option ℕ) → IsSoundState t s → bucket ≡ s.passed * node_count t.network + s.node → IsValue (level_times s.value)
+    → level ≡ (level_times s.value).first → time ≡ time_at (level_times s.value) level
+    → ((v : Leaving) (stops : List Stop) → v.passed ≡ s.passed → v.node ≡ s.node → IsRest t.network t.route v stops → rest ≤ time_from t.network 1 v.node v.level stops) → (s.passed ≡ length t.route - 1 → rest ≡ 0) → key ≤ time + rest → (rest ≡ 0 → key ≡ time) → HasOrigin t labels parent s
     → IsSound t labels (record { bucket = bucket; value = s; key = key; parent = parent; live = true; settled = false })
-new_sound t labels s bucket level key parent sound place valid first time origin =
+new_sound t labels s bucket level time rest key parent sound place valid first time_is bound home most exact origin =
     let v = level_times s.value in
-    let at_first : key ≡ time_at v v.first = time ∙ ap (λ l. time_at v l) first in
+    let at_first : time ≡ time_at v v.first = time_is ∙ ap (λ l. time_at v l) first in
     let some : 0 < length v.times = valid.some in
     record {
       state = sound;
       bucket = place;
       first = (omega arith, omega (arith, some));
-      key = at_first;
-      least = λ x is. (let low = first_is_least v valid x is in omega (arith, at_first, low));
+      least = first_is_least v valid;
+      home = λ at. exact (home at) ∙ at_first;
+      ahead = λ w stops holds is.
+          let reach = holds.reaches in
+          let low = first_is_least v valid reach.0 reach.1 in
+          let later = bound w stops (sym holds.passed) (sym holds.node) is in
+          omega (arith, at_first, most, low, reach.2.1, later);
       origin = origin;
     }

@@ -15,3 +15,4 @@ pub mod Leaving
 pub mod Charging
 pub mod Plugging
 pub mod Tracing
+mod Bounding

@@ -134,7 +134,7 @@ module _ (t : Journey) (old : List (Label State)) (i : ℕ) (label : Label State
   ]
 
   now_is_sound : IsSound t old label → IsSound t old (record label { settled = true })
-  now_is_sound is = record { state = is.state; bucket = is.bucket; first = is.first; key = is.key; least = is.least; origin = is.origin }
+  now_is_sound is = record { state = is.state; bucket = is.bucket; first = is.first; least = is.least; home = is.home; ahead = is.ahead; origin = is.origin }
 
   pub now_sound : AreSound t old → AreSound t settled_now
   now_sound sound j x at = elim (now_cases j x at) [
@@ -223,8 +223,7 @@ module _ (t : Journey) (labels : List (Label State)) (is : IsSpread t labels (be
 
   pub least_home : (i : ℕ) (label : Label State) → AreSound t labels → IsNext labels i label → (stops : List Stop) → IsRest t.network t.route (begin t.start) stops → label.key ≤ 0 + time_from t.network 1 0 t.start stops
   least_home i label sound next = each_way (λ n. label.key ≤ n) (λ v stops h rest.
-      let reach = h.holds.reaches in
-      let other : h.label.key ≤ v.time = (let low = (sound h.by h.label h.here).least reach.0 reach.1 in omega (arith, low, reach.2.1)) in
+      let other : h.label.key ≤ v.time + time_from t.network 1 v.node v.level stops = (sound h.by h.label h.here).ahead v stops h.holds rest in
       elim (next.least h.by h.label h.here (waiting_is labels v h)) [
         | inl less ↦ omega (arith, less, other)
         | inr equal ↦ omega (arith, equal.0, other)

@@ -1,4 +1,5 @@
 pub mod Ways
+pub mod Bounds
 pub mod OneLevel
 pub mod Arrivals
 pub mod Trips

@@ -1,6 +1,6 @@
 //! The search by labels.
 
-ghost use Rattle.std.specs.Prelude.{◌≡◌, ◌<◌, ◌*◌, ◌+◌, ℕ, Some, IfOk, IfSome, OnOk, length, slice_get};
+ghost use Rattle.std.specs.Prelude.{◌≡◌, ◌<◌, ◌≤◌, ◌*◌, ◌+◌, ℕ, Some, IfOk, IfSome, OnOk, length, slice_get};
 ghost use Rattle.label_pool.specs.declared.label.Label.{Label};
 ghost use Rattle.ev_model.specs.Network.{node_count};
 ghost use Rattle.frvcp_labels.specs.Answers.{IsHomeOrNone};
@@ -195,9 +195,19 @@ impl<'a> Trip<'a> {
         ensures reached { OnOk result ((v : Leaving) → Holds state v →
             Reached pool.new.labels v) }
     {
-        let (_, key) = state.value.least();
+        let (_, time) = state.value.least();
+        let rest = self.rest_time(state.passed, state.node);
+        let key = time_home(time, rest);
         let bucket = self.bucket(state.passed, state.node);
         pool.add(bucket, state, key, parent)?;
         Ok(())
     }
+}
+
+/// The time at home, where the rest of the way takes a time: past any number, the greatest number.
+fn time_home(time: u64, rest: u64) -> u64
+    ensures most { result ≤ time + rest }
+    ensures home { rest ≡ 0 → result ≡ time }
+{
+    time.saturating_add(rest)
 }

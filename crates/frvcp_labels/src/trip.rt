@@ -1,7 +1,10 @@
 //! A route to be driven.
-ghost use Rattle.std.specs.Prelude.{◌≡◌, ◌+◌, ◌-◌, ◌*◌, ◌^◌, ◌<◌, ◌≤◌, length, slice_index, IfSome};
+ghost use Rattle.std.specs.Prelude.{◌≡◌, ◌+◌, ◌-◌, ◌*◌, ◌^◌, ◌<◌, ◌≤◌, List, length, slice_index, IfSome};
 ghost use Rattle.ev_model.specs.Network.{energy, node_count, plug_time, scaled_limit};
+ghost use Rattle.ev_model.specs.Time.{time_from};
+ghost use Rattle.ev_model.specs.declared.Stop.{Stop};
 ghost use Rattle.frvcp_labels.specs.Trips.{IsTrip, drive_time, least_level};
+ghost use Rattle.frvcp_labels.specs.Ways.{IsRest, Leaving};
 
 use instance_reader::Instance;
 use std::marker::Model;
@@ -14,6 +17,8 @@ pub(crate) struct Trip<'a> {
     pub(crate) route: &'a [usize],
     pub(crate) stations: &'a [usize],
     pub(crate) start: u64,
+    /// How long the rest of a way takes at least, by rows from the end of the route and by node.
+    pub(crate) bounds: &'a [u64],
 }
 
 impl<'a> Model for Trip<'a> {
@@ -117,5 +122,20 @@ impl<'a> Trip<'a> {
         ensures within { result < length self.now.route * node_count self.now.network }
     {
         passed * self.inst.nodes() + node
+    }
+
+    /// How long the rest of a way takes at least, from a node once so much of the route was passed.
+    pub(crate) fn rest_time(&self, passed: usize, node: usize) -> u64
+        requires passed { passed < length self.now.route }
+        requires node { node < node_count self.now.network }
+        requires few { length self.now.route * node_count self.now.network < 2 ^ 64 }
+        ensures least { (v : Leaving) (stops : List Stop) → v.passed ≡ passed → v.node ≡ node →
+            IsRest self.now.network self.now.route v stops →
+            result ≤ time_from self.now.network 1 v.node v.level stops }
+        ensures home { passed ≡ length self.now.route - 1 → result ≡ 0 }
+    {
+        let at = self.bucket(self.end() - passed, node);
+        let bounds = self.bounds;
+        bounds[at]
     }
 }

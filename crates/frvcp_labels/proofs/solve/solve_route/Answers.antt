@@ -6,11 +6,18 @@ use Rattle.label_pool.specs.declared.label.Label.{Label}
 use Rattle.frvcp_labels.specs.declared.state.State.{State}
 use Rattle.frvcp_labels.specs.Answers.{IsHome, IsHomeOrNone}
 use Rattle.frvcp_labels.specs.Trips.{Journey}
+use Rattle.frvcp_labels.proofs.Bounding.{no_rate}
 use Rattle.frvcp_labels.proofs.Solving.{fastest, is_trip, no_plan}
 use Rattle.frvcp_labels.proofs.solve.solve_route.Goals as goal
 
 abbrev of : Network → List ℕ → ℕ → Journey
 of g route start = record { network = g; route = route; start = start }
+
+pub least_costs-requires-clause-trip : goal.least_costs-requires-clause-trip
+least_costs-requires-clause-trip c = is_trip c.args.inst.now c.args.route.now c.station_nodes.ensures.network c.requires.route
+
+pub least_costs-requires-clause-rate : goal.least_costs-requires-clause-rate
+least_costs-requires-clause-rate c = no_rate c.args.inst.now
 
 pub returns-in_default : goal.returns-in_default
 returns-in_default c =
