@@ -1,19 +1,30 @@
 -- No rest of a way costs less than the entries of rows whose steps never cost more.
 use Rattle.std.proofs.Common.{◌≡◌, ℕ, zero, suc, refl, ◌+◌, ◌-◌, ◌*◌, ◌<◌, ◌≤◌, inl, inr, List, [], ◌∷◌, ◌++◌, length, sym, ◌∙◌, ap, subst, arith}
-use Rattle.std.specs.Prelude.{◌≢◌, replicate, slice_index}
+use Rattle.std.specs.Prelude.{◌≢◌, max, min, replicate, slice_index}
+use Rattle.std.specs.Option.{IsSome}
 use Rattle.std.proofs.lemmas.Bool.{cases_Bool, cases_eq, cases_lt}
 use Rattle.std.proofs.lemmas.List.{get_or-append-add, length-append, length-drop, length-replicate}
 use Rattle.std.proofs.Math.ListN.{get_or-append}
-use Rattle.std.proofs.Math.Nat.{mul-le-mul_right}
+use Rattle.std.proofs.Math.Nat.{mul-le-mul_left, mul-le-mul_right}
 use Rattle.ev_model.specs.Levels.{leaving_level}
 use Rattle.ev_model.specs.Network.{Network, curve_at, energy, node_count, process_time, travel_time}
 use Rattle.ev_model.specs.Time.{charging_time, plugging_time, stop_time, time_from}
 use Rattle.ev_model.specs.declared.Stop.{Stop}
-use Rattle.frvcp_labels.specs.Bounds.{AreBounds, IsBound, IsLowCost, IsLowRow, IsRate, leg_cost}
+use Rattle.frvcp_labels.specs.Bounds.{AreBounds, IsBound, IsLowCost, IsLowRow, IsRate, IsRateAt, IsSteep, leg_cost}
 use Rattle.frvcp_labels.specs.Stations.{stations}
 use Rattle.frvcp_labels.specs.Ways.{IsRest, Leaving, MayStop, leaving_after, passed_after}
+use Rattle.charge_curve.specs.Points.{ArePoints, IsSlowing, last_level, time_on}
+use Rattle.dominance.specs.Coverage.{Reaches}
+use Rattle.dominance.specs.LevelTimes.{IsLevel, LevelTimes, time_at}
+use Rattle.dominance.proofs.Pieces.{time_on-next}
+use Rattle.instance_reader.specs.Instance.{IsCurveAt}
+use Rattle.piece_fn.proofs.Straight.{slows}
+use Rattle.frvcp_labels.proofs.Charging.{station_charging}
 use Rattle.frvcp_labels.proofs.Rests.{rest_step}
 use Rattle.frvcp_labels.proofs.StationList.{station-known, station-number}
+
+parted : (rate a b : ℕ) → rate * (a + b) ≡ rate * a + rate * b
+parted rate a b = omega arith
 
 cost_parts : (d time plug rate left e added charging : ℕ) → rate * added ≤ charging → d * time + rate * e + rate * (left + added) ≤ d * (time + plug) + charging + rate * (left + e)
 cost_parts d time plug rate left e added charging enough = omega (arith, enough)
@@ -30,7 +41,7 @@ module _ (g : Network) (route : List ℕ) (rate : ℕ) (is_rate : IsRate g rate)
       let before : v.level ≡ left + e = omega (arith, reserve) in
       let charge : rate * s.added ≤ charging_time 1 g.denominator (curve_at g s.node) left (left + s.added) = elim (cases_eq s.added 0) [
         | inl none ↦ (let nothing : rate * s.added ≡ rate * 0 = ap (λ x. rate * x) none in omega (arith, nothing))
-        | inr some ↦ is_rate s.node left s.added may.stop.known (may.stop.station (inr (omega (arith, some)))) may.within
+        | inr some ↦ is_rate s.node may.stop.known left s.added (may.stop.station (inr (omega (arith, some)))) may.within
       ] in
       let parts = cost_parts g.denominator time plug rate left e s.added (charging_time 1 g.denominator (curve_at g s.node) left (left + s.added)) charge in
       let level : rate * v.level ≡ rate * (left + e) = ap (λ l. rate * l) before in
@@ -174,20 +185,100 @@ more_bounds g route rate left at next rest bounds row now is_rate some short at_
     }
 
 pub no_rate : (g : Network) → IsRate g 0
-no_rate g node level added known station within = omega arith
+no_rate g node known level added station within = omega arith
 
--- the entry of a place, as a time
-pub rest_at : (g : Network) (route bounds : List ℕ) (passed node left result : ℕ) → AreBounds g route 0 (length route) bounds → passed < length route → node < node_count g → left ≡ (length route - 1 - passed) * node_count g + node → result ≡ slice_index bounds left
-    → (v : Leaving) (stops : List Stop) → v.passed ≡ passed → v.node ≡ node → IsRest g route v stops → result ≤ time_from g 1 v.node v.level stops
-rest_at g route bounds passed node left result are within known place is v stops at here rest =
-    let low = are.low passed node within (omega arith) known v stops at here rest in
-    let same : result ≡ slice_index bounds ((length route - 1 - passed) * node_count g + node) = is ∙ ap (λ i. slice_index bounds i) place in
-    omega (arith, low, same)
+-- what an entry says of a vehicle that a value reaches
+pub cost_at : (g : Network) (route bounds : List ℕ) (rate passed node left : ℕ) (f : LevelTimes) → IsRate g rate → AreBounds g route rate (length route) bounds → passed < length route → node < node_count g → left ≡ (length route - 1 - passed) * node_count g + node → IsSteep g f → IsLevel f f.first
+    → (v : Leaving) (stops : List Stop) → v.passed ≡ passed → v.node ≡ node → Reaches f 0 v.level v.time → IsRest g route v stops → time_at f f.first + (slice_index bounds left - rate * f.first) ≤ v.time + time_from g 1 v.node v.level stops
+cost_at g route bounds rate passed node left f is_rate are within known place steep has v stops at here reach rest =
+    let low : slice_index bounds ((length route - 1 - passed) * node_count g + node) ≤ time_from g 1 v.node v.level stops + rate * v.level = are.low passed node within (omega arith) known v stops at here rest in
+    let same : slice_index bounds left ≡ slice_index bounds ((length route - 1 - passed) * node_count g + node) = ap (λ i. slice_index bounds i) place in
+    let up : f.first ≤ reach.0 = reach.1.0 in
+    let climb = steep rate is_rate f.first reach.0 has reach.1 up in
+    let more : rate * v.level ≤ rate * reach.0 = mul-le-mul_left rate reach.2.0 in
+    let split : rate * reach.0 ≡ rate * f.first + rate * (reach.0 - f.first) = ap (λ x. rate * x) (omega (arith, up)) ∙ parted rate f.first (reach.0 - f.first) in
+    omega (arith, low, same, climb, more, split, reach.2.1)
 
-pub rest_home : (g : Network) (route bounds : List ℕ) (passed node left result : ℕ) → AreBounds g route 0 (length route) bounds → passed < length route → node < node_count g → left ≡ (length route - 1 - passed) * node_count g + node → result ≡ slice_index bounds left
-    → passed ≡ length route - 1 → result ≡ 0
-rest_home g route bounds passed node left result are within known place is at =
+pub rest_at : (g : Network) (route bounds costs : List ℕ) (rate passed node level left spare result : ℕ) → IsRate g rate → AreBounds g route 0 (length route) bounds → AreBounds g route rate (length route) costs → passed < length route → node < node_count g → left ≡ (length route - 1 - passed) * node_count g + node
+    → spare ≤ slice_index costs left - rate * level → result ≡ max (slice_index bounds left) spare → (f : LevelTimes) (v : Leaving) (stops : List Stop) → IsSteep g f → f.first ≡ level → IsLevel f f.first → v.passed ≡ passed → v.node ≡ node → Reaches f 0 v.level v.time
+    → IsRest g route v stops → time_at f f.first + result ≤ v.time + time_from g 1 v.node v.level stops
+rest_at g route bounds costs rate passed node level left spare result is_rate are paid within known place less is f v stops steep first has at here reach rest =
+    let time = cost_at g route bounds 0 passed node left f (no_rate g) are within known place steep has v stops at here reach rest in
+    let cost = cost_at g route costs rate passed node left f is_rate paid within known place steep has v stops at here reach rest in
+    let same : rate * f.first ≡ rate * level = ap (λ x. rate * x) first in
+    let first_part : time_at f f.first + slice_index bounds left ≤ v.time + time_from g 1 v.node v.level stops = omega (arith, time) in
+    let second_part : time_at f f.first + spare ≤ v.time + time_from g 1 v.node v.level stops = omega (arith, cost, less, same) in
+    omega (arith, first_part, second_part, is)
+
+pub rest_home : (g : Network) (route bounds costs : List ℕ) (rate passed node level left spare result : ℕ) → AreBounds g route 0 (length route) bounds → AreBounds g route rate (length route) costs → passed < length route → node < node_count g → left ≡ (length route - 1 - passed) * node_count g + node
+    → spare ≤ slice_index costs left - rate * level → result ≡ max (slice_index bounds left) spare → passed ≡ length route - 1 → result ≡ 0
+rest_home g route bounds costs rate passed node level left spare result are paid within known place less is at =
     let none : length route - 1 - passed ≡ 0 = omega (arith, at) in
     let start : left ≡ 0 * node_count g + node = place ∙ ap (λ k. k * node_count g + node) none in
     let there : left ≡ node = omega (arith, start) in
-    is ∙ ap (λ i. slice_index bounds i) there ∙ are.home node known (omega (arith, within))
+    let no_time : slice_index bounds left ≡ 0 = ap (λ i. slice_index bounds i) there ∙ are.home node known (omega (arith, within)) in
+    let no_cost : slice_index costs left ≡ 0 = ap (λ i. slice_index costs i) there ∙ paid.home node known (omega (arith, within)) in
+    omega (arith, no_time, no_cost, less, is)
+
+-- the first unit of a curve is the fastest
+first_fastest : (ps : List (ℕ × ℕ)) → ArePoints ps → IsSlowing ps → (level : ℕ) → level < last_level ps → time_on ps 1 + time_on ps level ≤ time_on ps (level + 1) + time_on ps 0
+first_fastest ps are slow zero under = omega arith
+first_fastest ps are slow (suc level) under =
+    let before = first_fastest ps are slow level (omega (arith, under)) in
+    let here = slows ps (suc level) are slow (omega arith) under in
+    let up : level + 1 ≡ suc level = omega arith in
+    let back : suc level - 1 ≡ level = omega arith in
+    let there : 2 * time_on ps (suc level) ≤ time_on ps (suc level + 1) + time_on ps level = subst (λ l. 2 * time_on ps (suc level) ≤ time_on ps (suc level + 1) + time_on ps l) back here in
+    let earlier : time_on ps 1 + time_on ps level ≤ time_on ps (suc level) + time_on ps 0 = subst (λ l. time_on ps 1 + time_on ps level ≤ time_on ps l + time_on ps 0) up before in
+    omega (arith, there, earlier)
+
+pub fastest_units : (ps : List (ℕ × ℕ)) → ArePoints ps → IsSlowing ps → (level added : ℕ) → level + added ≤ last_level ps → (time_on ps 1 - time_on ps 0) * added + time_on ps level ≤ time_on ps (level + added)
+fastest_units ps are slow level zero within =
+    let same : level + 0 ≡ level = omega arith in
+    let none : (time_on ps 1 - time_on ps 0) * 0 ≡ 0 = omega arith in
+    rw (same, none) (omega arith)
+fastest_units ps are slow level (suc added) within =
+    let before = fastest_units ps are slow level added (omega (arith, within)) in
+    let step = first_fastest ps are slow (level + added) (omega (arith, within)) in
+    let rises = time_on-next ps 0 are in
+    let place : level + suc added ≡ level + added + 1 = omega arith in
+    let more : (time_on ps 1 - time_on ps 0) * suc added ≡ (time_on ps 1 - time_on ps 0) * added + (time_on ps 1 - time_on ps 0) = omega arith in
+    rw (place, more) (omega (arith, before, step, rises))
+
+pub unit_rate : (g : Network) (node unit : ℕ) (curve : List (ℕ × ℕ)) → ArePoints curve → IsSlowing curve → IsCurveAt g node curve → unit ≡ time_on curve (min g.capacity 1) - time_on curve 0 → IsRateAt g unit node
+unit_rate g node unit curve are slow station is level added has within = elim (cases_eq added 0) [
+  | inl nothing ↦ (let product : unit * added ≡ unit * 0 = ap (λ x. unit * x) nothing in omega (arith, product))
+  | inr some ↦
+      let full = station.2.full in
+      let units = fastest_units curve are slow level added (omega (arith, full, within)) in
+      let time = station_charging g node curve level (level + added) station (omega (arith, within)) within in
+      let one : min g.capacity 1 ≡ 1 = omega (arith, some, within) in
+      let first : time_on curve 1 - time_on curve 0 ≡ unit = ap (λ l. time_on curve l - time_on curve 0) (sym one) ∙ sym is in
+      let product : (time_on curve 1 - time_on curve 0) * added ≡ unit * added = ap (λ x. x * added) first in
+      omega (arith, units, time, product)
+]
+
+pub zero_rate : (g : Network) (node : ℕ) → IsRateAt g 0 node
+zero_rate g node level added station within = omega arith
+
+less_rate : (g : Network) (rate less node : ℕ) → less ≤ rate → IsRateAt g rate node → IsRateAt g less node
+less_rate g rate less node below is level added station within =
+    let charge = is level added station within in
+    let product : less * added ≤ rate * added = mul-le-mul_right added below in
+    omega (arith, charge, product)
+
+-- one station more was looked at
+pub more_rates : (g : Network) (xs : List ℕ) (n before unit now : ℕ) → xs ≡ stations g → ((m : ℕ) → m < n → IsRateAt g before (slice_index (stations g) m)) → IsRateAt g unit (slice_index xs n) → now ≡ min before unit → (m : ℕ) → m < n + 1 → IsRateAt g now (slice_index (stations g) m)
+more_rates g xs n before unit now same earlier here is m within = elim (cases_lt m n) [
+  | inl under ↦ less_rate g before now (slice_index (stations g) m) (omega (arith, is)) (earlier m under)
+  | inr over ↦
+      let at : n ≡ m = omega (arith, over, within) in
+      let there : slice_index xs n ≡ slice_index (stations g) m = ap (λ ys. slice_index ys n) same ∙ ap (λ i. slice_index (stations g) i) at in
+      less_rate g unit now (slice_index (stations g) m) (omega (arith, is)) (subst (λ s. IsRateAt g unit s) there here)
+]
+
+pub all_rates : (g : Network) (rate n : ℕ) → ((m : ℕ) → m < n → IsRateAt g rate (slice_index (stations g) m)) → length (stations g) ≤ n → IsRate g rate
+all_rates g rate n each most node known level added station within =
+    let found = station-number g node known station in
+    let there : slice_index (stations g) found.0 ≡ node = found.2 in
+    subst (λ s. IsRateAt g rate s) there (each found.0 (omega (arith, found.1, most))) level added station within

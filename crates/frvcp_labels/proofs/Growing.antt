@@ -9,11 +9,12 @@ use Rattle.ev_model.specs.Time.{time_from}
 use Rattle.ev_model.specs.declared.Stop.{Stop}
 use Rattle.dominance.specs.Coverage.{CoversEach, Reaches, does_cover}
 use Rattle.dominance.specs.Laws.{covers_exactly, dominates_itself}
-use Rattle.dominance.specs.LevelTimes.{IsValue, LevelTimes, time_at}
+use Rattle.dominance.specs.LevelTimes.{IsLevel, IsValue, LevelTimes, time_at}
 use Rattle.label_pool.specs.Labels.{IsCovered, Labels, beside, labels_with}
 use Rattle.label_pool.specs.declared.label.Label.{Label}
 use Rattle.label_pool.proofs.Elements.{appended_before, appended_cases}
 use Rattle.piece_fn.specs.PieceFn.{level_times}
+use Rattle.frvcp_labels.specs.Bounds.{IsSteep}
 use Rattle.frvcp_labels.specs.Search.{AreSound, HasOrigin, Holds, IsGrown, IsSound, IsSoundPool, IsSoundState, IsStep, Reached, settled_count}
 use Rattle.frvcp_labels.specs.Trips.{Journey}
 use Rattle.frvcp_labels.specs.Ways.{IsRest, Leaving}
@@ -198,7 +199,7 @@ module _ (t : Journey) (old now : Labels State) (new : Label State) where
 -- a new label, with its least time and a bound on the rest in its key
 pub new_sound : (t : Journey) (labels : List (Label State)) (s : State) (bucket level time rest key : ℕ) (parent : Option ℕ) → IsSoundState t s → bucket ≡ s.passed * node_count t.network + s.node → IsValue (level_times s.value)
     → level ≡ (level_times s.value).first → time ≡ time_at (level_times s.value) level
-    → ((v : Leaving) (stops : List Stop) → v.passed ≡ s.passed → v.node ≡ s.node → IsRest t.network t.route v stops → rest ≤ time_from t.network 1 v.node v.level stops) → (s.passed ≡ length t.route - 1 → rest ≡ 0) → key ≤ time + rest → (rest ≡ 0 → key ≡ time) → HasOrigin t labels parent s
+    → ((f : LevelTimes) (v : Leaving) (stops : List Stop) → IsSteep t.network f → f.first ≡ level → IsLevel f f.first → v.passed ≡ s.passed → v.node ≡ s.node → Reaches f 0 v.level v.time → IsRest t.network t.route v stops → time_at f f.first + rest ≤ v.time + time_from t.network 1 v.node v.level stops) → (s.passed ≡ length t.route - 1 → rest ≡ 0) → key ≤ time + rest → (rest ≡ 0 → key ≡ time) → HasOrigin t labels parent s
     → IsSound t labels (record { bucket = bucket; value = s; key = key; parent = parent; live = true; settled = false })
 new_sound t labels s bucket level time rest key parent sound place valid first time_is bound home most exact origin =
     let v = level_times s.value in
@@ -211,9 +212,7 @@ new_sound t labels s bucket level time rest key parent sound place valid first t
       least = first_is_least v valid;
       home = λ at. exact (home at) ∙ at_first;
       ahead = λ w stops holds is.
-          let reach = holds.reaches in
-          let low = first_is_least v valid reach.0 reach.1 in
-          let later = bound w stops (sym holds.passed) (sym holds.node) is in
-          omega (arith, at_first, most, low, reach.2.1, later);
+          let later = bound v w stops sound.steep (sym first) (omega arith, omega (arith, some)) (sym holds.passed) (sym holds.node) holds.reaches is in
+          omega (arith, at_first, most, later);
       origin = origin;
     }

@@ -17,6 +17,7 @@ use Rattle.frvcp_labels.specs.Arrivals.{CoversVehicle, IsArrival}
 use Rattle.frvcp_labels.specs.Leaves.{AreLeft, CoverCharges, IsPlugged, charge_time_at}
 use Rattle.frvcp_labels.specs.Search.{AreSteps, CoverStops, Holds, IsSoundState, IsSoundStep, MayGo, added_at, level_before, stop_at, state_at}
 use Rattle.frvcp_labels.specs.Trips.{Journey, drive_time, least_level}
+use Rattle.frvcp_labels.specs.Bounds.{IsSteep}
 use Rattle.frvcp_labels.specs.Ways.{Leaving, MayStop, leaving_after, passed_after}
 use Rattle.frvcp_labels.specs.declared.state.State.{State}
 use Rattle.frvcp_labels.proofs.OneLevel.{has_level, its_level, its_time, time_there}
@@ -138,7 +139,7 @@ pub record IsComing (t : Journey) (passed to : ℕ) (arrived : LevelTimes) (leve
 
 module _ (t : Journey) (from : State) (passed to : ℕ) (go : MayGo t from.passed passed to) (other : to ≢ from.node) (sound : IsSoundState t from) (arrived : LevelTimes)
     (arrival : IsArrival (energy t.network from.node to) (drive_time t.network from.node to) (least_level t.network t.route passed) (scaled_limit t.network) (level_times from.value) arrived)
-    (k : ℕ) (w : List (ℕ × ℕ)) (coming : (level : ℕ) → IsLevel (level_times w) level → IsComing t passed to arrived level (added_at (state_at passed to k w) level) (time_at (level_times w) level)) where
+    (k : ℕ) (w : List (ℕ × ℕ)) (coming : (level : ℕ) → IsLevel (level_times w) level → IsComing t passed to arrived level (added_at (state_at passed to k w) level) (time_at (level_times w) level)) (steep : IsSteep t.network (level_times w)) where
   abbrev s : State
   s = state_at passed to k w
 
@@ -208,6 +209,7 @@ module _ (t : Journey) (from : State) (passed to : ℕ) (go : MayGo t from.passe
       node = go.known;
       levels = λ level is. (coming level is).within;
       times = λ level is. (coming level is).in_time;
+      steep = steep;
     };
     step = record {
       passed = via_passed;
@@ -223,6 +225,16 @@ module _ (t : Journey) (from : State) (passed to : ℕ) (go : MayGo t from.passe
   pub arrived_low : (level : ℕ) → IsLevel (level_times arrived) level → level ≤ t.network.capacity
   arrived_low level is = let low = sound.levels (level + energy t.network from.node to) (arrival.from level is) in omega (arith, low)
 
+  arrived_steep : IsSteep t.network (level_times arrived)
+  arrived_steep rate is_rate low high there_low there_high up =
+      let e = energy t.network from.node to in
+      let climb = sound.steep rate is_rate (low + e) (high + e) (arrival.from low there_low) (arrival.from high there_high) (omega (arith, up)) in
+      let gap : high + e - (low + e) ≡ high - low = omega arith in
+      let same : rate * (high + e - (low + e)) ≡ rate * (high - low) = ap (λ x. rate * x) gap in
+      let later_low = arrival.later low there_low in
+      let later_high = arrival.later high there_high in
+      omega (arith, climb, same, later_low, later_high)
+
   passing : IsSoundStep t from (state_at passed to 0 arrived)
   passing = is_step t from passed to go other sound (level_times arrived) arrival 0 arrived (λ level is.
       let none = passing_time t.network to level in
@@ -236,6 +248,7 @@ module _ (t : Journey) (from : State) (passed to : ℕ) (go : MayGo t from.passe
         no_later = subst (λ l. time_at (level_times arrived) l + charge_time_at t.network to l 0 ≤ time_at (level_times arrived) level) back (omega (arith, none));
         in_time = arrival.in_time level is;
       })
+      arrived_steep
 
   charged : (k : ℕ) (w : List (ℕ × ℕ)) → 0 < k → passed < length t.route - 1 → IsPlugged t.network to (level_times arrived) (level_times w) → IsSoundStep t from (state_at passed to k w)
   charged zero w more before plugged = absurd (omega arith)
@@ -254,6 +267,7 @@ module _ (t : Journey) (from : State) (passed to : ℕ) (go : MayGo t from.passe
             (subst (λ a. time_at (level_times arrived) (level_times w).first + charge_time_at t.network to (level_times w).first a ≤ time_at (level_times w) level) (sym added) (plugged.no_later level is));
         in_time = plugged.in_time level is;
       })
+      plugged.steep
 
   -- the values that are left are steps
   pub left_steps : (values : List (List (ℕ × ℕ))) → passed < length t.route - 1 → AreLeft t.network to arrived values → AreSteps t from passed to values

@@ -5,14 +5,15 @@ use Rattle.std.specs.List.{All, AllZip}
 use Rattle.std.specs.Option.{IsSome}
 use Rattle.std.proofs.lemmas.Option.{same_Some, none-some}
 use Rattle.std.proofs.lemmas.Bool.{cases_eq, false≢true, le-leb}
-use Rattle.std.proofs.lemmas.List.Elements.{All-filter, All-from_get_or}
+use Rattle.std.proofs.lemmas.List.Elements.{All-filter, All-from_get_or, All-get_or}
 use Rattle.std.proofs.lemmas.List.FromFn.{get_or-range_with_len, length-range_with_len}
-use Rattle.ev_model.specs.Network.{Network, curve_at, plug_time, scaled_limit}
+use Rattle.ev_model.specs.Network.{HasFittingCurve, IsNetwork, Network, curve_at, node_count, plug_time, scaled_limit}
 use Rattle.ev_model.specs.Time.{charging_time}
 use Rattle.charge_curve.specs.Points.{last_level, time_on}
 use Rattle.dominance.specs.Coverage.{CoversEach, Reaches, SomeReaches, levels_of}
 use Rattle.dominance.specs.LevelTimes.{IsLevel, LevelTimes, time_at}
 use Rattle.dominance.specs.Steps.{IsCharge, IsChargeFrom, IsShift}
+use Rattle.ev_model.proofs.ChargeTime.{charge_time-rises}
 use Rattle.instance_reader.specs.Instance.{IsCurveAt}
 use Rattle.piece_fn.specs.PieceFn.{IsChargeList, is_support, level_times, starts}
 use Rattle.frvcp_labels.specs.Arrivals.{CoversVehicle}
@@ -81,7 +82,7 @@ module _ (g : Network) (node plug limit : ℕ) (plug_is : plug ≡ g.denominator
   pub no_plug : o ≡ None → (level time added : ℕ) → 0 < added → CoversVehicle (level_times arrived) level time → IsSome (curve_at g node) → time + charge_time_at g node level added ≤ scaled_limit g → ⊥
   no_plug none level time added more covers station in_time = subst (λ (x : Option (List (ℕ × ℕ))). MatchOption x ⊥ (λ w. CoversVehicle (level_times w) (level - 0) (time + plug))) none (plugs level time added more covers in_time)
 
-  module _ (plugged curve : List (ℕ × ℕ)) (some : o ≡ Some plugged) (moved : IsShift 0 plug limit (level_times arrived) (level_times plugged)) (station : IsCurveAt g node curve) (low : (level : ℕ) → IsLevel (level_times arrived) level → level ≤ g.capacity) where
+  module _ (plugged curve : List (ℕ × ℕ)) (some : o ≡ Some plugged) (moved : IsShift 0 plug limit (level_times arrived) (level_times plugged)) (station : IsCurveAt g node curve) (low : (level : ℕ) → IsLevel (level_times arrived) level → level ≤ g.capacity) (node_known : node < node_count g) (network : IsNetwork g) where
     arrived_at : (level : ℕ) → IsLevel (level_times plugged) level → IsLevel (level_times arrived) level × (time_at (level_times plugged) level ≡ time_at (level_times arrived) level + plug)
     arrived_at level is =
         let back : level + 0 ≡ level = omega arith in
@@ -92,6 +93,13 @@ module _ (g : Network) (node plug limit : ℕ) (plug_is : plug ≡ g.denominator
 
     plugged_reaches : (level time : ℕ) → Reaches (level_times plugged) 0 level time → Reaches (level_times arrived) 0 level time
     plugged_reaches level time r = let at = arrived_at r.0 r.1 in (r.0, at.0, (r.2.0, omega (arith, r.2.1, at.1)))
+
+    rises : (a b : ℕ) → a ≤ b → b ≤ g.capacity → time_on curve a ≤ time_on curve b
+    rises a b le within =
+        let fits : HasFittingCurve g.capacity g.denominator (curve_at g node) = All-get_or (HasFittingCurve g.capacity g.denominator) g.curves node None (let count = network.curve_count in omega (arith, count, node_known)) network.curves in
+        let known : HasFittingCurve g.capacity g.denominator (Some station.0) = subst (λ (o : Option (List (ℕ × ℕ))). HasFittingCurve g.capacity g.denominator o) station.1 fits in
+        let rise = charge_time-rises g.denominator station.0 a b known.0.rises le in
+        omega (arith, rise, station.2.times a (omega (arith, le, within)), station.2.times b within)
 
     is_plugged : (from : ℕ) (w : LevelTimes) → IsLevel (level_times plugged) from → IsChargeFrom (level_times plugged) curve limit from w → IsPlugged g node (level_times arrived) w
     is_plugged from w is charge =
@@ -118,6 +126,19 @@ module _ (g : Network) (node plug limit : ℕ) (plug_is : plug ≡ g.denominator
               let bounds = (charge.levels level).0 there in
               let later = charge.later level there in
               omega (arith, bounds.2, later, limit_is);
+          steep = λ rate is_rate low_level high there_low there_high up.
+              let low_bounds = (charge.levels low_level).0 there_low in
+              let high_bounds = (charge.levels high).0 there_high in
+              let full = station.2.full in
+              let later_low = charge.later low_level there_low in
+              let later_high = charge.later high there_high in
+              let sum : low_level + (high - low_level) ≡ high = omega (arith, up) in
+              let within : low_level + (high - low_level) ≤ g.capacity = omega (arith, sum, high_bounds.1, full) in
+              let known_rate = is_rate node node_known low_level (high - low_level) (station_has_curve g node curve station) within in
+              let time = station_charging g node curve low_level (low_level + (high - low_level)) station (omega (arith, within)) within in
+              let there : time_on curve (low_level + (high - low_level)) ≡ time_on curve high = ap (λ l. time_on curve l) sum in
+              let first_low = rises from low_level low_bounds.0 (omega (arith, low_bounds.1, full)) in
+              omega (arith, later_low, later_high, known_rate, time, there, first_low);
         }
 
     charges_left_at : (rest : List (List (ℕ × ℕ))) → AllZip (λ from after. IsChargeFrom (level_times plugged) curve limit from (level_times after)) (starts plugged curve) rest → (k : ℕ) (w : List (ℕ × ℕ)) → slice_get (arrived ∷ rest) k ≡ Some w → 0 < k

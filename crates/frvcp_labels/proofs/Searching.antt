@@ -238,6 +238,14 @@ start_sound t value trip low is = record {
   times = λ level there.
       let none : time_at (level_times value) level ≡ 0 = ap (λ v. time_at (level_times v) level) is ∙ start_time t.start level (subst (λ v. IsLevel (level_times v) level) is there) in
       omega (arith, none);
+  steep = λ rate is_rate low high there_low there_high up.
+      let at_low = start_level t.start 0 low (subst (λ v. IsLevel (level_times v) low) is there_low) in
+      let at_high = start_level t.start 0 high (subst (λ v. IsLevel (level_times v) high) is there_high) in
+      let same : low ≡ high = omega (arith, at_low, at_high) in
+      let gap : high - low ≡ 0 = omega (arith, same) in
+      let nothing : rate * (high - low) ≡ rate * 0 = ap (λ x. rate * x) gap in
+      let equal : time_at (level_times value) low ≡ time_at (level_times value) high = ap (λ l. time_at (level_times value) l) same in
+      omega (arith, nothing, equal);
 }
 
 pub begun : (t : Journey) (old now : List (Label State)) (value : List (ℕ × ℕ)) → old ≡ [] → IsGrown old now → value ≡ (t.start, 0) ∷ [] → ((v : Leaving) → Holds (record { passed = 0; node = 0; charged = false; value = value }) v → Reached now v) → IsSpread t now (begin t.start)

@@ -4,16 +4,26 @@ use Rattle.std.specs.Option.{IsSome}
 use Rattle.ev_model.specs.Network.{Network, curve_at, energy, node_count}
 use Rattle.ev_model.specs.Time.{charging_time, time_from}
 use Rattle.ev_model.specs.declared.Stop.{Stop}
+use Rattle.dominance.specs.LevelTimes.{IsLevel, LevelTimes, time_at}
 use Rattle.frvcp_labels.specs.Stations.{stations}
 use Rattle.frvcp_labels.specs.Trips.{drive_time}
 use Rattle.frvcp_labels.specs.Ways.{IsRest, Leaving}
 
--- no charge takes less time than its amount at that rate, in scaled time per unit of charge
-abbrev pub IsRate : Network → ℕ → Type 0
-IsRate g rate =
-    (node level added : ℕ) → node < node_count g → IsSome (curve_at g node)
-    → level + added ≤ g.capacity
+-- no charge at a node takes less time than its amount at that rate, in scaled time per unit of charge
+abbrev pub IsRateAt : Network → ℕ → ℕ → Type 0
+IsRateAt g rate node =
+    (level added : ℕ) → IsSome (curve_at g node) → level + added ≤ g.capacity
     → rate * added ≤ charging_time 1 g.denominator (curve_at g node) level (level + added)
+
+-- and at no node
+abbrev pub IsRate : Network → ℕ → Type 0
+IsRate g rate = (node : ℕ) → node < node_count g → IsRateAt g rate node
+
+-- no level of a value is come to from a lower one in less time than charging at that rate takes
+abbrev pub IsSteep : Network → LevelTimes → Type 0
+IsSteep g f =
+    (rate : ℕ) → IsRate g rate → (low high : ℕ) → IsLevel f low → IsLevel f high → low ≤ high
+    → time_at f low + rate * (high - low) ≤ time_at f high
 
 -- what an arc and the visit at its end cost
 abbrev pub leg_cost : Network → ℕ → ℕ → ℕ → ℕ

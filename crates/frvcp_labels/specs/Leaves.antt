@@ -6,6 +6,7 @@ use Rattle.ev_model.specs.Time.{charging_time}
 use Rattle.dominance.specs.Coverage.{SomeReaches}
 use Rattle.dominance.specs.LevelTimes.{IsLevel, LevelTimes, time_at}
 use Rattle.piece_fn.specs.PieceFn.{level_times}
+use Rattle.frvcp_labels.specs.Bounds.{IsSteep}
 use Rattle.frvcp_labels.specs.Arrivals.{CoversVehicle}
 
 -- the scaled time of plugging in and charging so much, from a level
@@ -22,6 +23,7 @@ pub record IsPlugged (g : Network) (node : ℕ) (arrived w : LevelTimes) : Type 
   pub no_later : (level : ℕ) → IsLevel w level →
       time_at arrived w.first + charge_time_at g node w.first (level - w.first) ≤ time_at w level
   pub in_time : (level : ℕ) → IsLevel w level → time_at w level ≤ scaled_limit g
+  pub steep : IsSteep g w
 
 -- the first value is as the vehicle arrives, each other one is charged
 pub record AreLeft (g : Network) (node : ℕ) (arrived : List (ℕ × ℕ))

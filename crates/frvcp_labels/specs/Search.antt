@@ -10,6 +10,7 @@ use Rattle.dominance.specs.LevelTimes.{IsLevel, time_at}
 use Rattle.label_pool.specs.Labels.{Labels}
 use Rattle.label_pool.specs.declared.label.Label.{Label}
 use Rattle.piece_fn.specs.PieceFn.{level_times}
+use Rattle.frvcp_labels.specs.Bounds.{IsSteep}
 use Rattle.frvcp_labels.specs.Stations.{stations}
 use Rattle.frvcp_labels.specs.Trips.{IsTrip, Journey}
 use Rattle.frvcp_labels.specs.Ways.{IsRest, Leaving, MayStop, leaving_after, passed_after}
@@ -77,6 +78,7 @@ pub record IsSoundState (t : Journey) (s : State) : Type 0 where
   pub levels : (level : ℕ) → IsLevel (level_times s.value) level → level ≤ t.network.capacity
   pub times : (level : ℕ) → IsLevel (level_times s.value) level →
       time_at (level_times s.value) level ≤ scaled_limit t.network
+  pub steep : IsSteep t.network (level_times s.value)
 
 -- a label has a sound state, its bucket and an origin; its key is no more than any rest of its ways
 -- takes in all, and at home it is the least time

@@ -2,7 +2,7 @@
 
 ghost use Rattle.std.specs.Prelude.{◌≡◌, ◌≢◌, ◌+◌, ◌-◌, ◌*◌, ◌<◌, ◌≤◌, ℕ, IfOk, IsTrue, length, replicate, slice_index};
 ghost use Rattle.ev_model.specs.Network.{IsNetwork, node_count};
-ghost use Rattle.frvcp_labels.specs.Bounds.{AreBounds, IsLowCost, IsLowRow, IsRate, leg_cost};
+ghost use Rattle.frvcp_labels.specs.Bounds.{AreBounds, IsLowCost, IsLowRow, IsRate, IsRateAt, leg_cost};
 ghost use Rattle.frvcp_labels.specs.Stations.{stations};
 ghost use Rattle.frvcp_labels.specs.Trips.{IsTrip};
 
@@ -204,6 +204,37 @@ pub(crate) fn least_costs(
         bounds.extend_from_slice(costs)?;
     }
     Ok(bounds)
+}
+
+/// The least time of a unit of charge at any station.
+pub(crate) fn least_rate(inst: &Instance, places: &[usize]) -> u64
+    requires stations { places.now ≡ stations inst.now }
+    ensures { IsRate inst.now result }
+{
+    let mut rate = u64::MAX;
+    for place in places {
+        rate = rate.min(unit_time(inst, *place));
+    }
+    rate
+}
+
+#[tactic(auto, using(crate::proofs::Bounding::zero_rate))]
+/// The least time of a unit of charge at a node: that of the first unit, since charging slows down.
+fn unit_time(inst: &Instance, node: usize) -> u64
+    requires { node < node_count inst.now }
+    ensures { IsRateAt inst.now result node }
+{
+    let Some(curve) = inst.curve_at(node) else {
+        return 0;
+    };
+    let breaks = curve.breaks();
+    if breaks.is_empty() {
+        return 0;
+    }
+    let full = inst.max_q();
+    let first = curve.time_to(full.min(1));
+    let start = curve.time_to(0);
+    first.saturating_sub(start)
 }
 
 /// The node of the route with an index.

@@ -195,8 +195,8 @@ impl<'a> Trip<'a> {
         ensures reached { OnOk result ((v : Leaving) → Holds state v →
             Reached pool.new.labels v) }
     {
-        let (_, time) = state.value.least();
-        let rest = self.rest_time(state.passed, state.node);
+        let (level, time) = state.value.least();
+        let rest = self.rest_time(state.passed, state.node, level);
         let key = time_home(time, rest);
         let bucket = self.bucket(state.passed, state.node);
         pool.add(bucket, state, key, parent)?;

@@ -4,7 +4,7 @@ ghost use Rattle.std.specs.Prelude.{◌≤◌, IfOk, MatchOption};
 ghost use Rattle.ev_model.specs.Fastest.{HasNoPlan, IsFastest};
 ghost use Rattle.ev_model.specs.Route.{IsRoute};
 
-use crate::bounds::least_costs;
+use crate::bounds::{least_costs, least_rate};
 use crate::stations::station_nodes;
 use crate::trip::Trip;
 use ev_list::Listed;
@@ -31,12 +31,16 @@ pub fn solve_route(
 {
     let stations = station_nodes(alloc, inst)?;
     let bounds = least_costs(alloc, inst, route, &stations, 0)?;
+    let rate = least_rate(inst, &stations);
+    let costs = least_costs(alloc, inst, route, &stations, rate)?;
     let trip = Trip {
         inst,
         route,
         stations: &stations,
         start,
         bounds: &bounds,
+        rate,
+        costs: &costs,
     };
     let (mut pool, mut full) = trip.begin(alloc)?;
     let Some(home) = trip.first_home(alloc, &mut pool, full.as_mut_slice())? else {

@@ -3,6 +3,9 @@ ghost use Rattle.std.specs.Prelude.{◌≡◌, ◌+◌, ◌-◌, ◌*◌, ◌^�
 ghost use Rattle.ev_model.specs.Network.{energy, node_count, plug_time, scaled_limit};
 ghost use Rattle.ev_model.specs.Time.{time_from};
 ghost use Rattle.ev_model.specs.declared.Stop.{Stop};
+ghost use Rattle.dominance.specs.Coverage.{Reaches};
+ghost use Rattle.dominance.specs.LevelTimes.{IsLevel, LevelTimes, time_at};
+ghost use Rattle.frvcp_labels.specs.Bounds.{IsSteep};
 ghost use Rattle.frvcp_labels.specs.Trips.{IsTrip, drive_time, least_level};
 ghost use Rattle.frvcp_labels.specs.Ways.{IsRest, Leaving};
 
@@ -19,6 +22,10 @@ pub(crate) struct Trip<'a> {
     pub(crate) start: u64,
     /// How long the rest of a way takes at least, by rows from the end of the route and by node.
     pub(crate) bounds: &'a [u64],
+    /// The least time of a unit of charge.
+    pub(crate) rate: u64,
+    /// What the rest costs, in rows as above, where its energy is paid for at that rate.
+    pub(crate) costs: &'a [u64],
 }
 
 impl<'a> Model for Trip<'a> {
@@ -124,18 +131,29 @@ impl<'a> Trip<'a> {
         passed * self.inst.nodes() + node
     }
 
-    /// How long the rest of a way takes at least, from a node once so much of the route was passed.
-    pub(crate) fn rest_time(&self, passed: usize, node: usize) -> u64
+    /// How long the rest of a way takes at least, from a node once so much of the route was passed, for a
+    /// vehicle whose least level is this one. What energy the rest takes and the battery lacks is still to be
+    /// charged.
+    pub(crate) fn rest_time(&self, passed: usize, node: usize, level: u64) -> u64
         requires passed { passed < length self.now.route }
         requires node { node < node_count self.now.network }
         requires few { length self.now.route * node_count self.now.network < 2 ^ 64 }
-        ensures least { (v : Leaving) (stops : List Stop) → v.passed ≡ passed → v.node ≡ node →
-            IsRest self.now.network self.now.route v stops →
-            result ≤ time_from self.now.network 1 v.node v.level stops }
+        ensures least { (f : LevelTimes) (v : Leaving) (stops : List Stop) →
+            IsSteep self.now.network f → f.first ≡ level → IsLevel f f.first →
+            v.passed ≡ passed → v.node ≡ node → Reaches f 0 v.level v.time →
+            IsRest self.now.network self.now.route v stops → time_at f f.first + result
+            ≤ v.time + time_from self.now.network 1 v.node v.level stops }
         ensures home { passed ≡ length self.now.route - 1 → result ≡ 0 }
     {
         let at = self.bucket(self.end() - passed, node);
-        let bounds = self.bounds;
-        bounds[at]
+        let (bounds, costs) = (self.bounds, self.costs);
+        bounds[at].max(without_charge(costs[at], self.rate, level))
     }
+}
+
+/// What of a cost is no charge that a battery has.
+fn without_charge(cost: u64, rate: u64, level: u64) -> u64
+    ensures { result ≤ cost - rate * level }
+{
+    cost.saturating_sub(rate.saturating_mul(level))
 }

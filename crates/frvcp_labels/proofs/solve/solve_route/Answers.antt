@@ -16,6 +16,9 @@ of g route start = record { network = g; route = route; start = start }
 pub least_costs-requires-clause-trip : goal.least_costs-requires-clause-trip
 least_costs-requires-clause-trip c = is_trip c.args.inst.now c.args.route.now c.station_nodes.ensures.network c.requires.route
 
+pub least_costs-2-requires-clause-trip : goal.least_costs-2-requires-clause-trip
+least_costs-2-requires-clause-trip c = is_trip c.args.inst.now c.args.route.now c.station_nodes.ensures.network c.requires.route
+
 pub least_costs-requires-clause-rate : goal.least_costs-requires-clause-rate
 least_costs-requires-clause-rate c = no_rate c.args.inst.now
 

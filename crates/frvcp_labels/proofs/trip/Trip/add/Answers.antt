@@ -10,8 +10,8 @@ label c = record { bucket = c.bucket-bucket.result; value = c.args.state; key = 
 whole : (c : goal.In_ok-add) → IsAdded c.args.self.now c.args.pool.now c.add.new.self c.args.state
 whole c =
     added_is c.args.self.now c.args.pool.now c.add.new.self (label c) c.in_ok-add.field-0 c.requires.pool
-    (new_sound c.args.self.now c.args.pool.now.labels c.args.state c.bucket-bucket.result c.least-time.result.0 c.least-time.result.1 c.rest_time-rest.result c.time_home-key.result c.args.parent c.requires.state c.bucket-bucket.ensures.value c.least-time.ensures.valid c.least-time.ensures.level
-    c.least-time.ensures.time c.rest_time-rest.ensures.least c.rest_time-rest.ensures.home c.time_home-key.ensures.most c.time_home-key.ensures.home c.requires.origin)
+    (new_sound c.args.self.now c.args.pool.now.labels c.args.state c.bucket-bucket.result c.least-level.result.0 c.least-level.result.1 c.rest_time-rest.result c.time_home-key.result c.args.parent c.requires.state c.bucket-bucket.ensures.value c.least-level.ensures.valid c.least-level.ensures.level
+    c.least-level.ensures.time c.rest_time-rest.ensures.least c.rest_time-rest.ensures.home c.time_home-key.ensures.most c.time_home-key.ensures.home c.requires.origin)
     refl c.in_ok-add.ensures.unchanged c.in_ok-add.ensures.added c.in_ok-add.ensures.own c.in_ok-add.ensures.keeps
 
 pub returns-clause-pool : goal.returns-clause-pool

@@ -5,7 +5,7 @@ use Rattle.dominance.specs.LevelTimes.{LevelTimes}
 use Rattle.dominance.specs.Steps.{IsCharge, IsShift}
 use Rattle.piece_fn.specs.PieceFn.{IsChargeList, level_times}
 use Rattle.std.proofs.lemmas.Result.{IfOk-weaker}
-use Rattle.ev_model.specs.Network.{curve_at}
+use Rattle.ev_model.specs.Network.{IsNetwork, curve_at}
 use Rattle.instance_reader.specs.Instance.{IsCurveAt}
 use Rattle.frvcp_labels.specs.Trips.{Journey}
 use Rattle.frvcp_labels.proofs.Plugging.{charges_cover, charges_left, no_curve, no_plug, plugged_low, single_covers}
@@ -29,14 +29,14 @@ charge-requires-clause-levels c =
     let g = c.args.self.now.network in
     let moved = subst (λ (o : Option (List (ℕ × ℕ))). IfSome o (λ v. IsShift 0 c.plugging_time.result c.limit.result (level_times c.args.arrived) (level_times v))) c.in-Some-2.is c.in_ok-plugged.ensures.some in
     let station : IsCurveAt g c.args.node c.in-Some.curve.now = subst (λ (j : Journey). IsCurveAt j.network c.args.node c.in-Some.curve.now) c.self.view_is c.in-Some.ensures in
-    plugged_low g c.args.node c.plugging_time.result c.limit.result c.plugging_time.ensures.value c.limit.ensures.value c.args.arrived c.in_ok-plugged.field-0 c.in_ok-plugged.ensures.keeps c.in-Some-2.plugged c.in-Some.curve.now c.in-Some-2.is moved station c.requires.levels
+    plugged_low g c.args.node c.plugging_time.result c.limit.result c.plugging_time.ensures.value c.limit.ensures.value c.args.arrived c.in_ok-plugged.field-0 c.in_ok-plugged.ensures.keeps c.in-Some-2.plugged c.in-Some.curve.now c.in-Some-2.is moved station c.requires.levels c.requires.node (subst (λ (j : Journey). IsNetwork j.network) c.self.view_is c.self.invariant.trip.network)
 
 pub returns-clause-left : goal.returns-clause-left
 returns-clause-left c =
     let g = c.args.self.now.network in
     let moved = subst (λ (o : Option (List (ℕ × ℕ))). IfSome o (λ v. IsShift 0 c.plugging_time.result c.limit.result (level_times c.args.arrived) (level_times v))) c.in-Some-2.is c.in_ok-plugged.ensures.some in
     let station : IsCurveAt g c.args.node c.in-Some.curve.now = subst (λ (j : Journey). IsCurveAt j.network c.args.node c.in-Some.curve.now) c.self.view_is c.in-Some.ensures in
-    charges_left g c.args.node c.plugging_time.result c.limit.result c.plugging_time.ensures.value c.limit.ensures.value c.args.arrived c.in_ok-plugged.field-0 c.in_ok-plugged.ensures.keeps c.in-Some-2.plugged c.in-Some.curve.now c.in-Some-2.is moved station c.requires.levels
+    charges_left g c.args.node c.plugging_time.result c.limit.result c.plugging_time.ensures.value c.limit.ensures.value c.args.arrived c.in_ok-plugged.field-0 c.in_ok-plugged.ensures.keeps c.in-Some-2.plugged c.in-Some.curve.now c.in-Some-2.is moved station c.requires.levels c.requires.node (subst (λ (j : Journey). IsNetwork j.network) c.self.view_is c.self.invariant.trip.network)
     c.in_ok-values.values.items (subst (λ l. IsChargeList c.in-Some-2.plugged c.in-Some.curve.now l c.in_ok-values.values.items) (c.limit-2.ensures.value ∙ sym c.limit.ensures.value) c.in_ok-values.ensures.answers)
 
 pub returns-clause-covers : goal.returns-clause-covers
@@ -44,6 +44,6 @@ returns-clause-covers c =
     let g = c.args.self.now.network in
     let moved = subst (λ (o : Option (List (ℕ × ℕ))). IfSome o (λ v. IsShift 0 c.plugging_time.result c.limit.result (level_times c.args.arrived) (level_times v))) c.in-Some-2.is c.in_ok-plugged.ensures.some in
     let station : IsCurveAt g c.args.node c.in-Some.curve.now = subst (λ (j : Journey). IsCurveAt j.network c.args.node c.in-Some.curve.now) c.self.view_is c.in-Some.ensures in
-    charges_cover g c.args.node c.plugging_time.result c.limit.result c.plugging_time.ensures.value c.limit.ensures.value c.args.arrived c.in_ok-plugged.field-0 c.in_ok-plugged.ensures.keeps c.in-Some-2.plugged c.in-Some.curve.now c.in-Some-2.is moved station c.requires.levels
+    charges_cover g c.args.node c.plugging_time.result c.limit.result c.plugging_time.ensures.value c.limit.ensures.value c.args.arrived c.in_ok-plugged.field-0 c.in_ok-plugged.ensures.keeps c.in-Some-2.plugged c.in-Some.curve.now c.in-Some-2.is moved station c.requires.levels c.requires.node (subst (λ (j : Journey). IsNetwork j.network) c.self.view_is c.self.invariant.trip.network)
     c.in_ok-values.values.items (subst (λ l. IsChargeList c.in-Some-2.plugged c.in-Some.curve.now l c.in_ok-values.values.items) (c.limit-2.ensures.value ∙ sym c.limit.ensures.value) c.in_ok-values.ensures.answers)
     (subst (λ l. (other : LevelTimes) (extra level time : ℕ) → CoversEach (level_times c.in-Some-2.plugged) other extra → IsCharge other c.in-Some.curve.now l level time → SomeReaches level_times c.in_ok-values.values.items extra level time) (c.limit-2.ensures.value ∙ sym c.limit.ensures.value) c.in_ok-values.ensures.keeps)
