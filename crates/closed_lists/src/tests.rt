@@ -194,11 +194,11 @@ fn a_label_is_found_wherever_it_stands(rt: HostRuntime) {
     let alloc = rt.alloc();
     for (left_out, verdict) in [
         (9usize, Ok(())),
-        (
-            4,
-            Err(ClosedFault::Step { label: 4, node: 1 }),
-        ),
+        (4, Err(ClosedFault::Step { label: 4, node: 1 })),
     ] {
-        assert_eq!(rt; judged(alloc, ONE_STATION, 43, &TURNED, left_out), Some(verdict));
+        assert_eq!(rt;
+            judged(alloc, ONE_STATION, 43, &TURNED, left_out),
+            Some(verdict)
+        );
     }
 }
