@@ -6,9 +6,10 @@ use decimal_import::ImportFault;
 use ev_list::Listed;
 use ev_model::Stop;
 use ev_text::TextFault;
-use instance_reader::{Key, Part, Place, ReadFault, read_instance};
+use instance_reader::{Instance, Key, Part, Place, ReadFault, read_instance};
 use plan_check::PlanFault;
 use route_plan::{PlanText, RouteFault, RoutePlan, WalkFault};
+use std::alloc::Global;
 use worked_instances::ONE_STATION;
 
 #[test]
@@ -87,22 +88,6 @@ fn refusals_have_their_lines(rt: HostRuntime) {
         (Refusal::Route(RouteFault::Ends), "refused route 4\n"),
         (Refusal::Customers(129), "refused customers 129\n"),
         (
-            Refusal::Certificate(CertText::Text { at: 22 }),
-            "refused certificate 1 at 22\n",
-        ),
-        (
-            Refusal::Certificate(CertText::Range { at: 125 }),
-            "refused certificate 2 at 125\n",
-        ),
-        (
-            Refusal::Certificate(CertText::Version),
-            "refused certificate 3\n",
-        ),
-        (
-            Refusal::Certificate(CertText::TooLong { len: 268435457 }),
-            "refused certificate 4 268435457\n",
-        ),
-        (
             Refusal::Literal(ImportFault::Token { at: 12 }),
             "refused literal 1 at 12\n",
         ),
@@ -120,6 +105,34 @@ fn refusals_have_their_lines(rt: HostRuntime) {
             "refused literal 5 67108865\n",
         ),
         (Refusal::Maker, "refused maker 1\n"),
+    ];
+    for (refusal, line) in cases {
+        let mut out = Vec::new(alloc);
+        push_refusal(alloc, &mut out, &refusal).expect(&rt, "memory");
+        assert_eq!(rt; out.as_slice(), line.as_bytes());
+    }
+}
+
+#[test]
+fn refused_certificates_have_their_lines(rt: HostRuntime) {
+    let alloc = rt.alloc();
+    let cases = [
+        (
+            Refusal::Certificate(CertText::Text { at: 22 }),
+            "refused certificate 1 at 22\n",
+        ),
+        (
+            Refusal::Certificate(CertText::Range { at: 125 }),
+            "refused certificate 2 at 125\n",
+        ),
+        (
+            Refusal::Certificate(CertText::Version),
+            "refused certificate 3\n",
+        ),
+        (
+            Refusal::Certificate(CertText::TooLong { len: 268435457 }),
+            "refused certificate 4 268435457\n",
+        ),
     ];
     for (refusal, line) in cases {
         let mut out = Vec::new(alloc);
@@ -155,62 +168,117 @@ fn refused_plans_have_their_lines(rt: HostRuntime) {
     }
 }
 
+/// The lines of an accepted certificate; `None` where the bound is above the cost.
+fn accepted_lines(
+    alloc: Global,
+    inst: &Instance,
+    cost: Option<u128>,
+    bound: Option<u128>,
+) -> Option<Vec<u8>> {
+    if let Some(cost) = cost {
+        match bound {
+            Some(bound) if bound <= cost => {}
+            _ => return None,
+        }
+    }
+    let mut out = Vec::new(alloc);
+    let judgement = Judgement::Accepted { cost, bound };
+    push_check_report(alloc, &mut out, inst, &judgement).ok()?;
+    Some(out)
+}
+
+/// The line of a rejected certificate; `None` for one that is accepted.
+fn rejected_line(alloc: Global, inst: &Instance, verdict: Verdict) -> Option<Vec<u8>> {
+    if verdict == Verdict::Accepted {
+        return None;
+    }
+    let mut out = Vec::new(alloc);
+    push_check_report(alloc, &mut out, inst, &Judgement::Certificate(verdict)).ok()?;
+    Some(out)
+}
+
+/// The line of a rejected plan.
+fn rejected_plan_line(alloc: Global, inst: &Instance, fault: PlanFault) -> Option<Vec<u8>> {
+    let mut out = Vec::new(alloc);
+    push_check_report(alloc, &mut out, inst, &Judgement::Plan(fault)).ok()?;
+    Some(out)
+}
+
 #[test]
-fn judgements_have_their_lines(rt: HostRuntime) {
+fn accepted_certificates_have_their_lines(rt: HostRuntime) {
     let alloc = rt.alloc();
     let inst = read_instance(alloc, ONE_STATION.as_bytes()).expect(&rt, "an instance");
-    let accepted = |cost, bound| Judgement::Accepted { cost, bound };
-    let certificate = |verdict| Judgement::Certificate(verdict);
-    let walk = |route, fault| Judgement::Plan(PlanFault::Walk { route, fault });
     let cases = [
         (
-            accepted(Some(43), Some(40)),
+            Some(43),
+            Some(40),
             "accepted\ncost 43/2\nbound 40/2\ngap 3/2\n",
         ),
+        (Some(0), Some(0), "accepted\ncost 0/2\nbound 0/2\ngap 0/2\n"),
         (
-            accepted(Some(0), Some(0)),
-            "accepted\ncost 0/2\nbound 0/2\ngap 0/2\n",
-        ),
-        (
-            accepted(Some(18446744073709551616), Some(18446744073709551615)),
+            Some(18446744073709551616),
+            Some(18446744073709551615),
             "accepted\ncost 18446744073709551616/2\nbound 18446744073709551615/2\ngap 1/2\n",
         ),
         (
-            accepted(None, Some(40)),
+            None,
+            Some(40),
             "accepted\ncost none\nbound 40/2\ngap none\n",
         ),
+        (None, None, "accepted\ncost none\nbound none\ngap none\n"),
+    ];
+    for (cost, bound, lines) in cases {
+        let out = accepted_lines(alloc, &inst, cost, bound).expect(&rt, "memory");
+        assert_eq!(rt; out.as_slice(), lines.as_bytes());
+    }
+}
+
+#[test]
+fn rejected_certificates_have_their_lines(rt: HostRuntime) {
+    let alloc = rt.alloc();
+    let inst = read_instance(alloc, ONE_STATION.as_bytes()).expect(&rt, "an instance");
+    let cases = [
         (
-            accepted(None, None),
-            "accepted\ncost none\nbound none\ngap none\n",
-        ),
-        (
-            certificate(Verdict::Start { section: 3 }),
+            Verdict::Start { section: 3 },
             "rejected certificate 1 section 3\n",
         ),
         (
-            certificate(Verdict::Step {
+            Verdict::Step {
                 section: 0,
                 label: 12,
                 node: 2,
-            }),
+            },
             "rejected certificate 2 section 0 label 12 node 2\n",
         ),
         (
-            certificate(Verdict::End {
+            Verdict::End {
                 section: 1,
                 label: 4,
-            }),
+            },
             "rejected certificate 3 section 1 label 4\n",
         ),
         (
-            certificate(Verdict::Pairs { leaf: 5 }),
+            Verdict::Pairs { leaf: 5 },
             "rejected certificate 4 leaf 5\n",
         ),
         (
-            certificate(Verdict::Bound { leaf: 6 }),
+            Verdict::Bound { leaf: 6 },
             "rejected certificate 5 leaf 6\n",
         ),
-        (certificate(Verdict::Root), "rejected certificate 6\n"),
+        (Verdict::Root, "rejected certificate 6\n"),
+    ];
+    for (verdict, line) in cases {
+        let out = rejected_line(alloc, &inst, verdict).expect(&rt, "memory");
+        assert_eq!(rt; out.as_slice(), line.as_bytes());
+    }
+}
+
+#[test]
+fn rejected_plans_have_their_lines(rt: HostRuntime) {
+    let alloc = rt.alloc();
+    let inst = read_instance(alloc, ONE_STATION.as_bytes()).expect(&rt, "an instance");
+    let walk = |route, fault| PlanFault::Walk { route, fault };
+    let cases = [
         (walk(0, WalkFault::Ends), "rejected plan 1 route 0 walk 1\n"),
         (
             walk(1, WalkFault::Unknown { at: 2 }),
@@ -237,26 +305,25 @@ fn judgements_have_their_lines(rt: HostRuntime) {
             "rejected plan 1 route 0 walk 7 at 5\n",
         ),
         (
-            Judgement::Plan(PlanFault::Twice { customer: 7 }),
+            PlanFault::Twice { customer: 7 },
             "rejected plan 2 customer 7\n",
         ),
         (
-            Judgement::Plan(PlanFault::Unserved { customer: 8 }),
+            PlanFault::Unserved { customer: 8 },
             "rejected plan 3 customer 8\n",
         ),
         (
-            Judgement::Plan(PlanFault::EmptyRoute { route: 9 }),
+            PlanFault::EmptyRoute { route: 9 },
             "rejected plan 4 route 9\n",
         ),
         (
-            Judgement::Plan(PlanFault::Stray { route: 6, at: 2 }),
+            PlanFault::Stray { route: 6, at: 2 },
             "rejected plan 5 route 6 at 2\n",
         ),
     ];
-    for (judgement, lines) in cases {
-        let mut out = Vec::new(alloc);
-        push_check_report(alloc, &mut out, &inst, &judgement).expect(&rt, "memory");
-        assert_eq!(rt; out.as_slice(), lines.as_bytes());
+    for (fault, line) in cases {
+        let out = rejected_plan_line(alloc, &inst, fault).expect(&rt, "memory");
+        assert_eq!(rt; out.as_slice(), line.as_bytes());
     }
 }
 
