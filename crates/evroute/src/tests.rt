@@ -144,6 +144,7 @@ fn a_plan_is_accepted_or_its_first_broken_rule_named(rt: HostRuntime) {
     let alloc = rt.alloc();
     let accepted = "accepted\ncost 43/2\nbound 43/2\ngap 0/2\n";
     let uncharged = "evroute plan 1\nroutes 1\nroute 0 1 0\n";
+    let late = "evroute plan 1\nroutes 1\nroute 0 1 v2+3 0\n";
     let twice = "evroute plan 1\nroutes 2\nroute 0 v2+1 1 0\nroute 0 v2+1 1 0\n";
     let empty = "evroute plan 1\nroutes 2\nroute 0 v2+1 1 0\nroute 0 v2 0\n";
     let stray = "evroute plan 1\nroutes 1\nroute 0 2+1 1 0\n";
@@ -163,8 +164,8 @@ fn a_plan_is_accepted_or_its_first_broken_rule_named(rt: HostRuntime) {
             "rejected plan 1 route 0 walk 4 at 2\n",
         ),
         (
-            "check A P Q --limit 21",
-            CHARGED,
+            "check A P Q --limit 22",
+            late,
             Status::Negative,
             "rejected plan 1 route 0 walk 7 at 3\n",
         ),
@@ -278,11 +279,7 @@ fn the_reserve_is_kept(rt: HostRuntime) {
             Status::Done,
             "time 46/2\nat 0\nat 1\nvia 2 charge 4\nat 0\n",
         ),
-        (
-            "check A P Q",
-            Status::Negative,
-            "rejected plan 1 route 0 walk 4 at 3\n",
-        ),
+        ("check A P Q", Status::Refused, "refused certificate 3\n"),
     ];
     for (line, status, put) in cases {
         let ended = run_on(alloc, line, RESERVE, CHARGED, &[], &[]).expect(&rt, "memory");
