@@ -7,8 +7,8 @@ use route_plan::RoutePlan;
 
 /// A lower bound on the cost of every fleet plan of an instance, with what shows it.
 ///
-/// Times and costs are scaled. Customers are numbered from 0 in rising order of their nodes. A place is 0 for the
-/// depot and one more than the number of a customer.
+/// Times and costs are scaled. Customers are numbered from 0 in rising order of their nodes. A
+/// place is 0 for the depot and one more than the number of a customer.
 #[derive(Drop)]
 pub struct Certificate {
     /// What no fleet plan costs less than; `None` says that there is no fleet plan.
@@ -17,13 +17,13 @@ pub struct Certificate {
     pub root: Root,
     /// The sections that the leaves of the tree name, by their numbers from 0.
     pub sections: Listed<Section>,
-    /// The lines of the branching tree in preorder: behind a split stands the tree that forbids its pair, and then the
-    /// tree that requires it.
+    /// The lines of the branching tree in preorder: behind a split stands the tree that forbids its
+    /// pair, and then the tree that requires it.
     pub tree: Listed<TreeLine>,
 }
 
-/// Prices for customers, a weight for time, and labels that show that no route which keeps the pairs earns more than
-/// it takes.
+/// Prices for customers, a weight for time, and labels that show that no route which keeps the
+/// pairs earns more than it takes.
 #[derive(Drop)]
 pub struct Section {
     pub weight: u64,
@@ -39,8 +39,8 @@ pub struct Section {
 pub enum Root {
     /// There is no fractional cover.
     None,
-    /// Each customer is covered exactly once by routes with shares, at the bound of section 0: a share is that of its
-    /// number over `over`.
+    /// Each customer is covered exactly once by routes with shares, at the bound of section 0: a
+    /// share is that of its number over `over`.
     Exact {
         over: u64,
         shares: Listed<Share>,

@@ -10,8 +10,8 @@ ghost use Rattle.bound_certificate.specs.Ranges.{Fits};
 ghost use Rattle.bound_certificate.specs.declared.certificate.Certificate.{Certificate};
 ghost use Rattle.bound_certificate.specs.declared.certificate.TreeLine.{TreeLine};
 
-/// What a certificate that fits stands for: sections of the network, and a branching tree, which is the only one that
-/// has its lines.
+/// What a certificate that fits stands for: sections of the network, and a branching tree, which is
+/// the only one that has its lines.
 pub fn fitting_certificates_have_sections_and_a_tree()
     ensures sections { (g : Network) (c : Certificate) → Fits g c →
         All (IsSectionOf g) (priced_sections c.sections) }

@@ -26,16 +26,17 @@ use tree::{is_whole_tree, lines_fit};
 pub(crate) const GREATEST_BOUND: u128 = 1 << 96;
 
 impl Certificate {
-    /// Whether the certificate is in the ranges of an instance of at most 128 customers, and its tree is one whole
-    /// tree in preorder. It takes no memory.
+    /// Whether the certificate is in the ranges of an instance of at most 128 customers, and its
+    /// tree is one whole tree in preorder. It takes no memory.
     ///
-    /// The bound is at most 2^96. `over` and shares are from 1 to 2^40, weights at most 2^40, prices from -2^84 to
-    /// 2^84. Each section has one price for each customer, and its pairs are made for as many customers. There is at
-    /// least one section. A label is at a node of the instance, its last node is 0 or a customer, its set holds
-    /// customers, its levels are at most a full battery and its times at most the scaled limit. A split is on two
-    /// different customers, a leaf names a section. A basis has as many entries as there are customers, no two of
-    /// them the same, each a customer's helper or a listed column. Routes have a stop, and numbers that may stand in
-    /// the text of a plan.
+    /// The bound is at most 2^96. `over` and shares are from 1 to 2^40, weights at most 2^40,
+    /// prices from -2^84 to 2^84. Each section has one price for each customer, and its pairs are
+    /// made for as many customers. There is at least one section. A label is at a node of the
+    /// instance, its last node is 0 or a customer, its set holds customers, its levels are at most
+    /// a full battery and its times at most the scaled limit. A split is on two different
+    /// customers, a leaf names a section. A basis has as many entries as there are customers, no
+    /// two of them the same, each a customer's helper or a listed column. Routes have a stop, and
+    /// numbers that may stand in the text of a plan.
     pub fn fits(&self, inst: &Instance) -> bool
         requires { length (customer_nodes inst.now) ≤ 128 }
         ensures { IsTrue result ↔ Fits inst.now self.now }

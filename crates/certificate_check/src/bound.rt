@@ -12,7 +12,8 @@ ghost use Rattle.fleet_model.specs.Tree.{IsBoundedBy};
 use bound_certificate::Section;
 use ev_units::ceil_div;
 
-/// Whether a bound is at most that of a section; none, which is above every number, says that there is no plan.
+/// Whether a bound is at most that of a section; none, which is above every number, says that there
+/// is no plan.
 pub(crate) fn is_bounded(section: &Section, bound: Option<u128>) -> bool
     requires few { length section.now.prices ≤ 128 }
     requires small { All IsPrice section.now.prices }
@@ -26,8 +27,9 @@ pub(crate) fn is_bounded(section: &Section, bound: Option<u128>) -> bool
     }
 }
 
-/// The bound of a section: its price sum over its weight, rounded up, where the weight is above 0; none where the
-/// weight is 0 and the price sum above 0, which says that there is no plan; and else 0.
+/// The bound of a section: its price sum over its weight, rounded up, where the weight is above 0;
+/// none where the weight is 0 and the price sum above 0, which says that there is no plan; and else
+/// 0.
 pub(crate) fn bound_of(section: &Section) -> Option<i128>
     requires few { length section.now.prices ≤ 128 }
     requires small { All IsPrice section.now.prices }

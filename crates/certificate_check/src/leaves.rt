@@ -1,5 +1,5 @@
-//! The rules of the leaves: the section that a leaf names forbids no pair that the leaf allows, and its bound is not
-//! below that of the certificate.
+//! The rules of the leaves: the section that a leaf names forbids no pair that the leaf allows, and
+//! its bound is not below that of the certificate.
 
 ghost use Rattle.std.specs.Prelude.{◌≡◌, ◌↔◌, ◌≢◌, ◌∷◌, ◌++◌, ◌<◌, ◌≤◌, [], IfOk, IfSome, IsTrue, OnOk, length};
 ghost use Rattle.std.specs.List.{All};
@@ -21,8 +21,8 @@ use std::alloc::{AllocError, Global};
 
 /// The first broken rule of the leaves, if there is one.
 ///
-/// Goes along the lines of the tree in preorder. It keeps the allowed pairs of each subtree whose lines are still to
-/// come, the next one last.
+/// Goes along the lines of the tree in preorder. It keeps the allowed pairs of each subtree whose
+/// lines are still to come, the next one last.
 pub(crate) fn leaf_fault(
     alloc: Global,
     inst: &Instance,
@@ -56,8 +56,8 @@ pub(crate) fn leaf_fault(
     Ok(None)
 }
 
-/// Opens the two subtrees of a split, where these pairs are forbidden above it: first comes the one that forbids the
-/// split's pair, and then the one that requires it.
+/// Opens the two subtrees of a split, where these pairs are forbidden above it: first comes the one
+/// that forbids the split's pair, and then the one that requires it.
 fn open_children(
     subtrees: &mut Vec<Pairs>,
     pairs: Pairs,

@@ -1,5 +1,6 @@
-//! The judge of certificates: whether a certificate shows that no fleet plan costs less than its bound, and
-//! that the bound of its first section is the linear optimum; or the first rule that it breaks.
+//! The judge of certificates: whether a certificate shows that no fleet plan costs less than its
+//! bound, and that the bound of its first section is the linear optimum; or the first rule that it
+//! breaks.
 #![tactic(auto)]
 
 mod bound;

@@ -15,8 +15,9 @@ use instance_reader::Instance;
 use route_plan::{Stop, walk};
 use wide_bases::ListedRoute;
 
-/// The customers and the scaled time of a route of a fleet: a feasible plan from full that serves customers alone,
-/// one at least and each once. `None` exactly where the stops are none. It takes no memory.
+/// The customers and the scaled time of a route of a fleet: a feasible plan from full that serves
+/// customers alone, one at least and each once. `None` exactly where the stops are none. It takes
+/// no memory.
 pub(crate) fn fleet_route(inst: &Instance, stops: &[Stop]) -> Option<ListedRoute>
     requires few { length (customer_nodes inst.now) ≤ 128 }
     ensures route { IfSome result (IsListedRoute inst.now stops.now) }

@@ -1,4 +1,5 @@
-//! An exact root: its shares are a fractional cover, which costs the price sum of section 0 over its weight.
+//! An exact root: its shares are a fractional cover, which costs the price sum of section 0 over
+//! its weight.
 
 ghost use Rattle.std.specs.Prelude.{◌≡◌, ◌*◌, ◌^◌, ◌<◌, ◌≤◌, length};
 ghost use Rattle.std.specs.List.{find};
@@ -18,7 +19,8 @@ use bound_certificate::{Section, Share};
 use instance_reader::Instance;
 use route_plan::{Stop, walk};
 
-/// Whether the shares are a fractional cover, and cost the price sum of the section over its weight, which is above
+/// Whether the shares are a fractional cover, and cost the price sum of the section over its
+/// weight, which is above
 /// 0. It takes no memory.
 pub(crate) fn is_exact(inst: &Instance, section: &Section, over: u64, shares: &[Share]) -> bool
     requires few { length (customer_nodes inst.now) ≤ 128 }

@@ -51,7 +51,8 @@ fn listed_routes(
     Ok(Some(routes))
 }
 
-/// The numbers of a basis's entries: those of customers' helpers come first, and then those of the columns.
+/// The numbers of a basis's entries: those of customers' helpers come first, and then those of the
+/// columns.
 fn numbers_of(
     alloc: Global,
     customers: usize,

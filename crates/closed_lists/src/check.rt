@@ -19,17 +19,19 @@ use std::alloc::Global;
 
 /// Tests whether a list of labels is closed: `Ok` where it is, else the first broken rule.
 ///
-/// A label stands for the states (last customer, node, set, level, time) at its levels; what it has paid is the
-/// price sum of its set. It covers a state at the same node after the same customer where its set is within the
-/// state's and it has a level at least as high, at a time no later, whose weight times time less what it has paid
-/// is no more than the state's. `prices` are by customer number, `weight` is that of time.
+/// A label stands for the states (last customer, node, set, level, time) at its levels; what it has
+/// paid is the price sum of its set. It covers a state at the same node after the same customer
+/// where its set is within the state's and it has a level at least as high, at a time no later,
+/// whose weight times time less what it has paid is no more than the state's. `prices` are by
+/// customer number, `weight` is that of time.
 ///
 /// 1. The start is covered: the depot with a full battery at time 0, before any customer.
-/// 2. Each step from a label to a customer or a station leads to a covered state. A step keeps the reserve and
-///    the limit on the route's time; a customer isn't in the label's set and may follow its last customer; at a
-///    station the vehicle charges any whole amount, and pays the time to plug in where that isn't 0.
-/// 3. No step home takes, times the weight, less than the label has paid. It is made after a customer whom the
-///    depot may follow, and keeps the level at home besides.
+/// 2. Each step from a label to a customer or a station leads to a covered state. A step keeps the
+///    reserve and the limit on the route's time; a customer isn't in the label's set and may follow
+///    its last customer; at a station the vehicle charges any whole amount, and pays the time to
+///    plug in where that isn't 0.
+/// 3. No step home takes, times the weight, less than the label has paid. It is made after a
+///    customer whom the depot may follow, and keeps the level at home besides.
 ///
 /// The rules are tried in this order, each over all labels before the next.
 pub fn check_closed(
@@ -78,7 +80,8 @@ impl Section<'_> {
         self.covers_all(&target, &full)
     }
 
-    /// The first step to a customer or a station that leads to a state that is not covered, if there is one.
+    /// The first step to a customer or a station that leads to a state that is not covered, if
+    /// there is one.
     fn check_steps(&self) -> Result<(), ClosedFault>
         ensures good { IfOk result (λ _. HasNoBadStep self.now.network (section self.now)) }
         ensures bad { IfErr result (IsFirstStep self.now.network (section self.now)) }

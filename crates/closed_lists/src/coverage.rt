@@ -55,8 +55,8 @@ impl Section<'_> {
         false
     }
 
-    /// A level up to which each state of the value is covered from a level on; `None` where the state at that level
-    /// is not covered.
+    /// A level up to which each state of the value is covered from a level on; `None` where the
+    /// state at that level is not covered.
     fn reach(&self, target: &Target, value: &PieceFn, level: u64) -> Option<u64>
         requires last { target.now.last < node_count self.now.network }
         requires node { target.now.node < node_count self.now.network }
@@ -84,8 +84,8 @@ impl Section<'_> {
         None
     }
 
-    /// The same by the label of an entry, which is at the same node after the same customer and has a time that is no
-    /// later than the state's.
+    /// The same by the label of an entry, which is at the same node after the same customer and has
+    /// a time that is no later than the state's.
     fn reach_of(
         &self,
         entry: &Entry,

@@ -1,6 +1,6 @@
-//! The exact test of closed lists of labels: whether each step from a label leads to a state that some label
-//! covers (completeness of forward labels: Irnich, Desaulniers 2005; with a battery level as a resource: Froger,
-//! Mendoza, Jabali, Laporte 2019).
+//! The exact test of closed lists of labels: whether each step from a label leads to a state that
+//! some label covers (completeness of forward labels: Irnich, Desaulniers 2005; with a battery
+//! level as a resource: Froger, Mendoza, Jabali, Laporte 2019).
 #![tactic(auto)]
 
 mod check;

@@ -32,8 +32,8 @@ pub fn price_sum(prices: &[i128], set: CustSet) -> i128
     sum
 }
 
-/// The least number of time units that, times the weight, make up for what is paid less; `None` where none
-/// below 2^64 does.
+/// The least number of time units that, times the weight, make up for what is paid less; `None`
+/// where none below 2^64 does.
 pub fn margin(weight: u64, own: i128, theirs: i128) -> Option<u64>
     requires own { unsigned_abs own ≤ 2 ^ 92 }
     requires theirs { unsigned_abs theirs ≤ 2 ^ 92 }

@@ -6,7 +6,8 @@ ghost use Rattle.closed_lists.specs.Sections.{IsLabelOf};
 use instance_reader::Instance;
 use piece_fn::Label;
 
-/// Whether the label's nodes are in the network and none of its levels is above full. It takes no memory.
+/// Whether the label's nodes are in the network and none of its levels is above full. It takes no
+/// memory.
 pub fn is_label_of(inst: &Instance, label: &Label) -> bool
     ensures { IsTrue result ↔ IsLabelOf inst.now label.now }
 {

@@ -19,7 +19,8 @@ use piece_fn::Label;
 use std::alloc::{AllocError, Global};
 use std::marker::Model;
 
-/// Labels under a weight, prices by customer number, and forbidden pairs, on an instance. Contracts see these.
+/// Labels under a weight, prices by customer number, and forbidden pairs, on an instance. Contracts
+/// see these.
 ///
 /// Without labels it tells the steps of a search for labels.
 #[derive(Drop)]
@@ -158,7 +159,8 @@ impl<'a> Section<'a> {
         }
     }
 
-    /// The number of the customer at a node; `None` exactly where the node is no customer. It takes no memory.
+    /// The number of the customer at a node; `None` exactly where the node is no customer. It takes
+    /// no memory.
     pub fn customer_number(&self, node: usize) -> Option<usize>
         requires { node < node_count self.now.network }
         ensures value { IsCustomerNumber self.now.network node result }

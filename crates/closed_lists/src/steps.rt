@@ -40,7 +40,8 @@ fn arrived(
 }
 
 impl Section<'_> {
-    /// What is left of a label's value on arriving at a node, `extra` after the arc and the process time.
+    /// What is left of a label's value on arriving at a node, `extra` after the arc and the process
+    /// time.
     pub fn arrival(
         &self,
         label: &Label,
@@ -103,8 +104,8 @@ impl Section<'_> {
         Ok(self.covers_all(&target, &value))
     }
 
-    /// Whether each step to a station, with any charge there, leads to a covered state. The time to plug in is
-    /// paid where something is charged, not where the vehicle passes through.
+    /// Whether each step to a station, with any charge there, leads to a covered state. The time to
+    /// plug in is paid where something is charged, not where the vehicle passes through.
     fn station_is_covered(
         &self,
         label: &Label,

@@ -132,7 +132,8 @@ fn labels_of(
     Some(labels)
 }
 
-/// What the test says of the labels at a price, the next in place of one of them, or `None` where they are out of range.
+/// What the test says of the labels at a price, the next in place of one of them, or `None` where
+/// they are out of range.
 fn judged(
     alloc: Global,
     text: &str,

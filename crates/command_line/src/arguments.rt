@@ -95,8 +95,8 @@ pub(crate) fn named<'a>(alloc: Global, words: &'a [String]) -> Result<Vec<&'a st
     Ok(all)
 }
 
-/// What the command finds in the words, of which the first is the program's name; `None` where it takes no
-/// such words.
+/// What the command finds in the words, of which the first is the program's name; `None` where it
+/// takes no such words.
 pub(crate) fn matches_of<'a>(
     alloc: Global,
     words: &'a [&'a str],

@@ -7,8 +7,8 @@ ghost use Rattle.command_line.specs.Words.{job_of, job_of_command, number_of};
 
 use ev_text::whole_answers;
 
-/// A word is read as a number exactly where it is the number's decimal digits, without leading zeros, and the
-/// number is at most `most`.
+/// A word is read as a number exactly where it is the number's decimal digits, without leading
+/// zeros, and the number is at most `most`.
 pub fn numbers_have_one_spelling(most: u64)
     ensures { (word : List ℕ) (n : ℕ) →
         (number_of most word ≡ Some n) ↔ ((word ≡ decimal n) × (n ≤ most)) }
@@ -18,9 +18,9 @@ pub fn numbers_have_one_spelling(most: u64)
 
 /// Words without options are read as they stand.
 ///
-/// `plain`: words of which none begins with `-`, but for a lone `-`, name the job of the first word as the
-/// command, and of the others as the words behind it, with no option given. `dashes`: so does each list of
-/// words behind a word `--`, whatever they begin with.
+/// `plain`: words of which none begins with `-`, but for a lone `-`, name the job of the first word
+/// as the command, and of the others as the words behind it, with no option given. `dashes`: so
+/// does each list of words behind a word `--`, whatever they begin with.
 pub fn words_are_read_as_they_stand()
     ensures plain { (command : List ℕ) (rest : List (List ℕ)) → length rest < 2 ^ 64 →
         list_all is_plain (command ∷ rest) ≡ true →

@@ -37,8 +37,9 @@ pub struct FixedWords {
     pub options: Options,
 }
 
-/// The words of the job `check`: the file of the instance, another one with the plan, a third one with the
-/// certificate, and the limit on the time of each route in place of the instance's, in units of time.
+/// The words of the job `check`: the file of the instance, another one with the plan, a third one
+/// with the certificate, and the limit on the time of each route in place of the instance's, in
+/// units of time.
 #[derive(Debug, Drop, PartialEq, Eq)]
 pub struct CheckWords {
     pub file: String,
@@ -47,8 +48,8 @@ pub struct CheckWords {
     pub limit: Option<u64>,
 }
 
-/// The words of the job `convert`: the file that is read, another one that is written, and how many decimal
-/// digits of times and of energies become whole.
+/// The words of the job `convert`: the file that is read, another one that is written, and how many
+/// decimal digits of times and of energies become whole.
 #[derive(Debug, Drop, PartialEq, Eq)]
 pub struct ConvertWords {
     pub file: String,
@@ -57,8 +58,8 @@ pub struct ConvertWords {
     pub energy_digits: u32,
 }
 
-/// The words of the job `make`: the number that the instance is made from, how many customers and stations it has,
-/// and the file that is written.
+/// The words of the job `make`: the number that the instance is made from, how many customers and
+/// stations it has, and the file that is written.
 #[derive(Debug, Drop, PartialEq, Eq)]
 pub struct MakeWords {
     pub seed: u64,
@@ -80,15 +81,15 @@ pub enum Job {
     Make(MakeWords),
 }
 
-/// The job of the words, which stand behind the program's name, read by one `clap` command:
-/// `fixed FILE ROUTE [--limit N] [--charge N]`, `check FILE PLAN CERT [--limit N]`,
-/// `convert FILE OUTFILE --time-digits N --energy-digits N` or `make SEED CUSTOMERS STATIONS OUTFILE`. `None` comes
+/// The job of the words, which stand behind the program's name, read by one `clap` command: `fixed
+/// FILE ROUTE [--limit N] [--charge N]`, `check FILE PLAN CERT [--limit N]`, `convert FILE OUTFILE
+/// --time-digits N --energy-digits N` or `make SEED CUSTOMERS STATIONS OUTFILE`. `None` comes
 /// exactly where the words are no such job.
 ///
-/// Options stand anywhere before a word `--`, each at most once; the value is the next word or follows a `=`.
-/// A name that begins with `-` and has more behind it is given after `--`. Numbers are written without
-/// leading zeros: at most 10^18 for a limit or a charge, 10^9 for digits, 2^64 - 1 for a seed, 2^32 - 1 for counts.
-/// The names of files are different texts.
+/// Options stand anywhere before a word `--`, each at most once; the value is the next word or
+/// follows a `=`. A name that begins with `-` and has more behind it is given after `--`. Numbers
+/// are written without leading zeros: at most 10^18 for a limit or a charge, 10^9 for digits, 2^64
+/// - 1 for a seed, 2^32 - 1 for counts. The names of files are different texts.
 pub fn job_words(alloc: Global, words: &[String]) -> Result<Option<Job>, AllocError>
     ensures { IfOk result (λ job. option_map job_value job ≡ job_of (map string_bytes words.now)) }
 {

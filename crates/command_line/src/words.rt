@@ -34,7 +34,8 @@ pub(crate) fn number_of(word: &str, most: u64) -> Option<u64>
     }
 }
 
-/// The number of an option that need not be given; `None` where its value is no number of at most `most`.
+/// The number of an option that need not be given; `None` where its value is no number of at most
+/// `most`.
 pub(crate) fn optional_number(word: Option<&str>, most: u64) -> Option<Option<u64>>
     ensures { result ≡ optional_number most (option_map (λ text. text.now) word.entry) }
 {

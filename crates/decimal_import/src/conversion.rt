@@ -21,15 +21,16 @@ const MAX_DIGITS: u32 = 9;
 
 /// Converts the numbers of a JSON text to whole units, each rounded up.
 ///
-/// A number under the key `time_matrix`, `process_times`, `time`, `t_max`, `max_t` or `plug_time` becomes the
-/// least whole number that isn't below its value times `10^time_digits`, and one under `energy_matrix`,
-/// `max_q`, `charge`, `min_q` or `home_q` that with `10^energy_digits`; every other byte stays. A number stands
-/// under the last key of the innermost open brace or bracket, where a bracket begins with the key that it
-/// stands under itself. Only the tokens of the text are judged, and how braces and brackets are nested.
+/// A number under the key `time_matrix`, `process_times`, `time`, `t_max`, `max_t` or `plug_time`
+/// becomes the least whole number that isn't below its value times `10^time_digits`, and one under
+/// `energy_matrix`, `max_q`, `charge`, `min_q` or `home_q` that with `10^energy_digits`; every
+/// other byte stays. A number stands under the last key of the innermost open brace or bracket,
+/// where a bracket begins with the key that it stands under itself. Only the tokens of the text are
+/// judged, and how braces and brackets are nested.
 ///
-/// The first of these faults is answered: `TooLong`, where the text is longer than 2^26 bytes; `Digits`,
-/// where a count of digits is past 9; and then the one of the first broken byte among `Token`, `Negative` and
-/// `TooLarge`. `Memory` may come in the place of any but the first two.
+/// The first of these faults is answered: `TooLong`, where the text is longer than 2^26 bytes;
+/// `Digits`, where a count of digits is past 9; and then the one of the first broken byte among
+/// `Token`, `Negative` and `TooLarge`. `Memory` may come in the place of any but the first two.
 pub fn convert(
     alloc: Global,
     bytes: &[u8],
@@ -41,8 +42,8 @@ pub fn convert(
     ensures fault { IfErr result (λ fault.
         Refuses fault (conversion_of bytes.now time_digits energy_digits)) }
 
-    // The bytes are the longest tokens from the left; each number under a key with a unit becomes the least whole
-    // number, and every other token stays.
+    // The bytes are the longest tokens from the left; each number under a key with a unit becomes
+    // the least whole number, and every other token stays.
     ensures converted { IfOk result (λ text.
         IsConverted time_digits energy_digits bytes.now text.items) }
 

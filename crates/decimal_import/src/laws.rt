@@ -11,8 +11,8 @@ pub fn tokens_are_the_longest()
     ensures { (bytes : List ℕ) → IsCutInto bytes (cut bytes).0 (cut bytes).1 }
 {}
 
-/// The whole number that stands for a literal is the least one that isn't below the literal's value, without
-/// its sign, times 10 to the power of the digits.
+/// The whole number that stands for a literal is the least one that isn't below the literal's
+/// value, without its sign, times 10 to the power of the digits.
 pub fn wholes_are_the_least()
     ensures { (digits : ℕ) (literal : Literal) →
         IsCeiling (over digits literal) (under literal) (least_whole digits literal) }

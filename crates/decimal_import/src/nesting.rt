@@ -89,7 +89,8 @@ impl Nesting {
         }
     }
 
-    /// Opens, closes or takes a key, as this token says that stands at this place, with these bytes behind it.
+    /// Opens, closes or takes a key, as this token says that stands at this place, with these bytes
+    /// behind it.
     pub(crate) fn pass(
         &mut self,
         token: &Token<'_>,

@@ -15,7 +15,8 @@ const MAX_NUMBER: u64 = 1_000_000_000_000_000_000;
 const MAX_EXPONENT: u128 = 1 << 70;
 
 impl<'a> Literal<'a> {
-    /// The whole number that stands for this literal, at this place, in units of which `10^digits` are one.
+    /// The whole number that stands for this literal, at this place, in units of which `10^digits`
+    /// are one.
     pub(crate) fn whole_number(&self, digits: u32, at: usize) -> Result<u64, ImportFault>
         requires whole { list_all is_digit self.now.whole.now ≡ true }
         requires fraction { list_all is_digit self.now.fraction.now ≡ true }
@@ -41,7 +42,8 @@ impl<'a> Literal<'a> {
         are_zeros(self.whole) && are_zeros(self.fraction)
     }
 
-    /// The least whole number that isn't below this literal times `10^digits`, unless it is past the limit.
+    /// The least whole number that isn't below this literal times `10^digits`, unless it is past
+    /// the limit.
     fn rounded_up(&self, digits: u32) -> Option<u64>
         requires whole { list_all is_digit self.now.whole.now ≡ true }
         requires fraction { list_all is_digit self.now.fraction.now ≡ true }
@@ -160,8 +162,8 @@ fn append_digits(start: u64, digits: &[u8]) -> Option<u64>
     Some(number)
 }
 
-/// The number with this many zeros behind it. `None` where it is past the limit. A number above 0 is past it
-/// after a few zeros.
+/// The number with this many zeros behind it. `None` where it is past the limit. A number above 0
+/// is past it after a few zeros.
 fn append_zeros(start: u64, count: u128) -> Option<u64>
     requires { start ≤ 10 ^ 18 }
     ensures some { IfSome result (λ n. (n ≡ start * 10 ^ count) × (n ≤ 10 ^ 18)) }

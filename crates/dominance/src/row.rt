@@ -142,7 +142,8 @@ impl Row {
         Ok(times)
     }
 
-    /// What becomes of the value by charging from its level number `index`, up to a full battery or the limit.
+    /// What becomes of the value by charging from its level number `index`, up to a full battery or
+    /// the limit.
     fn charge_from(
         &self,
         index: usize,

@@ -31,13 +31,13 @@ pub trait Covers {
 pub trait LabelValue: Covers {
     ghost meaning: { Self → LevelTimes };
 
-    /// Whether for every level of the other value this value has a level at least as high whose time plus
-    /// `extra` is no later. It takes no memory.
+    /// Whether for every level of the other value this value has a level at least as high whose
+    /// time plus `extra` is no later. It takes no memory.
     fn covers(&self, other: &Self, extra: u64) -> bool
         ensures { IsTrue result ↔ CoversEach (meaning self.now) (meaning other.now) extra };
 
-    /// The value after an arc: every level falls by `energy` and every time grows by `time`. Levels below
-    /// 0 and times past `limit` are dropped, and `None` comes where nothing is left.
+    /// The value after an arc: every level falls by `energy` and every time grows by `time`. Levels
+    /// below 0 and times past `limit` are dropped, and `None` comes where nothing is left.
     ///
     /// What covered another value before the arc covers it after the arc.
     fn shift(&self, energy: u64, time: u64, limit: u64) -> Result<Option<Self>, AllocError>

@@ -1,4 +1,5 @@
-//! The worked examples, computed from the definitions by the checker. Each is the contract of an empty function.
+//! The worked examples, computed from the definitions by the checker. Each is the contract of an
+//! empty function.
 
 ghost use Rattle.std.specs.Prelude.{◌≡◌, ◌∷◌, []};
 ghost use Rattle.ev_model.specs.Examples.LeastLevels.{over_depot, with_depot_station, with_home_level, with_reserve};
@@ -55,7 +56,8 @@ pub fn no_station()
     ensures feasible { IsFeasible network_without_station 1 10 there_and_back }
 {}
 
-/// Two customers: one vehicle for both costs 13, one for each 16. A fleet plan serves each customer once.
+/// Two customers: one vehicle for both costs 13, one for each 16. A fleet plan serves each customer
+/// once.
 pub fn two_customers()
     ensures together { IsFleetPlan customers 1 together }
     ensures together_cost { cost_of customers 1 together ≡ 13 }
@@ -65,9 +67,10 @@ pub fn two_customers()
     ensures not_served { IsFleetPlan customers 1 unserved → ⊥ }
 {}
 
-/// Plugging in takes a unit of time, two halves: it is paid at each stop where something is charged, and not
-/// where a vehicle passes through. In halves of a unit, charging a half and later three halves takes 100 halves
-/// of halves; the two plans in whole units that it rounds to take 48 and 50, since the first passes through once.
+/// Plugging in takes a unit of time, two halves: it is paid at each stop where something is
+/// charged, and not where a vehicle passes through. In halves of a unit, charging a half and later
+/// three halves takes 100 halves of halves; the two plans in whole units that it rounds to take 48
+/// and 50, since the first passes through once.
 pub fn plugging_in_takes_time()
     ensures network { IsNetwork plugging_in }
     ensures paid_once { time_of plugging_in 1 10 (charging_before 1) ≡ 45 }
@@ -77,9 +80,10 @@ pub fn plugging_in_takes_time()
     ensures up { time_of plugging_in 1 10 halves_up ≡ 50 }
 {}
 
-/// With a reserve of 1 the vehicle that charged one unit before the customer comes home below the reserve, and
-/// the one that charges four units after it takes 46 halves. With a level at home of 5 it has to charge eight
-/// units, which takes 60. An arrival at the depot in the middle of the route, empty, is no arrival at home.
+/// With a reserve of 1 the vehicle that charged one unit before the customer comes home below the
+/// reserve, and the one that charges four units after it takes 46 halves. With a level at home of 5
+/// it has to charge eight units, which takes 60. An arrival at the depot in the middle of the
+/// route, empty, is no arrival at home.
 pub fn least_levels()
     ensures reserve { IsNetwork (with_reserve 1) }
     ensures below_the_reserve { IsFeasible (with_reserve 1) 1 10 (charging_before 1) → ⊥ }

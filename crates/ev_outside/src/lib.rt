@@ -1,9 +1,10 @@
 //! What a program has outside itself: named files ([`Shelf`]) and its output ([`Sink`]).
 //!
-//! Both are traits whose calls have a written meaning. [`FileShelf`] and [`OutSink`] are proved to meet it over
-//! the calls of a system ([`Storage`], [`Stream`]), which may take or give a part. [`SystemFiles`] and
-//! [`SystemOutput`] are the real ones. [`MemoryShelf`] and [`MemorySink`] are fakes in memory whose calls fail where a
-//! test wants them to, those of [`SureShelf`] and [`SureSink`] never do.
+//! Both are traits whose calls have a written meaning. [`FileShelf`] and [`OutSink`] are proved to
+//! meet it over the calls of a system ([`Storage`], [`Stream`]), which may take or give a part.
+//! [`SystemFiles`] and [`SystemOutput`] are the real ones. [`MemoryShelf`] and [`MemorySink`] are
+//! fakes in memory whose calls fail where a test wants them to, those of [`SureShelf`] and
+//! [`SureSink`] never do.
 #![tactic(auto)]
 
 mod failure;

@@ -11,9 +11,9 @@ use super::memory_shelf::MemoryShelf;
 use super::storage::{CallFailed, Storage, Stream};
 use std::alloc::{AllocError, Global};
 
-/// Named files in memory, whose calls take and give at most so many bytes, and fail where they are told to, where
-/// memory is refused, and where a name that isn't there is opened. What is written before a file was created is
-/// taken and goes nowhere.
+/// Named files in memory, whose calls take and give at most so many bytes, and fail where they are
+/// told to, where memory is refused, and where a name that isn't there is opened. What is written
+/// before a file was created is taken and goes nowhere.
 ///
 /// All its calls are numbered together from 0. The counts stop at their last value, 2^64 - 1.
 #[derive(Drop)]
@@ -28,8 +28,8 @@ pub struct PieceStorage {
 }
 
 impl PieceStorage {
-    /// The files of a shelf, in pieces of at most `piece` bytes (of one where it is 0). The calls with the numbers in
-    /// `fails` will fail. Nothing is open yet.
+    /// The files of a shelf, in pieces of at most `piece` bytes (of one where it is 0). The calls
+    /// with the numbers in `fails` will fail. Nothing is open yet.
     pub fn new(alloc: Global, files: MemoryShelf, piece: usize, fails: Vec<u64>) -> PieceStorage
         ensures count { result.failed ≡ 0 }
     {

@@ -8,8 +8,8 @@ use super::memory_shelf::MemoryShelf;
 use super::shelf::{Shelf, ShelfFault};
 use std::alloc::Global;
 
-/// Named files in memory. All counts are always 0, so no call is answered `Failed`; a name that isn't there has no
-/// bytes.
+/// Named files in memory. All counts are always 0, so no call is answered `Failed`; a name that
+/// isn't there has no bytes.
 #[derive(Drop)]
 pub struct SureShelf {
     files: MemoryShelf,

@@ -1,6 +1,6 @@
-//! The files and the output of the system. These calls are trusted to do what [`Storage`] and [`Stream`] say; what they
-//! count and how many bytes they take is proved. They keep the cause of the last call that failed, for people alone: no
-//! contract tells it.
+//! The files and the output of the system. These calls are trusted to do what [`Storage`] and
+//! [`Stream`] say; what they count and how many bytes they take is proved. They keep the cause of
+//! the last call that failed, for people alone: no contract tells it.
 ghost use Rattle.std.specs.Prelude.{◌≡◌, ◌<◌, ◌≤◌, ℕ, [], None, IfOk, length, refl};
 ghost use Rattle.std.specs.Io.KnownBytes.{ReadConsumes};
 ghost use Rattle.ev_outside.specs.Counts.{CountsOne, IsCounted};

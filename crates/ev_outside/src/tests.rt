@@ -162,7 +162,8 @@ fn files_are_read_and_written_whole_in_pieces_of_any_length(rt: HostRuntime) -> 
         let storage = PieceStorage::new(alloc, files, piece, [fails].to_vec(alloc)?);
         let mut shelf = FileShelf::new(storage);
 
-        // An open, up to five reads of pieces, and one more that gives nothing; then a create and up to five writes.
+        // An open, up to five reads of pieces, and one more that gives nothing; then a create and
+        // up to five writes.
         let read = read_from(alloc, &mut shelf, "plan", 100);
         let written = write_to(&mut shelf, "copy", b"copy!");
         let fault = read.as_ref().err().copied().or(written.err());

@@ -87,7 +87,8 @@ fn word_from(bytes: &[u8], at: usize, word: &[u8]) -> Result<usize, TextFault>
     }
 }
 
-/// The number below 0 whose digits stand behind a sign. A number out of range is told at the sign, at `at`, and so is 0.
+/// The number below 0 whose digits stand behind a sign. A number out of range is told at the sign,
+/// at `at`, and so is 0.
 fn below_zero_from(
     bytes: &[u8],
     at: usize,
@@ -192,7 +193,8 @@ impl<'a> Scan<'a> {
         self.word(w).is_ok()
     }
 
-    /// Takes a word in whose place another may stand, and answers whether it stands at the place, which else stays.
+    /// Takes a word in whose place another may stand, and answers whether it stands at the place,
+    /// which else stays.
     ///
     /// Refusal: `End` where the text ends within the word, so that neither can stand there.
     pub fn choose(&mut self, w: &[u8]) -> Result<bool, TextFault>
@@ -209,7 +211,8 @@ impl<'a> Scan<'a> {
 
     /// Takes a number from 1 to `limit`.
     ///
-    /// Refusals: those of `whole`, and `NotWhole` where the number is 0. The place stays after a refusal.
+    /// Refusals: those of `whole`, and `NotWhole` where the number is 0. The place stays after a
+    /// refusal.
     pub fn positive(&mut self, limit: u128) -> Result<u128, TextFault>
         ensures ok { IfOk result (λ n. positive_at limit self.old ≡ Ok (n, self.new)) }
         ensures fault { IfErr result (λ fault. positive_at limit self.old ≡ Err fault) }
@@ -225,8 +228,9 @@ impl<'a> Scan<'a> {
 
     /// Takes a number of at most `limit` in size, with a `-` in front where it is below 0; 0 has none.
     ///
-    /// Refusals: those of `whole`, where `NotWhole` and `End` behind a sign are told at the digits. `TooLarge` is told at the
-    /// sign where there is one, and is told of `-0` too. The place stays after a refusal.
+    /// Refusals: those of `whole`, where `NotWhole` and `End` behind a sign are told at the digits.
+    /// `TooLarge` is told at the sign where there is one, and is told of `-0` too. The place stays
+    /// after a refusal.
     pub fn signed(&mut self, limit: u128) -> Result<i128, TextFault>
         requires { limit < 2 ^ 127 }
         ensures ok { IfOk result (λ n. signed_at limit self.old ≡ Ok (n, self.new)) }

@@ -22,7 +22,8 @@ use std::alloc::{AllocError, Global};
 /// The most customers of a fleet.
 const MOST_CUSTOMERS: usize = 128;
 
-/// The answer of `check`: the instance is read, then the plan, then the certificate; and then they are judged.
+/// The answer of `check`: the instance is read, then the plan, then the certificate; and then they
+/// are judged.
 pub fn check<S: Shelf>(
     alloc: Global,
     file: &str,
@@ -71,7 +72,8 @@ fn check_on<S: Shelf>(
     }
 }
 
-/// The answer of `check` on the instance and the plan of their files: the certificate is read, and both are judged.
+/// The answer of `check` on the instance and the plan of their files: the certificate is read, and
+/// both are judged.
 fn check_plan<S: Shelf>(
     alloc: Global,
     inst: &Instance,

@@ -22,21 +22,26 @@ use std::alloc::{AllocError, Global};
 
 /// The program: its words after its name, the files and the output.
 ///
-/// `fixed FILE ROUTE [--limit N] [--charge N]` reads FILE as an instance and puts a fastest plan of the route
-/// ([`Status::Done`]), or that none is feasible ([`Status::Negative`]). `check FILE PLAN CERT [--limit N]` reads
-/// PLAN as a fleet plan and CERT as a certificate on the instance of FILE, and puts that they are accepted, with cost, bound
-/// and gap ([`Status::Done`]), or the first rule that is broken, the plan's before the certificate's
-/// ([`Status::Negative`]).
-/// `convert FILE OUTFILE --time-digits N --energy-digits N` reads FILE, writes it into OUTFILE with the numbers under
-/// the keys of times and energies as whole ones, each rounded up, and puts nothing ([`Status::Done`]).
-/// `make SEED CUSTOMERS STATIONS OUTFILE` makes an instance from SEED, writes it into OUTFILE, and puts how many nodes it
-/// has, its denominator and the time of a fastest plan of the route over all customers ([`Status::Done`]), or that none is
-/// feasible ([`Status::Negative`]).
+/// `fixed FILE ROUTE [--limit N] [--charge N]` reads FILE as an instance and puts a fastest plan of
+/// the route ([`Status::Done`]), or that none is feasible ([`Status::Negative`]).
 ///
-/// All put the line of the first broken rule of their files and words ([`Status::Refused`]). Other words put the usage
-/// text ([`Status::Words`]). After [`Status::Fault`] and [`Status::Memory`] a part of such a text may have been put.
-/// No file but OUTFILE is written: by `convert` only where no rule is broken, by `make` wherever an instance is made. What
-/// it holds after a failed write isn't known.
+/// `check FILE PLAN CERT [--limit N]` reads PLAN as a fleet plan and CERT as a certificate on the
+/// instance of FILE, and puts that they are accepted, with cost, bound and gap ([`Status::Done`]),
+/// or the first rule that is broken, the plan's before the certificate's ([`Status::Negative`]).
+///
+/// `convert FILE OUTFILE --time-digits N --energy-digits N` reads FILE, writes it into OUTFILE with
+/// the numbers under the keys of times and energies as whole ones, each rounded up, and puts
+/// nothing ([`Status::Done`]).
+///
+/// `make SEED CUSTOMERS STATIONS OUTFILE` makes an instance from SEED, writes it into OUTFILE, and
+/// puts how many nodes it has, its denominator and the time of a fastest plan of the route over all
+/// customers ([`Status::Done`]), or that none is feasible ([`Status::Negative`]).
+///
+/// All put the line of the first broken rule of their files and words ([`Status::Refused`]). Other
+/// words put the usage text ([`Status::Words`]). After [`Status::Fault`] and [`Status::Memory`] a
+/// part of such a text may have been put. No file but OUTFILE is written: by `convert` only where
+/// no rule is broken, by `make` wherever an instance is made. What it holds after a failed write
+/// isn't known.
 pub fn run<S: Shelf, K: Sink>(alloc: Global, words: &[String], shelf: &mut S, out: &mut K) -> Status
     ensures words { result ≡ Status.Words → IsNone (job_named words.now) }
     ensures usage { IsNone (job_named words.now)

@@ -14,7 +14,8 @@ use ev_outside::{Shelf, ShelfFault};
 use plan_writer::Refusal;
 use std::alloc::Global;
 
-/// The answer of `convert`: the file is read and converted, and what it becomes is written under the other name.
+/// The answer of `convert`: the file is read and converted, and what it becomes is written under
+/// the other name.
 pub fn convert<S: Shelf>(
     alloc: Global,
     file: &str,

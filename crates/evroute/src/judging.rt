@@ -21,8 +21,8 @@ use plan_writer::{Judgement, Refusal, push_check_report};
 use route_plan::FleetPlan;
 use std::alloc::{AllocError, Global};
 
-/// The answer to the bytes of a certificate, on an instance without too many customers and a plan, or none: first
-/// they are read, then the plan is judged, and then the certificate.
+/// The answer to the bytes of a certificate, on an instance without too many customers and a plan,
+/// or none: first they are read, then the plan is judged, and then the certificate.
 pub fn judge_text(
     alloc: Global,
     inst: &Instance,
@@ -113,7 +113,8 @@ fn judge(
         (IsJudgementOf inst.now (option_map (λ p. p.now) plan.entry) cert.now) }
     ensures bound { IfOk result IsJudged }
 {
-    // That the instance's network is one is told by its calls; on it rests that no plan costs less than a bound.
+    // That the instance's network is one is told by its calls; on it rests that no plan costs less
+    // than a bound.
     let _nodes = inst.nodes();
     let cost = match cost_of(inst, plan) {
         Ok(cost) => cost,

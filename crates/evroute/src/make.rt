@@ -22,7 +22,8 @@ use plan_writer::{Refusal, push_make_report};
 use route_plan::{RoutePlan, walk};
 use std::alloc::{AllocError, Global};
 
-/// The answer of `make`: the instance is made and written, and the route over all its customers is charged.
+/// The answer of `make`: the instance is made and written, and the route over all its customers is
+/// charged.
 pub fn make<S: Shelf>(
     alloc: Global,
     seed: u64,
@@ -48,7 +49,8 @@ pub fn make<S: Shelf>(
     }
 }
 
-/// The answer where this instance with this text was made: the text is written, and the route is charged.
+/// The answer where this instance with this text was made: the text is written, and the route is
+/// charged.
 fn write_made<S: Shelf>(
     alloc: Global,
     inst: &Instance,

@@ -17,8 +17,8 @@ pub enum Message<'a> {
 }
 
 impl<'a> Message<'a> {
-    /// The message at an exit status, where the last call of the system that failed is this one. There is none where
-    /// the job was answered.
+    /// The message at an exit status, where the last call of the system that failed is this one.
+    /// There is none where the job was answered.
     pub fn at(code: u8, failure: Option<Failure<'a>>) -> Option<Message<'a>> {
         if code == Status::Memory.code() {
             return Some(Message::Memory);

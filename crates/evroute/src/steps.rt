@@ -40,8 +40,8 @@ pub fn read_file<S: Shelf>(
     }
 }
 
-/// Puts the text of an answer. The status is that of the answer, unless the output fails or memory is refused.
-/// Where the text is empty the output isn't called.
+/// Puts the text of an answer. The status is that of the answer, unless the output fails or memory
+/// is refused. Where the text is empty the output isn't called.
 pub fn put_answer<K: Sink>(answer: &Answer, out: &mut K) -> Status
     requires { IsAnswered answer.now.status }
     ensures answer { IsAnswered result → (result ≡ answer.now.status)

@@ -21,8 +21,8 @@ fn certificate_with(alloc: Global, bound: &str) -> Result<String, AllocError> {
     format!(in alloc; "evroute certificate 1\nbound {bound}\n{SHOWN}")
 }
 
-/// Files in memory where `A` holds an instance, `P` a plan and `Q` the certificate with the bound 43, and the calls with
-/// these numbers fail.
+/// Files in memory where `A` holds an instance, `P` a plan and `Q` the certificate with the bound
+/// 43, and the calls with these numbers fail.
 fn shelf_with(
     alloc: Global,
     instance: &str,
@@ -36,7 +36,8 @@ fn shelf_with(
     Ok(shelf)
 }
 
-/// How the program ends on these files, and what it puts, where the calls of the output with these numbers fail.
+/// How the program ends on these files, and what it puts, where the calls of the output with these
+/// numbers fail.
 fn run_with(
     alloc: Global,
     line: &str,
@@ -52,8 +53,8 @@ fn run_with(
     Ok((status, Vec::from_slice(alloc, out.bytes())?))
 }
 
-/// How the program ends, and what it puts, where `A` holds an instance and `P` a plan, and the calls of the shelf and
-/// of the output with these numbers fail.
+/// How the program ends, and what it puts, where `A` holds an instance and `P` a plan, and the
+/// calls of the shelf and of the output with these numbers fail.
 fn run_on(
     alloc: Global,
     line: &str,

@@ -10,7 +10,8 @@ use crate::status::Status;
 use command_line::usage;
 use ev_outside::{Sink, SinkFault};
 
-/// Puts the usage text. The status is that of words that name no job, unless the output fails or memory is refused.
+/// Puts the usage text. The status is that of words that name no job, unless the output fails or
+/// memory is refused.
 pub fn put_usage<K: Sink>(out: &mut K) -> Status
     ensures status { EndsUnlessHindered Status.Words result }
     ensures whole { result ≡ Status.Words

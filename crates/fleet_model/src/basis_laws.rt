@@ -12,8 +12,9 @@ pub fn a_basis_has_one_body_equation()
         IsBody n basis i xs → IsBody n basis i ys → xs ≡ ys }
 {}
 
-/// Numbers that pay for a basis, and have with their weight no common divisor, are those of least weight:
-/// so a cost row without a common divisor is the price list, and a helper row the helper list.
+/// Numbers that pay for a basis, and have with their weight no common divisor, are those of least
+/// weight: so a cost row without a common divisor is the price list, and a helper row the helper
+/// list.
 pub fn a_list_without_a_divisor_pays_least()
     ensures { (worth : Column → ℤ) (n : ℕ) (basis : List Column) (w : ℤ) (numbers : List ℤ) →
         IsDetermined n basis →

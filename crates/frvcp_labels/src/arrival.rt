@@ -45,9 +45,9 @@ impl<'a> Trip<'a> {
         shifted.cut(self.least_level(passed))
     }
 
-    /// The values on leaving a node that is driven to: first as the vehicle arrives, then those after
-    /// plugging in and charging. There is none where the battery or the limit does not let the vehicle come
-    /// so far.
+    /// The values on leaving a node that is driven to: first as the vehicle arrives, then those
+    /// after plugging in and charging. There is none where the battery or the limit does not let
+    /// the vehicle come so far.
     pub(crate) fn values_at(
         &self,
         alloc: Global,
@@ -71,8 +71,8 @@ impl<'a> Trip<'a> {
         single(alloc, arrived)
     }
 
-    /// The values on leaving a node, by the value on arriving: that value, and where the node has a curve
-    /// those after plugging in and charging.
+    /// The values on leaving a node, by the value on arriving: that value, and where the node has a
+    /// curve those after plugging in and charging.
     fn values_left(
         &self,
         alloc: Global,

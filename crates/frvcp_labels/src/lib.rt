@@ -1,10 +1,11 @@
 //! The fastest plan of one route, by labels that carry functions: the least time at each level of the
 //! battery (Froger, Mendoza, Jabali, Laporte 2019).
 //!
-//! A label stands at a node once some of the route's nodes were passed. The label of least key is taken next,
-//! and from it the vehicle goes on to the next node of the route or to a station. The first label at the
-//! route's end that is taken has the least time, since keys never fall. Where a full battery was had by some
-//! time, a vehicle that arrives later is needless, whatever it may charge; so no value is made for it.
+//! A label stands at a node once some of the route's nodes were passed. The label of least key is
+//! taken next, and from it the vehicle goes on to the next node of the route or to a station. The
+//! first label at the route's end that is taken has the least time, since keys never fall. Where a
+//! full battery was had by some time, a vehicle that arrives later is needless, whatever it may
+//! charge; so no value is made for it.
 #![tactic(auto)]
 
 mod arrival;

@@ -148,7 +148,8 @@ impl<'a> Trip<'a> {
         self.add_all(pool, full, i, passed, to, values)
     }
 
-    /// Adds the labels of the values at a node: the first is passed through with, the others are charged.
+    /// Adds the labels of the values at a node: the first is passed through with, the others are
+    /// charged.
     fn add_all(
         &self,
         pool: &mut Pool<State>,

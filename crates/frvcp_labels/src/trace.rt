@@ -15,7 +15,8 @@ use route_plan::Stop;
 use std::alloc::{AllocError, Global};
 
 impl<'a> Trip<'a> {
-    /// The stops by which a vehicle comes to the first level of a label at the end of the route, in order.
+    /// The stops by which a vehicle comes to the first level of a label at the end of the route, in
+    /// order.
     pub(crate) fn stops_to(
         &self,
         alloc: Global,

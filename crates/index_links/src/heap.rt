@@ -44,7 +44,8 @@ impl IndexHeap {
         }
     }
 
-    /// Makes room for item numbers below `items`. It never shrinks, and after an `Err` nothing has changed.
+    /// Makes room for item numbers below `items`. It never shrinks, and after an `Err` nothing has
+    /// changed.
     pub fn grow(&mut self, items: usize) -> Result<(), AllocError>
         ensures ok { OnOk result (self.new ≡ self.old ++ replicate (items - length self.old) None) }
         ensures err { OnErr result (self.new ≡ self.old) }

@@ -40,7 +40,8 @@ struct Links {
 }
 
 impl Links {
-    /// Sets what stands behind the item `prev` of the list, or the list's first item where `prev` is `None`.
+    /// Sets what stands behind the item `prev` of the list, or the list's first item where `prev`
+    /// is `None`.
     fn set_next(&mut self, list: usize, prev: Option<usize>, to: Option<usize>)
         requires list { list < length self.old.ends.items }
         requires prev { IfSome prev (λ p. p < length self.old.slots.items) }
@@ -55,7 +56,8 @@ impl Links {
         }
     }
 
-    /// Sets what stands before the item `next` of the list, or the list's last item where `next` is `None`.
+    /// Sets what stands before the item `next` of the list, or the list's last item where `next` is
+    /// `None`.
     fn set_prev(&mut self, list: usize, next: Option<usize>, to: Option<usize>)
         requires list { list < length self.old.ends.items }
         requires next { IfSome next (λ n. n < length self.old.slots.items) }

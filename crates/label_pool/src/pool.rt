@@ -92,8 +92,8 @@ impl<V: Covers + Drop> Pool<V> {
         self.labels[i].parent
     }
 
-    /// The key of the label that `take_next` would give out. `None` comes exactly where it would give out
-    /// none. It takes no memory.
+    /// The key of the label that `take_next` would give out. `None` comes exactly where it would
+    /// give out none. It takes no memory.
     pub fn next_key(&self) -> Option<u64>
         ensures none { IsNone result ↔ NoneWaits self.now.labels }
         ensures key { IfSome result (λ key. (i : ℕ) × (label : Label V)
@@ -102,8 +102,8 @@ impl<V: Covers + Drop> Pool<V> {
         self.queue.least_key()
     }
 
-    /// Takes the label that waits and is least by key and then by number, and marks it as settled. `None`
-    /// comes exactly where no label waits. It takes no memory.
+    /// Takes the label that waits and is least by key and then by number, and marks it as settled.
+    /// `None` comes exactly where no label waits. It takes no memory.
     pub fn take_next(&mut self) -> Option<usize>
         ensures none { IsNone result ↔ NoneWaits self.old.labels }
         ensures next { IfSome result (λ i. (label : Label V) × IsNext self.old.labels i label

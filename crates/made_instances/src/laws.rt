@@ -6,7 +6,8 @@ ghost use Rattle.instance_reader.specs.Faults.{IsInstanceOf, longest};
 ghost use Rattle.instance_reader.specs.Values.{IsValueOf};
 ghost use Rattle.made_instances.specs.MadeContents.{made_network};
 
-/// A text of which `serde_json` reads a made value breaks no rule of instances, and its denominator is 136.
+/// A text of which `serde_json` reads a made value breaks no rule of instances, and its denominator
+/// is 136.
 pub fn made_texts_are_instances()
     ensures { (seed customers stations : ℕ) (text : List ℕ)
         → (IsOutOfRange seed customers stations → ⊥) → length text ≤ longest

@@ -58,8 +58,8 @@ fn determinant(a: u64, b: u64, c: u64) -> i64 {
     first.wrapping_sub(second).wrapping_add(third)
 }
 
-/// The cost of the cover that three columns have, by Cramer's rule; `None` where they are no basis, where a share
-/// is below 0, and where a helper has one.
+/// The cost of the cover that three columns have, by Cramer's rule; `None` where they are no basis,
+/// where a share is below 0, and where a helper has one.
 fn cover_cost(a: Column, b: Column, c: Column) -> Option<Fraction> {
     let whole = determinant(a.set, b.set, c.set);
     let sign = whole.signum();

@@ -112,10 +112,12 @@ fn optimum(alloc: Global, t: &Table) -> Result<Lp, LpFault>
     })
 }
 
-/// The simplex method in two phases, by the lexicographic rule (Dantzig, Orden, Wolfe 1955), on whole numbers.
+/// The simplex method in two phases, by the lexicographic rule (Dantzig, Orden, Wolfe 1955), on
+/// whole numbers.
 ///
-/// The answer is a linear optimum where the added columns can cover each customer exactly once by shares of
-/// at least 0, and else a ray. After an answer the basis of the table is the one that it belongs to.
+/// The answer is a linear optimum where the added columns can cover each customer exactly once by
+/// shares of at least 0, and else a ray. After an answer the basis of the table is the one that it
+/// belongs to.
 ///
 /// `Wide` comes only with a basis that is past the table's caps, of which at most one column is no basis
 /// column of the table after the call. After a refusal the table has the same solutions and perhaps

@@ -21,7 +21,8 @@ pub enum Goal {
     Cost,
 }
 
-/// What the phase's row has of the added column: above 0 where bringing it into the basis lets the row fall.
+/// What the phase's row has of the added column: above 0 where bringing it into the basis lets the
+/// row fall.
 fn gain(t: &Table, goal: Goal, col: usize) -> i128
     requires added { size t.now ≤ col }
     requires inside { col < length t.now.columns }

@@ -1,4 +1,5 @@
-//! The row that leaves: of those with an entry above 0 at the column, the least in the lexicographic order.
+//! The row that leaves: of those with an entry above 0 at the column, the least in the
+//! lexicographic order.
 
 ghost use Rattle.std.specs.Prelude.{◌≡◌, ◌+◌, ◌-◌, ◌^◌, ◌<◌, ◌≤◌, ℕ, ℤ, pos, ◌<ℤ◌, ◌*ℤ◌, ◌-ℤ◌, All, Option, length, get_or, map, unsigned_abs, FitsSigned};
 ghost use Rattle.std.specs.Int.{w128};
@@ -58,7 +59,8 @@ fn less(other: i128, x: i128, own: i128, y: i128) -> Option<bool>
     Some(left < right)
 }
 
-/// Whether row `i`'s entry at the place, over its entry at the column, is less than row `r`'s, unless they are the same.
+/// Whether row `i`'s entry at the place, over its entry at the column, is less than row `r`'s,
+/// unless they are the same.
 fn less_at(t: &Table, col: usize, i: usize, r: usize, place: usize) -> Option<bool>
     requires i { i < size t.now }
     requires r { r < size t.now }
@@ -74,7 +76,8 @@ fn less_at(t: &Table, col: usize, i: usize, r: usize, place: usize) -> Option<bo
     )
 }
 
-/// Whether the entries of row `i` at the places, over its entry at the column, stand before those of row `r`.
+/// Whether the entries of row `i` at the places, over its entry at the column, stand before those
+/// of row `r`.
 fn entries_precede(t: &Table, places: &[usize], col: usize, i: usize, r: usize) -> bool
     requires i { i < size t.now }
     requires r { r < size t.now }
@@ -90,7 +93,8 @@ fn entries_precede(t: &Table, places: &[usize], col: usize, i: usize, r: usize) 
     false
 }
 
-/// Whether row `i`, divided by its entry at the column, stands before row `r`: by the right side, then by the places.
+/// Whether row `i`, divided by its entry at the column, stands before row `r`: by the right side,
+/// then by the places.
 fn precedes(t: &Table, places: &[usize], col: usize, i: usize, r: usize) -> bool
     requires i { i < size t.now }
     requires r { r < size t.now }

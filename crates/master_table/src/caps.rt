@@ -1,7 +1,7 @@
 //! Caps on the numbers of a table, and why a call refuses.
 
-/// The greatest sizes of a table's numbers: `body` of the entries and right sides of the body equations and
-/// of the weight of the cost row, `cost` of all else.
+/// The greatest sizes of a table's numbers: `body` of the entries and right sides of the body
+/// equations and of the weight of the cost row, `cost` of all else.
 #[derive(Clone, Copy, Debug, PartialEq, Eq)]
 pub struct Caps {
     pub body: u64,
@@ -13,7 +13,8 @@ pub struct Caps {
 pub enum TableFault {
     /// Memory isn't to be had.
     Memory,
-    /// A number of the new rows is past its cap. The first is named, row by row: its row, and its column,
-    /// where the right side counts as the column after the last, and the weight as the one after that.
+    /// A number of the new rows is past its cap. The first is named, row by row: its row, and its
+    /// column, where the right side counts as the column after the last, and the weight as the one
+    /// after that.
     Wide { row: usize, col: usize },
 }

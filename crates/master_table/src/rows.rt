@@ -1,4 +1,5 @@
-//! One row of the table: combined with another, divided by its greatest common divisor, held against its caps.
+//! One row of the table: combined with another, divided by its greatest common divisor, held
+//! against its caps.
 
 ghost use Rattle.std.specs.Prelude.{◌≡◌, ◌≢◌, ◌+◌, ◌-◌, ◌^◌, ◌<◌, ◌≤◌, ℕ, [], ◌∷◌, All, get_or, map, length, vec_len, Vec, Some, None, IsErrOf, take, IfOk, OnOk, FitsSigned, IsTrue, IsFalse, ℤ, pos, ◌<ℤ◌, int_div, ◌*ℤ◌, ◌-ℤ◌, neg_ℤ, nat_eq, unsigned_abs};
 ghost use Rattle.std.specs.Int.{w128};

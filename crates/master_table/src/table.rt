@@ -179,8 +179,8 @@ impl Table {
         self.caps
     }
 
-    /// Brings the column into the basis, in place of the row's basis column. Afterwards the column stands,
-    /// among the customers' rows, in that row alone, with a coefficient above 0.
+    /// Brings the column into the basis, in place of the row's basis column. Afterwards the column
+    /// stands, among the customers' rows, in that row alone, with a coefficient above 0.
     ///
     /// `Wide` comes exactly where a number of the new rows is past its cap, and names the first. After a
     /// refusal the table is as before.

@@ -53,8 +53,8 @@ pub(crate) fn carried(
     Ok(carried)
 }
 
-/// Appends the points after the first, moved, up to the last level within the limit. `first` stands in the
-/// place of the first and is moved already.
+/// Appends the points after the first, moved, up to the last level within the limit. `first` stands
+/// in the place of the first and is moved already.
 fn push_moved(
     points: &mut Points,
     first: (u64, u64),

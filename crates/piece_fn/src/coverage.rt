@@ -8,7 +8,8 @@ ghost use Rattle.piece_fn.specs.PieceFn.{first_level};
 
 use crate::points::{last_level, piece_at, time_on_piece};
 
-/// Whether each level of the other value is reached, after `extra`. It walks both lists once from each side.
+/// Whether each level of the other value is reached, after `extra`. It walks both lists once from
+/// each side.
 pub(crate) fn covers(own: &[(u64, u64)], other: &[(u64, u64)], extra: u64) -> bool
     requires own { ArePoints own.now }
     requires other { ArePoints other.now }

@@ -57,8 +57,8 @@ impl PieceFn {
         Ok(PieceFn { points })
     }
 
-    /// Whether there is a point, levels rise, times never fall, and each gap of times is a multiple of the
-    /// gap of levels. It takes no memory.
+    /// Whether there is a point, levels rise, times never fall, and each gap of times is a multiple
+    /// of the gap of levels. It takes no memory.
     pub fn is_points(points: &[(u64, u64)]) -> bool
         ensures { IsTrue result ↔ ArePoints points.now }
     {
@@ -86,8 +86,8 @@ impl PieceFn {
         Some(time_at(points, q))
     }
 
-    /// The greatest level up to which this value covers, with `extra`, every level of the other from `from` on.
-    /// `None` comes where it does not cover `from`. It takes no memory.
+    /// The greatest level up to which this value covers, with `extra`, every level of the other
+    /// from `from` on. `None` comes where it does not cover `from`. It takes no memory.
     pub fn reach(&self, other: &PieceFn, extra: u64, from: u64) -> Option<u64>
         requires { IsLevel (level_times other.now) from }
         ensures some { IfSome result (λ to.

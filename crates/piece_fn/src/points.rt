@@ -5,8 +5,8 @@ ghost use Rattle.charge_curve.specs.Points.{ArePoints, last_level, slope, time_o
 ghost use Rattle.piece_fn.specs.Cuts.{are_points, from_piece, is_step, IsOnFirst};
 ghost use Rattle.piece_fn.specs.PieceFn.{first_level};
 
-/// Whether levels rise, times never fall, and each gap of times is a multiple of the gap of levels. There
-/// is at least one point.
+/// Whether levels rise, times never fall, and each gap of times is a multiple of the gap of levels.
+/// There is at least one point.
 pub(crate) fn are_points(points: &[(u64, u64)]) -> bool
     ensures { result ≡ are_points points.now }
 {

@@ -2,9 +2,9 @@
 
 use route_plan::WalkFault;
 
-/// The first broken rule of a fleet plan. Each rule is tried over the whole plan before the next. `route` is the
-/// index of a route in the plan, `customer` is a node, and `at` is the position of a stop in its route; indices
-/// and positions are counted from 0.
+/// The first broken rule of a fleet plan. Each rule is tried over the whole plan before the next.
+/// `route` is the index of a route in the plan, `customer` is a node, and `at` is the position of a
+/// stop in its route; indices and positions are counted from 0.
 #[derive(Clone, Copy, Debug, Drop, PartialEq, Eq)]
 pub enum PlanFault {
     /// The walk along the route, from a full battery, breaks a rule.

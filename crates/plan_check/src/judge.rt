@@ -19,8 +19,8 @@ use route_plan::{FleetPlan, RoutePlan, walk};
 
 /// The cost of a fleet plan, or its first broken rule. It takes no memory.
 ///
-/// The cost is the sum of the scaled times of the routes: times multiplied by [`Instance::denominator`]. The rules,
-/// each tried over the whole plan before the next:
+/// The cost is the sum of the scaled times of the routes: times multiplied by
+/// [`Instance::denominator`]. The rules, each tried over the whole plan before the next:
 ///
 /// 1. A walk along a route, from a full battery, comes to its end.
 /// 2. No customer stands more than once over all routes.
@@ -28,8 +28,8 @@ use route_plan::{FleetPlan, RoutePlan, walk};
 /// 4. Each route serves a customer.
 /// 5. A stop that wasn't inserted is at a customer, or is the first or the last of its route.
 ///
-/// Where a rule is broken at several places, the first route is named, or the customer with the least node, and of a
-/// route its first stray stop.
+/// Where a rule is broken at several places, the first route is named, or the customer with the
+/// least node, and of a route its first stray stop.
 pub fn check_fleet(inst: &Instance, plan: &FleetPlan) -> Result<u128, PlanFault>
     requires { length (customer_nodes inst.now) ≤ 128 }
     ensures valid { IfOk result (λ cost. IsFleetPlan inst.now 1 (stops_of plan.now.routes)) }

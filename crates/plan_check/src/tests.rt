@@ -24,7 +24,8 @@ const fn via(node: usize, added: u64) -> Stop {
     }
 }
 
-/// What the judge says of routes with these stops; `None` where memory was refused or there are too many customers.
+/// What the judge says of routes with these stops; `None` where memory was refused or there are too
+/// many customers.
 fn judged(alloc: Global, inst: &Instance, routes: &[&[Stop]]) -> Option<Result<u128, PlanFault>> {
     if inst.customers().len() > 128 {
         return None;

@@ -18,8 +18,8 @@ use std::alloc::{AllocError, Global};
 /// What the judges of a plan file and of a certificate say.
 #[derive(Clone, Copy, Debug, Drop, PartialEq, Eq)]
 pub enum Judgement {
-    /// The plan file holds a fleet plan of this scaled cost, or says that there is none, and the certificate shows this
-    /// scaled bound, or that there is no fleet plan.
+    /// The plan file holds a fleet plan of this scaled cost, or says that there is none, and the
+    /// certificate shows this scaled bound, or that there is no fleet plan.
     Accepted {
         cost: Option<u128>,
         bound: Option<u128>,
@@ -30,10 +30,11 @@ pub enum Judgement {
     Certificate(Verdict),
 }
 
-/// Appends what `check` puts: that plan and certificate are accepted, and the scaled cost, the scaled bound, and the
-/// bound taken from the cost, each over the instance's denominator, never reduced, or that there is none; or else
-/// the number of the first rule that is broken, and what breaks it: the route, the customer or the stop of a plan,
-/// the section, the label, the node or the leaf of a certificate.
+/// Appends what `check` puts: that plan and certificate are accepted, and the scaled cost, the
+/// scaled bound, and the bound taken from the cost, each over the instance's denominator, never
+/// reduced, or that there is none; or else the number of the first rule that is broken, and what
+/// breaks it: the route, the customer or the stop of a plan, the section, the label, the node or
+/// the leaf of a certificate.
 ///
 /// After an `Err` `out` has kept its old bytes as a prefix.
 pub fn push_check_report(

@@ -10,8 +10,8 @@ use crate::words::push_numbered;
 use instance_reader::Instance;
 use std::alloc::{AllocError, Global};
 
-/// Appends what `make` puts: the number of nodes of the instance, its denominator, and the scaled time of a route over
-/// the denominator, never reduced, or that no plan of the route is feasible.
+/// Appends what `make` puts: the number of nodes of the instance, its denominator, and the scaled
+/// time of a route over the denominator, never reduced, or that no plan of the route is feasible.
 ///
 /// After an `Err` `out` has kept its old bytes as a prefix.
 pub fn push_make_report(

@@ -13,16 +13,18 @@ use customer_sets::Pairs;
 use instance_reader::Instance;
 use std::alloc::{AllocError, Global};
 
-/// Routes that earn more by the prices of their customers than they take, or a closed list of labels, which shows
-/// that there is none.
+/// Routes that earn more by the prices of their customers than they take, or a closed list of
+/// labels, which shows that there is none.
 ///
-/// `prices` has the weight of a unit of scaled time, and one price per customer, by number. A route keeps the pairs,
-/// starts from a full battery, and serves each of its customers once. The labels of a closed list are closed under
-/// the pairs, the weight and the prices, and in range. Which of several routes or lists is answered isn't promised.
+/// `prices` has the weight of a unit of scaled time, and one price per customer, by number. A route
+/// keeps the pairs, starts from a full battery, and serves each of its customers once. The labels
+/// of a closed list are closed under the pairs, the weight and the prices, and in range. Which of
+/// several routes or lists is answered isn't promised.
 ///
-/// First a quick search compares labels whatever customers they have served; where it finds no route an exact one
-/// follows. Both take the label of least time next. The exact list is tested before it is answered; what the test
-/// finds wanting is added, and the search goes on. The only `Err` is want of memory.
+/// First a quick search compares labels whatever customers they have served; where it finds no
+/// route an exact one follows. Both take the label of least time next. The exact list is tested
+/// before it is answered; what the test finds wanting is added, and the search goes on. The only
+/// `Err` is want of memory.
 pub fn price(
     alloc: Global,
     inst: &Instance,

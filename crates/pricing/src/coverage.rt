@@ -32,7 +32,8 @@ pub(crate) struct Asked<'a> {
 }
 
 impl Asked<'_> {
-    /// Whether a label comes before the key and the number, and its customers let it make the label needless.
+    /// Whether a label comes before the key and the number, and its customers let it make the label
+    /// needless.
     fn admits(&self, other: &Found, number: usize) -> bool {
         let (_, key) = other.label.value.least();
         if key > self.key || key == self.key && number >= self.number {
@@ -43,7 +44,8 @@ impl Asked<'_> {
 }
 
 impl Tree {
-    /// Whether at each level of the label another one has that level or a higher one at no more cost and no later.
+    /// Whether at each level of the label another one has that level or a higher one at no more
+    /// cost and no later.
     pub(crate) fn makes_needless(&self, terms: &Section<'_>, asked: &Asked<'_>) -> bool
         requires tree { IsTree terms.now self.now.found.items self.now.ends.items }
         requires range { IsInRange terms.now.network asked.now.label.now }
@@ -62,7 +64,8 @@ impl Tree {
         false
     }
 
-    /// A level up to which another label does so, from a level on; `None` where none does so at that level.
+    /// A level up to which another label does so, from a level on; `None` where none does so at
+    /// that level.
     fn reach(&self, terms: &Section<'_>, asked: &Asked<'_>, level: u64) -> Option<u64>
         requires tree { IsTree terms.now self.now.found.items self.now.ends.items }
         requires range { IsInRange terms.now.network asked.now.label.now }

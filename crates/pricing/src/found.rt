@@ -17,11 +17,13 @@ pub(crate) struct Found {
     pub(crate) paid: i128,
     /// The number of the label that it is one stop behind; `None` for the start.
     pub(crate) parent: Option<usize>,
-    /// One more than the number of the label before it with the same last customer and node, 0 where there is none.
+    /// One more than the number of the label before it with the same last customer and node, 0
+    /// where there is none.
     pub(crate) before: usize,
 }
 
-/// The labels by number; and by key one more than the number of the last label with it, 0 where there is none.
+/// The labels by number; and by key one more than the number of the last label with it, 0 where
+/// there is none.
 #[derive(Drop)]
 pub(crate) struct Tree {
     pub(crate) found: Vec<Found>,

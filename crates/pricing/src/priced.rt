@@ -20,8 +20,8 @@ pub struct PricedRoute {
 /// What pricing answers.
 #[derive(Drop)]
 pub enum Priced {
-    /// A route that takes, times the weight, less time than the sum of its customers' prices, with the nodes of
-    /// these in the order in which it serves them; and further such routes.
+    /// A route that takes, times the weight, less time than the sum of its customers' prices, with
+    /// the nodes of these in the order in which it serves them; and further such routes.
     Better {
         plan: RoutePlan,
         order: Vec<usize>,

@@ -61,8 +61,8 @@ impl Search {
         Ok(search)
     }
 
-    /// Takes the labels that wait, by least time, and makes the steps from those that are not needless, until none
-    /// waits or enough routes are found.
+    /// Takes the labels that wait, by least time, and makes the steps from those that are not
+    /// needless, until none waits or enough routes are found.
     pub(crate) fn run(&mut self, alloc: Global, terms: &Section<'_>) -> Result<(), AllocError>
         requires { IsSearch terms.now self.old }
         ensures search { OnOk result (IsSearch terms.now self.new) }
@@ -267,8 +267,8 @@ impl Search {
         Ok(labels)
     }
 
-    /// Answers a fault of the listed labels: keeps the route of a label that earns more than it takes, or lists further
-    /// labels, whatever other labels there are.
+    /// Answers a fault of the listed labels: keeps the route of a label that earns more than it
+    /// takes, or lists further labels, whatever other labels there are.
     pub(crate) fn mend(
         &mut self,
         alloc: Global,
@@ -313,8 +313,8 @@ impl Search {
         self.keep_route(alloc, terms, number)
     }
 
-    /// Lists the labels of a step from a listed label that leads to states that are not covered, whatever other
-    /// labels there are.
+    /// Lists the labels of a step from a listed label that leads to states that are not covered,
+    /// whatever other labels there are.
     fn make_step(
         &mut self,
         alloc: Global,

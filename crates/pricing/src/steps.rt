@@ -35,8 +35,8 @@ impl Target {
     }
 }
 
-/// Where the step from a label to a node leads, if one may be made: to a station, or to a customer who isn't served
-/// yet and may follow the last one. It takes no memory.
+/// Where the step from a label to a node leads, if one may be made: to a station, or to a customer
+/// who isn't served yet and may follow the last one. It takes no memory.
 pub(crate) fn target_at(terms: &Section<'_>, from: &Label, node: usize) -> Option<Target>
     requires label { IsLabelOf terms.now.network from.now }
     requires node { node < node_count terms.now.network }
@@ -68,9 +68,9 @@ pub(crate) fn target_at(terms: &Section<'_>, from: &Label, node: usize) -> Optio
     })
 }
 
-/// The values on leaving a node that is gone to from a label: first as the vehicle arrives, and where the node has a
-/// curve those after plugging in and charging. There is none where the battery or the limit does not let the vehicle
-/// come so far.
+/// The values on leaving a node that is gone to from a label: first as the vehicle arrives, and
+/// where the node has a curve those after plugging in and charging. There is none where the battery
+/// or the limit does not let the vehicle come so far.
 pub(crate) fn values_at(
     alloc: Global,
     terms: &Section<'_>,

@@ -20,8 +20,8 @@ fn equal_prices(alloc: Global, customers: usize, each: u64) -> Option<Prices>
     Some(Prices { weight: 1, of })
 }
 
-/// What pricing says at equal prices, without a pair: the scaled time of the first route and how many customers it
-/// serves, or `None` where the labels are closed.
+/// What pricing says at equal prices, without a pair: the scaled time of the first route and how
+/// many customers it serves, or `None` where the labels are closed.
 fn priced(
     alloc: Global,
     text: &str,

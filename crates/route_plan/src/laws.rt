@@ -1,4 +1,5 @@
-//! Laws of the word of a route, of the texts of plans and of the walk along a plan. Each is the contract of an empty function.
+//! Laws of the word of a route, of the texts of plans and of the walk along a plan. Each is the
+//! contract of an empty function.
 
 ghost use Rattle.std.specs.Prelude.{◌≡◌, ◌↔◌, ◌<◌, ◌≤◌, List, ℕ, Err, None, Ok, Option, length, take};
 ghost use Rattle.ev_model.specs.Feasible.{IsFeasible};
@@ -19,9 +20,9 @@ pub fn words_spell_routes()
     ensures { (word nodes : List ℕ) → (nodes_in word ≡ Ok nodes) ↔ SpellsRoute word nodes }
 {}
 
-/// The fault of the text of a route's word is the first from the left: what stands before its place can be continued to
-/// a route's word, and, unless the place is the end of the word, what follows cannot mend it. Reading the nodes of a
-/// word has no other fault.
+/// The fault of the text of a route's word is the first from the left: what stands before its place
+/// can be continued to a route's word, and, unless the place is the end of the word, what follows
+/// cannot mend it. Reading the nodes of a word has no other fault.
 pub fn route_word_faults_are_first()
     ensures first { (word : List ℕ) (at : ℕ) → nodes_in word ≡ Err (Text at)
         → (at ≤ length word) × BeginsRouteWord (take at word) × (at < length word →
@@ -36,7 +37,8 @@ pub fn unbroken_nodes_are_routes()
         (IsRoute g nodes × (length nodes ≤ most_route_nodes)) }
 {}
 
-/// A whole plan is walked to its end exactly where it is feasible, and the walk tells its time and its last level.
+/// A whole plan is walked to its end exactly where it is feasible, and the walk tells its time and
+/// its last level.
 pub fn feasible_plans_are_walked()
     ensures { (g : Network) (start : ℕ) (stops : List Stop) (w : Walk) →
         (walk_along g start stops ≡ Ok w)

@@ -3,7 +3,8 @@
 use ev_list::Listed;
 use ev_model::Stop;
 
-/// A plan of one vehicle: its stops in order, from the depot to the depot. Amounts are in whole units of charge.
+/// A plan of one vehicle: its stops in order, from the depot to the depot. Amounts are in whole
+/// units of charge.
 #[derive(Drop)]
 pub struct RoutePlan {
     pub stops: Listed<Stop>,

@@ -37,8 +37,8 @@ const GREATEST_NODE: u128 = 1_000_000_000;
 /// The most nodes of a route.
 const MOST_NODES: usize = 400;
 
-/// The route of a word: decimal numbers joined by single commas, from the depot to the depot. A station may
-/// stand in a route, and a customer may stand there more than once.
+/// The route of a word: decimal numbers joined by single commas, from the depot to the depot. A
+/// station may stand in a route, and a customer may stand there more than once.
 ///
 /// The first broken rule is answered, as [`RouteFault`] lists them.
 pub fn read_route(alloc: Global, word: &str, inst: &Instance) -> Result<Vec<usize>, RouteFault>

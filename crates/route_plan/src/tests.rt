@@ -20,7 +20,8 @@ fn the_first_broken_rule_of_a_route_is_named(rt: HostRuntime) {
     }
 }
 
-/// The depot, then the customer and the station, 199 times in turn, and `end` behind them: a word of a route.
+/// The depot, then the customer and the station, 199 times in turn, and `end` behind them: a word
+/// of a route.
 fn long_word(alloc: Global, end: &str) -> Option<String> {
     let mut word = String::from_str(alloc, "0").ok()?;
     for _ in 0..199 {

@@ -13,8 +13,9 @@ use instance_reader::Instance;
 
 /// Walks along the stops of a whole plan, from a level at the start. It takes no memory.
 ///
-/// The rule on the ends is tried first, over the whole plan; then the stops are taken in order, and at each
-/// the other rules in the order of [`WalkFault`]. So the walk comes to its end exactly where the plan is feasible.
+/// The rule on the ends is tried first, over the whole plan; then the stops are taken in order, and
+/// at each the other rules in the order of [`WalkFault`]. So the walk comes to its end exactly
+/// where the plan is feasible.
 pub fn walk(inst: &Instance, start: u64, stops: &[Stop]) -> Result<Walk, WalkFault>
     ensures exact { result ≡ walk_along inst.now start stops.now }
     ensures feasible { IfOk result (λ w. IsFeasible inst.now 1 start stops.now) }
@@ -68,7 +69,8 @@ fn is_end(stop: Stop) -> bool
     stop.node == 0 && !stop.via && stop.added == 0
 }
 
-/// The level and the time on leaving a stop at a node of the instance, or the first rule that the stop breaks.
+/// The level and the time on leaving a stop at a node of the instance, or the first rule that the
+/// stop breaks.
 fn step(
     inst: &Instance,
     is_last: bool,
@@ -120,8 +122,8 @@ fn least_level(inst: &Instance, is_last: bool) -> u64
     }
 }
 
-/// The scaled time of an arc and of the visit at its end, without charging: plugging in takes time where something is
-/// charged, not where the vehicle passes through.
+/// The scaled time of an arc and of the visit at its end, without charging: plugging in takes time
+/// where something is charged, not where the vehicle passes through.
 fn driving_time(inst: &Instance, from: usize, stop: Stop) -> u64
     requires from { from < node_count inst.now }
     requires known { stop.node < node_count inst.now }

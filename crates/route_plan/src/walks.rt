@@ -12,7 +12,8 @@ pub struct Walk {
 /// The first broken rule of a plan. `at` is the position of a stop, counted from 0.
 #[derive(Clone, Copy, Debug, Drop, PartialEq, Eq)]
 pub enum WalkFault {
-    /// There are fewer than two stops, or the first or the last isn't at the depot, was inserted or charges.
+    /// There are fewer than two stops, or the first or the last isn't at the depot, was inserted or
+    /// charges.
     Ends,
     /// The node isn't in the instance.
     Unknown { at: usize },

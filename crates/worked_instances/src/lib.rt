@@ -1,5 +1,5 @@
-//! The texts of small instances that tests of several crates run, each for one point. Those of the folder `examples` are
-//! the same texts.
+//! The texts of small instances that tests of several crates run, each for one point. Those of the
+//! folder `examples` are the same texts.
 #![tactic(auto)]
 
 /// A depot, a customer (node 1) and a station (node 2). Without charging the way home is out of reach.

@@ -12,25 +12,29 @@ ghost use Rattle.bound_certificate.specs.WrittenRanges.{WrittenIs};
 ghost use Rattle.bound_certificate.specs.declared.certificate.Certificate.{Certificate};
 ghost use Rattle.bound_certificate.specs.declared.text.cert_text.CertText.TheVariants.{Range, Text, TooLong, Version};
 
-/// Bytes are read as a certificate exactly where they spell it: each certificate in the ranges of a network has one text.
+/// Bytes are read as a certificate exactly where they spell it: each certificate in the ranges of a
+/// network has one text.
 pub fn texts_spell_certificates()
     ensures { (g : Network) → IsNetwork g → (bytes : List ℕ) (w : Written) →
         (certificate_in g bytes ≡ Ok w) ↔ SpellsWritten g bytes w }
 {}
 
-/// What `push_certificate` writes of a certificate that fits is read as that certificate, where it is not too long.
+/// What `push_certificate` writes of a certificate that fits is read as that certificate, where it
+/// is not too long.
 pub fn written_certificates_are_read()
     ensures { (g : Network) → IsNetwork g → customer_count g ≤ 128 → (c : Certificate) →
         Fits g c → length (certificate_text g (written g c)) ≤ most_bytes →
         certificate_in g (certificate_text g (written g c)) ≡ Ok (written g c) }
 {}
 
-/// What the first fault of a text tells. What stands before its place begins a text in which each number is in its range
-/// by itself. However the bytes go on, they are no certificate: but where a number breaks a rule and ends the text, further
-/// digits may mend it, and a text that ends too early begins a text in which each number is in its range by itself.
+/// What the first fault of a text tells. What stands before its place begins a text in which each
+/// number is in its range by itself. However the bytes go on, they are no certificate: but where a
+/// number breaks a rule and ends the text, further digits may mend it, and a text that ends too
+/// early begins a text in which each number is in its range by itself.
 ///
-/// Rules over several numbers are left out of what stands before: behind a pair that no pair may follow, the first
-/// fault is at the next pair's second number, and no other number there would mend it.
+/// Rules over several numbers are left out of what stands before: behind a pair that no pair may
+/// follow, the first fault is at the next pair's second number, and no other number there would
+/// mend it.
 pub fn certificate_faults_are_first()
     ensures range { (g : Network) → IsNetwork g → (bytes : List ℕ) (at : ℕ) →
         certificate_in g bytes ≡ Err (Range at) →

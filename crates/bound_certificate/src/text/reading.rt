@@ -35,13 +35,15 @@ const MOST_BYTES: usize = 1 << 28;
 /// The greatest number of a version that is told from text that is none: it has 38 digits.
 const GREATEST_VERSION: u128 = 99_999_999_999_999_999_999_999_999_999_999_999_999;
 
-/// The certificate of a text, for an instance of at most 128 customers. What is read is in the ranges of the instance,
-/// and its text is `bytes`; each certificate that fits has one text, which `push_certificate` writes.
+/// The certificate of a text, for an instance of at most 128 customers. What is read is in the
+/// ranges of the instance, and its text is `bytes`; each certificate that fits has one text, which
+/// `push_certificate` writes.
 ///
-/// A text of more than 2^28 bytes is `TooLong`. `Version`: the first line is `evroute certificate `, a number in its one
-/// spelling with at most 38 digits that isn't the version of the instance's certificates, and a line feed. Else the first
-/// fault from the left: `Text` where the text is none, and `Range` where a number is out of range or breaks a rule with
-/// numbers before it. `Memory`: memory was refused. A count is never allocated for ahead.
+/// A text of more than 2^28 bytes is `TooLong`. `Version`: the first line is `evroute certificate
+/// `, a number in its one spelling with at most 38 digits that isn't the version of the instance's
+/// certificates, and a line feed. Else the first fault from the left: `Text` where the text is
+/// none, and `Range` where a number is out of range or breaks a rule with numbers before it.
+/// `Memory`: memory was refused. A count is never allocated for ahead.
 pub fn read_certificate(
     alloc: Global,
     inst: &Instance,

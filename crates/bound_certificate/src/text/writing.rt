@@ -23,8 +23,8 @@ use root::write_root;
 use section::write_section;
 use std::alloc::{AllocError, Global};
 
-/// Appends the text of a certificate, in lines that end with a line feed: the version, the bound, the root, the
-/// sections, and the tree in preorder. Customers are written by their nodes.
+/// Appends the text of a certificate, in lines that end with a line feed: the version, the bound,
+/// the root, the sections, and the tree in preorder. Customers are written by their nodes.
 ///
 /// The only refusal is want of memory. After an `Err` the bytes of `out` are as before.
 pub fn push_certificate(

@@ -19,9 +19,10 @@ pub fn texts_spell_plans()
         (fleet_plan_in bytes ≡ Ok plan) ↔ SpellsFleetPlan bytes plan }
 {}
 
-/// Where the text of a plan ends too early, it can be continued to one. Any other fault cannot be mended by
-/// what follows, and what stands before its place can be continued. So a fault is the first from the left.
-/// A text of more than 2^26 bytes has the fault that it is too long, and no other has it.
+/// Where the text of a plan ends too early, it can be continued to one. Any other fault cannot be
+/// mended by what follows, and what stands before its place can be continued. So a fault is the
+/// first from the left. A text of more than 2^26 bytes has the fault that it is too long, and no
+/// other has it.
 pub fn plan_faults_are_first()
     ensures cut { (bytes : List ℕ) (at : ℕ) → plan_in bytes ≡ Err (Bad (End at)) →
         BeginsPlan bytes × (at ≤ length bytes) }

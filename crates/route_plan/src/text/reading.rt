@@ -38,16 +38,18 @@ impl<T: Drop> From<AllocFailed<T>> for PlanText {
     }
 }
 
-/// The plan of a text: the word `route `, the stops parted by single spaces, and a line feed, behind which the text
-/// ends. A plan has one stop at least. A stop is `v` where it was inserted, then its node, then `+` and the amount
-/// where something is charged. Nodes and amounts are decimal numbers without leading zeros and at most 10^9, amounts
-/// are in whole units of charge and above 0.
+/// The plan of a text: the word `route `, the stops parted by single spaces, and a line feed,
+/// behind which the text ends. A plan has one stop at least. A stop is `v` where it was inserted,
+/// then its node, then `+` and the amount where something is charged. Nodes and amounts are decimal
+/// numbers without leading zeros and at most 10^9, amounts are in whole units of charge and above
+/// 0.
 ///
-/// A text of more than 2^26 bytes is `TooLong`. Else `Bad` has the first fault from the left; its place counts bytes
-/// from 0 and is where the number or the word was to begin. `NotWhole`: no digit stands there, or a `0` with another
-/// digit behind it, or the amount is 0. `TooLarge`: the number is above 10^9. `End`: the text ends before the number,
-/// or within the word. `Word`: other bytes stand there than `route `, or a space or the line feed, or bytes follow the
-/// last line feed. A `v` and a `+` may stand, and are never missed. `Memory`: memory was refused.
+/// A text of more than 2^26 bytes is `TooLong`. Else `Bad` has the first fault from the left; its
+/// place counts bytes from 0 and is where the number or the word was to begin. `NotWhole`: no digit
+/// stands there, or a `0` with another digit behind it, or the amount is 0. `TooLarge`: the number
+/// is above 10^9. `End`: the text ends before the number, or within the word. `Word`: other bytes
+/// stand there than `route `, or a space or the line feed, or bytes follow the last line feed. A
+/// `v` and a `+` may stand, and are never missed. `Memory`: memory was refused.
 pub fn read_plan(alloc: Global, bytes: &[u8]) -> Result<RoutePlan, PlanText>
     ensures ok { IfOk result (λ plan. plan_in bytes.now ≡ Ok plan.stops) }
     ensures spelled { IfOk result (λ plan. SpellsPlan bytes.now plan.stops) }
@@ -64,13 +66,15 @@ pub fn read_plan(alloc: Global, bytes: &[u8]) -> Result<RoutePlan, PlanText>
     Ok(plan)
 }
 
-/// The fleet plan of a file, or `None` where the file says that there is none. The first line is `evroute plan 1`. The
-/// second is `none`, or `routes ` and the number of routes, at most 10^6, and then a line follows for each route, as
-/// `read_plan` reads it. Each line ends with a line feed, and the file ends with the last.
+/// The fleet plan of a file, or `None` where the file says that there is none. The first line is
+/// `evroute plan 1`. The second is `none`, or `routes ` and the number of routes, at most 10^6, and
+/// then a line follows for each route, as `read_plan` reads it. Each line ends with a line feed,
+/// and the file ends with the last.
 ///
-/// The faults are those of `read_plan`. A line without a number is one word, its line feed included. Where neither
-/// `none` nor `routes ` stands, the fault is `End` if the file ends within one of them, and else `Word`. A number of
-/// routes above 10^6 is `TooLarge`. A line too many is `Word` at its beginning, a line too few `End` there.
+/// The faults are those of `read_plan`. A line without a number is one word, its line feed
+/// included. Where neither `none` nor `routes ` stands, the fault is `End` if the file ends within
+/// one of them, and else `Word`. A number of routes above 10^6 is `TooLarge`. A line too many is
+/// `Word` at its beginning, a line too few `End` there.
 pub fn read_fleet_plan(alloc: Global, bytes: &[u8]) -> Result<Option<FleetPlan>, PlanText>
     ensures ok { IfOk result (λ plan. fleet_plan_in bytes.now ≡ Ok plan) }
     ensures spelled { IfOk result (SpellsFleetPlan bytes.now) }
@@ -140,9 +144,11 @@ fn take_route(alloc: Global, scan: &mut Scan<'_>) -> Result<RoutePlan, PlanText>
     take_stops(alloc, scan)
 }
 
-/// Takes the stops of a plan, of which there is one at least, parted by single spaces, and the line feed behind them.
+/// Takes the stops of a plan, of which there is one at least, parted by single spaces, and the line
+/// feed behind them.
 ///
-/// The refusals are those of `read_plan` within a line. Where the scan stands after a refusal isn't said.
+/// The refusals are those of `read_plan` within a line. Where the scan stands after a refusal isn't
+/// said.
 pub fn take_stops(alloc: Global, scan: &mut Scan<'_>) -> Result<RoutePlan, PlanText>
     ensures ok { IfOk result (λ plan. stops_at scan.old ≡ Ok (plan.stops, scan.new)) }
     ensures fault { IfErr result (λ fault. fault ≢ PlanText.Memory →
@@ -161,7 +167,8 @@ pub fn take_stops(alloc: Global, scan: &mut Scan<'_>) -> Result<RoutePlan, PlanT
     })
 }
 
-/// Takes a stop: a `v` where it was inserted, its node, and a `+` and the amount where something is charged.
+/// Takes a stop: a `v` where it was inserted, its node, and a `+` and the amount where something is
+/// charged.
 fn take_stop(scan: &mut Scan<'_>) -> Result<Stop, TextFault>
     ensures ok { IfOk result (λ stop. stop_at scan.old ≡ Ok (stop, scan.new)) }
     ensures fault { IfErr result (λ fault. stop_at scan.old ≡ Err fault) }

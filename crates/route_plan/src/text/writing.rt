@@ -7,8 +7,9 @@ ghost use Rattle.route_plan.specs.PlanTexts.{FitsFile, FitsText, fleet_plan_text
 use crate::{FleetPlan, RoutePlan, Stop};
 use std::alloc::{AllocError, Global};
 
-/// Appends the line of a plan: `route`, its stops parted by single spaces, and a line feed. A stop is `v`
-/// where it was inserted, the number of its node, and `+` and the amount where some is charged.
+/// Appends the line of a plan: `route`, its stops parted by single spaces, and a line feed. A stop
+/// is `v` where it was inserted, the number of its node, and `+` and the amount where some is
+/// charged.
 ///
 /// The only refusal is want of memory. After an `Err` the bytes of `out` are as before.
 pub fn push_plan(alloc: Global, out: &mut Vec<u8>, plan: &RoutePlan) -> Result<(), AllocError>
@@ -21,8 +22,8 @@ pub fn push_plan(alloc: Global, out: &mut Vec<u8>, plan: &RoutePlan) -> Result<(
     out.extend_from_slice(text.as_slice())
 }
 
-/// Appends the file of a fleet plan: the line of the format, the line with the number of its plans, and the
-/// line of each. Without a fleet plan the second line is `none`, and the last.
+/// Appends the file of a fleet plan: the line of the format, the line with the number of its plans,
+/// and the line of each. Without a fleet plan the second line is `none`, and the last.
 ///
 /// The only refusal is want of memory. After an `Err` the bytes of `out` are as before.
 pub fn push_fleet_plan(
@@ -52,7 +53,8 @@ fn push_routes(alloc: Global, out: &mut Vec<u8>, plan: &FleetPlan) -> Result<(),
     out.extend_from_slice(text.as_slice())
 }
 
-/// Appends the line of the format and the line with the number of plans. After an `Err` neither stands there.
+/// Appends the line of the format and the line with the number of plans. After an `Err` neither
+/// stands there.
 fn write_head(alloc: Global, text: &mut Vec<u8>, count: usize) -> Result<(), AllocError>
     ensures { OnOk result (text.new.items ≡ text.old.items ++
         (codes "evroute plan 1" ++ 10 ∷ codes "routes " ++ decimal count ++ 10 ∷ [])) }
@@ -91,8 +93,8 @@ pub fn write_stops(alloc: Global, text: &mut Vec<u8>, stops: &[Stop]) -> Result<
     Ok(())
 }
 
-/// Appends the stop at a position, counted from 0, behind a space unless it is the first. After an `Err` the
-/// space may stand there.
+/// Appends the stop at a position, counted from 0, behind a space unless it is the first. After an
+/// `Err` the space may stand there.
 fn write_stop_at(
     alloc: Global,
     text: &mut Vec<u8>,

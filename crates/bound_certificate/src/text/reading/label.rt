@@ -122,7 +122,8 @@ fn is_above(last: Option<usize>, node: usize) -> bool
     }
 }
 
-/// Takes the points of a label, of which there is one at least, parted by spaces, and the line feed behind them.
+/// Takes the points of a label, of which there is one at least, parted by spaces, and the line feed
+/// behind them.
 fn take_points(alloc: Global, inst: &Instance, scan: &mut Scan<'_>) -> Result<Vec<Point>, CertText>
     ensures ok { IfOk result (λ points. points_at inst.now scan.old
         ≡ Ok (points.items, scan.new)) }
@@ -206,8 +207,8 @@ fn take_time(
     }
 }
 
-/// Whether the time of a level is no earlier than that of the point before, and the gap of times is a multiple of the gap
-/// of levels.
+/// Whether the time of a level is no earlier than that of the point before, and the gap of times is
+/// a multiple of the gap of levels.
 fn is_later(last: Option<Point>, level: u64, time: u64) -> bool
     requires { is_higher last level ≡ true }
     ensures { result ≡ is_later last level time }
