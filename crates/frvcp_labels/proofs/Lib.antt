@@ -13,5 +13,6 @@ mod Solving
 pub mod Points
 pub mod Leaving
 pub mod Charging
+pub mod Pays
 pub mod Plugging
 pub mod Tracing

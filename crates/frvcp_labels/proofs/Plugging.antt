@@ -5,19 +5,19 @@ use Rattle.std.specs.List.{All, AllZip}
 use Rattle.std.specs.Option.{IsSome}
 use Rattle.std.proofs.lemmas.Option.{same_Some, none-some}
 use Rattle.std.proofs.lemmas.Bool.{cases_eq, false≢true, le-leb}
-use Rattle.std.proofs.lemmas.List.Elements.{All-filter, All-from_get_or}
-use Rattle.std.proofs.lemmas.List.FromFn.{get_or-range_with_len, length-range_with_len}
+use Rattle.std.proofs.lemmas.List.Elements.{All-head, All-tail}
 use Rattle.ev_model.specs.Network.{Network, curve_at, plug_time, scaled_limit}
 use Rattle.ev_model.specs.Time.{charging_time}
 use Rattle.charge_curve.specs.Points.{last_level, time_on}
-use Rattle.dominance.specs.Coverage.{CoversEach, Reaches, SomeReaches, levels_of}
+use Rattle.dominance.specs.Coverage.{CoversEach, Reaches, SomeReaches}
 use Rattle.dominance.specs.LevelTimes.{IsLevel, LevelTimes, time_at}
 use Rattle.dominance.specs.Steps.{IsCharge, IsChargeFrom, IsShift}
 use Rattle.instance_reader.specs.Instance.{IsCurveAt}
-use Rattle.piece_fn.specs.PieceFn.{IsChargeList, is_support, level_times, starts}
+use Rattle.piece_fn.specs.PieceFn.{level_times}
 use Rattle.frvcp_labels.specs.Arrivals.{CoversVehicle}
 use Rattle.frvcp_labels.specs.Leaves.{AreLeft, CoverCharges, IsPlugged, charge_time_at}
 use Rattle.frvcp_labels.specs.OneLevel.{one_level}
+use Rattle.frvcp_labels.specs.Paying.{AreCharged}
 use Rattle.frvcp_labels.proofs.Arriving.{shifted_covers}
 use Rattle.frvcp_labels.proofs.Charging.{station_charging, station_has_curve}
 use Rattle.frvcp_labels.proofs.Leaving.{reaches_vehicle}
@@ -27,22 +27,12 @@ plug_less : (d p : ℕ) (b : Bool) → d * (if b then p else 0) ≤ d * p
 plug_less d p true = omega arith
 plug_less d p false = omega arith
 
--- charging starts at levels of the value
-range_levels : (v : LevelTimes) → All (λ level. IsLevel v level) (levels_of v)
-range_levels v = All-from_get_or (λ level. IsLevel v level) (levels_of v) 0 (λ i h.
-    let small : i < length v.times = rw (length-range_with_len v.first (length v.times)) at h in
-    rw (get_or-range_with_len v.first (length v.times) i 0 small) (omega arith, omega arith))
-
-starts_levels : (points curve : List (ℕ × ℕ)) → All (λ level. IsLevel (level_times points) level) (starts points curve)
-unfolding starts
-starts_levels points curve = All-filter (λ level. is_support points level || is_support curve level) (λ level. IsLevel (level_times points) level) (levels_of (level_times points)) (range_levels (level_times points))
-
-zipped : (P : ℕ → Type 0) (R : ℕ → List (ℕ × ℕ) → Type 0) (xs : List ℕ) (ys : List (List (ℕ × ℕ))) (k : ℕ) (w : List (ℕ × ℕ)) → All P xs → AllZip R xs ys → slice_get ys k ≡ Some w → (x : ℕ) × P x × R x w
+zipped : (P : ℕ × ℕ → Type 0) (R : ℕ × ℕ → List (ℕ × ℕ) → Type 0) (xs : List (ℕ × ℕ)) (ys : List (List (ℕ × ℕ))) (k : ℕ) (w : List (ℕ × ℕ)) → All P xs → AllZip R xs ys → slice_get ys k ≡ Some w → (x : ℕ × ℕ) × P x × R x w
 zipped P R [] [] k w all zip here = absurd (none-some w here)
 zipped P R [] (y ∷ ys) k w all zip here = absurd zip
 zipped P R (x ∷ xs) [] k w all zip here = absurd zip
-zipped P R (x ∷ xs) (y ∷ ys) zero w all zip here = (x, all 0 0 (omega arith), subst (λ v. R x v) (same_Some y w here) zip.0)
-zipped P R (x ∷ xs) (y ∷ ys) (suc k) w all zip here = zipped P R xs ys k w (λ i d h. all (suc i) d (omega (arith, h))) zip.1 here
+zipped P R (x ∷ xs) (y ∷ ys) zero w all zip here = (x, All-head P x xs all, subst (λ v. R x v) (same_Some y w here) zip.0)
+zipped P R (x ∷ xs) (y ∷ ys) (suc k) w all zip here = zipped P R xs ys k w (All-tail P x xs all) zip.1 here
 
 -- one value, where nothing can be charged
 pub single_covers : (g : Network) (node : ℕ) (arrived : List (ℕ × ℕ)) (values : List (List (ℕ × ℕ))) → ((level time added : ℕ) → 0 < added → CoversVehicle (level_times arrived) level time → IsSome (curve_at g node) → time + charge_time_at g node level added ≤ scaled_limit g → ⊥)
@@ -81,7 +71,8 @@ module _ (g : Network) (node plug limit : ℕ) (plug_is : plug ≡ g.denominator
   pub no_plug : o ≡ None → (level time added : ℕ) → 0 < added → CoversVehicle (level_times arrived) level time → IsSome (curve_at g node) → time + charge_time_at g node level added ≤ scaled_limit g → ⊥
   no_plug none level time added more covers station in_time = subst (λ (x : Option (List (ℕ × ℕ))). MatchOption x ⊥ (λ w. CoversVehicle (level_times w) (level - 0) (time + plug))) none (plugs level time added more covers in_time)
 
-  module _ (plugged curve : List (ℕ × ℕ)) (some : o ≡ Some plugged) (moved : IsShift 0 plug limit (level_times arrived) (level_times plugged)) (station : IsCurveAt g node curve) (low : (level : ℕ) → IsLevel (level_times arrived) level → level ≤ g.capacity) where
+  module _ (plugged curve : List (ℕ × ℕ)) (some : o ≡ Some plugged) (moved : IsShift 0 plug limit (level_times arrived) (level_times plugged)) (station : IsCurveAt g node curve) (low : (level : ℕ) → IsLevel (level_times arrived) level → level ≤ g.capacity)
+      (points : List (ℕ × ℕ)) (points_are : All (λ start. IsLevel (level_times plugged) start.0) points) where
     arrived_at : (level : ℕ) → IsLevel (level_times plugged) level → IsLevel (level_times arrived) level × (time_at (level_times plugged) level ≡ time_at (level_times arrived) level + plug)
     arrived_at level is =
         let back : level + 0 ≡ level = omega arith in
@@ -120,14 +111,14 @@ module _ (g : Network) (node plug limit : ℕ) (plug_is : plug ≡ g.denominator
               omega (arith, bounds.2, later, limit_is);
         }
 
-    charges_left_at : (rest : List (List (ℕ × ℕ))) → AllZip (λ from after. IsChargeFrom (level_times plugged) curve limit from (level_times after)) (starts plugged curve) rest → (k : ℕ) (w : List (ℕ × ℕ)) → slice_get (arrived ∷ rest) k ≡ Some w → 0 < k
+    charges_left_at : (rest : List (List (ℕ × ℕ))) → AllZip (λ start after. IsChargeFrom (level_times plugged) curve limit start.0 (level_times after)) points rest → (k : ℕ) (w : List (ℕ × ℕ)) → slice_get (arrived ∷ rest) k ≡ Some w → 0 < k
         → IsPlugged g node (level_times arrived) (level_times w)
     charges_left_at rest zip zero w here more = absurd (omega arith)
     charges_left_at rest zip (suc k) w here more =
-        let found = zipped (λ level. IsLevel (level_times plugged) level) (λ from after. IsChargeFrom (level_times plugged) curve limit from (level_times after)) (starts plugged curve) rest k w (starts_levels plugged curve) zip here in
-        is_plugged found.0 (level_times w) found.1 found.2
+        let found = zipped (λ start. IsLevel (level_times plugged) start.0) (λ start after. IsChargeFrom (level_times plugged) curve limit start.0 (level_times after)) points rest k w points_are zip here in
+        is_plugged found.0.0 (level_times w) found.1 found.2
 
-    pub charges_left : (values : List (List (ℕ × ℕ))) → IsChargeList plugged curve limit values → AreLeft g node arrived (set values 0 arrived)
+    pub charges_left : (values : List (List (ℕ × ℕ))) → AreCharged plugged curve limit points values → AreLeft g node arrived (set values 0 arrived)
     charges_left [] is = absurd is
     charges_left (u ∷ rest) is = record {
       passing = λ w here. sym (same_Some arrived w here);
@@ -140,15 +131,15 @@ module _ (g : Network) (node plug limit : ℕ) (plug_is : plug ≡ g.denominator
         (0, arrived, omega arith, refl, plugged_reaches level time (subst (λ v. Reaches (level_times v) 0 level time) (sym read ∙ unchanged) reach))
     swapped_at u rest level time unchanged (suc k) x within read reach = (suc k, x, omega arith, read, reach)
 
-    swapped : (values : List (List (ℕ × ℕ))) (level time : ℕ) → IsChargeList plugged curve limit values → SomeReaches level_times values 0 level time → SomeReaches level_times (set values 0 arrived) 0 level time
+    swapped : (values : List (List (ℕ × ℕ))) (level time : ℕ) → AreCharged plugged curve limit points values → SomeReaches level_times values 0 level time → SomeReaches level_times (set values 0 arrived) 0 level time
     swapped [] level time is some_reach = absurd is
     swapped (u ∷ rest) level time is some_reach = swapped_at u rest level time is.0 some_reach.0 some_reach.1 some_reach.2 some_reach.3 some_reach.4
 
-    first_reaches : (values : List (List (ℕ × ℕ))) (level time : ℕ) → IsChargeList plugged curve limit values → Reaches (level_times arrived) 0 level time → SomeReaches level_times (set values 0 arrived) 0 level time
+    first_reaches : (values : List (List (ℕ × ℕ))) (level time : ℕ) → AreCharged plugged curve limit points values → Reaches (level_times arrived) 0 level time → SomeReaches level_times (set values 0 arrived) 0 level time
     first_reaches [] level time is r = absurd is
     first_reaches (u ∷ rest) level time is r = (0, arrived, omega arith, refl, r)
 
-    pub charges_cover : (values : List (List (ℕ × ℕ))) → IsChargeList plugged curve limit values
+    pub charges_cover : (values : List (List (ℕ × ℕ))) → AreCharged plugged curve limit points values
         → ((other : LevelTimes) (extra level time : ℕ) → CoversEach (level_times plugged) other extra → IsCharge other curve limit level time → SomeReaches level_times values extra level time) → CoverCharges g node arrived (set values 0 arrived)
     charges_cover values is covers_charges level time added covers has within in_time = elim (cases_eq added 0) [
       | inl nothing ↦

@@ -5,6 +5,7 @@ pub mod Trips
 pub mod Stations
 pub mod TripView
 pub mod Leaves
+pub mod Paying
 pub mod Search
 pub mod Full
 pub mod Answers

@@ -8,6 +8,7 @@ ghost use Rattle.frvcp_labels.specs.Search.{AreSteps, CoverStops, IsSoundState, 
 ghost use Rattle.frvcp_labels.specs.Trips.{drive_time, least_level};
 ghost use Rattle.piece_fn.specs.PieceFn.{level_times};
 
+use crate::paying::charged_where_it_pays;
 use crate::state::State;
 use crate::trip::Trip;
 use dominance::LabelValue;
@@ -93,7 +94,7 @@ impl<'a> Trip<'a> {
         let Some(plugged) = arrived.shift(0, self.plugging_time(node), self.limit())? else {
             return single(alloc, arrived);
         };
-        let mut values = plugged.charge(curve, self.limit())?;
+        let mut values = charged_where_it_pays(alloc, &plugged, curve, self.limit())?;
         values[0] = arrived;
         Ok(values)
     }

@@ -10,6 +10,7 @@
 
 mod arrival;
 mod full;
+mod paying;
 mod search;
 mod solve;
 mod state;
