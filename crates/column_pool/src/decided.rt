@@ -1,0 +1,347 @@
+//! The bound of a node whose pairs are decided: at most one order of customers is left that serves a
+//! customer, so that the fleet plan of the node is found customer by customer.
+
+ghost use Rattle.std.specs.Prelude.{◌≡◌, ◌+◌, ◌++◌, ◌∷◌, ◌<◌, ◌≤◌, [], IfOk, IfSome, length, true};
+ghost use Rattle.bound_certificate.specs.Limits.{most_items};
+ghost use Rattle.customer_sets.specs.Pairs.{IsDecided};
+ghost use Rattle.ev_model.specs.Network.{is_customer, node_count};
+ghost use Rattle.fleet_model.specs.Places.{customer_number};
+ghost use Rattle.instance_reader.specs.Instance.{customer_nodes};
+ghost use Rattle.column_pool.specs.Bounds.{IsBoundOfDecided, IsNodeBound};
+ghost use Rattle.column_pool.specs.Chains.{AreChains, HasChains, IsChainThrough, is_served, lone_price, serves};
+ghost use Rattle.column_pool.specs.Pool.{IsGrown, IsPool};
+
+use crate::bound::NodeBound;
+use crate::pool::{ColumnPool, full_time};
+use crate::taking::copy_of;
+use bound_certificate::{Section, Share};
+use customer_sets::Pairs;
+use ev_list::Listed;
+use frvcp_labels::solve_route;
+use instance_reader::Instance;
+use piece_fn::Label;
+use pricing::{Priced, Prices, price};
+use route_plan::RoutePlan;
+use std::alloc::{AllocError, Global};
+
+/// What serves a customer.
+#[derive(Drop)]
+enum Chain {
+    /// A fastest plan of the only order that does, with this order.
+    Route { order: Vec<usize>, plan: RoutePlan },
+    /// No route that keeps the pairs does.
+    None { section: Section },
+}
+
+/// The chains that serve the first customers, and the prices of these customers: the first customer
+/// of a chain, by number, pays for its time.
+#[derive(Drop)]
+struct Chains {
+    shares: Vec<Share>,
+    prices: Vec<i128>,
+}
+
+/// The bound of a node whose pairs are decided, in the ranges of certificates: the cost of the fleet
+/// plan of its chains, or that there is none. The chains go into the pool. The only `Err` is want of
+/// memory.
+pub(crate) fn bound_of_decided(
+    alloc: Global,
+    inst: &Instance,
+    pairs: &Pairs,
+    pool: &mut ColumnPool,
+) -> Result<NodeBound, AllocError>
+    requires few { length (customer_nodes inst.now) ≤ 128 }
+    requires pairs { pairs.now.customers ≡ length (customer_nodes inst.now) }
+    requires pool { IsPool inst.now pool.old }
+    requires decided { IsDecided pairs.now }
+    ensures bound { IfOk result (IsNodeBound inst.now pairs.now) }
+    ensures decided { IfOk result (IsBoundOfDecided inst.now pairs.now) }
+    ensures pool { IsPool inst.now pool.new }
+    ensures grown { IsGrown inst.now pool.old pool.new }
+{
+    let mut chains = Chains {
+        shares: Vec::new(alloc),
+        prices: Vec::new(alloc),
+    };
+    for (number, node) in inst.customers().iter().enumerate() {
+        if let Some(section) = chains.serve(alloc, inst, pairs, pool, number, *node)? {
+            return Ok(NodeBound::Empty { section });
+        }
+    }
+    chains.into_bound(alloc, inst, pairs)
+}
+
+impl Chains {
+    /// Adds what serves the next customer, or answers that there is nothing that does.
+    fn serve(
+        &mut self,
+        alloc: Global,
+        inst: &Instance,
+        pairs: &Pairs,
+        pool: &mut ColumnPool,
+        number: usize,
+        node: usize,
+    ) -> Result<Option<Section>, AllocError>
+        requires few { length (customer_nodes inst.now) ≤ 128 }
+        requires pairs { pairs.now.customers ≡ length (customer_nodes inst.now) }
+        requires pool { IsPool inst.now pool.old }
+        requires decided { IsDecided pairs.now }
+        requires known { node < node_count inst.now }
+        requires customer { is_customer inst.now node ≡ true }
+        requires number { number ≡ customer_number inst.now node }
+        requires chains { AreChains inst.now pairs.now number self.old.shares.items
+            self.old.prices.items }
+        ensures chains { IfOk result (HasChains inst.now pairs.now (number + 1)
+            self.new.shares.items self.new.prices.items) }
+        ensures pool { IsPool inst.now pool.new }
+        ensures grown { IsGrown inst.now pool.old pool.new }
+    {
+        if is_served(&self.shares, node) {
+            self.prices.push(0)?;
+            return Ok(None);
+        }
+        match chain_through(alloc, inst, pairs, number, node)? {
+            Chain::None { section } => Ok(Some(section)),
+            Chain::Route { order, plan } => {
+                let pooled = copy_of(alloc, &plan)?;
+                pool.put(alloc, inst, &order, pooled)?;
+                self.prices.push(i128::from(full_time(inst, &plan)))?;
+                self.shares.push(Share { share: 1, plan })?;
+                Ok(None)
+            }
+        }
+    }
+
+    /// The bound at the chains of all customers.
+    fn into_bound(
+        self,
+        alloc: Global,
+        inst: &Instance,
+        pairs: &Pairs,
+    ) -> Result<NodeBound, AllocError>
+        requires few { length (customer_nodes inst.now) ≤ 128 }
+        requires pairs { pairs.now.customers ≡ length (customer_nodes inst.now) }
+        requires decided { IsDecided pairs.now }
+        requires chains { AreChains inst.now pairs.now (length (customer_nodes inst.now))
+            self.shares.items self.prices.items }
+        ensures bound { IfOk result (IsNodeBound inst.now pairs.now) }
+        ensures decided { IfOk result (IsBoundOfDecided inst.now pairs.now) }
+    {
+        let _nodes = inst.nodes();
+        let Chains { shares, prices } = self;
+        let prices = Prices {
+            weight: 1,
+            of: prices,
+        };
+        match price(alloc, inst, pairs, &prices)? {
+            Priced::Better { .. } => unreachable!(),
+            Priced::Closed { labels } => Ok(NodeBound::Exact {
+                section: section_of(pairs, prices, labels),
+                over: 1,
+                shares: Listed::from_vec(shares),
+            }),
+        }
+    }
+}
+
+/// Whether one of the plans serves the customer at the node.
+fn is_served(shares: &[Share], node: usize) -> bool
+    ensures { result ≡ is_served node shares.now }
+{
+    shares.iter().any(|share| serves(&share.plan, node))
+}
+
+/// Whether the plan serves the customer at the node.
+fn serves(plan: &RoutePlan, node: usize) -> bool
+    ensures { result ≡ serves node plan.now.stops }
+{
+    let stops = plan.stops.as_slice();
+    stops.iter().any(|stop| !stop.via && stop.node == node)
+}
+
+/// The chain through a customer, whose number and node are given. At a price for him alone, and time
+/// for nothing, each route that serves him earns.
+fn chain_through(
+    alloc: Global,
+    inst: &Instance,
+    pairs: &Pairs,
+    number: usize,
+    node: usize,
+) -> Result<Chain, AllocError>
+    requires few { length (customer_nodes inst.now) ≤ 128 }
+    requires pairs { pairs.now.customers ≡ length (customer_nodes inst.now) }
+    requires known { node < node_count inst.now }
+    requires customer { is_customer inst.now node ≡ true }
+    requires number { number ≡ customer_number inst.now node }
+    ensures { IfOk result (IsChainThrough inst.now pairs.now node) }
+{
+    let prices = Prices {
+        weight: 0,
+        of: lone_price(alloc, inst.customers().len(), number)?,
+    };
+    match price(alloc, inst, pairs, &prices)? {
+        Priced::Closed { labels } => Ok(Chain::None {
+            section: section_of(pairs, prices, labels),
+        }),
+        Priced::Better { order, .. } => {
+            let route = route_over(alloc, &order)?;
+            let Some(plan) = solve_route(alloc, inst, &route, inst.max_q())? else {
+                unreachable!();
+            };
+            Ok(Chain::Route { order, plan })
+        }
+    }
+}
+
+/// A price of 1 for one of so many customers, by number, and of 0 for the others.
+fn lone_price(alloc: Global, customers: usize, number: usize) -> Result<Vec<i128>, AllocError>
+    requires { number < customers }
+    ensures { IfOk result (λ prices. prices.items ≡ lone_price customers number) }
+{
+    let mut prices = vec![in alloc; 0i128; customers]?;
+    prices[number] = 1;
+    Ok(prices)
+}
+
+/// The route from the depot over the nodes to the depot.
+fn route_over(alloc: Global, order: &[usize]) -> Result<Vec<usize>, AllocError>
+    ensures { IfOk result (λ route. route.items ≡ 0 ∷ order.now ++ 0 ∷ []) }
+{
+    let mut route = Vec::new(alloc);
+    route.push(0)?;
+    route.extend_from_slice(order)?;
+    route.push(0)?;
+    Ok(route)
+}
+
+/// The section of closed labels.
+fn section_of(pairs: &Pairs, prices: Prices, labels: Vec<Label>) -> Section
+    ensures weight { result.weight ≡ prices.weight }
+    ensures prices { result.prices ≡ prices.of.items }
+    ensures pairs { result.pairs ≡ pairs.now }
+    ensures labels { result.labels ≡ labels.items }
+    ensures few { length result.labels ≤ most_items }
+{
+    let Prices { weight, of } = prices;
+    Section {
+        weight,
+        prices: Listed::from_vec(of),
+        pairs: *pairs,
+        labels: Listed::from_vec(labels),
+    }
+}
+
+#[cfg(test)]
+mod tests {
+    use super::bound_of_decided;
+    use crate::bound::NodeBound;
+    use crate::pool::ColumnPool;
+    use customer_sets::Pairs;
+    use instance_reader::read_instance;
+    use std::alloc::Global;
+    use worked_instances::{NO_STATION, THREE_CUSTOMERS, TWO_CUSTOMERS};
+
+    /// What a test requires of pairs, and what it forbids.
+    type Places = &'static [(usize, usize)];
+
+    /// The pairs of so many customers, where they are decided.
+    fn pairs_of(customers: usize, required: Places, forbidden: Places) -> Option<Pairs>
+        requires { customers ≤ 128 }
+        ensures customers { IfSome result (λ pairs. pairs.customers ≡ customers) }
+        ensures decided { IfSome result IsDecided }
+    {
+        let mut pairs = Pairs::new(customers);
+        for (i, j) in required {
+            if *i == 0 || *j == 0 || *i > customers || *j > customers || *i == *j {
+                return None;
+            }
+            pairs.require(*i, *j);
+        }
+        for (i, j) in forbidden {
+            if *i > customers || *j > customers || *i == *j {
+                return None;
+            }
+            pairs.forbid(*i, *j);
+        }
+        if pairs.decided() { Some(pairs) } else { None }
+    }
+
+    /// The weight and the price sum of the bound, and how many routes it has.
+    fn bound(
+        alloc: Global,
+        text: &str,
+        limit: u64,
+        required: Places,
+        forbidden: Places,
+    ) -> Option<(u64, i128, usize)> {
+        let inst = read_instance(alloc, text.as_bytes()).ok()?;
+        let inst = inst.with_limit(limit).ok()?;
+        let customers = inst.customers().len();
+        if customers > 128 {
+            return None;
+        }
+        let pairs = pairs_of(customers, required, forbidden)?;
+        let mut pool = ColumnPool::new(alloc);
+        let bound = bound_of_decided(alloc, &inst, &pairs, &mut pool).ok()?;
+        let (section, routes) = match bound {
+            NodeBound::Exact {
+                section,
+                shares,
+                ..
+            } => (section, shares.len()),
+            NodeBound::Empty { section } => (section, 0),
+            NodeBound::Wide { .. } => return None,
+        };
+        let mut sum = 0i128;
+        for price in section.prices.as_slice() {
+            sum = sum.saturating_add(*price);
+        }
+        Some((section.weight, sum, routes))
+    }
+
+    #[test]
+    fn the_bound_of_chains_is_the_cost_of_their_plans(rt: HostRuntime) {
+        let alloc = rt.alloc();
+        let one: Places = &[(1, 2), (2, 3)];
+        let two: Places = &[(2, 1), (2, 3), (3, 1)];
+        assert_eq!(rt;
+            bound(alloc, THREE_CUSTOMERS, 14, one, &[(3, 1)]),
+            Some((1, 14, 1))
+        );
+        assert_eq!(rt;
+            bound(alloc, THREE_CUSTOMERS, 14, &[(1, 2)], two),
+            Some((1, 19, 2))
+        );
+        assert_eq!(rt; bound(alloc, NO_STATION, 8, &[], &[]), Some((1, 8, 1)));
+    }
+
+    #[test]
+    fn a_chain_past_the_limit_shows_that_there_is_no_plan(rt: HostRuntime) {
+        let alloc = rt.alloc();
+        let one: Places = &[(1, 2), (2, 3)];
+        assert_eq!(rt;
+            bound(alloc, THREE_CUSTOMERS, 13, one, &[(3, 1)]),
+            Some((0, 1, 0))
+        );
+    }
+
+    #[test]
+    fn a_ring_shows_that_there_is_no_plan(rt: HostRuntime) {
+        let alloc = rt.alloc();
+        let ring: Places = &[(1, 2), (2, 1)];
+        assert_eq!(rt;
+            bound(alloc, TWO_CUSTOMERS, 100, ring, &[]),
+            Some((0, 1, 0))
+        );
+    }
+
+    #[test]
+    fn a_customer_who_can_not_be_last_shows_that_there_is_no_plan(rt: HostRuntime) {
+        let alloc = rt.alloc();
+        let apart: Places = &[(1, 2), (2, 1), (2, 0)];
+        assert_eq!(rt;
+            bound(alloc, TWO_CUSTOMERS, 100, &[], apart),
+            Some((0, 1, 0))
+        );
+    }
+}

@@ -1,0 +1,56 @@
+//! The bound of a node.
+
+ghost use Rattle.std.specs.Prelude.{◌≡◌, ◌≤◌, IfOk, length};
+ghost use Rattle.customer_sets.specs.Pairs.{IsDecided};
+ghost use Rattle.instance_reader.specs.Instance.{customer_nodes};
+ghost use Rattle.column_pool.specs.Bounds.{IsBoundOfDecided, IsNodeBound};
+ghost use Rattle.column_pool.specs.Pool.{IsGrown, IsPool};
+
+use crate::bound::NodeBound;
+use crate::by_table::bound_by_table;
+use crate::decided::bound_of_decided;
+use crate::fault::NodeFault;
+use crate::pool::ColumnPool;
+use crate::wide::wide_bound;
+use customer_sets::Pairs;
+use instance_reader::Instance;
+use master_table::Caps;
+use std::alloc::{AllocError, Global};
+
+/// The bound of the node whose forbidden pairs these are: a section with exactly these pairs and
+/// closed labels, and what shows that its bound couldn't be had higher by prices. All of it is in
+/// the ranges of certificates.
+///
+/// Where the pairs are decided (no customer is left to branch on) the answer is `Exact` or `Empty`,
+/// and the section's bound is the least cost of a fleet plan that keeps them: the routes with shares
+/// are such a plan.
+///
+/// Afterwards the pool has for each order from before the same plan or a faster one, and perhaps
+/// further routes. This holds after a refusal too. The only `Err` is want of memory.
+pub fn bound_node(
+    alloc: Global,
+    inst: &Instance,
+    pairs: &Pairs,
+    pool: &mut ColumnPool,
+) -> Result<NodeBound, AllocError>
+    requires few { length (customer_nodes inst.now) ≤ 128 }
+    requires pairs { pairs.now.customers ≡ length (customer_nodes inst.now) }
+    requires pool { IsPool inst.now pool.old }
+    ensures bound { IfOk result (IsNodeBound inst.now pairs.now) }
+    ensures decided { IsDecided pairs.now → IfOk result (IsBoundOfDecided inst.now pairs.now) }
+    ensures pool { IsPool inst.now pool.new }
+    ensures grown { IsGrown inst.now pool.old pool.new }
+{
+    if pairs.decided() {
+        return bound_of_decided(alloc, inst, pairs, pool);
+    }
+    let caps = Caps {
+        body: 1 << 40,
+        cost: 1 << 84,
+    };
+    match bound_by_table(alloc, inst, pairs, pool, caps) {
+        Ok(bound) => Ok(bound),
+        Err(NodeFault::Memory) => Err(AllocError),
+        Err(NodeFault::Wide { plans, basis }) => { wide_bound(alloc, inst, pairs, plans, &basis) }
+    }
+}

@@ -1,0 +1,159 @@
+//! Worked instances: the bound of a node by a table, and by rising prices.
+
+ghost use Rattle.std.specs.Prelude.{IfSome};
+ghost use Rattle.column_pool.specs.Pool.{IsPool};
+
+use crate::by_table::bound_by_table;
+use crate::fault::NodeFault;
+use crate::own::put_own_route;
+use crate::rising::{Risen, rising_section};
+use crate::wide::wide_bound;
+use crate::{ColumnPool, NodeBound};
+use customer_sets::Pairs;
+use instance_reader::{Instance, read_instance};
+use master_table::Caps;
+use std::alloc::Global;
+use worked_instances::{DEPOT_ALONE, ONE_STATION, THREE_CUSTOMERS, TWO_CUSTOMERS};
+
+/// What a bound by a table tells.
+#[derive(Clone, Copy, Debug, PartialEq, Eq)]
+enum Told {
+    /// The price sum, the weight, the number that the shares are over, and how many shares there
+    /// are.
+    Exact(i128, u64, u64, usize),
+    Empty,
+    /// How many columns the basis has, and the sum of the rising prices.
+    Wide(usize, i128),
+}
+
+/// The instance of a text, within the limit.
+fn instance(alloc: Global, text: &str, limit: u64) -> Option<Instance> {
+    let inst = read_instance(alloc, text.as_bytes()).ok()?;
+    inst.with_limit(limit).ok()
+}
+
+/// A pool with the route of the first customer alone.
+fn first_route(alloc: Global, inst: &Instance) -> Option<ColumnPool>
+    ensures { IfSome result (IsPool inst.now) }
+{
+    let mut pool = ColumnPool::new(alloc);
+    for node in inst.customers() {
+        put_own_route(alloc, inst, &mut pool, *node).ok()?;
+        return Some(pool);
+    }
+    Some(pool)
+}
+
+/// The sum of the prices.
+fn price_sum(prices: &[i128]) -> Option<i128> {
+    let mut sum: i128 = 0;
+    for price in prices {
+        sum = sum.checked_add(*price)?;
+    }
+    Some(sum)
+}
+
+/// What a bound tells.
+fn summary_of(bound: NodeBound) -> Option<Told> {
+    match bound {
+        NodeBound::Exact {
+            section,
+            over,
+            shares,
+        } => {
+            let sum = price_sum(section.prices.as_slice())?;
+            Some(Told::Exact(sum, section.weight, over, shares.len()))
+        }
+        NodeBound::Empty { section: _ } => Some(Told::Empty),
+        NodeBound::Wide {
+            columns: _,
+            basis,
+            section,
+        } => {
+            let sum = price_sum(section.prices.as_slice())?;
+            Some(Told::Wide(basis.len(), sum))
+        }
+    }
+}
+
+/// What the bound without a pair tells, by a table with the caps of a body equation.
+fn bounded(alloc: Global, text: &str, limit: u64, body: u64) -> Option<Told> {
+    if body == 0 || body > 1 << 40 {
+        return None;
+    }
+    let inst = instance(alloc, text, limit)?;
+    let customers = inst.customers().len();
+    if customers > 128 {
+        return None;
+    }
+    let pairs = Pairs::new(customers);
+    let mut pool = first_route(alloc, &inst)?;
+    let caps = Caps {
+        body,
+        cost: 1 << 84,
+    };
+    match bound_by_table(alloc, &inst, &pairs, &mut pool, caps) {
+        Ok(bound) => summary_of(bound),
+        Err(NodeFault::Memory) => None,
+        Err(NodeFault::Wide { plans, basis }) => {
+            let bound = wide_bound(alloc, &inst, &pairs, plans, &basis).ok()?;
+            summary_of(bound)
+        }
+    }
+}
+
+#[test]
+fn bounds_without_pairs_are_linear_optima(rt: HostRuntime) {
+    let alloc = rt.alloc();
+    for (text, limit, body, answer) in [
+        (THREE_CUSTOMERS, 11u64, 1u64 << 40, Told::Exact(33, 2, 2, 3)),
+        (THREE_CUSTOMERS, 11, 1, Told::Wide(3, 14)),
+        (TWO_CUSTOMERS, 7, 1 << 40, Told::Empty),
+        (TWO_CUSTOMERS, 12, 1 << 40, Told::Exact(16, 1, 1, 2)),
+        (TWO_CUSTOMERS, 13, 1 << 40, Told::Exact(13, 1, 1, 1)),
+        (ONE_STATION, 43, 1 << 40, Told::Exact(43, 1, 1, 1)),
+    ] {
+        assert_eq!(rt; bounded(alloc, text, limit, body), Some(answer));
+    }
+}
+
+/// Whether the rising prices are these at that weight, under a pair that may be forbidden.
+fn rises_to(
+    alloc: Global,
+    text: &str,
+    pair: Option<(usize, usize)>,
+    weight: u64,
+    prices: &[i128],
+) -> Option<bool> {
+    let inst = read_instance(alloc, text.as_bytes()).ok()?;
+    let customers = inst.customers().len();
+    if customers > 128 {
+        return None;
+    }
+    let mut pairs = Pairs::new(customers);
+    if let Some((i, j)) = pair {
+        if i > customers || j > customers || i == j {
+            return None;
+        }
+        pairs.forbid(i, j);
+    }
+    let section = match rising_section(alloc, &inst, &pairs).ok()? {
+        Risen::Priced { section } => section,
+        Risen::Nowhere { section } => section,
+    };
+    Some(section.weight == weight && section.prices.as_slice() == prices)
+}
+
+#[test]
+fn prices_rise_customer_by_customer(rt: HostRuntime) {
+    let alloc = rt.alloc();
+    for (text, pair, weight, prices) in [
+        (DEPOT_ALONE, None, 1u64, [].as_slice()),
+        (ONE_STATION, None, 1, [43i128].as_slice()),
+        (ONE_STATION, Some((0usize, 1usize)), 0, [1].as_slice()),
+        (TWO_CUSTOMERS, None, 1, [8, 5].as_slice()),
+        (THREE_CUSTOMERS, None, 1, [8, 3, 3].as_slice()),
+    ] {
+        assert_eq!(rt; rises_to(alloc, text, pair, weight, prices), Some(true));
+    }
+}
