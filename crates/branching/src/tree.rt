@@ -171,6 +171,7 @@ impl Tree {
     pub fn least_bound(&self) -> Option<u128>
         ensures none { IsNone result ↔ NoneIsLive self.now.nodes }
         ensures least { IfSome result (IsLeastBound self.now.nodes) }
+        ensures tree { IsSearchTree self.now }
     {
         least_live(self.nodes.as_slice())
     }

@@ -1,0 +1,21 @@
+use Rattle.std.proofs.lemmas.Result.{IfOk-weaker}
+use Rattle.ev_fleet.specs.Outcome.{IsOutcome}
+use Rattle.ev_fleet.specs.Searching.{IsOutcomeOf}
+use Rattle.ev_fleet.proofs.Advancing.{root_more, within_more}
+use Rattle.ev_fleet.proofs.search.plan_fleet.Goals as goal
+
+pub loop-budget-preserved : goal.loop-budget-preserved
+loop-budget-preserved c =
+    let old = c.loop-budget.search in
+    let new = c.step.new.search in
+    let one = c.in_ok-step.ensures.one in
+    record {
+      searching = c.in_ok-step.ensures.searching;
+      root = root_more c.args.inst.now old.sections.items new.sections.items _ one c.loop-budget.invariant.root;
+      within = within_more c.args.budget old.sections.items new.sections.items one (c.goes_on.ensures.within c.loop-budget-test.true);
+    }
+
+pub returns : goal.returns
+returns c =
+    IfOk-weaker c.outcome_of.result (IsOutcomeOf c.args.inst.now c.loop-budget.search) (IsOutcome c.args.inst.now c.args.budget)
+    (λ o is. is c.args.budget c.loop-budget.invariant.within (c.goes_on.ensures.ended c.loop-budget-test.false)) c.outcome_of.ensures

@@ -1,0 +1,14 @@
+use Rattle.std.proofs.Common.{length}
+use Rattle.branching.specs.Work.{work_left}
+use Rattle.ev_fleet.specs.Searching.{IsSearching, IsWithin, ShowsRoot}
+use Rattle.ev_fleet.proofs.search.plan_fleet.Given as goal
+
+abbrev pub invariant-loop-budget : goal.invariant-loop-budget
+invariant-loop-budget l = record {
+  searching : IsSearching l.inst l.search;
+  root : ShowsRoot l.inst l.search.sections.items l.root;
+  within : IsWithin l.budget (length l.search.sections.items);
+}
+
+abbrev pub decreases-loop-budget : goal.decreases-loop-budget
+decreases-loop-budget l = work_left l.search.tree.nodes

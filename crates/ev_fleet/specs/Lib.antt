@@ -1,0 +1,13 @@
+pub mod Bounds
+pub mod Searched
+pub mod Standing
+pub mod Plans
+pub mod Outcome
+pub mod State
+pub mod Held
+pub mod Splitting
+pub mod Answers
+pub mod SameRoutes
+pub mod LeafNames
+pub mod Searching
+pub mod OwnRoutes

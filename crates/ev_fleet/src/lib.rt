@@ -1,0 +1,20 @@
+//! The search for the cheapest plan of a fleet by branch and price, best bound first (Land, Doig
+//! 1960; for routes: Desaulniers, Desrosiers, Solomon 2005).
+#![tactic(auto)]
+
+mod answer;
+mod held;
+mod outcome;
+mod own;
+mod pair;
+mod search;
+mod section_bound;
+mod shares;
+mod state;
+mod taking;
+
+pub use outcome::Outcome;
+pub use search::plan_fleet;
+
+#[cfg(test)]
+mod tests;

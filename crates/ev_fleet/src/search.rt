@@ -1,0 +1,72 @@
+//! The search.
+
+ghost use Rattle.std.specs.Prelude.{◌≡◌, ◌≤◌, false, IfOk, IfSome, IsTrue, length};
+ghost use Rattle.instance_reader.specs.Instance.{customer_nodes};
+ghost use Rattle.ev_fleet.specs.Held.{cost_at};
+ghost use Rattle.ev_fleet.specs.Outcome.{IsOutcome};
+ghost use Rattle.ev_fleet.specs.Searching.{IsDone, IsFurtherWithin, IsPromising, IsUsedUp, MayEnd};
+
+use crate::answer::outcome_of;
+use crate::outcome::Outcome;
+use crate::state::{Search, begin, step};
+use instance_reader::Instance;
+use std::alloc::{AllocError, Global};
+
+/// The cheapest plan of a fleet, with a certificate that none costs less; with a budget, which is
+/// the greatest number of nodes whose bound is found, the cheapest plan that was found by then, and
+/// a certificate of what none costs less than.
+///
+/// The certificate's sections are those of the nodes, in the order in which their bounds were
+/// found. `stopped` is true exactly where the budget is used up and the cost is above the
+/// certificate's bound, or no plan is held though the bound is a number. The only `Err` is want of
+/// memory.
+pub fn plan_fleet(
+    alloc: Global,
+    inst: &Instance,
+    budget: Option<u64>,
+) -> Result<Outcome, AllocError>
+    requires few { length (customer_nodes inst.now) ≤ 128 }
+    requires budget { IfSome budget (λ most. 1 ≤ most) }
+    ensures { IfOk result (IsOutcome inst.now budget) }
+{
+    let (mut search, root) = begin(alloc, inst)?;
+    while goes_on(&search, budget) {
+        step(alloc, inst, &mut search)?;
+    }
+    outcome_of(alloc, inst, search, root)
+}
+
+/// Whether an open node may lead to a cheaper plan, and another node is within the budget.
+fn goes_on(search: &Search, budget: Option<u64>) -> bool
+    ensures within { IsTrue result → IsFurtherWithin budget (length search.now.sections.items) }
+    ensures promising { IsTrue result →
+        IsPromising search.now.tree (cost_at search.now.held) }
+    ensures ended { result ≡ false → MayEnd budget search.now }
+{
+    is_within(search.sections.len() as u64, budget) && is_promising(search)
+}
+
+/// Whether the bound of some open node is below the cost of the plan that is held.
+fn is_promising(search: &Search) -> bool
+    ensures promising { IsTrue result →
+        IsPromising search.now.tree (cost_at search.now.held) }
+    ensures done { result ≡ false →
+        IsDone search.now.tree.nodes (cost_at search.now.held) }
+{
+    match (search.tree.least_bound(), &search.held) {
+        (None, _) => false,
+        (Some(_), None) => true,
+        (Some(least), Some(held)) => least < held.cost,
+    }
+}
+
+/// Whether one node more is within the budget.
+fn is_within(nodes: u64, budget: Option<u64>) -> bool
+    ensures within { IsTrue result → IsFurtherWithin budget nodes }
+    ensures used { result ≡ false → IsUsedUp budget nodes }
+{
+    match budget {
+        Some(most) => nodes < most,
+        None => true,
+    }
+}

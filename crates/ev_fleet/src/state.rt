@@ -1,0 +1,134 @@
+//! The state of a search, its beginning, and its steps.
+
+ghost use Rattle.std.specs.Prelude.{◌≡◌, ◌<◌, ◌≤◌, IfOk, IfSome, length, OnOk};
+ghost use Rattle.branching.specs.Nodes.{NoneIsOpen};
+ghost use Rattle.branching.specs.Work.{work_left};
+ghost use Rattle.instance_reader.specs.Instance.{customer_nodes};
+ghost use Rattle.column_pool.specs.Pool.{IsPool};
+ghost use Rattle.ev_fleet.specs.Bounds.{IsAtMost};
+ghost use Rattle.ev_fleet.specs.Held.{MayHold, cost_at};
+ghost use Rattle.ev_fleet.specs.Plans.{IsHeld, cost_held};
+ghost use Rattle.ev_fleet.specs.Searching.{HasOneMore, IsAdvanced, IsBegun, IsFirst, IsOwnCost, IsPromising, IsSearching};
+
+use crate::held::{Held, offer};
+use crate::own::own_plan;
+use crate::section_bound::{bound_of, greater_of};
+use crate::taking::{bound_pairs, cost_of, settle, take_next};
+use bound_certificate::{Root, Section};
+use branching::Tree;
+use column_pool::ColumnPool;
+use instance_reader::Instance;
+use route_plan::FleetPlan;
+use std::alloc::{AllocError, Global};
+
+/// A search between two nodes.
+#[derive(Drop)]
+pub(crate) struct Search {
+    pub(crate) tree: Tree,
+    /// The sections of the nodes whose bound was found, in this order.
+    pub(crate) sections: Vec<Section>,
+    /// Routes that were found.
+    pub(crate) pool: ColumnPool,
+    /// The cheapest plan that was found.
+    pub(crate) held: Option<Held>,
+}
+
+/// A search of which the bound of the root was found, and what shows it.
+pub(crate) fn begin(alloc: Global, inst: &Instance) -> Result<(Search, Root), AllocError>
+    requires few { length (customer_nodes inst.now) ≤ 128 }
+    ensures { IfOk result (λ begun. IsBegun inst.now begun.0 begun.1) }
+{
+    let mut search = first_search(alloc, inst)?;
+    let root = advance(alloc, inst, &mut search)?;
+    Ok((search, root))
+}
+
+/// A search of which no bound was found yet. It holds the plan of own routes, if there is one.
+fn first_search(alloc: Global, inst: &Instance) -> Result<Search, AllocError>
+    requires few { length (customer_nodes inst.now) ≤ 128 }
+    ensures { IfOk result (IsFirst inst.now) }
+{
+    let mut pool = ColumnPool::new(alloc);
+    let held = hold_own(alloc, inst, &mut pool)?;
+    Ok(Search {
+        tree: Tree::new(alloc, inst.customers().len())?,
+        sections: Vec::new(alloc),
+        pool,
+        held,
+    })
+}
+
+/// The plan of a fastest route for each customer alone, if each has one.
+fn hold_own(
+    alloc: Global,
+    inst: &Instance,
+    pool: &mut ColumnPool,
+) -> Result<Option<Held>, AllocError>
+    requires few { length (customer_nodes inst.now) ≤ 128 }
+    requires pool { IsPool inst.now pool.old }
+    ensures pool { IsPool inst.now pool.new }
+    ensures held { IfOk result (MayHold inst.now) }
+    ensures own { IfOk result (λ held. IsOwnCost inst.now (cost_at held)) }
+{
+    let plan = own_plan(alloc, inst, pool)?;
+    Ok(held_of(inst, plan))
+}
+
+/// A plan, if there is one, with its cost.
+fn held_of(inst: &Instance, plan: Option<FleetPlan>) -> Option<Held>
+    requires few { length (customer_nodes inst.now) ≤ 128 }
+    requires plan { IfSome plan (IsHeld inst.now) }
+    ensures held { MayHold inst.now result }
+    ensures cost { IsAtMost (cost_at result) (cost_held inst.now plan) }
+{
+    let Some(plan) = plan else {
+        return None;
+    };
+    let mut held = None;
+    offer(inst, &mut held, plan);
+    held
+}
+
+/// Takes the open node of least bound, finds its section, and closes or splits it. Some open node
+/// has a bound that isn't above the cost of the plan that is held.
+pub(crate) fn step(alloc: Global, inst: &Instance, search: &mut Search) -> Result<(), AllocError>
+    requires few { length (customer_nodes inst.now) ≤ 128 }
+    requires searching { IsSearching inst.now search.old }
+    requires promising { IsPromising search.old.tree (cost_at search.old.held) }
+    ensures searching { OnOk result (IsSearching inst.now search.new) }
+    ensures one { OnOk result (HasOneMore search.old.sections.items search.new.sections.items) }
+    ensures work { OnOk result
+        (work_left search.new.tree.nodes < work_left search.old.tree.nodes) }
+{
+    let _ = advance(alloc, inst, search)?;
+    Ok(())
+}
+
+/// Takes the open node of least bound, finds its section, and closes or splits it. The answer is
+/// what shows the bound of this section.
+fn advance(alloc: Global, inst: &Instance, search: &mut Search) -> Result<Root, AllocError>
+    requires few { length (customer_nodes inst.now) ≤ 128 }
+    requires customers { search.old.tree.customers ≡ length (customer_nodes inst.now) }
+    requires open { NoneIsOpen search.old.tree.nodes → ⊥ }
+    requires held { MayHold inst.now search.old.held }
+    requires pool { IsPool inst.now search.old.pool }
+    ensures advanced { IfOk result (IsAdvanced inst.now search.old search.new) }
+    ensures work { OnOk result
+        (work_left search.new.tree.nodes < work_left search.old.tree.nodes) }
+{
+    let taken = take_next(&mut search.tree);
+    let (section, root) = bound_pairs(
+        alloc,
+        inst,
+        &mut search.pool,
+        &mut search.held,
+        &taken.pairs,
+    )?;
+    let own = bound_of(&section);
+    let number = search.sections.len();
+    let (name, bound) = greater_of(number, own, taken.section, taken.bound);
+    search.sections.push(section)?;
+    let cost = cost_of(&search.held);
+    settle(inst, &mut search.tree, taken.key, name, bound, cost, &root)?;
+    Ok(root)
+}
