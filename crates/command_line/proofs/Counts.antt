@@ -2,13 +2,20 @@
 use Rattle.std.proofs.Common.{◌≡◌, ◌≢◌, List, [], ◌∷◌, length, None, refl}
 use Rattle.std.specs.Borrow.{Bor}
 use Rattle.clap.specs.Walk.{Row, Text, texts}
-use Rattle.command_line.specs.Words.{check_of, convert_of, fixed_of, make_of}
+use Rattle.command_line.specs.Words.{check_of, convert_of, fixed_of, fleet_of, make_of}
 
 pub no_fixed : (rest : List (Bor Text)) (rows : List Row) → length rest ≢ 2 → None ≡ fixed_of (texts rest) rows
 no_fixed [] rows other = refl
 no_fixed (a ∷ []) rows other = refl
 no_fixed (a ∷ b ∷ []) rows other = absurd (other refl)
 no_fixed (a ∷ b ∷ c ∷ rest) rows other = refl
+
+pub no_fleet : (rest : List (Bor Text)) (rows : List Row) → length rest ≢ 3 → None ≡ fleet_of (texts rest) rows
+no_fleet [] rows other = refl
+no_fleet (a ∷ []) rows other = refl
+no_fleet (a ∷ b ∷ []) rows other = refl
+no_fleet (a ∷ b ∷ c ∷ []) rows other = absurd (other refl)
+no_fleet (a ∷ b ∷ c ∷ d ∷ rest) rows other = refl
 
 pub no_check : (rest : List (Bor Text)) (rows : List Row) → length rest ≢ 3 → None ≡ check_of (texts rest) rows
 no_check [] rows other = refl

@@ -1,12 +1,16 @@
 -- The job that a value of the program stands for.
-use Rattle.std.specs.Prelude.{◌≡◌, IfOk, Option, Result, option_map, string_bytes}
-use Rattle.command_line.specs.Words.{FixedRoute, CheckPlan, ConvertFile, MakeInstance, check_job_of, convert_job_of, job_with, make_job_of}
+use Rattle.std.specs.Prelude.{◌≡◌, ◌≢◌, ◌≤◌, IfOk, IfSome, Option, Result, option_map, string_bytes}
+use Rattle.command_line.specs.Words.{FixedRoute, PlanFleet, CheckPlan, ConvertFile, MakeInstance, check_job_of, convert_job_of, fleet_job_of, job_with, make_job_of}
 use Rattle.command_line.specs.Words as words
+use Rattle.command_line.specs.declared.FleetWords.{FleetWords}
 use Rattle.command_line.specs.declared.Job.{Job}
-use Rattle.command_line.specs.declared.Job.TheVariants.{Fixed, Check, Convert, Make}
+use Rattle.command_line.specs.declared.Job.TheVariants.{Fixed, Fleet, Check, Convert, Make}
 
 abbrev pub job_value : Job → words.Job
 job_value (Fixed w) = FixedRoute (job_with (string_bytes w.file) (string_bytes w.route) w.options)
+job_value (Fleet w) =
+    PlanFleet (fleet_job_of (string_bytes w.file) (string_bytes w.plan) (string_bytes w.cert)
+    w.limit w.nodes)
 job_value (Check w) =
     CheckPlan (check_job_of (string_bytes w.file) (string_bytes w.plan) (string_bytes w.cert) w.limit)
 job_value (Convert w) =
@@ -14,6 +18,17 @@ job_value (Convert w) =
     w.time_digits w.energy_digits)
 job_value (Make w) =
     MakeInstance (make_job_of w.seed w.customers w.stations (string_bytes w.outfile))
+
+-- what is more of the words of `fleet`: the two files that are written are different ones, and the search may look at
+-- one node at least
+pub record IsFleetJob (w : FleetWords) : Type 0 where
+  pub files : string_bytes w.plan ≢ string_bytes w.cert
+  pub nodes : IfSome w.nodes (λ nodes. 1 ≤ nodes)
+
+-- the same of every job
+abbrev pub IsJob : Job → Type 0
+IsJob (Fleet w) = IsFleetJob w
+IsJob other = Unit {0}
 
 -- the answer stands for the job, unless it is want of memory
 abbrev pub AnswersJob : {E : Type 0} → Result (Option Job) E → Option words.Job → Type 0

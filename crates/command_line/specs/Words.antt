@@ -1,5 +1,5 @@
 -- The job that the words of a command line name: a function of what the command finds in them.
-use Rattle.std.specs.Prelude.{ℕ, ◌-◌, ◌^◌, ◌&&◌, ◌||◌, Bool, true, not, List, [], ◌∷◌, Option, None, Some, Result, Ok, Err, is_none, codes, nat_eq, option_and_then, option_map, unwrap_or, if◌then◌else◌, length}
+use Rattle.std.specs.Prelude.{ℕ, ◌-◌, ◌^◌, ◌&&◌, ◌||◌, Bool, true, not, List, [], ◌∷◌, Option, None, Some, Result, Ok, Err, is_none, codes, nat_eq, nat_lt, option_and_then, option_map, unwrap_or, if◌then◌else◌, length}
 use Rattle.std.specs.List.{list_any}
 use Rattle.std.specs.Str.{bytes_eq}
 use Rattle.clap.specs.Words.{Kinds, Row, Text, all_of, fault_of, first_of, matches_of}
@@ -21,6 +21,15 @@ pub record CheckJob : Type 0 where
   pub cert : Text
   pub limit : Option ℕ
 
+-- the job of planning a fleet: the names of its files, the limit where one is given, and the number of nodes that the search
+-- may look at where it is given
+pub record FleetJob : Type 0 where
+  pub file : Text
+  pub plan : Text
+  pub cert : Text
+  pub limit : Option ℕ
+  pub nodes : Option ℕ
+
 -- the job of making the decimals of a file whole: the names of the files, and how many digits are kept
 pub record ConvertJob : Type 0 where
   pub file : Text
@@ -39,6 +48,7 @@ pub record MakeJob : Type 0 where
 -- a job of the program
 pub data Job : Type 0 where
   FixedRoute : FixedJob → Job
+  PlanFleet : FleetJob → Job
   CheckPlan : CheckJob → Job
   ConvertFile : ConvertJob → Job
   MakeInstance : MakeJob → Job
@@ -76,6 +86,11 @@ optional_number most (Some word) = option_map (λ n. Some n) (number_of most wor
 abbrev pub required_number : ℕ → Option Text → Option ℕ
 required_number most word = option_and_then (number_of most) word
 
+-- a number that is given is at least 1
+abbrev pub at_least_one : Option ℕ → Option (Option ℕ)
+at_least_one None = Some None
+at_least_one (Some n) = if nat_lt 0 n then Some (Some n) else None
+
 -- the text is one of the names
 abbrev pub is_listed : Text → List Text → Bool
 is_listed text names = list_any (λ name. bytes_eq name text) names
@@ -110,6 +125,10 @@ limit_in rows = optional_number most_value (first_of (codes "limit") rows)
 abbrev pub charge_in : List Row → Option (Option ℕ)
 charge_in rows = optional_number most_value (first_of (codes "charge") rows)
 
+abbrev pub nodes_in : List Row → Option (Option ℕ)
+nodes_in rows =
+    option_and_then at_least_one (optional_number most_value (first_of (codes "nodes") rows))
+
 abbrev pub digits_in : Text → List Row → Option ℕ
 digits_in name rows = required_number most_digits (first_of name rows)
 
@@ -135,6 +154,25 @@ fixed_of (file ∷ route ∷ []) rows =
     then fixed_with file route (limit_in rows) (charge_in rows)
     else None
 fixed_of rest rows = None
+
+-- the job of these words with these options
+abbrev pub fleet_job_of : Text → Text → Text → Option ℕ → Option ℕ → FleetJob
+fleet_job_of file plan cert limit nodes =
+    record { file = file; plan = plan; cert = cert; limit = limit; nodes = nodes }
+
+-- `fleet FILE PLAN CERT [--limit N] [--nodes N]`
+abbrev pub fleet_with : Text → Text → Text → Option (Option ℕ) → Option (Option ℕ) → Option Job
+fleet_with file plan cert (Some limit) (Some nodes) =
+    Some (PlanFleet (fleet_job_of file plan cert limit nodes))
+fleet_with file plan cert limit nodes = None
+
+abbrev pub fleet_of : List Text → List Row → Option Job
+fleet_of (file ∷ plan ∷ cert ∷ []) rows =
+    if gives_only (codes "limit" ∷ codes "nodes" ∷ []) rows
+    && are_different (file ∷ plan ∷ cert ∷ [])
+    then fleet_with file plan cert (limit_in rows) (nodes_in rows)
+    else None
+fleet_of rest rows = None
 
 -- the job of these words with this limit
 abbrev pub check_job_of : Text → Text → Text → Option ℕ → CheckJob
@@ -197,6 +235,7 @@ make_of rest rows = None
 abbrev pub job_of_command : Text → List Text → List Row → Option Job
 job_of_command command rest rows =
     if bytes_eq command (codes "fixed") then fixed_of rest rows
+    else if bytes_eq command (codes "fleet") then fleet_of rest rows
     else if bytes_eq command (codes "check") then check_of rest rows
     else if bytes_eq command (codes "convert") then convert_of rest rows
     else if bytes_eq command (codes "make") then make_of rest rows

@@ -1,8 +1,8 @@
 //! The words of the command line, and the job that they name.
 #![tactic(auto)]
 
-ghost use Rattle.std.specs.Prelude.{◌≡◌, IfOk, map, option_map, string_bytes};
-ghost use Rattle.command_line.specs.JobValue.{job_value};
+ghost use Rattle.std.specs.Prelude.{◌≡◌, IfOk, IfSome, map, option_map, string_bytes};
+ghost use Rattle.command_line.specs.JobValue.{IsJob, job_value};
 ghost use Rattle.command_line.specs.Usage.{usage_text};
 ghost use Rattle.command_line.specs.Words.{job_of};
 
@@ -10,6 +10,7 @@ mod arguments;
 mod check;
 mod convert;
 mod fixed;
+mod fleet;
 mod laws;
 mod make;
 mod matches;
@@ -35,6 +36,19 @@ pub struct FixedWords {
     pub file: String,
     pub route: String,
     pub options: Options,
+}
+
+/// The words of the job `fleet`: the file of the instance, another one into which the plan is
+/// written, a third one for the certificate, the limit on the time of each route in place of the
+/// instance's, in units of time, and how many nodes of its tree the search may look at, at least
+/// one; where none is given, as many as it takes.
+#[derive(Debug, Drop, PartialEq, Eq)]
+pub struct FleetWords {
+    pub file: String,
+    pub plan: String,
+    pub cert: String,
+    pub limit: Option<u64>,
+    pub nodes: Option<u64>,
 }
 
 /// The words of the job `check`: the file of the instance, another one with the plan, a third one
@@ -73,6 +87,8 @@ pub struct MakeWords {
 pub enum Job {
     /// A route is charged.
     Fixed(FixedWords),
+    /// A fleet is planned, and its plan and a certificate are written.
+    Fleet(FleetWords),
     /// The plan of a file and the certificate of another are judged.
     Check(CheckWords),
     /// The decimals of a file become whole.
@@ -82,16 +98,19 @@ pub enum Job {
 }
 
 /// The job of the words, which stand behind the program's name, read by one `clap` command: `fixed
-/// FILE ROUTE [--limit N] [--charge N]`, `check FILE PLAN CERT [--limit N]`, `convert FILE OUTFILE
-/// --time-digits N --energy-digits N` or `make SEED CUSTOMERS STATIONS OUTFILE`. `None` comes
-/// exactly where the words are no such job.
+/// FILE ROUTE [--limit N] [--charge N]`, `fleet FILE PLAN CERT [--limit N] [--nodes N]`, `check FILE
+/// PLAN CERT [--limit N]`, `convert FILE OUTFILE --time-digits N --energy-digits N` or `make SEED
+/// CUSTOMERS STATIONS OUTFILE`. `None` comes exactly where the words are no such job.
 ///
 /// Options stand anywhere before a word `--`, each at most once; the value is the next word or
 /// follows a `=`. A name that begins with `-` and has more behind it is given after `--`. Numbers
-/// are written without leading zeros: at most 10^18 for a limit or a charge, 10^9 for digits, 2^64
-/// - 1 for a seed, 2^32 - 1 for counts. The names of files are different texts.
+/// are written without leading zeros: at most 10^18 for a limit, a charge or nodes, 10^9 for
+/// digits, 2^64 - 1 for a seed, 2^32 - 1 for counts. The nodes are at least 1. The names of files
+/// are different texts.
 pub fn job_words(alloc: Global, words: &[String]) -> Result<Option<Job>, AllocError>
-    ensures { IfOk result (λ job. option_map job_value job ≡ job_of (map string_bytes words.now)) }
+    ensures job { IfOk result
+        (λ job. option_map job_value job ≡ job_of (map string_bytes words.now)) }
+    ensures is { IfOk result (λ job. IfSome job IsJob) }
 {
     let named = named(alloc, words)?;
     match matches_of(alloc, named.as_slice()) {

@@ -5,12 +5,13 @@ ghost use Rattle.clap.specs.Words.{first_of};
 ghost use Rattle.clap.specs.Walk.{texts};
 ghost use Rattle.command_line.specs.JobValue.{AnswersJob};
 ghost use Rattle.command_line.specs.Matches.{rows_in};
-ghost use Rattle.command_line.specs.Words.{charge_in, digits_in, gives_only, gives_own, job_in, job_of_command, limit_in, rest_in};
+ghost use Rattle.command_line.specs.Words.{charge_in, digits_in, gives_only, gives_own, job_in, job_of_command, limit_in, nodes_in, rest_in};
 
 use crate::Job;
 use crate::check::check_job;
 use crate::convert::convert_job;
 use crate::fixed::fixed_job;
+use crate::fleet::fleet_job;
 use crate::make::make_job;
 use crate::words::{GREATEST_DIGITS, GREATEST_VALUE, is_listed, number_of, optional_number};
 use clap::ArgMatches;
@@ -59,6 +60,20 @@ pub(crate) fn charge_in(matches: &ArgMatches<'_>) -> Option<Option<u64>>
     optional_number(first_of(matches, "charge"), GREATEST_VALUE)
 }
 
+/// How many nodes a search may look at, where it is given; `None` where its value is no number of
+/// one, or 0.
+pub(crate) fn nodes_in(matches: &ArgMatches<'_>) -> Option<Option<u64>>
+    ensures { result ≡ nodes_in (rows_in matches.now) }
+{
+    let Some(nodes) = optional_number(first_of(matches, "nodes"), GREATEST_VALUE) else {
+        return None;
+    };
+    match nodes {
+        Some(0) => None,
+        _ => Some(nodes),
+    }
+}
+
 /// The number of digits that has to be given by an option.
 pub(crate) fn digits_in(matches: &ArgMatches<'_>, name: &str) -> Option<u32>
     ensures { result ≡ digits_in name.now (rows_in matches.now) }
@@ -93,6 +108,7 @@ fn job_of_command(
 {
     match command {
         "fixed" => fixed_job(alloc, rest, matches),
+        "fleet" => fleet_job(alloc, rest, matches),
         "check" => check_job(alloc, rest, matches),
         "convert" => convert_job(alloc, rest, matches),
         "make" => make_job(alloc, rest, matches),

@@ -21,6 +21,12 @@ fn job_text(alloc: Global, line: &str) -> Result<String, AllocError> {
                 job.file, job.route, options.limit, options.charge
             )
         }
+        Some(Job::Fleet(job)) => {
+            format!(in alloc;
+                "fleet {} {} {} {:?} {:?}",
+                job.file, job.plan, job.cert, job.limit, job.nodes
+            )
+        }
         Some(Job::Check(job)) => {
             format!(in alloc;
                 "check {} {} {} {:?}",
@@ -77,7 +83,29 @@ fn words_name_jobs(rt: HostRuntime) {
         ("check A P P", "none"),
         ("check A P", "none"),
         ("check A P Q R", "none"),
-        ("fleet A P Q", "none"),
+        ("fleet A P Q", "fleet A P Q None None"),
+        (
+            "fleet --nodes 1000000000000000000 A P --limit=0 Q",
+            "fleet A P Q Some(0) Some(1000000000000000000)",
+        ),
+        ("fleet A P Q --nodes 1", "fleet A P Q None Some(1)"),
+        ("fleet A P Q --nodes 0", "none"),
+        ("fleet A P Q --nodes 01", "none"),
+        ("fleet A P Q --nodes 1000000000000000001", "none"),
+        ("fleet A P Q --nodes 1 --nodes 1", "none"),
+        ("fleet A P Q --charge 1", "none"),
+        ("fleet A P Q --time-digits 1", "none"),
+        ("fleet A A Q", "none"),
+        ("fleet A P A", "none"),
+        ("fleet A P P", "none"),
+        ("fleet A P", "none"),
+        ("fleet A P Q R", "none"),
+        ("check A P Q --nodes 1", "none"),
+        (
+            "convert A W --time-digits 2 --energy-digits 0 --nodes 1",
+            "none",
+        ),
+        ("make 1 1 0 M --nodes 1", "none"),
         (
             "convert A W --time-digits 2 --energy-digits=1000000000",
             "convert A W 2 1000000000",

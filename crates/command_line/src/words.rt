@@ -6,7 +6,7 @@ ghost use Rattle.command_line.specs.Words.{are_different, is_listed, number_of, 
 
 use ev_text::Scan;
 
-/// The greatest limit and the greatest charge.
+/// The greatest limit, the greatest charge and the greatest number of nodes.
 pub(crate) const GREATEST_VALUE: u64 = 1_000_000_000_000_000_000;
 
 /// The greatest number of digits.

@@ -17,7 +17,7 @@ use Rattle.fleet_model.specs.Cover.{IsFleetRoute, Share}
 use Rattle.fleet_model.specs.Section.{IsSectionOf, Section}
 use Rattle.fleet_model.specs.Tree.{BranchTree, IsUnder, KeepsSomeLeaf, leaf, LeavesAreUnder, split}
 use Rattle.plan_check.specs.FleetRules.{stops_of}
-use Rattle.plan_writer.specs.CheckText.{IsBoundOf}
+use Rattle.plan_writer.specs.ScaledText.{IsBoundOf}
 use Rattle.route_plan.specs.declared.plan.FleetPlan.{FleetPlan}
 use Rattle.route_plan.specs.declared.plan.RoutePlan.{RoutePlan}
 use Rattle.bound_certificate.proofs.Meanings.{has_tree, one_tree_of, sections_fit}

@@ -1,6 +1,6 @@
 -- What a command reads, and what it finds.
 use Rattle.std.proofs.Common.{◌≡◌, ◌≢◌, ◌∙◌, ℕ, List, [], ◌++◌, length, take, Option, None, Some, Result, Ok, Err, IfOk, IfErr, IsErrOf, ap, arith, inl, inr, refl, subst, sym}
-use Rattle.command_line.specs.Words.{CheckJob, CheckPlan, ConvertFile, ConvertJob, FixedJob, FixedRoute, Job, MakeInstance, MakeJob}
+use Rattle.command_line.specs.Words.{CheckJob, CheckPlan, ConvertFile, ConvertJob, FixedJob, FixedRoute, FleetJob, Job, MakeInstance, MakeJob, PlanFleet}
 use Rattle.decimal_import.specs.Conversion.{Refuses, conversion_of}
 use Rattle.decimal_import.specs.Converted.{IsConverted}
 use Rattle.decimal_import.specs.declared.fault.ImportFault.{ImportFault}
@@ -15,7 +15,7 @@ use Rattle.evroute.specs.Ended.{IsCheckEnded}
 use Rattle.evroute.specs.FixedAnswer.{FixedAnswers}
 use Rattle.evroute.specs.MakeAnswer.{HasNoInstance, MakeAnswers, text_made}
 use Rattle.evroute.specs.Found.{Finds, status_of}
-use Rattle.evroute.specs.Run.{AreRead, AreReadUpTo, ComesToCertificate, ComesToPlan, ComesToWrite, HasFailedRead, HasFailedWrite, HasFileFault, HasMadeFault, HasWriteFault, IsAnswered, IsCertificateRead, JobAnswers, LeavesFiles, LeavesMade, LeavesWhole, MakesNothing, WritesMade, most_bytes, most_certificate_bytes}
+use Rattle.evroute.specs.Run.{AreRead, AreReadUpTo, ComesToCertificate, ComesToPlan, ComesToSearch, ComesToWrite, HasCertificateFault, HasFailedRead, HasFailedWrite, HasFileFault, HasMadeFault, HasPlanFault, HasWriteFault, IsAnswered, IsCertificateRead, JobAnswers, LeavesFiles, LeavesMade, LeavesPlanned, LeavesWhole, MakesNothing, WritesBoth, WritesMade, WritesPlan, WritesPlanAlone, most_bytes, most_certificate_bytes}
 use Rattle.evroute.specs.declared.answer.Answer.{Answer}
 use Rattle.evroute.specs.declared.answer.Ended.{Ended}
 use Rattle.evroute.specs.declared.answer.Ended.TheVariants.{Refused}
@@ -33,16 +33,16 @@ are_read most None name old new empty appends =
 are_read most (Some files) name old new empty appends = appends ∙ ap (λ xs. xs ++ take most (bytes_under files name)) empty
 
 -- what `fixed` answers to the bytes of its file
-pub fixed_answers : (job : FixedJob) (files : Option Files) (bytes given : List ℕ) (answered : Status) (text : List ℕ) →
-    AreRead files job.file bytes → given ≡ bytes → FixedAnswers job.options job.route given answered text → JobAnswers (FixedRoute job) files answered text
-fixed_answers job files bytes given answered text read same answers =
+pub fixed_answers : (job : FixedJob) (files new : Option Files) (bytes given : List ℕ) (answered : Status) (text : List ℕ) →
+    AreRead files job.file bytes → given ≡ bytes → FixedAnswers job.options job.route given answered text → JobAnswers (FixedRoute job) files new answered text
+fixed_answers job files new bytes given answered text read same answers =
     (bytes, read, subst (λ (bs : List ℕ). FixedAnswers job.options job.route bs answered text) same answers)
 
 -- what `check` answers to the bytes of its files
-pub check_answers : (job : CheckJob) (files : Option Files) (bytes plan_bytes cert_bytes given : List ℕ) (answered : Status) (text : List ℕ) →
+pub check_answers : (job : CheckJob) (files new : Option Files) (bytes plan_bytes cert_bytes given : List ℕ) (answered : Status) (text : List ℕ) →
     AreRead files job.file bytes → AreRead files job.plan plan_bytes → IsCertificateRead files job.cert cert_bytes → given ≡ cert_bytes
-    → CheckAnswers job.limit bytes plan_bytes given answered text → JobAnswers (CheckPlan job) files answered text
-check_answers job files bytes plan_bytes cert_bytes given answered text read read_plan read_cert same answers =
+    → CheckAnswers job.limit bytes plan_bytes given answered text → JobAnswers (CheckPlan job) files new answered text
+check_answers job files new bytes plan_bytes cert_bytes given answered text read read_plan read_cert same answers =
     (bytes, read, (plan_bytes, read_plan, (cert_bytes, read_cert, subst (λ (bs : List ℕ). CheckAnswers job.limit bytes plan_bytes bs answered text) same answers)))
 
 -- whatever stands under a name, some bytes are read
@@ -53,7 +53,7 @@ some_read most (Some files) name = (take most (bytes_under files name), refl)
 -- the line of a refusal, whatever a certificate holds
 refused_line : (job : CheckJob) (files : Option Files) (bytes plan_bytes : List ℕ) (refusal : Refusal) →
     AreRead files job.file bytes → AreRead files job.plan plan_bytes → ((cert_bytes : List ℕ) → IsCheckEnded job.limit bytes plan_bytes cert_bytes (Refused refusal))
-    → JobAnswers (CheckPlan job) files status.Refused (refusal_text refusal)
+    → JobAnswers (CheckPlan job) files files status.Refused (refusal_text refusal)
 refused_line job files bytes plan_bytes refusal read read_plan first =
     let cert = some_read most_certificate_bytes files job.cert in
     (bytes, read, (plan_bytes, read_plan, (cert.0, cert.1, record { refusal = refusal; rule = (first cert.0).0; refused = (first cert.0).1; text_is = refl })))
@@ -61,7 +61,7 @@ refused_line job files bytes plan_bytes refusal read read_plan first =
 -- a refusal before the plan is read is the answer whatever the plan and the certificate hold
 pub refused_early : (job : CheckJob) (files : Option Files) (bytes given : List ℕ) (ended : Ended) (refusal : Refusal) →
     AreRead files job.file bytes → given ≡ bytes → ended ≡ Refused refusal → ((plan_bytes cert_bytes : List ℕ) → IsCheckEnded job.limit given plan_bytes cert_bytes ended)
-    → JobAnswers (CheckPlan job) files status.Refused (refusal_text refusal)
+    → JobAnswers (CheckPlan job) files files status.Refused (refusal_text refusal)
 refused_early job files bytes given ended refusal read same is refused =
     let plan = some_read most_bytes files job.plan in
     refused_line job files bytes plan.0 refusal read plan.1
@@ -72,20 +72,20 @@ refused_early job files bytes given ended refusal read same is refused =
 pub refused_by_plan : (job : CheckJob) (files : Option Files) (bytes plan_bytes given : List ℕ) (ended : Ended) (refusal : Refusal) →
     AreRead files job.file bytes → AreRead files job.plan plan_bytes → given ≡ plan_bytes → ended ≡ Refused refusal
     → ((cert_bytes : List ℕ) → IsCheckEnded job.limit bytes given cert_bytes ended)
-    → JobAnswers (CheckPlan job) files status.Refused (refusal_text refusal)
+    → JobAnswers (CheckPlan job) files files status.Refused (refusal_text refusal)
 refused_by_plan job files bytes plan_bytes given ended refusal read read_plan same is refused =
     refused_line job files bytes plan_bytes refusal read read_plan
     (λ cert_bytes. subst (λ (e : Ended). IsCheckEnded job.limit bytes plan_bytes cert_bytes e) is
     (subst (λ (bs : List ℕ). IsCheckEnded job.limit bytes bs cert_bytes ended) same (refused cert_bytes)))
 
 -- the line of the refusal is the answer to the job
-line_answers : (job : Job) (files : Option Files) (refusal : Refusal) (made : Result Answer ShelfFault) → JobAnswers job files status.Refused (refusal_text refusal)
+line_answers : (job : Job) (files new : Option Files) (refusal : Refusal) (made : Result Answer ShelfFault) → JobAnswers job files new status.Refused (refusal_text refusal)
     → IfOk made (λ a. a.status ≡ status.Refused) → IfOk made (λ a. a.text.items ≡ refusal_text refusal)
-    → IfOk made (λ a. JobAnswers job files a.status a.text.items)
-line_answers job files refusal (Err none) line answered text = tt
-line_answers job files refusal (Ok a) line answered text =
-    subst (λ (s : Status). JobAnswers job files s a.text.items) (sym answered)
-    (subst (λ (t : List ℕ). JobAnswers job files status.Refused t) (sym text) line)
+    → IfOk made (λ a. JobAnswers job files new a.status a.text.items)
+line_answers job files new refusal (Err none) line answered text = tt
+line_answers job files new refusal (Ok a) line answered text =
+    subst (λ (s : Status). JobAnswers job files new s a.text.items) (sym answered)
+    (subst (λ (t : List ℕ). JobAnswers job files new status.Refused t) (sym text) line)
 
 -- ---- from an earlier state of the shelf on, from which its files and its counts stayed
 
@@ -109,8 +109,23 @@ made_fault_since : (job : MakeJob) (before later after : ShelfState) → CountsS
 made_fault_since job before later after stays (failed, within) =
     (subst (λ (n : ℕ). Rose n (after.failed_writes job.outfile)) (stays.writes job.outfile) failed, within)
 
+search_since : (job : FleetJob) (files later : Option Files) → later ≡ files → ComesToSearch job later → ComesToSearch job files
+search_since job files later same comes = subst (λ (fs : Option Files). ComesToSearch job fs) same comes
+
+plan_fault_since : (job : FleetJob) (before later after : ShelfState) → later.files ≡ before.files → CountsStay before later → HasPlanFault job later after → HasPlanFault job before after
+plan_fault_since job before later after same stays (failed, comes) =
+    (subst (λ (n : ℕ). Rose n (after.failed_writes job.plan)) (stays.writes job.plan) failed, search_since job before.files later.files same comes)
+
+certificate_fault_since : (job : FleetJob) (before later after : ShelfState) → later.files ≡ before.files → CountsStay before later →
+    HasCertificateFault job later after → HasCertificateFault job before after
+certificate_fault_since job before later after same stays (failed, comes) =
+    (subst (λ (n : ℕ). Rose n (after.failed_writes job.cert)) (stays.writes job.cert) failed, search_since job before.files later.files same comes)
+
 fault_since : (job : Job) (before later after : ShelfState) → later.files ≡ before.files → CountsStay before later → HasFileFault job later after → HasFileFault job before after
 fault_since (FixedRoute job) before later after same stays failed = failed_since before later after job.file stays failed
+fault_since (PlanFleet job) before later after same stays (inl failed) = inl (failed_since before later after job.file stays failed)
+fault_since (PlanFleet job) before later after same stays (inr (inl failed)) = inr (inl (plan_fault_since job before later after same stays failed))
+fault_since (PlanFleet job) before later after same stays (inr (inr failed)) = inr (inr (certificate_fault_since job before later after same stays failed))
 fault_since (CheckPlan job) before later after same stays (inl failed) = inl (failed_since before later after job.file stays failed)
 fault_since (CheckPlan job) before later after same stays (inr (inl (failed, comes))) =
     inr (inl (failed_since before later after job.plan stays failed, comes_since job before.files later.files same comes))
@@ -162,20 +177,48 @@ leaves_made_since job before later after status.Memory same stays (inr made) = i
 leaves_made_since job before later after status.Stopped same stays (inl is) = inl (is ∙ same)
 leaves_made_since job before later after status.Stopped same stays (inr made) = inr (made_since job before.files later.files after.files same made)
 
+both_since : (job : FleetJob) (old later new : Option Files) → later ≡ old → WritesBoth job later new → WritesBoth job old new
+both_since job old later new same both = subst (λ (fs : Option Files). WritesBoth job fs new) same both
+
+leaves_planned_since : (job : FleetJob) (before later after : ShelfState) (ended : Status) → later.files ≡ before.files → CountsStay before later →
+    LeavesPlanned job later after ended → LeavesPlanned job before after ended
+leaves_planned_since job before later after status.Done same stays both = both_since job before.files later.files after.files same both
+leaves_planned_since job before later after status.Negative same stays both = both_since job before.files later.files after.files same both
+leaves_planned_since job before later after status.Stopped same stays both = both_since job before.files later.files after.files same both
+leaves_planned_since job before later after status.Refused same stays is = is ∙ same
+leaves_planned_since job before later after status.Fault same stays (inl is) = inl (is ∙ same)
+leaves_planned_since job before later after status.Fault same stays (inr (inl (failed, others))) =
+    inr (inl (plan_fault_since job before later after same stays failed, subst (λ (fs : Option Files). KeepsOthers job.plan fs after.files) same others))
+leaves_planned_since job before later after status.Fault same stays (inr (inr (inl (failed, alone)))) =
+    inr (inr (inl (certificate_fault_since job before later after same stays failed, subst (λ (fs : Option Files). WritesPlanAlone job fs after.files) same alone)))
+leaves_planned_since job before later after status.Fault same stays (inr (inr (inr both))) =
+    inr (inr (inr (both_since job before.files later.files after.files same both)))
+leaves_planned_since job before later after status.Memory same stays (inl is) = inl (is ∙ same)
+leaves_planned_since job before later after status.Memory same stays (inr (inl plan)) =
+    inr (inl (subst (λ (fs : Option Files). WritesPlan job fs after.files) same plan))
+leaves_planned_since job before later after status.Memory same stays (inr (inr both)) =
+    inr (inr (both_since job before.files later.files after.files same both))
+leaves_planned_since job before later after status.Words same stays (inl is) = inl (is ∙ same)
+leaves_planned_since job before later after status.Words same stays (inr (inl plan)) =
+    inr (inl (subst (λ (fs : Option Files). WritesPlan job fs after.files) same plan))
+leaves_planned_since job before later after status.Words same stays (inr (inr both)) =
+    inr (inr (both_since job before.files later.files after.files same both))
+
 leaves_since : (job : Job) (before later after : ShelfState) (ended : Status) → later.files ≡ before.files → CountsStay before later →
     LeavesFiles job later after ended → LeavesFiles job before after ended
 leaves_since (FixedRoute job) before later after ended same stays is = is ∙ same
 leaves_since (CheckPlan job) before later after ended same stays is = is ∙ same
+leaves_since (PlanFleet job) before later after ended same stays leaves = leaves_planned_since job before later after ended same stays leaves
 leaves_since (ConvertFile job) before later after ended same stays leaves = leaves_whole_since job before later after ended same stays leaves
 leaves_since (MakeInstance job) before later after ended same stays leaves = leaves_made_since job before later after ended same stays leaves
 
-counts_since : (before later after : ShelfState) → CountsStay before later → CountsStay later after → CountsStay before after
+pub counts_since : (before later after : ShelfState) → CountsStay before later → CountsStay later after → CountsStay before after
 counts_since before later after p q = record {
   reads = λ name. q.reads name ∙ p.reads name;
   writes = λ name. q.writes name ∙ p.writes name;
 }
 
-never_fall_since : (before later after : ShelfState) → CountsNeverFall before later → CountsNeverFall later after → CountsNeverFall before after
+pub never_fall_since : (before later after : ShelfState) → CountsNeverFall before later → CountsNeverFall later after → CountsNeverFall before after
 never_fall_since before later after p q = record {
   reads = λ name. omega (arith, p.reads name, q.reads name);
   writes = λ name. omega (arith, p.writes name, q.writes name);
@@ -185,7 +228,7 @@ pub finds_since : (job : Job) (before later after : ShelfState) (found : Result 
     later.files ≡ before.files → CountsStay before later → CountsNeverFall before later → Finds job later after found → Finds job before after found
 finds_since job before later after found same stays falls finds = record {
   answered = finds.answered;
-  answers = subst (λ (fs : Option Files). IfOk found (λ a. JobAnswers job fs a.status a.text.items)) same finds.answers;
+  answers = subst (λ (fs : Option Files). IfOk found (λ a. JobAnswers job fs after.files a.status a.text.items)) same finds.answers;
   fault = λ failed. fault_since job before later after same stays (finds.fault failed);
   stays = λ none. counts_since before later after stays (finds.stays none);
   falls = never_fall_since before later after falls finds.falls;
@@ -212,6 +255,8 @@ ReadsFile other = Unit {0}
 leaves_unread : (job : Job) (before after : ShelfState) (fault : ShelfFault) → ReadsFile job → after.files ≡ before.files → LeavesFiles job before after (status_of (Err fault))
 leaves_unread (FixedRoute job) before after fault reads same = same
 leaves_unread (CheckPlan job) before after fault reads same = same
+leaves_unread (PlanFleet job) before after Failed reads same = inl same
+leaves_unread (PlanFleet job) before after Memory reads same = inl same
 leaves_unread (ConvertFile job) before after Failed reads same = inl same
 leaves_unread (ConvertFile job) before after Memory reads same = same
 leaves_unread (MakeInstance job) before after fault reads same = absurd reads
@@ -230,7 +275,7 @@ finds_none {A} job before after fault reads failed stays falls files = record {
   files = leaves_unread job before after fault reads files;
 }
 
-memory_is_no_failure : {A : Type 0} (made : Result A ShelfFault) → IfErr made (λ fault. fault ≡ Memory) → IsErrOf made Failed → ⊥
+pub memory_is_no_failure : {A : Type 0} (made : Result A ShelfFault) → IfErr made (λ fault. fault ≡ Memory) → IsErrOf made Failed → ⊥
 memory_is_no_failure (Ok a) memory failed = ok_is_no_error failed
 memory_is_no_failure (Err Memory) memory failed = cc
 memory_is_no_failure (Err Failed) memory failed = cc
@@ -243,13 +288,15 @@ leaves_refused : (job : Job) (before after : ShelfState) (made : Result Answer S
     after.files ≡ before.files → LeavesFiles job before after (status_of made)
 leaves_refused (FixedRoute job) before after made reads answered same = same
 leaves_refused (CheckPlan job) before after made reads answered same = same
+leaves_refused (PlanFleet job) before after (Ok a) reads answered same = subst (λ (s : Status). LeavesPlanned job before after s) (sym answered) same
+leaves_refused (PlanFleet job) before after (Err fault) reads answered same = leaves_unread (PlanFleet job) before after fault tt same
 leaves_refused (MakeInstance job) before after made reads answered same = absurd reads
 leaves_refused (ConvertFile job) before after (Ok a) reads answered same = subst (λ (s : Status). LeavesWhole job before after s) (sym answered) same
 leaves_refused (ConvertFile job) before after (Err fault) reads answered same = leaves_unread (ConvertFile job) before after fault tt same
 
 -- a job that ends with the line of a refusal, behind a read that did not fail
 finds_refused : (job : Job) (before after : ShelfState) (made : Result Answer ShelfFault) → ReadsFile job →
-    IfOk made (λ a. JobAnswers job before.files a.status a.text.items)
+    IfOk made (λ a. JobAnswers job before.files after.files a.status a.text.items)
     → IfOk made (λ a. a.status ≡ status.Refused) → IfErr made (λ fault. fault ≡ Memory)
     → CountsStay before after → CountsNeverFall before after → after.files ≡ before.files → Finds job before after made
 finds_refused job before after made reads answers answered memory stays falls files = record {
@@ -261,12 +308,12 @@ finds_refused job before after made reads answers answered memory stays falls fi
   files = leaves_refused job before after made reads answered files;
 }
 
-pub finds_refusal : (job : CheckJob) (before after : ShelfState) (refusal : Refusal) (made : Result Answer ShelfFault) →
-    JobAnswers (CheckPlan job) before.files status.Refused (refusal_text refusal)
+pub finds_refusal : (job : Job) (before after : ShelfState) (refusal : Refusal) (made : Result Answer ShelfFault) → ReadsFile job →
+    JobAnswers job before.files after.files status.Refused (refusal_text refusal)
     → IfOk made (λ a. a.status ≡ status.Refused) → IfOk made (λ a. a.text.items ≡ refusal_text refusal) → IfErr made (λ fault. fault ≡ Memory)
-    → CountsStay before after → CountsNeverFall before after → after.files ≡ before.files → Finds (CheckPlan job) before after made
-finds_refusal job before after refusal made line answered text memory stays falls files =
-    finds_refused (CheckPlan job) before after made tt (line_answers (CheckPlan job) before.files refusal made line answered text)
+    → CountsStay before after → CountsNeverFall before after → after.files ≡ before.files → Finds job before after made
+finds_refusal job before after refusal made reads line answered text memory stays falls files =
+    finds_refused job before after made reads (line_answers job before.files after.files refusal made line answered text)
     answered memory stays falls files
 
 -- ---- `convert`
@@ -291,10 +338,10 @@ refused_with faults.Memory made rule is = absurd (rule refl)
 literal_answers : (job : ConvertJob) (files : Option Files) (bytes : List ℕ) (fault : ImportFault) (made : Result Answer ShelfFault) →
     AreRead files job.file bytes → fault ≢ faults.Memory → IsConvertRefused job bytes (refusal.Literal fault)
     → IfOk made (λ a. a.status ≡ status.Refused) → IfOk made (λ a. a.text.items ≡ refusal_text (refusal.Literal fault))
-    → IfOk made (λ a. JobAnswers (ConvertFile job) files a.status a.text.items)
+    → IfOk made (λ a. JobAnswers (ConvertFile job) files files a.status a.text.items)
 literal_answers job files bytes fault (Err none) read rule refused answered text = tt
 literal_answers job files bytes fault (Ok a) read rule refused answered text =
-    subst (λ (s : Status). JobAnswers (ConvertFile job) files s a.text.items) (sym answered)
+    subst (λ (s : Status). JobAnswers (ConvertFile job) files files s a.text.items) (sym answered)
     (bytes, read, record { refusal = refusal.Literal fault; rule = rule; refused = refused; text_is = text })
 
 pub finds_literal : (job : ConvertJob) (before after : ShelfState) (bytes given : List ℕ) (fault : ImportFault) (made : Result Answer ShelfFault) →
@@ -314,7 +361,7 @@ pub finds_written : (job : ConvertJob) (before after : ShelfState) (bytes whole 
     → CountsStay before after → CountsNeverFall before after → Finds (ConvertFile job) before after (Ok answer)
 finds_written job before after bytes whole answer read becomes done empty written others stays falls = record {
   answered = subst (λ (s : Status). IsAnswered s) (sym done) tt;
-  answers = subst (λ (s : Status). JobAnswers (ConvertFile job) before.files s answer.text.items) (sym done)
+  answers = subst (λ (s : Status). JobAnswers (ConvertFile job) before.files after.files s answer.text.items) (sym done)
       (bytes, read, record { whole = whole; becomes = becomes; text_is = empty });
   fault = λ failed. absurd (ok_is_no_error failed);
   stays = λ none. stays;
@@ -340,10 +387,10 @@ leaves_no_instance job shelf (Ok a) nothing answered memory = subst (λ (s : Sta
 leaves_no_instance job shelf (Err Memory) nothing answered memory = inl refl
 leaves_no_instance job shelf (Err Failed) nothing answered memory = inl (nothing, refl)
 
-nothing_fails : (shelf : ShelfState) → CountsStay shelf shelf
+pub nothing_fails : (shelf : ShelfState) → CountsStay shelf shelf
 nothing_fails shelf = record { reads = λ name. refl; writes = λ name. refl }
 
-nothing_falls : (shelf : ShelfState) → CountsNeverFall shelf shelf
+pub nothing_falls : (shelf : ShelfState) → CountsNeverFall shelf shelf
 nothing_falls shelf = record { reads = λ name. omega arith; writes = λ name. omega arith }
 
 pub finds_no_instance : (job : MakeJob) (shelf : ShelfState) (made : Result Answer ShelfFault) → HasNoInstance job

@@ -9,4 +9,8 @@ pub mod Reported
 pub mod Finding
 pub mod Making
 pub mod Performed
+pub mod FleetFinds
+pub mod SearchStatus
+pub mod SearchReports
+pub mod OneSearch
 pub mod ReadRules

@@ -1,10 +1,10 @@
 -- The causes of the statuses exclude each other.
-use Rattle.std.proofs.Common.{◌≡◌, ◌∙◌, ℕ, ◌<◌, ◌≤◌, List, Option, None, Some, Ok, Err, take, ap, arith, refl, subst, sym}
+use Rattle.std.proofs.Common.{◌≡◌, ◌≢◌, ◌∙◌, ℕ, ◌<◌, ◌≤◌, Bool, true, false, ◌⊎◌, List, Option, None, Some, Ok, Err, length, take, ap, arith, inl, inr, refl, subst, sym}
 use Rattle.bound_certificate.specs.CertificateIn.{certificate_in}
 use Rattle.bound_certificate.specs.Written.{written}
 use Rattle.bound_certificate.specs.declared.certificate.Certificate.{Certificate}
 use Rattle.certificate_check.specs.Accepted.{IsAccepted}
-use Rattle.command_line.specs.Words.{CheckJob, CheckPlan, ConvertFile, ConvertJob, FixedJob, FixedRoute, Job, MakeInstance, MakeJob}
+use Rattle.command_line.specs.Words.{CheckJob, CheckPlan, ConvertFile, ConvertJob, FixedJob, FixedRoute, FleetJob, Job, MakeInstance, MakeJob, PlanFleet}
 use Rattle.command_line.specs.declared.Options.{Options}
 use Rattle.ev_model.specs.Fastest.{HasNoPlan}
 use Rattle.ev_model.specs.Network.{Network, node_count}
@@ -28,17 +28,26 @@ use Rattle.instance_reader.proofs.LawsLemmas.{one_network}
 use Rattle.evroute.proofs.Accepting.{accepted_is_no_rejection, accepted_same}
 use Rattle.evroute.proofs.OneCertificate.{AreSame, one_certificate}
 use Rattle.evroute.proofs.Instances.{one_limited, refused_has_none}
+use Rattle.evroute.proofs.OneSearch.{same_search}
 use Rattle.evroute.specs.CheckAnswer.{BreaksFirst, CheckAnswers, HasFleetNetwork, Holds, IsCertificateOf, IsCheckRefused, IsRejection, IsValid, PutsAccepted, PutsRejected, customer_count}
 use Rattle.evroute.specs.ConvertAnswer.{BecomesWhole, ConvertAnswers, IsConvertRefused}
 use Rattle.evroute.specs.FixedAnswer.{FixedAnswers, IsRefused, IsTask, PutsInfeasible, PutsPlan, start_of}
+use Rattle.evroute.specs.FleetAnswer.{FleetAnswers, IsFleetRefused, PutsFleetRefusal, PutsFound}
 use Rattle.evroute.specs.MakeAnswer.{IsMakeRefused, MakeAnswers, MakesNetwork, PutsNoTime, PutsTime, route_of_all}
-use Rattle.evroute.specs.Run.{HasCause, IsAnswered, TellsRead, most_bytes, most_certificate_bytes}
+use Rattle.evroute.specs.Run.{HasCause, IsTold, MayBeStopped, TellsRead, most_bytes, most_certificate_bytes}
 use Rattle.evroute.specs.declared.status.Status.{Status}
 use Rattle.evroute.specs.declared.status.Status.TheVariants as status
 
+-- done, negative or refused
+abbrev pub IsPlain : Status → Type 0
+IsPlain status.Done = Unit {0}
+IsPlain status.Negative = Unit {0}
+IsPlain status.Refused = Unit {0}
+IsPlain other = ⊥
+
 -- three causes, of which each excludes the others
 pub record ExcludeEachOther (Cause : Status → Type 0) : Type 0 where
-  pub answered : (s : Status) → Cause s → IsAnswered s
+  pub answered : (s : Status) → Cause s → IsPlain s
   pub done_negative : Cause status.Done → Cause status.Negative → ⊥
   pub done_refused : Cause status.Done → Cause status.Refused → ⊥
   pub negative_refused : Cause status.Negative → Cause status.Refused → ⊥
@@ -121,7 +130,7 @@ plan_is_some options word bytes text other p q =
 FixedCause : Options → List ℕ → List ℕ → Status → Type 0
 FixedCause options word bytes s = (text : List ℕ) × FixedAnswers options word bytes s text
 
-fixed_answered : (options : Options) (word bytes : List ℕ) (s : Status) → FixedCause options word bytes s → IsAnswered s
+fixed_answered : (options : Options) (word bytes : List ℕ) (s : Status) → FixedCause options word bytes s → IsPlain s
 unfolding FixedCause
 fixed_answered options word bytes status.Done p = tt
 fixed_answered options word bytes status.Negative p = tt
@@ -197,7 +206,7 @@ accepted_is_unbroken limit bytes plan_bytes cert_bytes text other p q =
 CheckCause : Option ℕ → List ℕ → List ℕ → List ℕ → Status → Type 0
 CheckCause limit bytes plan_bytes cert_bytes s = (text : List ℕ) × CheckAnswers limit bytes plan_bytes cert_bytes s text
 
-check_answered : (limit : Option ℕ) (bytes plan_bytes cert_bytes : List ℕ) (s : Status) → CheckCause limit bytes plan_bytes cert_bytes s → IsAnswered s
+check_answered : (limit : Option ℕ) (bytes plan_bytes cert_bytes : List ℕ) (s : Status) → CheckCause limit bytes plan_bytes cert_bytes s → IsPlain s
 unfolding CheckCause
 check_answered limit bytes plan_bytes cert_bytes status.Done p = tt
 check_answered limit bytes plan_bytes cert_bytes status.Negative p = tt
@@ -232,7 +241,7 @@ refused_becomes_nothing job bytes whole refusal.Maker becomes is = absurd is
 ConvertCause : ConvertJob → List ℕ → Status → Type 0
 ConvertCause job bytes s = (text : List ℕ) × ConvertAnswers job bytes s text
 
-convert_answered : (job : ConvertJob) (bytes : List ℕ) (s : Status) → ConvertCause job bytes s → IsAnswered s
+convert_answered : (job : ConvertJob) (bytes : List ℕ) (s : Status) → ConvertCause job bytes s → IsPlain s
 unfolding ConvertCause
 convert_answered job bytes status.Done p = tt
 convert_answered job bytes status.Refused p = tt
@@ -277,7 +286,7 @@ time_is_some job text other p q =
 MakeCause : MakeJob → Status → Type 0
 MakeCause job s = (text : List ℕ) × MakeAnswers job s text
 
-make_answered : (job : MakeJob) (s : Status) → MakeCause job s → IsAnswered s
+make_answered : (job : MakeJob) (s : Status) → MakeCause job s → IsPlain s
 unfolding MakeCause
 make_answered job status.Done p = tt
 make_answered job status.Negative p = tt
@@ -296,51 +305,127 @@ make_exclude job = record {
   negative_refused = λ p q. refused_makes_nothing job p.1.network q.1.refusal p.1.makes q.1.refused;
 }
 
-told_make : (job : MakeJob) (files : Option Files) (s : Status) → HasCause (MakeInstance job) files s → MakeCause job s
+told_make : (job : MakeJob) (files new : Option Files) (s : Status) → HasCause (MakeInstance job) files new s → MakeCause job s
 unfolding MakeCause
-told_make job files s cause = cause
+told_make job files new s cause = cause
+
+-- ---- `fleet`
+
+fleet_refused_not : (limit : Option ℕ) (bytes : List ℕ) (g : Network) (r : Refusal) → HasFleetNetwork limit bytes g → IsRule r → IsFleetRefused limit bytes r → ⊥
+fleet_refused_not limit bytes g (refusal.Instance e) has rule first = refused_has_none limit bytes (refusal.Instance e) g rule first has.network
+fleet_refused_not limit bytes g (refusal.Limit given) has rule past = refused_has_none limit bytes (refusal.Limit given) g rule past has.network
+fleet_refused_not limit bytes g (refusal.Customers count) has rule (h, network, is, many) =
+    let same : h ≡ g = one_limited limit bytes h g network has.network in
+    let counts : count ≡ customer_count g = is ∙ ap (λ (x : Network). customer_count x) same in
+    omega (arith, counts, many, has.few)
+fleet_refused_not limit bytes g (refusal.Charge level) has rule is = absurd is
+fleet_refused_not limit bytes g (refusal.Route e) has rule is = absurd is
+fleet_refused_not limit bytes g (refusal.Plan e) has rule is = absurd is
+fleet_refused_not limit bytes g (refusal.Certificate e) has rule is = absurd is
+fleet_refused_not limit bytes g (refusal.Literal e) has rule is = absurd is
+fleet_refused_not limit bytes g refusal.Maker has rule is = absurd is
+
+some_is_not_none : (budget : Option ℕ) (n : ℕ) → budget ≡ Some n → budget ≢ None
+some_is_not_none None n is none = absurd (cc)
+some_is_not_none (Some m) n is none = absurd (cc)
+
+stopped_has_budget : (job : FleetJob) (bytes : List ℕ) (new : Option Files) (text : List ℕ) → PutsFound job bytes new status.Stopped text → job.nodes ≢ None
+stopped_has_budget job bytes new text p =
+    some_is_not_none job.nodes (length p.found.outcome.certificate.sections) (p.found.tells.stopped.0 refl).0
+
+FleetCause : FleetJob → List ℕ → Option Files → Status → Type 0
+FleetCause job bytes new s = (text : List ℕ) × FleetAnswers job bytes new s text
+
+found_unrefused : (job : FleetJob) (bytes : List ℕ) (new : Option Files) (s : Status) (text other : List ℕ) → PutsFound job bytes new s text → PutsFleetRefusal job bytes other → ⊥
+found_unrefused job bytes new s text other p q = fleet_refused_not job.limit bytes p.network q.refusal p.fleet q.rule q.refused
+
+-- an answer is what was found, or a refusal
+found_or_refused : (job : FleetJob) (bytes : List ℕ) (new : Option Files) (s : Status) (text : List ℕ) → FleetAnswers job bytes new s text →
+    PutsFound job bytes new s text ⊎ ((s ≡ status.Refused) × PutsFleetRefusal job bytes text)
+found_or_refused job bytes new status.Done text p = inl p
+found_or_refused job bytes new status.Negative text p = inl p
+found_or_refused job bytes new status.Stopped text p = inl p
+found_or_refused job bytes new status.Refused text p = inr (refl, p)
+found_or_refused job bytes new status.Words text p = absurd p
+found_or_refused job bytes new status.Fault text p = absurd p
+found_or_refused job bytes new status.Memory text p = absurd p
+
+one_answer : (job : FleetJob) (bytes text other : List ℕ) (files : Files) (s t : Status) →
+    PutsFound job bytes (Some files) s text ⊎ ((s ≡ status.Refused) × PutsFleetRefusal job bytes text)
+    → PutsFound job bytes (Some files) t other ⊎ ((t ≡ status.Refused) × PutsFleetRefusal job bytes other) → s ≡ t
+one_answer job bytes text other files s t (inl p) (inl q) = same_search job bytes text other files s t p q
+one_answer job bytes text other files s t (inl p) (inr (is, q)) = absurd (found_unrefused job bytes (Some files) s text other p q)
+one_answer job bytes text other files s t (inr (is, p)) (inl q) = absurd (found_unrefused job bytes (Some files) t other text q p)
+one_answer job bytes text other files s t (inr (is, p)) (inr (was, q)) = is ∙ sym was
+
+fleet_status : (job : FleetJob) (bytes : List ℕ) (new : Option Files) (s t : Status) → IsTold new → FleetCause job bytes new s → FleetCause job bytes new t → s ≡ t
+unfolding FleetCause
+fleet_status job bytes None s t told p q = absurd told
+fleet_status job bytes (Some files) s t told p q =
+    one_answer job bytes p.0 q.0 files s t (found_or_refused job bytes (Some files) s p.0 p.1) (found_or_refused job bytes (Some files) t q.0 q.1)
+
+-- a budget ends a search alone
+pub may_be_stopped : (job : Job) (files new : Option Files) → HasCause job files new status.Stopped → MayBeStopped job
+may_be_stopped (PlanFleet job) files new (text, (bytes, read, puts)) = stopped_has_budget job bytes new text puts
+may_be_stopped (FixedRoute job) files new (text, (bytes, read, answers)) = absurd answers
+may_be_stopped (CheckPlan job) files new (text, (bytes, read, (plan_bytes, read_plan, (cert_bytes, read_cert, answers)))) = absurd answers
+may_be_stopped (ConvertFile job) files new (text, (bytes, read, answers)) = absurd answers
+may_be_stopped (MakeInstance job) files new (text, answers) = absurd answers
 
 -- ---- a job whose files are told
 
 abbrev take_under : Files → List ℕ → List ℕ
 take_under files name = take most_bytes (bytes_under files name)
 
-told_fixed : (job : FixedJob) (files : Files) (s : Status) → HasCause (FixedRoute job) (Some files) s → FixedCause job.options job.route (take_under files job.file) s
+told_fixed : (job : FixedJob) (files : Files) (new : Option Files) (s : Status) → HasCause (FixedRoute job) (Some files) new s → FixedCause job.options job.route (take_under files job.file) s
 unfolding FixedCause
-told_fixed job files s (text, (bytes, read, answers)) =
+told_fixed job files new s (text, (bytes, read, answers)) =
     (text, subst (λ (bs : List ℕ). FixedAnswers job.options job.route bs s text) read answers)
 
 abbrev certificate_under : Files → List ℕ → List ℕ
 certificate_under files name = take most_certificate_bytes (bytes_under files name)
 
-told_check : (job : CheckJob) (files : Files) (s : Status) → HasCause (CheckPlan job) (Some files) s
+told_check : (job : CheckJob) (files : Files) (new : Option Files) (s : Status) → HasCause (CheckPlan job) (Some files) new s
     → CheckCause job.limit (take_under files job.file) (take_under files job.plan) (certificate_under files job.cert) s
 unfolding CheckCause
-told_check job files s (text, (bytes, read, (plan_bytes, read_plan, (cert_bytes, read_cert, answers)))) = (
+told_check job files new s (text, (bytes, read, (plan_bytes, read_plan, (cert_bytes, read_cert, answers)))) = (
   text,
   subst (λ (bs : List ℕ). CheckAnswers job.limit (take_under files job.file) (take_under files job.plan) bs s text) read_cert
       (subst (λ (bs : List ℕ). CheckAnswers job.limit (take_under files job.file) bs cert_bytes s text) read_plan
       (subst (λ (bs : List ℕ). CheckAnswers job.limit bs plan_bytes cert_bytes s text) read answers)),
 )
 
-told_convert : (job : ConvertJob) (files : Files) (s : Status) → HasCause (ConvertFile job) (Some files) s → ConvertCause job (take_under files job.file) s
+told_convert : (job : ConvertJob) (files : Files) (new : Option Files) (s : Status) → HasCause (ConvertFile job) (Some files) new s → ConvertCause job (take_under files job.file) s
 unfolding ConvertCause
-told_convert job files s (text, (bytes, read, answers)) =
+told_convert job files new s (text, (bytes, read, answers)) =
     (text, subst (λ (bs : List ℕ). ConvertAnswers job bs s text) read answers)
 
-pub one_status : (job : Job) (files : Option Files) (s t : Status) → TellsRead job files → HasCause job files s → HasCause job files t → s ≡ t
-one_status (FixedRoute job) (Some files) s t told p q =
+told_fleet : (job : FleetJob) (files : Files) (new : Option Files) (s : Status) → HasCause (PlanFleet job) (Some files) new s → FleetCause job (take_under files job.file) new s
+unfolding FleetCause
+told_fleet job files new s (text, (bytes, read, answers)) =
+    (text, subst (λ (bs : List ℕ). FleetAnswers job bs new s text) read answers)
+
+-- the files that a search left are told
+abbrev pub TellsLeft : Job → Option Files → Type 0
+TellsLeft (PlanFleet job) new = IsTold new
+TellsLeft other new = Unit {0}
+
+pub one_status : (job : Job) (files new : Option Files) (s t : Status) → TellsRead job files → TellsLeft job new → HasCause job files new s → HasCause job files new t → s ≡ t
+one_status (FixedRoute job) (Some files) new s t told left p q =
     one_of (FixedCause job.options job.route (take_under files job.file)) (fixed_exclude job.options job.route (take_under files job.file)) s t
-    (told_fixed job files s p) (told_fixed job files t q)
-one_status (CheckPlan job) (Some files) s t told p q =
+    (told_fixed job files new s p) (told_fixed job files new t q)
+one_status (PlanFleet job) (Some files) new s t told left p q =
+    fleet_status job (take_under files job.file) new s t left (told_fleet job files new s p) (told_fleet job files new t q)
+one_status (CheckPlan job) (Some files) new s t told left p q =
     one_of (CheckCause job.limit (take_under files job.file) (take_under files job.plan) (certificate_under files job.cert))
     (check_exclude job.limit (take_under files job.file) (take_under files job.plan) (certificate_under files job.cert)) s t
-    (told_check job files s p) (told_check job files t q)
-one_status (ConvertFile job) (Some files) s t told p q =
+    (told_check job files new s p) (told_check job files new t q)
+one_status (ConvertFile job) (Some files) new s t told left p q =
     one_of (ConvertCause job (take_under files job.file)) (convert_exclude job (take_under files job.file)) s t
-    (told_convert job files s p) (told_convert job files t q)
-one_status (MakeInstance job) files s t told p q =
-    one_of (MakeCause job) (make_exclude job) s t (told_make job files s p) (told_make job files t q)
-one_status (ConvertFile job) None s t told p q = absurd told
-one_status (FixedRoute job) None s t told p q = absurd told
-one_status (CheckPlan job) None s t told p q = absurd told
+    (told_convert job files new s p) (told_convert job files new t q)
+one_status (MakeInstance job) files new s t told left p q =
+    one_of (MakeCause job) (make_exclude job) s t (told_make job files new s p) (told_make job files new t q)
+one_status (ConvertFile job) None new s t told left p q = absurd told
+one_status (FixedRoute job) None new s t told left p q = absurd told
+one_status (CheckPlan job) None new s t told left p q = absurd told
+one_status (PlanFleet job) None new s t told left p q = absurd told

@@ -3,6 +3,7 @@ use Rattle.std.specs.Prelude.{List, Option, ℕ}
 use Rattle.command_line.specs.declared.Options.{Options}
 use Rattle.evroute.specs.CheckAnswer.{IsCheckRefused}
 use Rattle.evroute.specs.FixedAnswer.{IsRefused}
+use Rattle.evroute.specs.FleetAnswer.{IsFleetRefused}
 use Rattle.evroute.specs.LimitedNetwork.{IsNetworkRefused}
 use Rattle.plan_writer.specs.RefusalText.{IsRule}
 use Rattle.evroute.specs.declared.answer.Ended.{Ended}
@@ -28,3 +29,8 @@ abbrev pub IsCheckEnded : Option ℕ → List ℕ → List ℕ → List ℕ → 
 IsCheckEnded limit bytes plan_bytes cert_bytes (Refused refusal) =
     IsRule refusal × IsCheckRefused limit bytes plan_bytes cert_bytes refusal
 IsCheckEnded limit bytes plan_bytes cert_bytes Memory = Unit {0}
+
+-- of `fleet`
+abbrev pub IsFleetEnded : Option ℕ → List ℕ → Ended → Type 0
+IsFleetEnded limit bytes (Refused refusal) = IsRule refusal × IsFleetRefused limit bytes refusal
+IsFleetEnded limit bytes Memory = Unit {0}

@@ -19,7 +19,8 @@ status_of (Err Memory) = status.Memory
 pub record Finds
     (job : Job) (before after : ShelfState) (found : Result Answer ShelfFault) : Type 0 where
   pub answered : IfOk found (λ a. IsAnswered a.status)
-  pub answers : IfOk found (λ a. JobAnswers job before.files a.status a.text.items)
+  pub answers : IfOk found
+      (λ a. JobAnswers job before.files after.files a.status a.text.items)
   pub fault : IsErrOf found Failed → HasFileFault job before after
   pub stays : (IsErrOf found Failed → ⊥) → CountsStay before after
   pub falls : CountsNeverFall before after

@@ -2,6 +2,7 @@ pub mod Codes
 pub mod LimitedNetwork
 pub mod FixedAnswer
 pub mod CheckAnswer
+pub mod FleetAnswer
 pub mod Judged
 pub mod ConvertAnswer
 pub mod MakeAnswer

@@ -10,7 +10,7 @@ ghost use Rattle.evroute.specs.Run.{AreRead};
 ghost use Rattle.route_plan.specs.PlanTexts.{SpellsFleetPlan};
 
 use crate::answer::{Answer, Ended, refuse_job};
-use crate::instance::limited_instance;
+use crate::instance::fleet_instance;
 use crate::judging::judge_text;
 use crate::steps::{MOST_BYTES, MOST_CERTIFICATE_BYTES, read_file};
 use ev_outside::{Shelf, ShelfFault};
@@ -18,9 +18,6 @@ use instance_reader::Instance;
 use plan_writer::Refusal;
 use route_plan::{FleetPlan, PlanText, read_fleet_plan};
 use std::alloc::{AllocError, Global};
-
-/// The most customers of a fleet.
-const MOST_CUSTOMERS: usize = 128;
 
 /// The answer of `check`: the instance is read, then the plan, then the certificate; and then they
 /// are judged.
@@ -97,21 +94,6 @@ fn check_plan<S: Shelf>(
         Ok(answer) => Ok(answer),
         Err(AllocError) => Err(ShelfFault::Memory),
     }
-}
-
-/// The instance of the bytes for a fleet: with the limit of the words, and without too many customers.
-fn fleet_instance(alloc: Global, bytes: &[u8], limit: Option<u64>) -> Result<Instance, Ended>
-    ensures ok { IfOk result (HasFleetNetwork limit bytes.now) }
-    ensures rule { IfErr result IsRuleOrMemory }
-    ensures ended { (plan_bytes cert_bytes : List ℕ)
-        → IfErr result (IsCheckEnded limit bytes.now plan_bytes cert_bytes) }
-{
-    let inst = limited_instance(alloc, bytes, limit)?;
-    let count = inst.customers().len();
-    if count > MOST_CUSTOMERS {
-        return Err(Ended::Refused(Refusal::Customers(count)));
-    }
-    Ok(inst)
 }
 
 /// The fleet plan of a plan file, or none where it says so.

@@ -1,7 +1,7 @@
 //! The program over any files and any output.
 
 ghost use Rattle.std.specs.Prelude.{◌≡◌, ◌≢◌, ◌≤◌, IfSome, IsNone};
-ghost use Rattle.command_line.specs.JobValue.{job_value};
+ghost use Rattle.command_line.specs.JobValue.{IsJob, job_value};
 ghost use Rattle.ev_outside.specs.Shelf.{CountsNeverFall};
 ghost use Rattle.evroute.specs.Codes.{code_of};
 ghost use Rattle.evroute.specs.Found.{Finds};
@@ -12,6 +12,7 @@ use crate::answer::Answer;
 use crate::check::check;
 use crate::convert::convert;
 use crate::fixed::fixed;
+use crate::fleet::fleet;
 use crate::make::make;
 use crate::status::Status;
 use crate::steps::put_answer;
@@ -24,6 +25,12 @@ use std::alloc::{AllocError, Global};
 ///
 /// `fixed FILE ROUTE [--limit N] [--charge N]` reads FILE as an instance and puts a fastest plan of
 /// the route ([`Status::Done`]), or that none is feasible ([`Status::Negative`]).
+///
+/// `fleet FILE PLAN CERT [--limit N] [--nodes N]` reads FILE as an instance, writes a fleet plan,
+/// or that none is held, into PLAN, and a certificate of what no fleet plan costs less than into
+/// CERT, and puts cost, bound and gap. Cost and bound are equal ([`Status::Done`]), or there is no
+/// fleet plan ([`Status::Negative`]), or the search looked at N nodes before that was shown
+/// ([`Status::Stopped`]).
 ///
 /// `check FILE PLAN CERT [--limit N]` reads PLAN as a fleet plan and CERT as a certificate on the
 /// instance of FILE, and puts that they are accepted, with cost, bound and gap ([`Status::Done`]),
@@ -39,9 +46,9 @@ use std::alloc::{AllocError, Global};
 ///
 /// All put the line of the first broken rule of their files and words ([`Status::Refused`]). Other
 /// words put the usage text ([`Status::Words`]). After [`Status::Fault`] and [`Status::Memory`] a
-/// part of such a text may have been put. No file but OUTFILE is written: by `convert` only where
-/// no rule is broken, by `make` wherever an instance is made. What it holds after a failed write
-/// isn't known.
+/// part of such a text may have been put. No file but OUTFILE, PLAN and CERT is written: by
+/// `convert` and `fleet` only where no rule is broken, by `make` wherever an instance is made. What
+/// it holds after a failed write isn't known.
 pub fn run<S: Shelf, K: Sink>(alloc: Global, words: &[String], shelf: &mut S, out: &mut K) -> Status
     ensures words { result ≡ Status.Words → IsNone (job_named words.now) }
     ensures usage { IsNone (job_named words.now)
@@ -86,6 +93,7 @@ pub fn exit_code<S: Shelf, K: Sink>(
 
 /// A job: its answer is found and put.
 fn perform<S: Shelf, K: Sink>(alloc: Global, job: &Job, shelf: &mut S, out: &mut K) -> Status
+    requires { IsJob job.now }
     ensures words { result ≢ Status.Words }
     ensures job { Performs (job_value job.now) (S.state shelf.old) (S.state shelf.new)
         (K.state out.old) (K.state out.new) result }
@@ -103,6 +111,7 @@ fn perform<S: Shelf, K: Sink>(alloc: Global, job: &Job, shelf: &mut S, out: &mut
 
 /// The answer to a job, or why there is none.
 fn find_answer<S: Shelf>(alloc: Global, job: &Job, shelf: &mut S) -> Result<Answer, ShelfFault>
+    requires { IsJob job.now }
     ensures { Finds (job_value job.now) (S.state shelf.old) (S.state shelf.new) result }
 {
     match job {
@@ -111,6 +120,15 @@ fn find_answer<S: Shelf>(alloc: Global, job: &Job, shelf: &mut S) -> Result<Answ
             job.file.as_str(),
             job.route.as_str(),
             job.options,
+            shelf,
+        ),
+        Job::Fleet(job) => fleet(
+            alloc,
+            job.file.as_str(),
+            job.plan.as_str(),
+            job.cert.as_str(),
+            job.limit,
+            job.nodes,
             shelf,
         ),
         Job::Check(job) => check(

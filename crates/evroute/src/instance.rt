@@ -1,7 +1,8 @@
 //! The first steps of each job that reads an instance.
 
 ghost use Rattle.std.specs.Prelude.{◌≢◌, ℕ, IfErr, IfOk, List, Option};
-ghost use Rattle.evroute.specs.Ended.{IsNetworkEnded, IsRuleOrMemory};
+ghost use Rattle.evroute.specs.CheckAnswer.{HasFleetNetwork};
+ghost use Rattle.evroute.specs.Ended.{IsCheckEnded, IsFleetEnded, IsNetworkEnded, IsRuleOrMemory};
 ghost use Rattle.evroute.specs.LimitedNetwork.{HasNetwork};
 ghost use Rattle.instance_reader.specs.Faults.{IsFirstFault};
 
@@ -9,6 +10,9 @@ use crate::answer::Ended;
 use instance_reader::{Instance, ReadFault, read_instance};
 use plan_writer::Refusal;
 use std::alloc::Global;
+
+/// The most customers of a fleet.
+const MOST_CUSTOMERS: usize = 128;
 
 /// Why an instance isn't read. Want of memory is no rule.
 fn unread(fault: ReadFault) -> Ended
@@ -41,4 +45,20 @@ pub fn limited_instance(alloc: Global, bytes: &[u8], limit: Option<u64>) -> Resu
         Ok(inst) => Ok(inst),
         Err(fault) => Err(Ended::Refused(Refusal::Limit(fault.limit))),
     }
+}
+
+/// The instance of the bytes for a fleet: with the limit of the words, and without too many customers.
+pub fn fleet_instance(alloc: Global, bytes: &[u8], limit: Option<u64>) -> Result<Instance, Ended>
+    ensures ok { IfOk result (HasFleetNetwork limit bytes.now) }
+    ensures rule { IfErr result IsRuleOrMemory }
+    ensures ended { IfErr result (IsFleetEnded limit bytes.now) }
+    ensures check { (plan_bytes cert_bytes : List ℕ)
+        → IfErr result (IsCheckEnded limit bytes.now plan_bytes cert_bytes) }
+{
+    let inst = limited_instance(alloc, bytes, limit)?;
+    let count = inst.customers().len();
+    if count > MOST_CUSTOMERS {
+        return Err(Ended::Refused(Refusal::Customers(count)));
+    }
+    Ok(inst)
 }

@@ -53,7 +53,6 @@ pub fn put_answer<K: Sink>(answer: &Answer, out: &mut K) -> Status
     ensures empty { answer.now.text.items ≡ []
         → (result ≡ answer.now.status) × (K.state out.new ≡ K.state out.old) }
     ensures words { result ≢ Status.Words }
-    ensures stopped { result ≢ Status.Stopped }
 {
     if answer.text.is_empty() {
         return answer.status;

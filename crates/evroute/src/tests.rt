@@ -2,7 +2,7 @@ use crate::{Status, run};
 use command_line::usage;
 use ev_outside::{MemoryShelf, MemorySink};
 use std::alloc::{AllocError, Global};
-use worked_instances::{FINE_UNITS, ONE_STATION, RESERVE};
+use worked_instances::{FINE_UNITS, ONE_STATION, RESERVE, THREE_CUSTOMERS, TWO_CUSTOMERS};
 
 /// A file with decimals.
 const DECIMALS: &str =
@@ -290,6 +290,91 @@ fn the_reserve_is_kept(rt: HostRuntime) {
 }
 
 #[test]
+fn a_fleet_is_planned_where_no_rule_is_broken(rt: HostRuntime) {
+    let alloc = rt.alloc();
+    let cases = [
+        ("fleet A P Q", "{", Status::Refused, "refused instance 2\n"),
+        (
+            "fleet A P Q --limit 500000000000000001 --nodes 1",
+            ONE_STATION,
+            Status::Refused,
+            "refused limit 500000000000000001\n",
+        ),
+        ("fleet B P Q", ONE_STATION, Status::Fault, ""),
+        ("fleet A P A", ONE_STATION, Status::Words, usage()),
+        ("fleet A P Q --nodes 0", ONE_STATION, Status::Words, usage()),
+    ];
+    for (line, instance, status, put) in cases {
+        let mut shelf = shelf_with(alloc, instance, CHARGED, &[]).expect(&rt, "memory");
+        let ended = run_with(alloc, line, &mut shelf, &[]).expect(&rt, "memory");
+        assert_eq!(rt; ended.0, status, "{line}");
+        assert_eq!(rt; ended.1.as_slice(), put.as_bytes());
+        let plan = shelf.get("P").unwrap_or(b"not there".as_slice());
+        assert_eq!(rt; plan, CHARGED.as_bytes());
+    }
+}
+
+#[test]
+fn a_fleet_is_planned_at_its_bound(rt: HostRuntime) {
+    let alloc = rt.alloc();
+    let cases = [
+        (
+            "fleet A P Q",
+            ONE_STATION,
+            Status::Done,
+            "cost 43/2\nbound 43/2\ngap 0/2\nroot exact 43/2\n",
+        ),
+        (
+            "fleet A P Q --limit 12",
+            TWO_CUSTOMERS,
+            Status::Done,
+            "cost 16/1\nbound 16/1\ngap 0/1\nroot exact 16/1\n",
+        ),
+        (
+            "fleet A P Q --limit 7",
+            TWO_CUSTOMERS,
+            Status::Negative,
+            "infeasible\n",
+        ),
+    ];
+    for (line, instance, status, put) in cases {
+        let mut shelf = shelf_with(alloc, instance, "", &[]).expect(&rt, "memory");
+        let ended = run_with(alloc, line, &mut shelf, &[]).expect(&rt, "memory");
+        assert_eq!(rt; ended.0, status, "{line}");
+        assert_eq!(rt; ended.1.as_slice(), put.as_bytes());
+    }
+}
+
+#[test]
+fn a_budget_stops_a_search_and_its_files_are_accepted(rt: HostRuntime) {
+    let alloc = rt.alloc();
+    let mut shelf = shelf_with(alloc, THREE_CUSTOMERS, "", &[]).expect(&rt, "memory");
+    let cases = [
+        ("fleet A P Q --limit 11 --nodes 1", Status::Stopped),
+        ("check A P Q --limit 11", Status::Done),
+        ("fleet A P Q --limit 11", Status::Done),
+        ("check A P Q --limit 11", Status::Done),
+    ];
+    for (line, status) in cases {
+        let ended = run_with(alloc, line, &mut shelf, &[]).expect(&rt, "memory");
+        assert_eq!(rt; ended.0, status, "{line}");
+    }
+}
+
+#[test]
+fn a_fleet_has_no_more_than_128_customers(rt: HostRuntime) {
+    let alloc = rt.alloc();
+    let mut shelf = shelf_with(alloc, ONE_STATION, CHARGED, &[]).expect(&rt, "memory");
+    let made = run_with(alloc, "make 1 129 0 W", &mut shelf, &[]).expect(&rt, "memory");
+    assert_eq!(rt; made.0, Status::Negative);
+    for line in ["fleet W P Q", "check W P Q"] {
+        let ended = run_with(alloc, line, &mut shelf, &[]).expect(&rt, "memory");
+        assert_eq!(rt; ended.0, Status::Refused, "{line}");
+        assert_eq!(rt; ended.1.as_slice(), "refused customers 129\n".as_bytes());
+    }
+}
+
+#[test]
 fn decimals_become_whole_in_another_file(rt: HostRuntime) {
     let alloc = rt.alloc();
     let whole = "convert A W --time-digits 0 --energy-digits 0";
@@ -451,6 +536,15 @@ fn a_failing_file_or_output_is_a_fault(rt: HostRuntime) {
             Some(0),
             Status::Fault,
             "accepted\ncost 43/2\n",
+        ),
+        ("fleet A P Q", ONE_STATION, Some(0), None, Status::Fault, ""),
+        (
+            "fleet A P Q",
+            "{",
+            None,
+            Some(0),
+            Status::Fault,
+            "refused i",
         ),
         (whole, ONE_STATION, Some(1), None, Status::Fault, ""),
         (whole, ONE_STATION, None, Some(0), Status::Done, ""),

@@ -1,28 +1,14 @@
 -- What `check` puts: that a plan and a certificate are accepted, with cost, bound and gap, or the first broken rule.
-use Rattle.std.specs.Prelude.{◌≢◌, ℕ, ◌-◌, ◌≤◌, ◌++◌, ◌∷◌, [], List, Option, None, Some, decimal, codes}
+use Rattle.std.specs.Prelude.{◌≢◌, ℕ, ◌++◌, ◌∷◌, [], List, Option, decimal, codes}
 use Rattle.certificate_check.specs.declared.verdict.Verdict.{Verdict}
 use Rattle.certificate_check.specs.declared.verdict.Verdict.TheVariants as verdict
 use Rattle.plan_check.specs.declared.fault.PlanFault.{PlanFault}
 use Rattle.plan_check.specs.declared.fault.PlanFault.TheVariants as plan
 use Rattle.route_plan.specs.declared.walks.WalkFault.{WalkFault}
 use Rattle.route_plan.specs.declared.walks.WalkFault.TheVariants as walk
-use Rattle.plan_writer.specs.FixedText.{over}
+use Rattle.plan_writer.specs.ScaledText.{IsBoundOf, bounds_text}
 use Rattle.plan_writer.specs.declared.check.Judgement.{Judgement}
 use Rattle.plan_writer.specs.declared.check.Judgement.TheVariants.{Accepted, Certificate, Plan}
-
--- a scaled cost or bound over the denominator, where there is one
-abbrev pub scaled_text : ℕ → Option ℕ → List ℕ
-scaled_text denominator None = codes "none"
-scaled_text denominator (Some scaled) = over denominator scaled
-
--- how far the bound is below the cost, where both stand
-abbrev pub gap_of : Option ℕ → Option ℕ → Option ℕ
-gap_of (Some cost) (Some bound) = Some (cost - bound)
-gap_of cost bound = None
-
--- a word, a cost or a bound, and the end of the line
-abbrev pub scaled_line : List ℕ → ℕ → Option ℕ → List ℕ
-scaled_line word denominator scaled = word ++ scaled_text denominator scaled ++ 10 ∷ []
 
 -- the number of the rule that a walk breaks, and the position of the stop that breaks it
 abbrev pub walk_text : WalkFault → List ℕ
@@ -57,11 +43,6 @@ verdict_text (verdict.Pairs leaf) = codes "4 leaf " ++ decimal leaf
 verdict_text (verdict.Bound leaf) = codes "5 leaf " ++ decimal leaf
 verdict_text verdict.Root = codes "6"
 
--- the bound is no greater than the cost, where both stand
-abbrev pub IsBoundOf : Option ℕ → Option ℕ → Type 0
-IsBoundOf (Some cost) (Some bound) = bound ≤ cost
-IsBoundOf cost bound = Unit {0}
-
 -- what is accepted has no bound above its cost, and a broken rule of a certificate is one
 abbrev pub IsJudged : Judgement → Type 0
 IsJudged (Accepted cost bound) = IsBoundOf cost bound
@@ -71,9 +52,7 @@ IsJudged (Certificate found) = found ≢ verdict.Accepted
 -- a line `accepted`, and what the plan costs, the bound of the certificate, and how far this is below it
 abbrev pub accepted_text : ℕ → Option ℕ → Option ℕ → List ℕ
 accepted_text denominator cost bound =
-    codes "accepted" ++ 10 ∷ scaled_line (codes "cost ") denominator cost
-    ++ scaled_line (codes "bound ") denominator bound
-    ++ scaled_line (codes "gap ") denominator (gap_of cost bound)
+    codes "accepted" ++ 10 ∷ bounds_text denominator cost bound
 
 abbrev pub check_text : ℕ → Judgement → List ℕ
 check_text denominator (Accepted cost bound) = accepted_text denominator cost bound

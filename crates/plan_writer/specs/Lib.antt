@@ -1,4 +1,6 @@
 pub mod CheckText
 pub mod FixedText
+pub mod FleetText
 pub mod RefusalText
 pub mod MakeText
+pub mod ScaledText

@@ -3,12 +3,15 @@
 
 mod check;
 mod fixed;
+mod fleet;
 mod make;
 mod refusal;
+mod scaled;
 mod words;
 
 pub use check::{Judgement, push_check_report};
 pub use fixed::push_fixed;
+pub use fleet::{Outcomes, RootLine, push_fleet_report};
 pub use make::push_make_report;
 pub use refusal::{Refusal, push_refusal};
 

@@ -44,7 +44,7 @@ fn push_lines(
 }
 
 /// Appends a line of a word and a number.
-fn push_number_line(
+pub(crate) fn push_number_line(
     alloc: Global,
     out: &mut Vec<u8>,
     word: &[u8],

@@ -1,4 +1,10 @@
-use crate::{Judgement, Refusal, push_check_report, push_fixed, push_make_report, push_refusal};
+ghost use Rattle.std.specs.Prelude.{◌≢◌};
+ghost use Rattle.plan_writer.specs.FleetText.{IsLowest};
+
+use crate::{
+    Judgement, Outcomes, Refusal, RootLine, push_check_report, push_fixed, push_fleet_report,
+    push_make_report, push_refusal,
+};
 use bound_certificate::CertText;
 use certificate_check::Verdict;
 use charge_curve::CurveFault;
@@ -231,6 +237,116 @@ fn accepted_certificates_have_their_lines(rt: HostRuntime) {
         let out = accepted_lines(alloc, &inst, cost, bound).expect(&rt, "memory");
         assert_eq!(rt; out.as_slice(), lines.as_bytes());
     }
+}
+
+/// The line of a root with this price sum and weight; where there is no such weight, of one too wide.
+fn root_of(inst: &Instance, price_sum: i128, weight: u64) -> RootLine
+    ensures some { result ≢ RootLine.Empty }
+    ensures lowest { IsLowest result }
+{
+    if weight == 0 || weight > 1 << 40 {
+        return RootLine::Wide;
+    }
+    RootLine::exact(price_sum, weight, inst)
+}
+
+/// The report on a search that shows a bound; `None` where this is above the cost.
+fn report_lines(
+    alloc: Global,
+    inst: &Instance,
+    bounds: (Option<u128>, u128),
+    root: (i128, u64),
+    stopped: Option<u64>,
+) -> Option<Vec<u8>> {
+    let (cost, bound) = bounds;
+    if let Some(cost) = cost {
+        if cost < bound {
+            return None;
+        }
+    }
+    let outcomes = Outcomes {
+        cost,
+        bound: Some(bound),
+        root: root_of(inst, root.0, root.1),
+        stopped,
+    };
+    let mut out = Vec::new(alloc);
+    push_fleet_report(alloc, &mut out, inst, &outcomes).ok()?;
+    Some(out)
+}
+
+#[test]
+fn a_search_has_its_report(rt: HostRuntime) {
+    let alloc = rt.alloc();
+    let inst = read_instance(alloc, ONE_STATION.as_bytes()).expect(&rt, "an instance");
+    let cases = [
+        (
+            (Some(43), 43),
+            (43, 1),
+            None,
+            "cost 43/2\nbound 43/2\ngap 0/2\nroot exact 43/2\n",
+        ),
+        (
+            (Some(48), 34),
+            (66, 2),
+            Some(1),
+            "cost 48/2\nbound 34/2\ngap 14/2\nroot exact 33/2\nnodes 1\n",
+        ),
+        (
+            (None, 0),
+            (0, 1099511627776),
+            Some(18446744073709551615),
+            "cost none\nbound 0/2\ngap none\nroot exact 0/1\nnodes 18446744073709551615\n",
+        ),
+        (
+            (Some(18446744073709551616), 18446744073709551615),
+            (2475880078570760549798248448, 1099511627776),
+            None,
+            "cost 18446744073709551616/2\nbound 18446744073709551615/2\ngap 1/2\n\
+             root exact 1125899906842624/1\n",
+        ),
+        (
+            (None, 7),
+            (-9, 12),
+            None,
+            "cost none\nbound 7/2\ngap none\nroot exact -3/8\n",
+        ),
+        (
+            (Some(256), 256),
+            (0, 0),
+            None,
+            "cost 256/2\nbound 256/2\ngap 0/2\nroot wide\n",
+        ),
+    ];
+    for (bounds, root, stopped, lines) in cases {
+        let out = report_lines(alloc, &inst, bounds, root, stopped).expect(&rt, "memory");
+        assert_eq!(rt; out.as_slice(), lines.as_bytes());
+    }
+}
+
+/// The report on a search that shows that there is no fleet plan.
+fn no_plan_lines(alloc: Global, inst: &Instance, root: RootLine) -> Option<Vec<u8>>
+    requires { IsLowest root }
+{
+    let outcomes = Outcomes {
+        cost: None,
+        bound: None,
+        root,
+        stopped: None,
+    };
+    let mut out = Vec::new(alloc);
+    push_fleet_report(alloc, &mut out, inst, &outcomes).ok()?;
+    Some(out)
+}
+
+#[test]
+fn where_there_is_no_fleet_plan_one_line_stands_alone(rt: HostRuntime) {
+    let alloc = rt.alloc();
+    let inst = read_instance(alloc, ONE_STATION.as_bytes()).expect(&rt, "an instance");
+    let empty = no_plan_lines(alloc, &inst, RootLine::Empty).expect(&rt, "memory");
+    assert_eq!(rt; empty.as_slice(), b"infeasible\n".as_slice());
+    let wide = no_plan_lines(alloc, &inst, RootLine::Wide).expect(&rt, "memory");
+    assert_eq!(rt; wide.as_slice(), b"infeasible\n".as_slice());
 }
 
 #[test]

@@ -1,9 +1,14 @@
 use Rattle.std.proofs.Common.{◌∙◌, ap, map, string_bytes}
 use Rattle.clap.specs.Walk.{texts}
 use Rattle.command_line.proofs.Jobs.{no_job}
+use Rattle.command_line.proofs.Promises.{are_jobs}
+use Rattle.command_line.specs.Matches.{rows_in}
 use Rattle.command_line.proofs.job_words.Goals as goal
 
-pub returns-in-Ok-None : goal.returns-in-Ok-None
-returns-in-Ok-None c =
+pub returns-in-Ok-None-clause-job : goal.returns-in-Ok-None-clause-job
+returns-in-Ok-None-clause-job c =
     no_job (map string_bytes c.args.words.now) (texts c.as_slice.result.now) c.in-Ok-None.field-0
     (ap texts c.as_slice.ensures.value ∙ c.in_ok-named.ensures) c.in-Ok-None.field-0-is c.in-Ok-None.ensures
+
+pub returns-in-Ok-Some-clause-is : goal.returns-in-Ok-Some-clause-is
+returns-in-Ok-Some-clause-is c = are_jobs (rows_in c.in-Ok-Some.matches) c.job_in.result c.job_in.ensures

@@ -26,6 +26,6 @@ returns-in-Err-Refused g c = λ file bytes limit read fleet.
     let files = (g.S.Shelf.state c.args.shelf.now).files in
     let line = refused_by_plan job files bytes c.in-Ok.bytes.items c.as_slice.result.now c.in-Err-Refused.field-0 c.in-Err-Refused.refusal
     read c.in-Ok.ensures.bytes c.as_slice.ensures.value c.in-Err-Refused.field-0-is (λ cert_bytes. c.in-Err-Refused.ensures.ended limit bytes cert_bytes c.args.inst.now fleet) in
-    finds_refusal job (g.S.Shelf.state c.args.shelf.now) (g.S.Shelf.state c.read_file.new.shelf) c.in-Err-Refused.refusal c.refuse_job.result
-    line c.refuse_job.ensures.status c.refuse_job.ensures.text c.refuse_job.ensures.memory
+    finds_refusal (CheckPlan job) (g.S.Shelf.state c.args.shelf.now) (g.S.Shelf.state c.read_file.new.shelf) c.in-Err-Refused.refusal c.refuse_job.result
+    tt line c.refuse_job.ensures.status c.refuse_job.ensures.text c.refuse_job.ensures.memory
     (c.in-Ok.ensures.stays (λ failed. ok_is_no_error failed)) c.in-Ok.ensures.falls c.in-Ok.ensures.files

@@ -6,7 +6,7 @@ pub returns-in-Ok-Some-clause-job : goal.returns-in-Ok-Some-clause-job
 returns-in-Ok-Some-clause-job g c =
     named_performs c.in-Ok-Some.field-0 c.in-Ok-Some.job (job_named c.args.words.now)
     (λ job. Performs job (g.S.Shelf.state c.args.shelf.now) (g.S.Shelf.state c.perform.new.shelf) (g.K.Sink.state c.args.out.now) (g.K.Sink.state c.perform.new.out) c.perform.result)
-    c.in-Ok-Some.field-0-is c.in-Ok-Some.ensures c.perform.ensures.job
+    c.in-Ok-Some.field-0-is c.in-Ok-Some.ensures.job c.perform.ensures.job
 
 pub returns-in-Err-clause-job : goal.returns-in-Err-clause-job
 returns-in-Err-clause-job g c = whatever_named (job_named c.args.words.now) (g.S.Shelf.state c.args.shelf.now) (g.K.Sink.state c.args.out.now)
