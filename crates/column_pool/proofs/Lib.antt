@@ -1,0 +1,11 @@
+mod Putting
+mod Growing
+mod Alone
+mod Known
+mod Alike
+mod ColumnPast
+mod Independent
+mod Filling
+mod Covering
+mod Exactness
+mod Fitting

@@ -1,0 +1,8 @@
+use Rattle.column_pool.proofs.Known.{column_customers, column_known}
+use Rattle.column_pool.proofs.master.Master.add.Goals as goal
+
+pub set_of-set-requires-clause-known : goal.set_of-set-requires-clause-known
+set_of-set-requires-clause-known c = column_known c.args.inst.now c.args.order.now c.args.plan.stops c.requires.column
+
+pub set_of-set-requires-clause-customers : goal.set_of-set-requires-clause-customers
+set_of-set-requires-clause-customers c = column_customers c.args.inst.now c.args.order.now c.args.plan.stops c.requires.column

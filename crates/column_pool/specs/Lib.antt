@@ -1,0 +1,5 @@
+pub mod Pool
+pub mod Columns
+pub mod Faults
+pub mod Bounds
+pub mod Rounds
