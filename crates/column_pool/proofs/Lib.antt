@@ -6,6 +6,3 @@ mod Alike
 mod ColumnPast
 mod Independent
 mod Filling
-mod Covering
-mod Exactness
-mod Fitting

@@ -2,4 +2,3 @@ pub mod Pool
 pub mod Columns
 pub mod Faults
 pub mod Bounds
-pub mod Rounds

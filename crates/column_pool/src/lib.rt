@@ -3,14 +3,14 @@
 #![tactic(auto)]
 
 mod bound;
-mod exact;
 mod fault;
 mod keeping;
+mod laws;
 mod master;
 mod own;
 mod pool;
-mod rounds;
 mod taking;
 
-pub use bound::NodeBound;
+pub use bound::{NodeBound, bound_node};
+pub use laws::sections_of_nodes_are_strong;
 pub use pool::ColumnPool;

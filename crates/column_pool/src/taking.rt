@@ -75,7 +75,7 @@ pub(crate) fn copy_of(alloc: Global, plan: &RoutePlan) -> Result<RoutePlan, Allo
 }
 
 /// Takes a route into the pool, and as a column.
-pub(crate) fn take_in(
+fn take_in(
     alloc: Global,
     inst: &Instance,
     pool: &mut ColumnPool,
@@ -99,7 +99,7 @@ pub(crate) fn take_in(
 }
 
 /// Takes routes into the pool, and as columns.
-pub(crate) fn take_all(
+fn take_all(
     alloc: Global,
     inst: &Instance,
     pool: &mut ColumnPool,
