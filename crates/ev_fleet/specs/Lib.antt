@@ -1,0 +1,5 @@
+pub mod Bounds
+pub mod Searched
+pub mod Standing
+pub mod Plans
+pub mod Outcome

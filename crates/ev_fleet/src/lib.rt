@@ -1,0 +1,9 @@
+//! The search for the cheapest plan of a fleet by branch and price, best bound first (Land, Doig
+//! 1960; for routes: Desaulniers, Desrosiers, Solomon 2005).
+#![tactic(auto)]
+
+mod outcome;
+mod search;
+
+pub use outcome::Outcome;
+pub use search::plan_fleet;
