@@ -1,0 +1,12 @@
+pub mod Nodes
+pub mod Placing
+pub mod Bounds
+pub mod Sections
+pub mod Leaves
+pub mod Settling
+pub mod Named
+pub mod Numbers
+pub mod Ending
+pub mod Under
+pub mod Root
+pub mod Closing

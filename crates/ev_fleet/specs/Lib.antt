@@ -3,3 +3,4 @@ pub mod Searched
 pub mod Standing
 pub mod Plans
 pub mod Outcome
+pub mod State
