@@ -10,3 +10,6 @@ pub mod Ending
 pub mod Under
 pub mod Root
 pub mod Closing
+pub mod Steps
+pub mod Fitting
+pub mod Sums

@@ -4,6 +4,7 @@
 
 mod outcome;
 mod search;
+mod section_bound;
 
 pub use outcome::Outcome;
 pub use search::plan_fleet;
