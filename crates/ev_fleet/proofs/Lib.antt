@@ -13,3 +13,4 @@ pub mod Closing
 pub mod Steps
 pub mod Fitting
 pub mod Sums
+pub mod Outcomes

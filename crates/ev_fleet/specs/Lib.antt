@@ -4,3 +4,6 @@ pub mod Standing
 pub mod Plans
 pub mod Outcome
 pub mod State
+pub mod Held
+pub mod Splitting
+pub mod Answers

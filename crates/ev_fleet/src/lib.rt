@@ -2,9 +2,12 @@
 //! 1960; for routes: Desaulniers, Desrosiers, Solomon 2005).
 #![tactic(auto)]
 
+mod held;
 mod outcome;
+mod pair;
 mod search;
 mod section_bound;
+mod state;
 
 pub use outcome::Outcome;
 pub use search::plan_fleet;

@@ -1,0 +1,28 @@
+-- On which pairs a node may be split.
+use Rattle.std.specs.Prelude.{◌≡◌, ℕ, ◌<◌, Option, IfSome, Some, slice_get}
+use Rattle.customer_sets.specs.Pairs.{allows_of}
+use Rattle.branching.specs.SearchTree.{IsBranchPair, SearchTree}
+use Rattle.branching.specs.declared.node.Node.{Node}
+use Rattle.ev_fleet.specs.declared.pair.Choice.{Choice}
+
+-- the node of the key may be split on the places
+abbrev pub CanSplit : SearchTree → ℕ → ℕ → ℕ → Type 0
+CanSplit tree key i j =
+    (node : Node) → slice_get tree.nodes key ≡ Some node →
+    IsBranchPair tree.customers (allows_of node.pairs) i j
+
+-- the node may be split on what was chosen, if something was
+abbrev pub MayChoose : SearchTree → ℕ → Option Choice → Type 0
+MayChoose tree key choice = IfSome choice (λ (c : Choice). CanSplit tree key c.i c.j)
+
+-- the node can't be split
+abbrev pub CannotSplit : SearchTree → ℕ → Type 0
+CannotSplit tree key =
+    (node : Node) → slice_get tree.nodes key ≡ Some node → (i j : ℕ) →
+    IsBranchPair tree.customers (allows_of node.pairs) i j → ⊥
+
+-- it can't be split on the place i and one from 1 on below the end
+abbrev pub CannotSplitTo : SearchTree → ℕ → ℕ → ℕ → Type 0
+CannotSplitTo tree key i end =
+    (node : Node) → slice_get tree.nodes key ≡ Some node → (j : ℕ) → j < end →
+    IsBranchPair tree.customers (allows_of node.pairs) i j → ⊥
