@@ -14,3 +14,4 @@ pub mod Steps
 pub mod Fitting
 pub mod Sums
 pub mod Outcomes
+pub mod Taken

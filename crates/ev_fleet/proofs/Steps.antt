@@ -16,6 +16,7 @@ use Rattle.branching.specs.declared.node.NodeState.TheVariants.{Open, Taken, Clo
 use Rattle.ev_fleet.specs.Bounds.{IsAtMost, IsBoundOf}
 use Rattle.ev_fleet.specs.Searched.{SearchedTree, fork, tip}
 use Rattle.ev_fleet.specs.State.{IsFound, IsSearch, IsSearchAt, greater_of, placed}
+use Rattle.ev_fleet.specs.Splitting.{IsSettled}
 use Rattle.ev_fleet.proofs.Settling.{closed_search, split_search}
 
 set_here : (xs : List Node) (i : ℕ) (x y : Node) → slice_get xs i ≡ Some y → slice_get (set xs i x) i ≡ Some x
@@ -104,3 +105,10 @@ module _ (g : Network) (tree : SearchTree) (sections : List Section) (cost lower
             let old : slice_get (set before key one) k ≡ Some o = set_there before key k one apart ∙ set_there tree.nodes key k (taken_of node) apart ∙ at in
             ap (λ xs. slice_get xs k) nodes ∙ appended_before (set before key one) (two ∷ []) k o old);
       }
+
+  -- after it was closed or split
+  pub settled_step : (changed : SearchTree) → IsSettled (with_node tree key (taken_of node)) key name top lower changed → IsSearch g changed (sections ++ s ∷ []) lower
+  settled_step changed done = elim done [
+    | inl closed ↦ closed_step changed (closed.1 (taken_of node) taken_here) closed.0
+    | inr split ↦ split_step changed split.i split.j split.number split.split split.bounds
+  ]

@@ -1,8 +1,9 @@
 -- On which pairs a node may be split.
-use Rattle.std.specs.Prelude.{◌≡◌, ℕ, ◌<◌, Option, IfSome, Some, slice_get}
+use Rattle.std.specs.Prelude.{◌≡◌, ◌⊎◌, ℕ, ◌<◌, Option, IfSome, Some, slice_get}
 use Rattle.customer_sets.specs.Pairs.{allows_of}
-use Rattle.branching.specs.SearchTree.{IsBranchPair, SearchTree}
+use Rattle.branching.specs.SearchTree.{IsBranchPair, IsSplitOf, SearchTree, closed_with, with_node}
 use Rattle.branching.specs.declared.node.Node.{Node}
+use Rattle.ev_fleet.specs.Bounds.{IsAtMost}
 use Rattle.ev_fleet.specs.declared.pair.Choice.{Choice}
 
 -- the node of the key may be split on the places
@@ -26,3 +27,23 @@ abbrev pub CannotSplitTo : SearchTree → ℕ → ℕ → ℕ → Type 0
 CannotSplitTo tree key i end =
     (node : Node) → slice_get tree.nodes key ≡ Some node → (j : ℕ) → j < end →
     IsBranchPair tree.customers (allows_of node.pairs) i j → ⊥
+
+-- the node was closed, and its leaf names the section
+abbrev pub IsClosedAt : SearchTree → ℕ → ℕ → SearchTree → Type 0
+IsClosedAt old key name new =
+    (node : Node) → slice_get old.nodes key ≡ Some node →
+    new ≡ with_node old key (closed_with name node)
+
+-- the node was split, and its children have this section and bound
+pub record IsSplitAt (old : SearchTree) (key name : ℕ) (bound : Option ℕ)
+    (new : SearchTree) : Type 0 where
+  pub i : ℕ
+  pub j : ℕ
+  pub number : ℕ
+  pub bounds : bound ≡ Some number
+  pub split : IsSplitOf old key i j name number new
+
+-- the node was closed, where its bound is no less than the cost, or it was split
+abbrev pub IsSettled : SearchTree → ℕ → ℕ → Option ℕ → Option ℕ → SearchTree → Type 0
+IsSettled old key name bound cost new =
+    (IsAtMost cost bound × IsClosedAt old key name new) ⊎ IsSplitAt old key name bound new

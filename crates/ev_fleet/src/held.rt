@@ -11,7 +11,7 @@ ghost use Rattle.ev_fleet.specs.Held.{MayHold, cost_at};
 ghost use Rattle.ev_fleet.specs.Plans.{cost_of_fleet, first_customer};
 
 use instance_reader::Instance;
-use plan_check::check_fleet;
+use plan_check::{check_fleet, fleet_plans_break_no_rule};
 use route_plan::FleetPlan;
 
 /// A fleet plan with its scaled cost.
@@ -32,8 +32,12 @@ pub(crate) fn offer(inst: &Instance, held: &mut Option<Held>, plan: FleetPlan)
     ensures plan { IsFleetPlan inst.now 1 (stops_of plan.routes) →
         IsAtMost (cost_at held.new) (Some (cost_of_fleet inst.now plan)) }
 {
-    let Ok(cost) = check_fleet(inst, &plan) else {
-        return;
+    let cost = match check_fleet(inst, &plan) {
+        Ok(cost) => cost,
+        Err(_) => {
+            fleet_plans_break_no_rule();
+            return;
+        }
     };
     let cheaper = match held {
         Some(before) => cost < before.cost,
