@@ -57,15 +57,20 @@ section_of (Exact section over shares) = section
 section_of (Empty section) = section
 section_of (Wide columns basis section) = section
 
--- a fleet plan that keeps the pairs costs exactly the price sum over the weight
-pub record HasPlanAtBound (g : Network) (p : ForbiddenPairs) (s : Section) : Type 0 where
-  pub plans : List (List Stop)
+-- the plans that have shares
+abbrev pub plans_of : List Share → List (List Stop)
+plans_of shares = map (λ x. x.plan.stops) shares
+
+-- the plans are a fleet plan that keeps the pairs, and cost exactly the price sum over the weight
+pub record IsPlanAtBound (g : Network) (p : ForbiddenPairs) (s : Section)
+    (plans : List (List Stop)) : Type 0 where
   pub fleet : IsFleetPlan g 1 plans
   pub keeps : FleetKeepsPairs g (allows_of p) plans
   pub cost : sum_of s.prices ≡ pos (s.weight * cost_of g 1 plans)
 
--- where the pairs are decided: the bound of the section is the cost of a fleet plan, or there is none
+-- where the pairs are decided: the plans that have shares are a fleet plan at the bound of the section, or there is none
 abbrev pub IsBoundOfDecided : Network → ForbiddenPairs → NodeBound → Type 0
-IsBoundOfDecided g p (Exact section over shares) = HasPlanAtBound g p section
+IsBoundOfDecided g p (Exact section over shares) =
+    IsPlanAtBound g p section (plans_of shares)
 IsBoundOfDecided g p (Empty section) = Unit {0}
 IsBoundOfDecided g p (Wide columns basis section) = ⊥
