@@ -7,3 +7,5 @@ pub mod State
 pub mod Held
 pub mod Splitting
 pub mod Answers
+pub mod SameRoutes
+pub mod OwnRoutes

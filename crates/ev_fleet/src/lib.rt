@@ -4,9 +4,11 @@
 
 mod held;
 mod outcome;
+mod own;
 mod pair;
 mod search;
 mod section_bound;
+mod shares;
 mod state;
 
 pub use outcome::Outcome;

@@ -1,0 +1,83 @@
+//! The fleet plan that routes with shares are.
+
+ghost use Rattle.std.specs.Prelude.{◌≡◌, ◌≤◌, map, length, IfOk, MatchOption};
+ghost use Rattle.std.specs.List.Sorted.{IsNonDecreasingBy, IsPermutation};
+ghost use Rattle.ev_model.specs.Fleet.{IsFleetPlan};
+ghost use Rattle.instance_reader.specs.Instance.{customer_nodes};
+ghost use Rattle.route_plan.specs.declared.plan.RoutePlan.{RoutePlan};
+ghost use Rattle.column_pool.specs.Bounds.{plans_of};
+ghost use Rattle.ev_fleet.specs.SameRoutes.{IsPlanOf, first_outside};
+
+use bound_certificate::Share;
+use ev_list::Listed;
+use instance_reader::Instance;
+use plan_check::{check_fleet, fleet_plans_break_no_rule};
+use route_plan::{FleetPlan, RoutePlan};
+use std::alloc::{AllocError, Global};
+
+/// The plans of the shares as a fleet plan, in rising order of their first customers; `None`
+/// exactly where they are no fleet plan. The only `Err` is want of memory.
+pub(crate) fn plan_of_shares(
+    alloc: Global,
+    inst: &Instance,
+    shares: &[Share],
+) -> Result<Option<FleetPlan>, AllocError>
+    requires few { length (customer_nodes inst.now) ≤ 128 }
+    ensures { IfOk result (λ answer. MatchOption answer
+        (IsFleetPlan inst.now 1 (plans_of shares.now) → ⊥)
+        (IsPlanOf inst.now (plans_of shares.now))) }
+{
+    let mut routes = routes_of(alloc, shares)?;
+    sort_by_first(&mut routes);
+    let plan = FleetPlan {
+        routes: Listed::from_vec(routes),
+    };
+    let _ = inst.nodes();
+    fleet_plans_break_no_rule();
+    match check_fleet(inst, &plan) {
+        Ok(_) => Ok(Some(plan)),
+        Err(_) => Ok(None),
+    }
+}
+
+/// The plans of the shares.
+fn routes_of(alloc: Global, shares: &[Share]) -> Result<Vec<RoutePlan>, AllocError>
+    ensures { IfOk result (λ routes. routes.items ≡ map (λ x. x.plan) shares.now) }
+{
+    let mut routes = Vec::with_capacity(alloc, shares.len())?;
+    for share in shares {
+        routes.push(copy_of(alloc, &share.plan)?)?;
+    }
+    Ok(routes)
+}
+
+/// A plan with the same stops.
+pub(crate) fn copy_of(alloc: Global, plan: &RoutePlan) -> Result<RoutePlan, AllocError>
+    ensures { IfOk result (λ copy. copy ≡ plan.now) }
+{
+    let mut stops = Vec::with_capacity(alloc, plan.stops.len())?;
+    stops.extend_from_slice(plan.stops.as_slice())?;
+    Ok(RoutePlan {
+        stops: Listed::from_vec(stops),
+    })
+}
+
+/// Sorts the routes by the nodes of their first stops outside the depot that weren't inserted.
+fn sort_by_first(routes: &mut Vec<RoutePlan>)
+    ensures same { IsPermutation routes.old.items routes.new.items }
+    ensures order { IsNonDecreasingBy (λ (p : RoutePlan). first_outside p.stops) routes.new.items }
+{
+    routes.sort_unstable_by_key(|route| first_outside(route));
+}
+
+/// The node of the first stop outside the depot that wasn't inserted, and 0 where there is none.
+fn first_outside(plan: &RoutePlan) -> usize
+    ensures { result ≡ first_outside plan.now.stops }
+{
+    for stop in plan.stops.as_slice() {
+        if !stop.via && stop.node != 0 {
+            return stop.node;
+        }
+    }
+    0
+}
