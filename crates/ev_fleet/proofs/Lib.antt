@@ -15,3 +15,7 @@ pub mod Fitting
 pub mod Sums
 pub mod Outcomes
 pub mod Taken
+pub mod FirstCustomers
+pub mod Holding
+pub mod Permuted
+pub mod Owned
