@@ -19,3 +19,4 @@ pub mod FirstCustomers
 pub mod Holding
 pub mod Permuted
 pub mod Owned
+pub mod Routed

@@ -1,13 +1,15 @@
 -- A fastest route for each customer alone: these are a fleet plan, which no routes for the customers alone cost less than.
-use Rattle.std.proofs.Common.{◌≡◌, ◌≢◌, ◌∙◌, ℕ, zero, suc, ◌+◌, ◌*◌, ◌<◌, ◌≤◌, Bool, true, List, [], ◌∷◌, ◌++◌, Some, None, filter, length, get_or, map, refl, sym, ap, subst, arith, inl, inr}
+use Rattle.std.proofs.Common.{◌≡◌, ◌≢◌, ◌∙◌, ℕ, zero, suc, ◌+◌, ◌*◌, ◌<◌, ◌≤◌, Bool, true, List, [], ◌∷◌, ◌++◌, Some, None, filter, length, get_or, map, refl, sym, ap, subst, take, arith, inl, inr}
+use Rattle.std.specs.Prelude.{slice_index}
 use Rattle.std.specs.List.{All, Contains, range_with_len}
 use Rattle.std.specs.List.Sorted.{IsStrictlyIncreasing}
 use Rattle.std.proofs.lemmas.Bool.{cases_Bool, cases_eq, eq-eqb, false≢true, ne_eqb}
+use Rattle.std.proofs.lemmas.List.{take_more}
 use Rattle.std.proofs.lemmas.List.Elements.{All-cons, All-nil}
 use Rattle.ev_model.specs.Feasible.{IsFeasible}
 use Rattle.ev_model.specs.Fleet.{IsFleetPlan, ServesOnly, all_customers, cost_of, customers_of, times_in}
 use Rattle.ev_model.specs.Network.{IsNetwork, Network, is_customer, node_count}
-use Rattle.ev_model.specs.Route.{FollowsRoute, route_of}
+use Rattle.ev_model.specs.Route.{FollowsRoute, IsRoute, route_of}
 use Rattle.ev_model.specs.declared.Stop.{Stop}
 use Rattle.fleet_model.proofs.Counts.{AreCustomers}
 use Rattle.fleet_model.proofs.Plans.{filtered}
@@ -15,17 +17,23 @@ use Rattle.instance_reader.specs.Instance.{customer_nodes}
 use Rattle.plan_check.specs.FleetRules.{stops_of}
 use Rattle.route_plan.specs.declared.plan.FleetPlan.{FleetPlan}
 use Rattle.route_plan.specs.declared.plan.RoutePlan.{RoutePlan}
+use Rattle.column_pool.specs.Pool.{IsColumn}
 use Rattle.ev_fleet.specs.OwnRoutes.{AreFastestOwn, HasNoOwn, IsFastestOwn, LacksOwn, own_route}
 use Rattle.ev_fleet.specs.Plans.{AreOwnRoutes, CostsNoMoreThanOwn, IsHeld, first_customer}
 use Rattle.ev_fleet.proofs.Holding.{may_hold}
 
 -- ---- one more customer
 
-pub own_push : (g : Network) (nodes : List ℕ) (ps : List RoutePlan) (node : ℕ) (p : RoutePlan) → AreFastestOwn g nodes ps → IsFastestOwn g node p.stops → AreFastestOwn g (nodes ++ node ∷ []) (ps ++ p ∷ [])
+own_push : (g : Network) (nodes : List ℕ) (ps : List RoutePlan) (node : ℕ) (p : RoutePlan) → AreFastestOwn g nodes ps → IsFastestOwn g node p.stops → AreFastestOwn g (nodes ++ node ∷ []) (ps ++ p ∷ [])
 own_push g [] [] node p are is = (is, tt)
 own_push g [] (q ∷ ps) node p are is = absurd are
 own_push g (n ∷ nodes) [] node p are is = absurd are
 own_push g (n ∷ nodes) (q ∷ ps) node p are is = (are.0, own_push g nodes ps node p are.1 is)
+
+pub own_step : (g : Network) (nodes : List ℕ) (ps : List RoutePlan) (i : ℕ) (p : RoutePlan) → i < length nodes → AreFastestOwn g (take i nodes) ps → IsFastestOwn g (slice_index nodes i) p.stops
+    → AreFastestOwn g (take (i + 1) nodes) (ps ++ p ∷ [])
+own_step g nodes ps i p within are is =
+    subst (λ l. AreFastestOwn g l (ps ++ p ∷ [])) (sym (take_more nodes i 0 within)) (own_push g (take i nodes) ps (slice_index nodes i) p are is)
 
 -- ---- each customer stands once among the customers
 
@@ -112,6 +120,41 @@ pub own_held : (g : Network) (plan : FleetPlan) → IsNetwork g → IsStrictlyIn
 own_held g plan network rising are =
     let customers : AreCustomers g (customer_nodes g) = filtered g (range_with_len 0 (node_count g)) in
     may_hold g plan network (own_fleet g plan.routes are) (subst IsStrictlyIncreasing (sym (own_firsts g (customer_nodes g) plan.routes customers are)) rising)
+
+-- ---- a route as a column, and the way that it takes
+
+pub own_column : (g : Network) (node : ℕ) (stops : List Stop) → is_customer g node ≡ true → IsFastestOwn g node stops → IsColumn g (node ∷ []) stops
+own_column g node stops is own =
+    let one = own_customers g node stops is own.follows in
+    record {
+      route = record {
+        feasible = own.feasible;
+        some = λ none. let never : node ∷ [] ≡ [] = sym one ∙ none in cc;
+        only = own.follows ∙ ap (λ nodes. 0 ∷ (nodes ++ 0 ∷ [])) (sym one);
+        once = λ x customer. rw one (once_alone x);
+      };
+      serves = one;
+    }
+  where
+    once_alone : (x : ℕ) → times_in (node ∷ []) x ≤ 1
+    once_alone x = elim (cases_eq node x) [
+      | inl same ↦ rw (eq-eqb node x same) (omega arith)
+      | inr apart ↦ rw (ne_eqb node x apart) (omega arith)
+    ]
+
+pub own_way : (g : Network) (node : ℕ) → IsNetwork g → node < node_count g → is_customer g node ≡ true → IsRoute g (own_route node)
+own_way g node network known is =
+    let away : node ≢ 0 = λ home. false≢true (subst (λ x. is_customer g x ≡ true) home is) in
+    let depot : 0 < node_count g = omega (arith, network.depot) in (
+      node ∷ [],
+      record {
+        ends = refl;
+        known = All-cons (λ x. x < node_count g) 0 (node ∷ 0 ∷ []) depot
+          (All-cons (λ x. x < node_count g) node (0 ∷ []) known (All-cons (λ x. x < node_count g) 0 [] depot (All-nil (λ x. x < node_count g))));
+        no_depot = All-cons (λ x. x ≢ 0) node [] away (All-nil (λ x. x ≢ 0));
+        moves = (away, (λ home. away (sym home), tt));
+      },
+    )
 
 -- ---- no other routes for the customers alone cost less
 

@@ -1,6 +1,7 @@
 -- The order of the routes of a fleet plan doesn't matter.
 use Rattle.std.proofs.Common.{◌≡◌, ◌≢◌, ◌∙◌, ℕ, ◌+◌, List, [], ◌∷◌, refl, sym, arith, sum_by}
 use Rattle.std.specs.List.Sorted.{IsPermutation}
+use Rattle.std.proofs.lemmas.List.Sums.{sum_by-cons}
 use Rattle.std.proofs.lemmas.List.Sorted.{All-permutation, sum_by-IsPermutation}
 use Rattle.ev_model.specs.Feasible.{IsFeasible}
 use Rattle.ev_model.specs.Fleet.{IsFleetPlan, ServesOnly, all_customers, cost_of, customers_of, times_in}
@@ -11,11 +12,15 @@ use Rattle.fleet_model.proofs.Counts.{times_append}
 
 times_summed : (g : Network) (plans : List (List Stop)) (x : ℕ) → times_in (all_customers g plans) x ≡ sum_by (λ stops. times_in (customers_of g stops) x) plans
 times_summed g [] x = refl
-times_summed g (p ∷ ps) x = omega (arith, times_append (customers_of g p) (all_customers g ps) x, times_summed g ps x)
+times_summed g (p ∷ ps) x =
+    let more = sum_by-cons (λ stops. times_in (customers_of g stops) x) p ps in
+    omega (arith, times_append (customers_of g p) (all_customers g ps) x, times_summed g ps x, more)
 
 cost_summed : (g : Network) (k : ℕ) (plans : List (List Stop)) → cost_of g k plans ≡ sum_by (λ stops. time_of g k g.capacity stops) plans
 cost_summed g k [] = refl
-cost_summed g k (p ∷ ps) = omega (arith, cost_summed g k ps)
+cost_summed g k (p ∷ ps) =
+    let more = sum_by-cons (λ stops. time_of g k g.capacity stops) p ps in
+    omega (arith, cost_summed g k ps, more)
 
 pub permuted_cost : (g : Network) (k : ℕ) (xs ys : List (List Stop)) → IsPermutation xs ys → cost_of g k ys ≡ cost_of g k xs
 permuted_cost g k xs ys same = cost_summed g k ys ∙ sum_by-IsPermutation (λ stops. time_of g k g.capacity stops) xs ys same ∙ sym (cost_summed g k xs)

@@ -18,6 +18,7 @@ use std::alloc::{AllocError, Global};
 /// The plan of a fastest route for each customer alone, in order of their nodes; `None` exactly
 /// where some customer can't be served alone. Routes that are found are put into the pool. The only
 /// `Err` is want of memory.
+#[tactic(auto, using(crate::proofs::Owned::own_held, crate::proofs::Owned::own_costs, crate::proofs::Owned::own_lacks))]
 pub(crate) fn own_plan(
     alloc: Global,
     inst: &Instance,
@@ -39,6 +40,7 @@ pub(crate) fn own_plan(
 }
 
 /// A fastest route for each customer alone; `None` exactly where some customer has none.
+#[tactic(auto, using(crate::proofs::Owned::own_step, crate::proofs::Owned::own_column))]
 fn own_routes(
     alloc: Global,
     inst: &Instance,
@@ -49,8 +51,9 @@ fn own_routes(
     ensures own { IfOk result (λ answer. MatchOption answer (LacksOwn inst.now)
         (λ routes. AreFastestOwn inst.now (customer_nodes inst.now) routes.items)) }
 {
+    let customers = inst.customers();
     let mut routes = Vec::new(alloc);
-    for node in inst.customers() {
+    for node in customers {
         let Some(plan) = own_route(alloc, inst, *node)? else {
             return Ok(None);
         };

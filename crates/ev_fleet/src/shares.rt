@@ -74,7 +74,8 @@ fn sort_by_first(routes: &mut Vec<RoutePlan>)
 fn first_outside(plan: &RoutePlan) -> usize
     ensures { result ≡ first_outside plan.now.stops }
 {
-    for stop in plan.stops.as_slice() {
+    let stops = plan.stops.as_slice();
+    for stop in stops {
         if !stop.via && stop.node != 0 {
             return stop.node;
         }
