@@ -29,8 +29,8 @@ pub(crate) fn own_plan(
     ensures held { IfOk result (λ plan. IfSome plan (IsHeld inst.now)) }
     ensures own { IfOk result (CostsNoMoreThanOwn inst.now) }
 {
-    let _ = inst.nodes();
-    let _ = inst.customers();
+    let _nodes = inst.nodes();
+    let _customers = inst.customers();
     let Some(routes) = own_routes(alloc, inst, pool)? else {
         return Ok(None);
     };
@@ -70,7 +70,7 @@ fn own_route(alloc: Global, inst: &Instance, node: usize) -> Result<Option<Route
     ensures { IfOk result (λ answer. MatchOption answer (HasNoOwn inst.now node)
         (λ plan. IsFastestOwn inst.now node plan.stops)) }
 {
-    let _ = inst.nodes();
+    let _nodes = inst.nodes();
     let route = [0, node, 0];
     solve_route(alloc, inst, &route, inst.max_q())
 }

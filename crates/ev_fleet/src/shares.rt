@@ -32,7 +32,7 @@ pub(crate) fn plan_of_shares(
     let plan = FleetPlan {
         routes: Listed::from_vec(routes),
     };
-    let _ = inst.nodes();
+    let _nodes = inst.nodes();
     fleet_plans_break_no_rule();
     match check_fleet(inst, &plan) {
         Ok(_) => Ok(Some(plan)),

@@ -11,7 +11,7 @@ pub returns-in-Ok : goal.returns-in-Ok
 returns-in-Ok c =
     let fleet = subst (λ (l : List RoutePlan). IsFleetPlan c.args.inst.now 1 (stops_of l)) c.from_vec.ensures c.in-Ok.ensures.valid in
     subst (λ (l : List RoutePlan). IsPlanOf c.args.inst.now (plans_of c.args.shares.now) (record { routes = l })) (sym c.from_vec.ensures)
-    (shares_held c.args.inst.now c.args.shares.now c.in_ok-routes.routes.items c.sort_by_first.new.routes.items c.nodes.ensures.network c.in_ok-routes.ensures
+    (shares_held c.args.inst.now c.args.shares.now c.in_ok-routes.routes.items c.sort_by_first.new.routes.items c.nodes-nodes.ensures.network c.in_ok-routes.ensures
     c.sort_by_first.ensures.same c.sort_by_first.ensures.order fleet)
 
 pub returns-in-Err : goal.returns-in-Err
