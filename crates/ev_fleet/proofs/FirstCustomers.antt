@@ -1,6 +1,6 @@
 -- The first customers of the routes of a fleet plan are different.
-use Rattle.std.proofs.Common.{◌≡◌, ◌≢◌, ◌∙◌, ℕ, zero, suc, ◌+◌, ◌<◌, ◌≤◌, ◌&&◌, Bool, true, false, List, [], ◌∷◌, ◌++◌, filter, length, get_or, map, not, refl, sym, ap, subst, arith, inl, inr, add-one}
-use Rattle.std.specs.Prelude.{nat_eq, slice_index, if◌then◌else◌, is_none}
+use Rattle.std.proofs.Common.{◌≡◌, ◌≢◌, ◌∙◌, ℕ, zero, suc, ◌+◌, ◌<◌, ◌≤◌, ◌&&◌, Bool, true, List, [], ◌∷◌, ◌++◌, filter, length, get_or, map, not, refl, sym, ap, subst, arith, inl, inr, add-one}
+use Rattle.std.specs.Prelude.{nat_eq, slice_index, is_none}
 use Rattle.std.specs.List.{All}
 use Rattle.std.specs.List.Sorted.{IsNonDecreasingBy, IsStrictlyIncreasing}
 use Rattle.std.proofs.lemmas.Bool.{cases_Bool, eq-eqb, false≢true}

@@ -1,7 +1,7 @@
 -- A fastest route for each customer alone: these are a fleet plan, which no routes for the customers alone cost less than.
 use Rattle.std.proofs.Common.{◌≡◌, ◌≢◌, ◌∙◌, ℕ, zero, suc, ◌+◌, ◌*◌, ◌<◌, ◌≤◌, Bool, true, List, [], ◌∷◌, ◌++◌, Some, None, filter, length, get_or, map, refl, sym, ap, subst, take, arith, inl, inr}
 use Rattle.std.specs.Prelude.{slice_index}
-use Rattle.std.specs.List.{All, Contains, range_with_len}
+use Rattle.std.specs.List.{All, range_with_len}
 use Rattle.std.specs.List.Sorted.{IsStrictlyIncreasing}
 use Rattle.std.proofs.lemmas.Bool.{cases_Bool, cases_eq, eq-eqb, false≢true, ne_eqb}
 use Rattle.std.proofs.lemmas.List.{take_more}
@@ -150,7 +150,7 @@ own_way g node network known is =
       record {
         ends = refl;
         known = All-cons (λ x. x < node_count g) 0 (node ∷ 0 ∷ []) depot
-          (All-cons (λ x. x < node_count g) node (0 ∷ []) known (All-cons (λ x. x < node_count g) 0 [] depot (All-nil (λ x. x < node_count g))));
+            (All-cons (λ x. x < node_count g) node (0 ∷ []) known (All-cons (λ x. x < node_count g) 0 [] depot (All-nil (λ x. x < node_count g))));
         no_depot = All-cons (λ x. x ≢ 0) node [] away (All-nil (λ x. x ≢ 0));
         moves = (away, (λ home. away (sym home), tt));
       },

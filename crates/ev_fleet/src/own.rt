@@ -18,7 +18,7 @@ use std::alloc::{AllocError, Global};
 /// The plan of a fastest route for each customer alone, in order of their nodes; `None` exactly
 /// where some customer can't be served alone. Routes that are found are put into the pool. The only
 /// `Err` is want of memory.
-#[tactic(auto, using(crate::proofs::Owned::own_held, crate::proofs::Owned::own_costs, crate::proofs::Owned::own_lacks))]
+#[tactic(auto, using(crate::proofs::Owned::own_costs, crate::proofs::Owned::own_lacks))]
 pub(crate) fn own_plan(
     alloc: Global,
     inst: &Instance,

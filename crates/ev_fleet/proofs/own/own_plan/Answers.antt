@@ -1,4 +1,4 @@
-use Rattle.std.proofs.Common.{rules, ◌≡◌, List, sym, subst}
+use Rattle.std.proofs.Common.{rules, List, sym, subst}
 use Rattle.std.specs.List.Sorted.{IsStrictlyIncreasing}
 use Rattle.instance_reader.specs.Instance.{customer_nodes}
 use Rattle.route_plan.specs.declared.plan.RoutePlan.{RoutePlan}

@@ -1,4 +1,4 @@
-use Rattle.std.proofs.Common.{◌≡◌, List, sym, subst}
+use Rattle.std.proofs.Common.{List, sym, subst}
 use Rattle.ev_model.specs.Fleet.{IsFleetPlan}
 use Rattle.column_pool.specs.Bounds.{plans_of}
 use Rattle.plan_check.specs.FleetRules.{stops_of}
