@@ -9,3 +9,4 @@ pub mod Splitting
 pub mod Answers
 pub mod SameRoutes
 pub mod OwnRoutes
+pub mod Greedy

@@ -2,6 +2,7 @@
 //! 1960; for routes: Desaulniers, Desrosiers, Solomon 2005).
 #![tactic(auto)]
 
+mod greedy;
 mod held;
 mod outcome;
 mod own;

@@ -6,6 +6,7 @@ ghost use Rattle.ev_model.specs.Fleet.{IsFleetPlan};
 ghost use Rattle.instance_reader.specs.Instance.{customer_nodes};
 ghost use Rattle.route_plan.specs.declared.plan.RoutePlan.{RoutePlan};
 ghost use Rattle.column_pool.specs.Bounds.{plans_of};
+ghost use Rattle.plan_check.specs.FleetRules.{stops_of};
 ghost use Rattle.ev_fleet.specs.SameRoutes.{IsPlanOf, first_outside};
 
 use bound_certificate::Share;
@@ -17,6 +18,7 @@ use std::alloc::{AllocError, Global};
 
 /// The plans of the shares as a fleet plan, in rising order of their first customers; `None`
 /// exactly where they are no fleet plan. The only `Err` is want of memory.
+#[tactic(auto, using(crate::proofs::Routed::stops_of_shares))]
 pub(crate) fn plan_of_shares(
     alloc: Global,
     inst: &Instance,
@@ -27,7 +29,17 @@ pub(crate) fn plan_of_shares(
         (IsFleetPlan inst.now 1 (plans_of shares.now) → ⊥)
         (IsPlanOf inst.now (plans_of shares.now))) }
 {
-    let mut routes = routes_of(alloc, shares)?;
+    let routes = routes_of(alloc, shares)?;
+    Ok(plan_of_routes(inst, routes))
+}
+
+/// The routes as a fleet plan, in rising order of their first customers; `None` exactly where they
+/// are no fleet plan. It takes no memory.
+pub(crate) fn plan_of_routes(inst: &Instance, mut routes: Vec<RoutePlan>) -> Option<FleetPlan>
+    requires few { length (customer_nodes inst.now) ≤ 128 }
+    ensures { MatchOption result (IsFleetPlan inst.now 1 (stops_of routes.items) → ⊥)
+        (IsPlanOf inst.now (stops_of routes.items)) }
+{
     sort_by_first(&mut routes);
     let plan = FleetPlan {
         routes: Listed::from_vec(routes),
@@ -35,8 +47,8 @@ pub(crate) fn plan_of_shares(
     let _nodes = inst.nodes();
     fleet_plans_break_no_rule();
     match check_fleet(inst, &plan) {
-        Ok(_) => Ok(Some(plan)),
-        Err(_) => Ok(None),
+        Ok(_) => Some(plan),
+        Err(_) => None,
     }
 }
 
