@@ -63,7 +63,7 @@ fn sort_by_share(shares: &mut Vec<Share>)
     ensures same { IsPermutation shares.old.items shares.new.items }
     ensures order { IsNonDecreasingBy rank shares.new.items }
 {
-    shares.sort_unstable_by_key(|share| u64::MAX - share.share);
+    shares.sort_unstable_by_key(|share| u64::MAX.saturating_sub(share.share));
 }
 
 /// Takes those routes of the shares that meet none that was taken.

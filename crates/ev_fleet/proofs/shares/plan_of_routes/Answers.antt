@@ -1,4 +1,4 @@
-use Rattle.std.proofs.Common.{◌≡◌, List, sym, subst}
+use Rattle.std.proofs.Common.{List, sym, subst}
 use Rattle.ev_model.specs.Fleet.{IsFleetPlan}
 use Rattle.plan_check.specs.FleetRules.{stops_of}
 use Rattle.route_plan.specs.declared.plan.RoutePlan.{RoutePlan}
