@@ -13,8 +13,8 @@ use std::alloc::{AllocError, Global};
 
 /// A fleet plan of routes that are taken greedily: the routes with shares, those of the greatest
 /// shares first, and then the routes of the plan, each where it serves no customer that is served
-/// already. `None` exactly where the routes that are taken are no fleet plan. The only `Err` is want
-/// of memory.
+/// already. `None` exactly where the routes that are taken are no fleet plan. The only `Err` is
+/// want of memory.
 pub(crate) fn greedy_plan(
     alloc: Global,
     inst: &Instance,
