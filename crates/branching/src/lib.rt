@@ -13,7 +13,7 @@ pub use laws::{
     a_fleet_keeps_the_pairs_of_a_node, a_tree_of_nodes_is_a_branching_tree,
     leaves_are_under_what_their_nodes_name,
 };
-pub use node::{Node, NodeState};
+pub use node::{Node, NodeState, child_pairs};
 pub use tree::Tree;
 
 #[cfg(test)]

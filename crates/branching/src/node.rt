@@ -1,7 +1,7 @@
 //! The nodes of the tree that are not split.
 
-ghost use Rattle.std.specs.Prelude.{◌≡◌, ◌↔◌, ◌≢◌, ◌<◌, ◌≤◌, IsNone, IsTrue, IfSome};
-ghost use Rattle.customer_sets.specs.Pairs.{allows_of, IsNarrowedBy, IsPairs};
+ghost use Rattle.std.specs.Prelude.{◌≡◌, ◌↔◌, ◌≢◌, ◌<◌, ◌≤◌, ℕ, IsNone, IsTrue, IfSome};
+ghost use Rattle.customer_sets.specs.Pairs.{allows_of, forbid, IsNarrowedBy, IsPairs, require};
 ghost use Rattle.branching.specs.Nodes.{awaits, IsLeastBound, IsNext, least_of, lives, next_of, NoneIsLive, NoneIsOpen};
 ghost use Rattle.branching.specs.SearchTree.{AreChildren, IsBranchPair};
 ghost use Rattle.branching.specs.declared.node.Node.{Node};
@@ -140,15 +140,32 @@ pub(crate) fn children(node: &Node, i: usize, j: usize, section: usize, bound: u
     ensures children { AreChildren node.now i j section bound result.0 result.1 }
     ensures pairs { IsPairs result.1.pairs }
 {
-    let mut apart = node.pairs;
-    apart.forbid(i, j);
-    let mut together = node.pairs;
-    together.require(i, j);
+    let (apart, together) = child_pairs(&node.pairs, i, j);
     let _customers = together.customers();
     (
         open_node(apart, section, bound),
         open_node(together, section, bound),
     )
+}
+
+/// The pairs of the children that `Tree::split` makes of a node with these pairs: in the first `j`
+/// may not follow `i`, in the second it has to. It takes no memory.
+pub fn child_pairs(pairs: &Pairs, i: usize, j: usize) -> (Pairs, Pairs)
+    requires first { (0 < i) × (i ≤ pairs.now.customers) }
+    requires second { (0 < j) × (j ≤ pairs.now.customers) }
+    requires apart { i ≢ j }
+    ensures customers { (result.0.customers ≡ pairs.now.customers)
+        × (result.1.customers ≡ pairs.now.customers) }
+    ensures forbids { (a b : ℕ) →
+        allows_of result.0 a b ≡ forbid i j (allows_of pairs.now) a b }
+    ensures demands { (a b : ℕ) → a ≤ pairs.now.customers → b ≤ pairs.now.customers →
+        allows_of result.1 a b ≡ require i j (allows_of pairs.now) a b }
+{
+    let mut apart = *pairs;
+    apart.forbid(i, j);
+    let mut together = *pairs;
+    together.require(i, j);
+    (apart, together)
 }
 
 fn open_node(pairs: Pairs, section: usize, bound: u128) -> Node

@@ -5,6 +5,7 @@
 mod bound;
 mod by_table;
 mod decided;
+mod estimate;
 mod exact;
 mod fault;
 mod keeping;
@@ -19,6 +20,7 @@ mod taking;
 mod wide;
 
 pub use bound::NodeBound;
+pub use estimate::estimate_node;
 pub use laws::sections_of_nodes_are_strong;
 pub use node::bound_node;
 pub use pool::ColumnPool;

@@ -81,7 +81,7 @@ impl Master {
 }
 
 /// The customers at the nodes.
-fn set_of(inst: &Instance, order: &[usize]) -> CustSet
+pub(crate) fn set_of(inst: &Instance, order: &[usize]) -> CustSet
     requires few { length (customer_nodes inst.now) ≤ 128 }
     requires known { All (λ node. node < node_count inst.now) order.now }
     requires customers { All (λ node. is_customer inst.now node ≡ true) order.now }

@@ -1,4 +1,4 @@
-//! Worked instances: the bound of a node by a table, and by rising prices.
+//! Worked instances: the bound of a node by a table and by rising prices, and its estimate.
 
 ghost use Rattle.std.specs.Prelude.{IfSome};
 ghost use Rattle.column_pool.specs.Pool.{IsPool};
@@ -8,7 +8,7 @@ use crate::fault::NodeFault;
 use crate::own::put_own_route;
 use crate::rising::{Risen, rising_section};
 use crate::wide::wide_bound;
-use crate::{ColumnPool, NodeBound};
+use crate::{ColumnPool, NodeBound, bound_node, estimate_node};
 use customer_sets::Pairs;
 use instance_reader::{Instance, read_instance};
 use master_table::Caps;
@@ -155,5 +155,57 @@ fn prices_rise_customer_by_customer(rt: HostRuntime) {
         (THREE_CUSTOMERS, None, 1, [8, 3, 3].as_slice()),
     ] {
         assert_eq!(rt; rises_to(alloc, text, pair, weight, prices), Some(true));
+    }
+}
+
+/// The routes that the bound of the root needs.
+fn priced_routes(alloc: Global, inst: &Instance) -> Option<ColumnPool>
+    ensures { IfSome result (IsPool inst.now) }
+{
+    let customers = inst.customers().len();
+    if customers > 128 {
+        return None;
+    }
+    let mut pool = ColumnPool::new(alloc);
+    bound_node(alloc, inst, &Pairs::new(customers), &mut pool).ok()?;
+    Some(pool)
+}
+
+/// The estimate of the node where neither of two places may follow the other, by the routes that
+/// the bound of the root needs.
+fn estimated(
+    alloc: Global,
+    text: &str,
+    limit: u64,
+    apart: Option<(usize, usize)>,
+) -> Option<Option<u128>> {
+    let inst = instance(alloc, text, limit)?;
+    let pool = priced_routes(alloc, &inst)?;
+    let customers = inst.customers().len();
+    if customers > 128 {
+        return None;
+    }
+    let mut pairs = Pairs::new(customers);
+    if let Some((i, j)) = apart {
+        if i > customers || j > customers || i == j {
+            return None;
+        }
+        pairs.forbid(i, j);
+        pairs.forbid(j, i);
+    }
+    estimate_node(alloc, &inst, &pairs, &pool).ok()
+}
+
+#[test]
+fn estimates_are_optima_over_the_routes_of_the_pool(rt: HostRuntime) {
+    let alloc = rt.alloc();
+    for (text, limit, apart, answer) in [
+        (THREE_CUSTOMERS, 11u64, None, Some(17u128)),
+        (THREE_CUSTOMERS, 11, Some((1usize, 2usize)), Some(19)),
+        (TWO_CUSTOMERS, 13, None, Some(13)),
+        (TWO_CUSTOMERS, 13, Some((1, 2)), Some(16)),
+        (TWO_CUSTOMERS, 7, None, None),
+    ] {
+        assert_eq!(rt; estimated(alloc, text, limit, apart), Some(answer));
     }
 }

@@ -17,9 +17,13 @@ CanSplit tree key i j =
     (node : Node) → slice_get tree.nodes key ≡ Some node →
     IsBranchPair tree.customers (allows_of node.pairs) i j
 
+-- the node may be split on the choice
+abbrev pub IsChoice : SearchTree → ℕ → Choice → Type 0
+IsChoice tree key choice = CanSplit tree key choice.i choice.j
+
 -- the node may be split on what was chosen, if something was
 abbrev pub MayChoose : SearchTree → ℕ → Option Choice → Type 0
-MayChoose tree key choice = IfSome choice (λ (c : Choice). CanSplit tree key c.i c.j)
+MayChoose tree key choice = IfSome choice (IsChoice tree key)
 
 -- the node can't be split
 abbrev pub CannotSplit : SearchTree → ℕ → Type 0

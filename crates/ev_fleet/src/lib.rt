@@ -11,6 +11,7 @@ mod search;
 mod section_bound;
 mod shares;
 mod state;
+mod strong;
 mod taking;
 
 pub use outcome::Outcome;

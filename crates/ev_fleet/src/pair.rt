@@ -1,56 +1,117 @@
 //! On which pair a node is split.
 
-ghost use Rattle.std.specs.Prelude.{◌≡◌, ◌⊎◌, ◌<◌, ◌≤◌, ◌+◌, IfSome, IsNone, length, Some};
+ghost use Rattle.std.specs.Prelude.{◌≡◌, ◌⊎◌, ◌<◌, ◌≤◌, ◌+◌, IfOk, IfSome, IsNone, length, Some};
+ghost use Rattle.std.specs.List.{All};
 ghost use Rattle.instance_reader.specs.Instance.{customer_nodes};
 ghost use Rattle.branching.specs.Nodes.{HasNode, IsLive};
-ghost use Rattle.ev_fleet.specs.Splitting.{CanSplit, CannotSplit, CannotSplitTo, MayChoose};
+ghost use Rattle.column_pool.specs.Pool.{IsPool};
+ghost use Rattle.ev_fleet.specs.Splitting.{CanSplit, CannotSplit, CannotSplitTo, IsChoice, MayChoose};
 
+use crate::strong::strongest;
 use bound_certificate::Share;
 use branching::Tree;
+use column_pool::ColumnPool;
 use instance_reader::Instance;
 use route_plan::RoutePlan;
+use std::alloc::{AllocError, Global};
 
-/// Two places of customers, and how far the shares of the routes on which the second follows the
-/// first are from one half.
+/// Two places of customers, of which the second follows the first on some route.
 #[derive(Clone, Copy, Debug, PartialEq, Eq)]
-struct Choice {
-    i: usize,
-    j: usize,
-    away: u64,
+pub(crate) struct Choice {
+    pub(crate) i: usize,
+    pub(crate) j: usize,
+    /// How far twice the sum of the shares of such routes is from what these are over.
+    pub(crate) away: u64,
 }
 
-/// A pair on which the node can be split: of those that the routes use the one whose shares are
-/// nearest to one half, and else the first. `None` says that there is none.
+/// The children of how many pairs are looked at.
+const CANDIDATES: usize = 5;
+
+/// A pair on which the node can be split. `None` says that there is none.
+///
+/// Of the few pairs that the shares use partly and that are nearest to one half it is the one whose
+/// children have the greatest bounds, as far as the routes of the pool tell. Where the shares use
+/// none partly, it is the one nearest to one half of those that they use, and else the first.
 pub(crate) fn choose_pair(
+    alloc: Global,
+    inst: &Instance,
+    tree: &Tree,
+    key: usize,
+    pool: &ColumnPool,
+    shares: &[Share],
+    over: u64,
+) -> Result<Option<(usize, usize)>, AllocError>
+    requires few { length (customer_nodes inst.now) ≤ 128 }
+    requires customers { tree.now.customers ≡ length (customer_nodes inst.now) }
+    requires live { HasNode tree.now.nodes key IsLive }
+    requires pool { IsPool inst.now pool.now }
+    ensures pair { IfOk result (λ found.
+        IfSome found (λ pair. CanSplit tree.now key pair.0 pair.1)) }
+    ensures none { IfOk result (λ found. IsNone found → CannotSplit tree.now key) }
+{
+    let candidates = partly_used(alloc, inst, tree, key, shares, over)?;
+    if let Some((first, others)) = candidates.split_first() {
+        let choice = strongest(alloc, inst, tree, key, pool, *first, others)?;
+        return Ok(Some((choice.i, choice.j)));
+    }
+    match nearest(inst, tree, key, shares, over, &[]) {
+        Some(choice) => Ok(Some((choice.i, choice.j))),
+        None => Ok(first_pair(tree, key)),
+    }
+}
+
+/// The few pairs that the shares use partly and that are nearest to one half, nearest first.
+fn partly_used(
+    alloc: Global,
     inst: &Instance,
     tree: &Tree,
     key: usize,
     shares: &[Share],
     over: u64,
-) -> Option<(usize, usize)>
+) -> Result<Vec<Choice>, AllocError>
     requires few { length (customer_nodes inst.now) ≤ 128 }
     requires live { HasNode tree.now.nodes key IsLive }
-    ensures pair { IfSome result (λ pair. CanSplit tree.now key pair.0 pair.1) }
-    ensures none { IsNone result → CannotSplit tree.now key }
+    ensures { IfOk result (λ chosen. All (IsChoice tree.now key) chosen.items) }
 {
-    let mut best = None;
-    for share in shares {
-        best = nearest(inst, tree, key, shares, over, share, best);
+    let mut chosen = Vec::new(alloc);
+    for _ in 0..CANDIDATES {
+        match nearest(inst, tree, key, shares, over, &chosen) {
+            Some(choice) if choice.away < over => chosen.push(choice)?,
+            _ => return Ok(chosen),
+        }
     }
-    match best {
-        Some(choice) => Some((choice.i, choice.j)),
-        None => first_pair(tree, key),
-    }
+    Ok(chosen)
 }
 
-/// The nearer of a choice and the pairs of a route.
+/// Of the pairs of the routes besides the chosen ones that whose shares are nearest to one half.
 fn nearest(
     inst: &Instance,
     tree: &Tree,
     key: usize,
     shares: &[Share],
     over: u64,
-    share: &Share,
+    chosen: &[Choice],
+) -> Option<Choice>
+    requires few { length (customer_nodes inst.now) ≤ 128 }
+    requires live { HasNode tree.now.nodes key IsLive }
+    ensures { MayChoose tree.now key result }
+{
+    let mut best = None;
+    for share in shares {
+        best = nearer_on(inst, tree, key, shares, over, chosen, &share.plan, best);
+    }
+    best
+}
+
+/// The nearer of a choice and the pairs of a route besides the chosen ones.
+fn nearer_on(
+    inst: &Instance,
+    tree: &Tree,
+    key: usize,
+    shares: &[Share],
+    over: u64,
+    chosen: &[Choice],
+    plan: &RoutePlan,
     best: Option<Choice>,
 ) -> Option<Choice>
     requires few { length (customer_nodes inst.now) ≤ 128 }
@@ -60,14 +121,21 @@ fn nearest(
 {
     let mut best = best;
     let mut before = 0;
-    for stop in share.plan.stops.as_slice() {
+    for stop in plan.stops.as_slice() {
         let place = place_of(inst, stop.node);
-        best = with_pair(inst, tree, key, shares, over, before, place, best);
+        if !is_among(chosen, before, place) {
+            best = with_pair(inst, tree, key, shares, over, before, place, best);
+        }
         if place > 0 {
             before = place;
         }
     }
     best
+}
+
+/// Whether the places are a choice of these.
+fn is_among(chosen: &[Choice], i: usize, j: usize) -> bool {
+    chosen.iter().any(|choice| choice.i == i && choice.j == j)
 }
 
 /// The nearer of a choice and two places, where the node may be split on these.

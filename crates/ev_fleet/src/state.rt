@@ -129,6 +129,16 @@ fn advance(alloc: Global, inst: &Instance, search: &mut Search) -> Result<Root, 
     let (name, bound) = greater_of(number, own, taken.section, taken.bound);
     search.sections.push(section)?;
     let cost = cost_of(&search.held);
-    settle(inst, &mut search.tree, taken.key, name, bound, cost, &root)?;
+    settle(
+        alloc,
+        inst,
+        &search.pool,
+        &mut search.tree,
+        taken.key,
+        name,
+        bound,
+        cost,
+        &root,
+    )?;
     Ok(root)
 }

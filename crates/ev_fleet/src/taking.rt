@@ -101,7 +101,9 @@ fn offer_shares(
 
 /// Closes a taken node whose bound reaches the cost of the plan that is held, and else splits it.
 pub(crate) fn settle(
+    alloc: Global,
     inst: &Instance,
+    pool: &ColumnPool,
     tree: &mut Tree,
     key: usize,
     name: usize,
@@ -110,6 +112,8 @@ pub(crate) fn settle(
     root: &Root,
 ) -> Result<(), AllocError>
     requires few { length (customer_nodes inst.now) ≤ 128 }
+    requires customers { tree.old.customers ≡ length (customer_nodes inst.now) }
+    requires pool { IsPool inst.now pool.now }
     requires taken { HasNode tree.old.nodes key IsTaken }
     requires decided { CannotSplit tree.old key → IsAtMost cost bound }
     ensures settled { OnOk result (IsSettled tree.old key name bound cost tree.new) }
@@ -117,7 +121,7 @@ pub(crate) fn settle(
 {
     if let Some(bound) = below(bound, cost) {
         let (over, shares) = shares_in(root);
-        if let Some((i, j)) = choose_pair(inst, tree, key, shares, over) {
+        if let Some((i, j)) = choose_pair(alloc, inst, tree, key, pool, shares, over)? {
             tree.split(key, i, j, name, bound)?;
             return Ok(());
         }

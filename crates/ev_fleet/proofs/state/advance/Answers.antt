@@ -1,4 +1,5 @@
 use Rattle.std.proofs.Common.{◌≡◌, ◌∙◌, ℕ, Option, length, sym, ap, subst, arith}
+use Rattle.branching.specs.SearchTree.{SearchTree}
 use Rattle.ev_fleet.specs.Bounds.{IsAtMost}
 use Rattle.ev_fleet.specs.Held.{cost_at}
 use Rattle.ev_fleet.specs.Splitting.{IsSettled}
@@ -14,6 +15,9 @@ bound_of-own-requires-clause-some c =
     let g = c.args.inst.now in
     let found = found_of g c.take_next-taken.result.pairs c.in_ok-section.section c.in_ok-section.root c.in_ok-section.ensures.bound in
     strong_sum g c.in_ok-section.section found.strong
+
+pub settle-requires-clause-customers : goal.settle-requires-clause-customers
+settle-requires-clause-customers c = ap (λ (t : SearchTree). t.customers) c.take_next-taken.ensures.next.made ∙ c.requires.customers
 
 pub settle-requires-clause-decided : goal.settle-requires-clause-decided
 settle-requires-clause-decided c = λ cannot.

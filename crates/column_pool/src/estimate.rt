@@ -1,0 +1,81 @@
+//! What the bound of a node may come to, without pricing.
+
+ghost use Rattle.std.specs.Prelude.{◌≡◌, ◌≤◌, length};
+ghost use Rattle.instance_reader.specs.Instance.{customer_nodes};
+ghost use Rattle.column_pool.specs.Pool.{IsColumn, IsPool};
+
+use crate::keeping::keeps_pairs;
+use crate::master::set_of;
+use crate::pool::{ColumnPool, full_time};
+use customer_sets::Pairs;
+use instance_reader::Instance;
+use master_simplex::{Lp, LpFault, solve};
+use master_table::{Caps, Table, TableFault};
+use pricing::PricedRoute;
+use std::alloc::{AllocError, Global};
+
+/// What it costs at least to cover the customers by fractions of the pool's routes that keep the
+/// pairs, rounded up to a whole scaled time. `None` tells that these routes cover no plan even by
+/// fractions, or that the numbers grow too wide.
+///
+/// It is a guide for choices and no bound: routes that aren't in the pool may cost less. Which
+/// number is answered isn't promised. The only `Err` is want of memory.
+pub fn estimate_node(
+    alloc: Global,
+    inst: &Instance,
+    pairs: &Pairs,
+    pool: &ColumnPool,
+) -> Result<Option<u128>, AllocError>
+    requires few { length (customer_nodes inst.now) ≤ 128 }
+    requires pairs { pairs.now.customers ≡ length (customer_nodes inst.now) }
+    requires pool { IsPool inst.now pool.now }
+{
+    let caps = Caps {
+        body: 1 << 40,
+        cost: 1 << 84,
+    };
+    let Ok(mut table) = Table::new(alloc, inst.customers().len(), caps) else {
+        return Err(AllocError);
+    };
+    for route in pool.routes() {
+        add_if_kept(inst, pairs, &mut table, route)?;
+    }
+    match solve(alloc, &mut table) {
+        Ok(lp) => Ok(cost_of(&lp)),
+        Err(LpFault::Memory) => Err(AllocError),
+        Err(LpFault::Wide { .. }) => Ok(None),
+    }
+}
+
+/// Adds the route as a column where it keeps the pairs and its column isn't too wide.
+fn add_if_kept(
+    inst: &Instance,
+    pairs: &Pairs,
+    table: &mut Table,
+    route: &PricedRoute,
+) -> Result<(), AllocError>
+    requires few { length (customer_nodes inst.now) ≤ 128 }
+    requires pairs { pairs.now.customers ≡ length (customer_nodes inst.now) }
+    requires column { IsColumn inst.now route.now.order.items route.now.plan.stops }
+{
+    if !keeps_pairs(inst, pairs, &route.order) {
+        return Ok(());
+    }
+    let set = set_of(inst, &route.order);
+    match table.add_column(set, full_time(inst, &route.plan)) {
+        Err(TableFault::Memory) => Err(AllocError),
+        Ok(_) | Err(TableFault::Wide { .. }) => Ok(()),
+    }
+}
+
+/// The price sum over the weight, rounded up; `None` for a ray.
+fn cost_of(lp: &Lp) -> Option<u128> {
+    if lp.weight == 0 {
+        return None;
+    }
+    let mut sum = 0i128;
+    for price in &lp.prices {
+        sum = sum.saturating_add(*price);
+    }
+    Some(sum.unsigned_abs().div_ceil(u128::from(lp.weight)))
+}
