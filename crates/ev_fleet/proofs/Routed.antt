@@ -1,13 +1,14 @@
 -- The plans of shares as a fleet plan.
 use Rattle.std.proofs.Common.{◌≡◌, List, [], ◌∷◌, map, refl, ap}
 use Rattle.std.specs.List.Sorted.{IsNonDecreasingBy, IsPermutation}
-use Rattle.std.proofs.lemmas.List.Sorted.{IsPermutation-map}
+use Rattle.std.proofs.lemmas.List.Sorted.{IsPermutation-map, IsPermutation-sym}
 use Rattle.ev_model.specs.Fleet.{IsFleetPlan}
 use Rattle.ev_model.specs.Network.{IsNetwork, Network}
 use Rattle.ev_model.specs.declared.Stop.{Stop}
 use Rattle.bound_certificate.specs.declared.certificate.Share.{Share}
 use Rattle.column_pool.specs.Bounds.{plans_of}
 use Rattle.plan_check.specs.FleetRules.{stops_of}
+use Rattle.route_plan.specs.declared.plan.FleetPlan.{FleetPlan}
 use Rattle.route_plan.specs.declared.plan.RoutePlan.{RoutePlan}
 use Rattle.ev_fleet.specs.SameRoutes.{IsPlanOf, first_outside}
 use Rattle.ev_fleet.proofs.FirstCustomers.{firsts_rise}
@@ -33,3 +34,7 @@ sorted_held g routes sorted network same order fleet =
 
 pub sorted_fleet : (g : Network) (routes sorted : List RoutePlan) → IsPermutation routes sorted → IsFleetPlan g 1 (stops_of routes) → IsFleetPlan g 1 (stops_of sorted)
 sorted_fleet g routes sorted same fleet = permuted_fleet g 1 (stops_of routes) (stops_of sorted) (same_stops routes sorted same) fleet
+
+-- routes that a fleet plan is made of are one
+pub made_fleet : (g : Network) (plans : List (List Stop)) (plan : FleetPlan) → IsPlanOf g plans plan → IsFleetPlan g 1 plans
+made_fleet g plans plan is = permuted_fleet g 1 (stops_of plan.routes) plans (IsPermutation-sym plans (stops_of plan.routes) is.same) is.held.fleet

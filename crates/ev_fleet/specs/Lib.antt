@@ -11,3 +11,4 @@ pub mod SameRoutes
 pub mod LeafNames
 pub mod Searching
 pub mod OwnRoutes
+pub mod Greedy

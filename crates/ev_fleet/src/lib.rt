@@ -3,6 +3,7 @@
 #![tactic(auto)]
 
 mod answer;
+mod greedy;
 mod held;
 mod outcome;
 mod own;

@@ -4,15 +4,18 @@ ghost use Rattle.std.specs.Prelude.{◌≡◌, ◌<◌, ◌≤◌, IfOk, IfSome,
 ghost use Rattle.customer_sets.specs.Pairs.{IsDecided};
 ghost use Rattle.branching.specs.Nodes.{HasNode, IsTaken, NoneIsOpen};
 ghost use Rattle.branching.specs.Work.{work_left};
+ghost use Rattle.ev_model.specs.Fleet.{IsFleetPlan};
 ghost use Rattle.instance_reader.specs.Instance.{customer_nodes};
-ghost use Rattle.column_pool.specs.Bounds.{IsNodeBound};
+ghost use Rattle.column_pool.specs.Bounds.{IsNodeBound, plans_of};
 ghost use Rattle.column_pool.specs.Pool.{IsPool};
 ghost use Rattle.ev_fleet.specs.Answers.{answer_of, shares_in};
 ghost use Rattle.ev_fleet.specs.Bounds.{IsAtMost};
+ghost use Rattle.ev_fleet.specs.Greedy.{TakesGreedy, routes_at};
 ghost use Rattle.ev_fleet.specs.Held.{MayHold, cost_at};
 ghost use Rattle.ev_fleet.specs.Searching.{IsTakenNext, ReachesCost, TakesShares};
 ghost use Rattle.ev_fleet.specs.Splitting.{CannotSplit, IsSettled};
 
+use crate::greedy::offer_greedy;
 use crate::held::{Held, offer};
 use crate::pair::choose_pair;
 use crate::shares::plan_of_shares;
@@ -80,7 +83,8 @@ pub(crate) fn bound_pairs(
     Ok((section, root))
 }
 
-/// Offers the plans of the shares as the plan that is held.
+/// Offers the plans of the shares as the plan that is held; where they are no fleet plan, those of
+/// them that are taken greedily.
 fn offer_shares(
     alloc: Global,
     inst: &Instance,
@@ -92,9 +96,12 @@ fn offer_shares(
     ensures held { MayHold inst.now held.new }
     ensures kept { IsAtMost (cost_at held.new) (cost_at held.old) }
     ensures taken { OnOk result (TakesShares inst.now shares.now (cost_at held.new)) }
+    ensures greedy { OnOk result ((IsFleetPlan inst.now 1 (plans_of shares.now) → ⊥) →
+        TakesGreedy inst.now shares.now (routes_at held.old) (cost_at held.new)) }
 {
-    if let Some(plan) = plan_of_shares(alloc, inst, shares)? {
-        offer(inst, held, plan);
+    match plan_of_shares(alloc, inst, shares)? {
+        Some(plan) => offer(inst, held, plan),
+        None => offer_greedy(alloc, inst, held, shares)?,
     }
     Ok(())
 }
