@@ -2,9 +2,13 @@
 
 ghost use Rattle.std.specs.Prelude.{◌≤◌, IfSome};
 
+mod drawn;
+mod enumerated;
+mod random;
+
 use crate::plan_fleet;
 use certificate_check::{Verdict, check_certificate};
-use instance_reader::read_instance;
+use instance_reader::{Instance, read_instance};
 use plan_check::check_fleet;
 use std::alloc::Global;
 use worked_instances::{DEPOT_ALONE, ONE_STATION, THREE_CUSTOMERS, TWO_CUSTOMERS};
@@ -18,6 +22,28 @@ fn budget_of(nodes: u64) -> Option<u64>
 
 /// The cost of the plan that is held, the bound, and whether the search stopped, where the plan is
 /// one of a fleet and the certificate is accepted.
+fn judged(
+    alloc: Global,
+    inst: &Instance,
+    nodes: u64,
+) -> Option<(Option<u128>, Option<u128>, bool)> {
+    if inst.customers().len() > 128 {
+        return None;
+    }
+    let Ok(outcome) = plan_fleet(alloc, inst, budget_of(nodes)) else {
+        return None;
+    };
+    let cost = match &outcome.plan {
+        Some(plan) => Some(check_fleet(inst, plan).ok()?),
+        None => None,
+    };
+    let Ok(Verdict::Accepted) = check_certificate(alloc, inst, &outcome.certificate) else {
+        return None;
+    };
+    Some((cost, outcome.certificate.bound, outcome.stopped))
+}
+
+/// The same of the instance of a text, within the limit.
 fn planned(
     alloc: Global,
     text: &str,
@@ -26,20 +52,7 @@ fn planned(
 ) -> Option<(Option<u128>, Option<u128>, bool)> {
     let inst = read_instance(alloc, text.as_bytes()).ok()?;
     let inst = inst.with_limit(limit).ok()?;
-    if inst.customers().len() > 128 {
-        return None;
-    }
-    let Ok(outcome) = plan_fleet(alloc, &inst, budget_of(nodes)) else {
-        return None;
-    };
-    let cost = match &outcome.plan {
-        Some(plan) => Some(check_fleet(&inst, plan).ok()?),
-        None => None,
-    };
-    let Ok(Verdict::Accepted) = check_certificate(alloc, &inst, &outcome.certificate) else {
-        return None;
-    };
-    Some((cost, outcome.certificate.bound, outcome.stopped))
+    judged(alloc, &inst, nodes)
 }
 
 #[test]
@@ -65,13 +78,12 @@ fn a_gap_is_closed_by_branching(rt: HostRuntime) {
     );
 }
 
+/// The plan that is held then has a route of two customers, and the own route of the third.
 #[test]
 fn a_budget_of_one_node_stops_the_search(rt: HostRuntime) {
     let alloc = rt.alloc();
-    let (cost, bound, stopped) = planned(alloc, THREE_CUSTOMERS, 11, 1).unwrap_or((
-        None, None, false,
-    ));
-    assert!(rt; cost > Some(17));
-    assert_eq!(rt; bound, Some(17));
-    assert!(rt; stopped);
+    assert_eq!(rt;
+        planned(alloc, THREE_CUSTOMERS, 11, 1),
+        Some((Some(19), Some(17), true))
+    );
 }
