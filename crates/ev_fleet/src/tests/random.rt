@@ -7,7 +7,7 @@ use instance_reader::{Instance, read_instance};
 use std::alloc::Global;
 
 /// How many instances are drawn.
-const INSTANCES: u64 = 60;
+const INSTANCES: u64 = 40;
 
 /// What is said of an instance.
 #[derive(Clone, Copy)]
