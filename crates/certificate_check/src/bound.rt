@@ -42,8 +42,8 @@ pub(crate) fn bound_of(section: &Section) -> Option<i128>
     if sum > 0 { None } else { Some(0) }
 }
 
-/// The sum of all prices.
-pub(crate) fn price_total(prices: &[i128]) -> i128
+/// The sum of all prices of a section. It takes no memory.
+pub fn price_total(prices: &[i128]) -> i128
     requires few { length prices.now ≤ 128 }
     requires small { All IsPrice prices.now }
     ensures value { result ≡ sum_of prices.now }

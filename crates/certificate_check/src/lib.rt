@@ -15,6 +15,7 @@ mod shares;
 mod verdict;
 mod wide;
 
+pub use bound::price_total;
 pub use judge::check_certificate;
 pub use laws::{
     accepted_bounds_are_true, accepted_where_no_rule_is_broken, exact_roots_are_least_covers,

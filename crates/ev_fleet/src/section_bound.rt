@@ -10,6 +10,7 @@ ghost use Rattle.ev_fleet.specs.Bounds.{IsBoundOf, IsRoundedUp};
 ghost use Rattle.ev_fleet.specs.State.{greater_of};
 
 use bound_certificate::Section;
+use certificate_check::price_total;
 
 /// The bound of a section: its price sum over its weight, rounded up, where the weight is above 0;
 /// `None`, that there is no plan, where the weight is 0 and the price sum above 0; and else 0.
@@ -20,7 +21,7 @@ pub(crate) fn bound_of(section: &Section) -> Option<u128>
     ensures bound { IsBoundOf (priced_section section.now) result }
     ensures small { IfSome result (λ bound. bound ≤ greatest_bound) }
 {
-    let sum = price_total(section.prices.as_slice());
+    let sum = sum_of_prices(section.prices.as_slice());
     if section.weight == 0 {
         return if sum == 0 { Some(0) } else { None };
     }
@@ -39,18 +40,14 @@ fn rounded_up(sum: u128, weight: u128) -> u128
 }
 
 /// The sum of all prices, where it isn't below 0.
-fn price_total(prices: &[i128]) -> u128
+fn sum_of_prices(prices: &[i128]) -> u128
     requires few { length prices.now ≤ 128 }
     requires small { All IsPrice prices.now }
     requires some { pos 0 ≤ℤ sum_of prices.now }
     ensures value { pos result ≡ sum_of prices.now }
     ensures small { result ≤ 2 ^ 91 }
 {
-    let mut sum = 0;
-    for c in 0..prices.len() {
-        sum += prices[c];
-    }
-    sum as u128
+    price_total(prices).unsigned_abs()
 }
 
 /// Of two sections the number of the one with the greater bound, and this bound: of the one with

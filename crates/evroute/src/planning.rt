@@ -1,8 +1,7 @@
 //! What `fleet` writes and puts of a search.
 
-ghost use Rattle.std.specs.Prelude.{◌≡◌, ◌*◌, ◌^◌, ◌≤◌, IfOk, IfSome, None, Option, Some, if◌then◌else◌, length, unsigned_abs, ℕ};
-ghost use Rattle.std.specs.List.{All};
-ghost use Rattle.bound_certificate.specs.Ranges.{Fits, IsPrice, SectionFits};
+ghost use Rattle.std.specs.Prelude.{◌≡◌, ◌*◌, ◌≤◌, IfOk, IfSome, None, Option, Some, if◌then◌else◌, ℕ};
+ghost use Rattle.bound_certificate.specs.Ranges.{Fits, SectionFits};
 ghost use Rattle.certificate_check.specs.Accepted.{IsAccepted};
 ghost use Rattle.ev_fleet.specs.Outcome.{IsOutcome};
 ghost use Rattle.ev_model.specs.Network.{IsNetwork};
@@ -15,6 +14,7 @@ use crate::answer::Answer;
 use crate::judging::cost_of;
 use crate::status::Status;
 use bound_certificate::{Certificate, Root, Section, push_certificate};
+use certificate_check::price_total;
 use ev_fleet::{Outcome, plan_fleet};
 use instance_reader::Instance;
 use plan_writer::{Outcomes, RootLine, push_fleet_report};
@@ -137,18 +137,4 @@ fn exact_line(inst: &Instance, section: &Section) -> RootLine
 {
     let sum = price_total(section.prices.as_slice());
     RootLine::exact(sum, section.weight, inst)
-}
-
-/// The sum of the prices of a section. It takes no memory.
-fn price_total(prices: &[i128]) -> i128
-    requires few { length prices.now ≤ 128 }
-    requires small { All IsPrice prices.now }
-    ensures value { result ≡ sum_of prices.now }
-    ensures small { unsigned_abs result ≤ 2 ^ 91 }
-{
-    let mut sum = 0;
-    for c in 0..prices.len() {
-        sum += prices[c];
-    }
-    sum
 }
