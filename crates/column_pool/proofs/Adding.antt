@@ -1,5 +1,5 @@
 -- The chains of one customer more.
-use Rattle.std.proofs.Common.{◌≡◌, ◌≢◌, ◌∙◌, ℕ, zero, suc, ◌+◌, ◌*◌, ◌<◌, ◌≤◌, ◌^◌, true, false, refl, sym, ap, subst, arith, List, [], ◌∷◌, ◌++◌, get_or, length, map, inl, inr, ℤ, pos, ◌+ℤ◌, ◌≤ℤ◌, unsigned_abs}
+use Rattle.std.proofs.Common.{◌≡◌, ◌∙◌, ℕ, ◌+◌, ◌<◌, ◌≤◌, ◌^◌, true, refl, sym, ap, subst, arith, List, [], ◌∷◌, ◌++◌, get_or, length, map, inl, inr, ℤ, pos, ◌≤ℤ◌}
 use Rattle.std.specs.List.{All}
 use Rattle.std.proofs.lemmas.Bool.{cases_eq, cases_lt}
 use Rattle.std.proofs.lemmas.Int.{ints}
@@ -12,7 +12,7 @@ use Rattle.ev_model.specs.Route.{route_of}
 use Rattle.ev_model.specs.Time.{time_of}
 use Rattle.ev_model.specs.declared.Stop.{Stop}
 use Rattle.fleet_model.specs.Places.{customer_number, numbers_of}
-use Rattle.fleet_model.specs.Prices.{price_sum, sum_of}
+use Rattle.fleet_model.specs.Prices.{price_sum}
 use Rattle.fleet_model.proofs.Counts.{AreCustomers, count_numbers, number_apart, times_append}
 use Rattle.fleet_model.proofs.Fleets.{plan_below}
 use Rattle.fleet_model.proofs.Plans.{filtered}
@@ -25,7 +25,7 @@ use Rattle.column_pool.specs.Chains.{AreChains, IsChain, PaysNoMore}
 use Rattle.column_pool.proofs.OneOrder.{one_order}
 use Rattle.column_pool.proofs.OneWay.{Stands}
 use Rattle.column_pool.proofs.Paying.{AreFrom, pays_once, sum_free, sum_more, sum_other}
-use Rattle.column_pool.proofs.Serving.{counted_stands, IsServedAt, none_serves, served_at, stands_counted}
+use Rattle.column_pool.proofs.Serving.{counted_stands, none_serves, served_at}
 
 -- ---- one plan more
 times_more : (g : Network) (x : Share) (shares : List Share) (node : ℕ)

@@ -1,8 +1,8 @@
 -- Columns that say the same: a basis is past the caps whatever the order in which the sets of its columns are written.
-use Rattle.std.proofs.Common.{◌≡◌, ◌≢◌, ◌∙◌, ℕ, zero, suc, ◌*◌, ◌<◌, ◌≤◌, Bool, refl, sym, ap, subst, List, [], ◌∷◌, length, ◌⊎◌, inl, inr, cond, ℤ, pos, ◌+ℤ◌, ◌-ℤ◌, ◌*ℤ◌, ◌<ℤ◌, ◌≤ℤ◌, unsigned_abs}
+use Rattle.std.proofs.Common.{◌≡◌, ◌∙◌, ℕ, suc, ◌*◌, ◌<◌, Bool, refl, sym, ap, subst, List, [], ◌∷◌, length, inl, inr, cond, ℤ, pos, ◌+ℤ◌, ◌-ℤ◌, ◌*ℤ◌, ◌<ℤ◌, unsigned_abs}
 use Rattle.std.specs.Int.{◌∣◌}
-use Rattle.fleet_model.specs.Basis.{AreIndependent, covering, IsBasis, IsBody, IsHelperList, IsPriceList, IsShareWeight, MakesSharesWhole, Pays, PaysLeast}
-use Rattle.fleet_model.specs.Equations.{Column, column_at, cost_of, entry, help_of, right_side, route, serves, total}
+use Rattle.fleet_model.specs.Basis.{AreIndependent, covering, IsBasis, IsBody, IsShareWeight, MakesSharesWhole, Pays, PaysLeast}
+use Rattle.fleet_model.specs.Equations.{Column, column_at, cost_of, entry, help_of, right_side, serves, total}
 use Rattle.fleet_model.specs.Wide.{IsBodyPast, IsHelperListPast, IsPast, IsPastAt, IsPriceListPast, IsShareWeightPast}
 
 -- two columns have the same customers, the same cost, and are both helpers or both routes

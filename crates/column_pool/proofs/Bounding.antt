@@ -1,20 +1,18 @@
 -- The bound of a node, from the answer of the simplex method and closed labels.
-use Rattle.std.proofs.Common.{◌≡◌, ◌≢◌, ◌∙◌, ℕ, ◌+◌, ◌*◌, ◌<◌, ◌≤◌, ◌^◌, refl, sym, ap, subst, arith, inl, inr, List, [], map, length, Vec, ℤ, pos, ◌<ℤ◌, unsigned_abs}
+use Rattle.std.proofs.Common.{◌≡◌, ◌≢◌, ◌∙◌, ℕ, ◌<◌, ◌≤◌, refl, sym, ap, subst, arith, inl, inr, List, [], map, length, Vec, ℤ, pos, ◌<ℤ◌, unsigned_abs}
 use Rattle.std.specs.Global.{Global}
 use Rattle.std.specs.List.{All}
 use Rattle.std.proofs.lemmas.List.Elements.{All-weaker}
-use Rattle.customer_sets.specs.Pairs.{allows_of, ForbiddenPairs}
+use Rattle.customer_sets.specs.Pairs.{ForbiddenPairs}
 use Rattle.ev_model.specs.Network.{IsNetwork, Network}
-use Rattle.fleet_model.specs.Cover.{CoverKeepsPairs, IsExactRoot, Share as RouteShare}
-use Rattle.fleet_model.specs.Prices.{sum_of}
+use Rattle.fleet_model.specs.Cover.{IsExactRoot}
 use Rattle.instance_reader.specs.Instance.{customer_nodes}
-use Rattle.master_simplex.specs.Answer.{IsAnswer, IsLpWithin, IsOptimum, IsRay}
+use Rattle.master_simplex.specs.Answer.{IsAnswer, IsLpWithin, IsOptimum}
 use Rattle.master_simplex.specs.declared.prices.Lp.{Lp}
-use Rattle.master_table.specs.Tableau.{Tableau}
 use Rattle.piece_fn.specs.declared.label.Label.{Label}
 use Rattle.pricing.specs.Answers.{AreClosed, HasPoints, IsInRange}
 use Rattle.bound_certificate.specs.Meaning.{priced_section, route_shares}
-use Rattle.bound_certificate.specs.Ranges.{IsPrice, LabelFits, SectionFits, ShareFits, SharesFit}
+use Rattle.bound_certificate.specs.Ranges.{IsPrice, LabelFits}
 use Rattle.bound_certificate.specs.declared.certificate.Section.{Section}
 use Rattle.bound_certificate.specs.declared.certificate.Share.{Share}
 use Rattle.column_pool.specs.Bounds.{IsEmpty, IsExact, IsNodeSection}

@@ -1,27 +1,26 @@
 -- What a closed list of labels shows of a node, and that it is in the ranges of certificates.
-use Rattle.std.proofs.Common.{◌≡◌, ◌∙◌, ℕ, zero, suc, ◌+◌, ◌*◌, ◌<◌, ◌≤◌, ◌^◌, ◌-◌, arith, refl, sym, ap, subst, List, [], ◌∷◌, length, get_or, map, ℤ, pos, ◌+ℤ◌, ◌≤ℤ◌, ◌<ℤ◌, unsigned_abs}
+use Rattle.std.proofs.Common.{◌≡◌, ◌∙◌, ℕ, zero, suc, ◌+◌, ◌*◌, ◌<◌, ◌≤◌, ◌^◌, ◌-◌, arith, refl, sym, ap, subst, List, [], ◌∷◌, length, get_or, map, ℤ, pos, ◌≤ℤ◌}
 use Rattle.std.specs.List.{All}
 use Rattle.std.proofs.lemmas.Int.{ints}
 use Rattle.std.proofs.lemmas.List.{length-map}
 use Rattle.std.proofs.lemmas.List.Elements.{All-cons, All-contains, All-head, All-map, All-nil, All-tail, All-weaker}
-use Rattle.customer_sets.specs.Pairs.{allows_of, ForbiddenPairs}
+use Rattle.customer_sets.specs.Pairs.{ForbiddenPairs}
 use Rattle.ev_model.specs.Network.{IsNetwork, Network}
 use Rattle.ev_model.specs.declared.Stop.{Stop}
 use Rattle.fleet_model.specs.Labels.{IsLevel, Label as PricedLabel}
 use Rattle.fleet_model.specs.Places.{customer_number, numbers_of}
 use Rattle.fleet_model.specs.Prices.{price_of, price_sum}
-use Rattle.fleet_model.specs.Section.{IsSectionOf, Section as PricedSection}
+use Rattle.fleet_model.specs.Section.{IsSectionOf}
 use Rattle.fleet_model.proofs.Numbers.{counted}
 use Rattle.fleet_model.proofs.Plans.{plan_pays}
 use Rattle.instance_reader.specs.Instance.{customer_nodes}
-use Rattle.piece_fn.specs.PieceFn.{level_times}
 use Rattle.piece_fn.specs.declared.label.Label.{Label}
 use Rattle.closed_lists.specs.Questions.{Question}
 use Rattle.closed_lists.specs.Sections.{paid_label, section_of}
 use Rattle.pricing.specs.Answers.{AreClosed, HasPoints, IsInRange}
 use Rattle.pricing.specs.Better.{IsBetter}
 use Rattle.bound_certificate.specs.Limits.{most_items}
-use Rattle.bound_certificate.specs.Ranges.{IsPrice, LabelFits, SectionFits}
+use Rattle.bound_certificate.specs.Ranges.{IsPrice, LabelFits}
 use Rattle.bound_certificate.specs.declared.certificate.Section.{Section}
 use Rattle.column_pool.specs.Bounds.{IsNodeSection}
 use Rattle.column_pool.specs.Columns.{IsNodeRoute}

@@ -1,19 +1,16 @@
 -- An optimum of the table is a cover by routes.
-use Rattle.std.proofs.Common.{◌≡◌, ◌∙◌, ℕ, zero, suc, ◌+◌, ◌-◌, ◌*◌, ◌<◌, ◌≤◌, Bool, true, false, ◌||◌, cond, refl, sym, ap, subst, arith, inl, inr, List, [], ◌∷◌, ◌++◌, map, length, get_or, nat_eq, ℤ, pos, ◌+ℤ◌, ◌*ℤ◌}
-use Rattle.std.specs.List.{All, range_with_len}
+use Rattle.std.proofs.Common.{◌≡◌, ◌∙◌, ℕ, suc, ◌+◌, ◌-◌, ◌*◌, ◌<◌, ◌≤◌, Bool, true, false, ◌||◌, cond, refl, ap, arith, inl, inr, List, [], ◌∷◌, ◌++◌, map, length, get_or, nat_eq, ℤ, ◌+ℤ◌}
+use Rattle.std.specs.List.{All}
 use Rattle.std.proofs.lemmas.Bool.{cases_eq, eq-eqb, ne_eqb}
-use Rattle.std.proofs.lemmas.Int.{ints}
 use Rattle.std.proofs.lemmas.List.{get_or-append_right, get_or-map, length-append, length-map}
-use Rattle.std.proofs.lemmas.List.Elements.{All-cons, All-get_or, All-head, All-nil, All-tail}
+use Rattle.std.proofs.lemmas.List.Elements.{All-get_or, All-head, All-tail}
 use Rattle.std.proofs.lemmas.List.FromFn.{length-map-range_with_len}
 use Rattle.customer_sets.specs.CustSet.{has, with_customer}
 use Rattle.customer_sets.proofs.Ranges.{has-with_customer}
 use Rattle.ev_model.specs.Fleet.{customers_of, times_in}
-use Rattle.ev_model.specs.Network.{is_customer, Network, node_count}
+use Rattle.ev_model.specs.Network.{is_customer, Network}
 use Rattle.ev_model.specs.Route.{route_of}
-use Rattle.ev_model.specs.Time.{time_of}
-use Rattle.ev_model.specs.declared.Stop.{Stop}
-use Rattle.fleet_model.specs.Cover.{cost_of_shares as cost_of_routes, IsFleetRoute, Share, shares_of}
+use Rattle.fleet_model.specs.Cover.{cost_of_shares as cost_of_routes, IsFleetRoute, shares_of}
 use Rattle.fleet_model.specs.Equations.{Column, column_at, cost_of, helper, helpers, right_side, route, serves, total_from}
 use Rattle.fleet_model.specs.Places.{customer_number, numbers_of}
 use Rattle.fleet_model.specs.Prices.{sum_of}

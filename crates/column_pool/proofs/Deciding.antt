@@ -1,5 +1,5 @@
 -- The chains of all customers are a fleet plan, which bounds the node.
-use Rattle.std.proofs.Common.{◌≡◌, ◌≢◌, ◌∙◌, ℕ, zero, suc, ◌+◌, ◌*◌, ◌<◌, ◌≤◌, true, false, refl, sym, ap, subst, arith, List, [], ◌∷◌, ◌++◌, get_or, length, map, inl, inr, ℤ, pos, ◌*ℤ◌, ◌≤ℤ◌, ◌<ℤ◌}
+use Rattle.std.proofs.Common.{◌≡◌, ◌≢◌, ◌∙◌, ℕ, ◌+◌, ◌*◌, ◌<◌, ◌≤◌, true, refl, sym, ap, subst, arith, List, [], ◌∷◌, ◌++◌, get_or, length, map, inl, inr, ℤ, pos, ◌≤ℤ◌, ◌<ℤ◌}
 use Rattle.std.specs.List.{All}
 use Rattle.std.proofs.lemmas.Int.{ints}
 use Rattle.std.proofs.lemmas.List.Elements.{All-head, All-map, All-tail, All-weaker}
@@ -11,9 +11,9 @@ use Rattle.ev_model.specs.Route.{FollowsRoute, route_of}
 use Rattle.ev_model.specs.Time.{time_of}
 use Rattle.ev_model.specs.declared.Stop.{Stop}
 use Rattle.fleet_model.specs.ClosedList.{IsClosed}
-use Rattle.fleet_model.specs.Cover.{cost_of_shares, CoverKeepsPairs, IsExactRoot, IsFleetRoute, IsFractionalCover, Share as RouteShare, shares_of}
+use Rattle.fleet_model.specs.Cover.{cost_of_shares, IsFleetRoute, IsFractionalCover, Share as RouteShare, shares_of}
 use Rattle.fleet_model.specs.Labels.{Label as PricedLabel}
-use Rattle.fleet_model.specs.Pairs.{FleetKeepsPairs, PlanKeepsPairs}
+use Rattle.fleet_model.specs.Pairs.{PlanKeepsPairs}
 use Rattle.fleet_model.specs.Places.{customer_number, numbers_of}
 use Rattle.fleet_model.specs.Prices.{price_sum, sum_of}
 use Rattle.fleet_model.specs.Section.{Section as PricedSection}
@@ -31,7 +31,7 @@ use Rattle.pricing.specs.Answers.{AreClosed, HasPoints, IsInRange}
 use Rattle.pricing.specs.Better.{IsBetter}
 use Rattle.bound_certificate.specs.Limits.{greatest_weight, most_items}
 use Rattle.bound_certificate.specs.Meaning.{priced_label, priced_section, route_shares}
-use Rattle.bound_certificate.specs.Ranges.{IsPrice, LabelFits, ShareFits, SharesFit}
+use Rattle.bound_certificate.specs.Ranges.{IsPrice, LabelFits}
 use Rattle.bound_certificate.specs.declared.certificate.Section.{Section}
 use Rattle.bound_certificate.specs.declared.certificate.Share.{Share}
 use Rattle.column_pool.specs.Bounds.{IsExact, IsNodeSection, IsPlanAtBound, plans_of}

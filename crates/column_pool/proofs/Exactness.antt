@@ -1,28 +1,27 @@
 -- The answer of the simplex method bounds a node where no further route earns.
-use Rattle.std.proofs.Common.{◌≡◌, ◌≢◌, ◌∙◌, ℕ, zero, suc, ◌+◌, ◌-◌, ◌*◌, ◌<◌, ◌≤◌, ◌^◌, true, refl, sym, ap, subst, arith, List, [], ◌∷◌, ◌++◌, map, length, ℤ, pos, ◌*ℤ◌, ◌⊎◌, inl, inr, unsigned_abs}
+use Rattle.std.proofs.Common.{◌≡◌, ◌∙◌, ℕ, ◌+◌, ◌-◌, ◌*◌, ◌<◌, ◌≤◌, ◌^◌, refl, sym, ap, subst, arith, List, [], ◌∷◌, map, length, ℤ, pos, ◌*ℤ◌}
 use Rattle.std.specs.List.{All}
 use Rattle.std.proofs.lemmas.Int.{ints}
-use Rattle.std.proofs.lemmas.List.Elements.{All-cons, All-get_or, All-head, All-map, All-nil, All-tail, All-weaker}
+use Rattle.std.proofs.lemmas.List.Elements.{All-cons, All-get_or, All-head, All-nil, All-tail, All-weaker}
 use Rattle.customer_sets.specs.Pairs.{allows_of, ForbiddenPairs}
-use Rattle.ev_model.specs.Network.{IsNetwork, is_customer, Network, node_count}
+use Rattle.ev_model.specs.Network.{IsNetwork, Network, node_count}
 use Rattle.fleet_model.specs.ClosedList.{IsClosed}
 use Rattle.fleet_model.specs.Cover.{cost_of_shares as cost_of_routes, CoverKeepsPairs, IsExactRoot, IsFleetRoute, IsFractionalCover, Share as RouteShare}
 use Rattle.fleet_model.specs.Labels.{Label as PricedLabel}
 use Rattle.fleet_model.specs.Pairs.{PlanKeepsPairs}
-use Rattle.fleet_model.specs.Places.{customer_count, customer_number}
+use Rattle.fleet_model.specs.Places.{customer_number}
 use Rattle.fleet_model.specs.Prices.{sum_of}
 use Rattle.fleet_model.specs.Section.{Section as PricedSection}
 use Rattle.fleet_model.proofs.Counts.{number_less}
 use Rattle.fleet_model.proofs.Numbers.{counted}
 use Rattle.instance_reader.specs.Instance.{customer_nodes}
-use Rattle.master_table.specs.Tableau.{size}
 use Rattle.master_simplex.specs.Answer.{covered, cost_of_shares, IsAdded, IsCover, IsOptimum}
 use Rattle.piece_fn.specs.PieceFn.{level_times}
 use Rattle.piece_fn.specs.declared.label.Label.{Label}
 use Rattle.route_plan.specs.declared.plan.RoutePlan.{RoutePlan}
 use Rattle.closed_lists.specs.Sections.{paid_label, section_of}
 use Rattle.bound_certificate.specs.Meaning.{priced_label, priced_section, route_shares}
-use Rattle.bound_certificate.specs.Ranges.{IsWeight, ShareFits}
+use Rattle.bound_certificate.specs.Ranges.{ShareFits}
 use Rattle.bound_certificate.specs.declared.certificate.Section.{Section}
 use Rattle.bound_certificate.specs.declared.certificate.Share.{Share}
 use Rattle.column_pool.specs.Columns.{AreNodeRoutes, HasPlan, IsMaster, IsNodeRoute, share_of}

@@ -1,6 +1,6 @@
 -- How the master problem is filled.
 use Rattle.std.proofs.Common.{◌≡◌, ◌∙◌, ℕ, suc, ◌+◌, ◌<◌, ◌≤◌, ◌^◌, sym, ap, subst, add-one, List, [], ◌∷◌, ◌++◌, append-nil, append_assoc, map, drop, drop-cons, get_or, length}
-use Rattle.std.specs.List.{All, range_with_len}
+use Rattle.std.specs.List.{All}
 use Rattle.std.proofs.lemmas.List.Elements.{All-append, All-cons, All-head, All-nil, All-tail}
 use Rattle.std.proofs.lemmas.List.FromFn.{length-range_with_len}
 use Rattle.customer_sets.specs.CustSet.{with_customer}

@@ -1,20 +1,17 @@
 -- The prices at the end are the rising prices.
-use Rattle.std.proofs.Common.{◌≡◌, ◌∙◌, ℕ, zero, suc, inl, inr, ◌+◌, ◌*◌, ◌<◌, ◌≤◌, ◌^◌, arith, refl, sym, ap, subst, List, [], ◌∷◌, ◌++◌, length, length-set, get_or, set, map, take, replicate, ℤ, pos, negsuc, ◌+ℤ◌, ◌≤ℤ◌, ◌<ℤ◌}
+use Rattle.std.proofs.Common.{◌≡◌, ◌∙◌, ℕ, zero, suc, inl, inr, ◌+◌, ◌*◌, ◌<◌, ◌≤◌, arith, refl, sym, ap, subst, List, [], ◌∷◌, ◌++◌, length, length-set, get_or, set, map, take, replicate, ℤ, pos, negsuc, ◌≤ℤ◌}
 use Rattle.std.proofs.lemmas.Int.{ints}
 use Rattle.std.proofs.lemmas.Bool.{cases_lt}
 use Rattle.std.proofs.lemmas.List.{get_or-replicate, get_or-set_same, length-map, map-append}
 use Rattle.customer_sets.specs.Pairs.{allows_of, ForbiddenPairs}
 use Rattle.ev_model.specs.Network.{Network}
-use Rattle.fleet_model.specs.Places.{customer_count, numbers_of}
-use Rattle.fleet_model.specs.Prices.{price_of, price_sum, sum_of}
+use Rattle.fleet_model.specs.Places.{numbers_of}
+use Rattle.fleet_model.specs.Prices.{price_of, sum_of}
 use Rattle.fleet_model.specs.Strong.{AreRisingPrices, ArePayable, IsRisingPrice}
 use Rattle.fleet_model.proofs.Numbers.{counted}
 use Rattle.instance_reader.specs.Instance.{customer_nodes}
-use Rattle.bound_certificate.specs.Meaning.{priced_section}
 use Rattle.bound_certificate.specs.declared.certificate.Section.{Section}
 use Rattle.column_pool.specs.Bounds.{IsEmpty}
-use Rattle.column_pool.specs.Columns.{IsNodeRoute}
-use Rattle.column_pool.specs.Pool.{full_time}
 use Rattle.column_pool.specs.Rising.{AreFixed, IsFixed, IsPricedByRising, IsSectionAt, NoneEarns, StandsNowhere, worth}
 use Rattle.column_pool.proofs.Closing.{price_of_whole, price_sum_whole}
 use Rattle.column_pool.proofs.Raising.{past_end, worth_nothing, worth_set}

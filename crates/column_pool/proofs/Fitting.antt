@@ -1,10 +1,10 @@
 -- What is answered is in the ranges of certificates.
-use Rattle.std.proofs.Common.{◌≡◌, ◌≢◌, ◌∙◌, ℕ, zero, suc, ◌+◌, ◌-◌, ◌*◌, ◌<◌, ◌≤◌, ◌^◌, refl, sym, ap, subst, arith, List, [], ◌∷◌}
+use Rattle.std.proofs.Common.{◌≡◌, ℕ, ◌-◌, ◌*◌, ap, arith, List, [], ◌∷◌}
 use Rattle.std.specs.List.{All}
 use Rattle.std.proofs.lemmas.List.Elements.{All-cons, All-nil}
 use Rattle.ev_model.specs.Feasible.{IsFeasible}
 use Rattle.ev_model.specs.Levels.{KeepsBatteryFrom, leaving_level}
-use Rattle.ev_model.specs.Network.{IsNetwork, Network, node_count}
+use Rattle.ev_model.specs.Network.{IsNetwork, Network}
 use Rattle.ev_model.specs.Plan.{AreStopsFrom}
 use Rattle.ev_model.specs.declared.Stop.{Stop}
 use Rattle.route_plan.specs.PlanTexts.{FitsText, IsSmallStop}

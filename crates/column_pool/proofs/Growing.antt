@@ -1,5 +1,5 @@
 -- How a pool grows.
-use Rattle.std.proofs.Common.{◌≡◌, ◌≢◌, ◌∙◌, ℕ, ◌<◌, Bool, true, false, ◌⊎◌, inl, inr, refl, sym, ap, subst, arith, List, Option, Some, None, Result, Ok, Err, OnErr, OnOk, nat_lt, if◌then◌else◌}
+use Rattle.std.proofs.Common.{◌≡◌, ◌∙◌, ℕ, ◌<◌, ◌⊎◌, inl, inr, refl, sym, ap, subst, arith, List, Some, Result, Ok, Err, OnErr, OnOk, nat_lt}
 use Rattle.std.proofs.lemmas.Bool.{cases_Bool}
 use borrow.Author.Tests.{ltb-true}
 use Rattle.ev_model.specs.Network.{Network}

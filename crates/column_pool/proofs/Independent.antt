@@ -1,8 +1,8 @@
 -- No column of independent ones is without a customer, and no two of them are the same.
-use Rattle.std.proofs.Common.{◌≡◌, ◌≢◌, ◌∙◌, ℕ, zero, suc, ◌+◌, ◌<◌, ◌≤◌, Bool, true, false, arith, refl, sym, ap, List, [], ◌∷◌, map, length, get_or, cond, ℤ, pos, negsuc, ◌+ℤ◌}
+use Rattle.std.proofs.Common.{◌≡◌, ◌≢◌, ◌∙◌, ℕ, zero, suc, ◌+◌, ◌<◌, Bool, true, false, arith, refl, sym, ap, List, [], ◌∷◌, length, get_or, cond, ℤ, pos, negsuc, ◌+ℤ◌}
 use Rattle.std.proofs.lemmas.Int.{ints}
 use Rattle.fleet_model.specs.Basis.{AreIndependent, covering}
-use Rattle.fleet_model.specs.Equations.{Column, column_at, route, serves}
+use Rattle.fleet_model.specs.Equations.{Column, column_at, serves}
 
 -- one factor a column: all 0, or all 0 but one, or but two
 abbrev zeros : List Column → List ℤ

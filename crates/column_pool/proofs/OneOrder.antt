@@ -1,5 +1,5 @@
 -- Under decided pairs two routes that share a customer serve the same customers in the same order.
-use Rattle.std.proofs.Common.{◌≡◌, ◌≢◌, ◌∙◌, ℕ, zero, suc, ◌+◌, ◌<◌, ◌≤◌, Bool, true, false, ◌&&◌, refl, sym, ap, subst, arith, List, [], ◌∷◌, ◌++◌, map, length, nat_eq, ◌⊎◌, inl, inr}
+use Rattle.std.proofs.Common.{◌≡◌, ◌≢◌, ℕ, zero, suc, ◌+◌, ◌<◌, ◌≤◌, Bool, true, false, ◌&&◌, refl, sym, arith, List, [], ◌∷◌, ◌++◌, map, length, nat_eq, inl, inr}
 use Rattle.std.specs.Prelude.{if◌then◌else◌}
 use Rattle.std.proofs.lemmas.Bool.{cases_eq, eq-eqb, false≢true, ne_eqb}
 use Rattle.customer_sets.specs.Pairs.{allows_of, ForbiddenPairs, IsDecided, IsNarrowedBy, require}

@@ -1,5 +1,5 @@
 -- Where each customer has one follower and one leader, two ways that share a customer are the same.
-use Rattle.std.proofs.Common.{◌≡◌, ◌≢◌, ◌∙◌, ℕ, Bool, true, refl, sym, ap, subst, List, [], ◌∷◌, ◌⊎◌, inl, inr}
+use Rattle.std.proofs.Common.{◌≡◌, ◌≢◌, ◌∙◌, ℕ, Bool, true, refl, sym, subst, List, [], ◌∷◌, ◌⊎◌, inl, inr}
 
 -- a customer whom another one may follow has no other follower, and isn't the last; the one who may follow him has no
 -- other leader, and isn't the first

@@ -1,6 +1,5 @@
 -- Whether a customer is served, as a test of stops and as a count.
-use Rattle.std.proofs.Common.{◌≡◌, ◌∙◌, ℕ, zero, suc, ◌+◌, ◌<◌, ◌≤◌, Bool, true, false, ◌||◌, refl, sym, ap, subst, arith, List, [], ◌∷◌, ◌++◌, get_or, length, nat_eq, ◌⊎◌, inl, inr}
-use Rattle.std.specs.Prelude.{if◌then◌else◌}
+use Rattle.std.proofs.Common.{◌≡◌, ◌∙◌, ℕ, zero, suc, ◌+◌, ◌<◌, ◌≤◌, Bool, true, false, ◌||◌, refl, sym, ap, subst, arith, List, [], ◌∷◌, get_or, length, inl, inr}
 use Rattle.std.proofs.lemmas.Bool.{cases_Bool, cases_eq, cases_lt, eq-eqb, false≢true, ne_eqb}
 use Rattle.ev_model.specs.Fleet.{all_customers, customers_of, times_in}
 use Rattle.ev_model.specs.Network.{is_customer, Network}

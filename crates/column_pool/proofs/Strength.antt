@@ -1,5 +1,5 @@
 -- The sections of bounds of nodes are strong.
-use Rattle.std.proofs.Common.{◌≡◌, ℕ, Bool, refl, sym, subst, inl, inr, List, map}
+use Rattle.std.proofs.Common.{sym, subst, inl, inr, map}
 use Rattle.customer_sets.specs.Pairs.{allows_of, ForbiddenPairs}
 use Rattle.ev_model.specs.Network.{Network}
 use Rattle.fleet_model.specs.Cover.{CoverKeepsPairs}

@@ -1,5 +1,5 @@
 -- The chain through a customer.
-use Rattle.std.proofs.Common.{◌≡◌, ◌≢◌, ◌∙◌, ℕ, zero, suc, ◌+◌, ◌*◌, ◌<◌, ◌≤◌, Bool, true, false, refl, sym, ap, subst, arith, List, [], ◌∷◌, ◌++◌, get_or, length, map, inl, inr, ℤ, pos, ◌≤ℤ◌, ◌<ℤ◌}
+use Rattle.std.proofs.Common.{◌≡◌, ◌≢◌, ◌∙◌, ℕ, ◌+◌, ◌*◌, ◌<◌, ◌≤◌, Bool, true, refl, sym, ap, subst, arith, List, [], ◌∷◌, ◌++◌, map, inl, inr, ℤ, pos, ◌<ℤ◌}
 use Rattle.std.specs.List.{All}
 use Rattle.std.specs.Prelude.{filter}
 use Rattle.std.proofs.lemmas.Bool.{cases_lt}
@@ -14,11 +14,8 @@ use Rattle.ev_model.specs.Time.{time_of}
 use Rattle.ev_model.specs.declared.Stop.{Stop}
 use Rattle.fleet_model.specs.Pairs.{KeepsPairs}
 use Rattle.fleet_model.specs.Places.{customer_number, place_of}
-use Rattle.fleet_model.specs.Prices.{price_sum}
 use Rattle.fleet_model.proofs.Counts.{AreCustomers, count_numbers}
-use Rattle.fleet_model.proofs.Fleets.{plan_below}
 use Rattle.fleet_model.proofs.Plans.{filtered}
-use Rattle.fleet_model.proofs.Weighed.{AreBelow}
 use Rattle.pricing.specs.Better.{IsBetter}
 use Rattle.column_pool.specs.Chains.{IsChain, lone_price}
 use Rattle.column_pool.specs.Columns.{IsNodeRoute}

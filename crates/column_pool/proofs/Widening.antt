@@ -1,20 +1,19 @@
 -- A basis past the caps is a listed basis that is too wide.
-use Rattle.std.proofs.Common.{◌≡◌, ◌≢◌, ◌∙◌, ℕ, zero, suc, ◌+◌, ◌-◌, ◌<◌, ◌≤◌, ◌^◌, ◌⊎◌, inl, inr, Bool, true, false, ◌||◌, arith, refl, sym, ap, subst, List, [], ◌∷◌, ◌++◌, append-nil, length, get_or, map, take, nat_eq, nat_lt, lt-ltb, le-ltb}
+use Rattle.std.proofs.Common.{◌≡◌, ◌≢◌, ◌∙◌, ℕ, zero, suc, ◌+◌, ◌-◌, ◌<◌, ◌≤◌, ◌^◌, inl, inr, true, false, ◌||◌, arith, refl, sym, ap, subst, List, [], ◌∷◌, ◌++◌, append-nil, length, get_or, map, take, nat_lt, lt-ltb, le-ltb}
 use Rattle.std.specs.List.{All, Contains, list_any, range_with_len}
 use Rattle.std.proofs.Math.Seq.{get_or-append_right}
-use Rattle.std.proofs.lemmas.Bool.{cases_eq, cases_lt, eq-eqb, ne_eqb}
-use Rattle.std.proofs.lemmas.List.{get_or-map, get_or_append_left, length-append, length-map, take_all}
-use Rattle.std.proofs.lemmas.List.Elements.{All-cons, All-head, All-map, All-nil, All-tail, All-weaker}
-use Rattle.std.proofs.lemmas.List.FromFn.{get_or-map-range_with_len, length-map-range_with_len}
+use Rattle.std.proofs.lemmas.Bool.{cases_lt, ne_eqb}
+use Rattle.std.proofs.lemmas.List.{get_or_append_left, length-append, length-map, take_all}
+use Rattle.std.proofs.lemmas.List.Elements.{All-map, All-weaker}
+use Rattle.std.proofs.lemmas.List.FromFn.{length-map-range_with_len}
 use Rattle.customer_sets.specs.Pairs.{ForbiddenPairs}
 use Rattle.ev_model.specs.Network.{IsNetwork, Network}
-use Rattle.ev_model.specs.declared.Stop.{Stop}
 use Rattle.fleet_model.specs.Basis.{AreIndependent}
 use Rattle.fleet_model.specs.Cover.{IsFleetRoute}
 use Rattle.fleet_model.specs.Equations.{Column, column_at, helper, helpers, route, serves}
 use Rattle.fleet_model.specs.Places.{customer_count}
 use Rattle.fleet_model.specs.Strong.{column_of}
-use Rattle.fleet_model.specs.Wide.{IsPast, IsTooWide}
+use Rattle.fleet_model.specs.Wide.{IsPast}
 use Rattle.fleet_model.proofs.Numbers.{counted}
 use Rattle.instance_reader.specs.Instance.{customer_nodes}
 use Rattle.route_plan.specs.declared.plan.RoutePlan.{RoutePlan}

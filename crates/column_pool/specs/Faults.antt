@@ -1,5 +1,5 @@
 -- Why the master problem of a node isn't solved.
-use Rattle.std.specs.Prelude.{◌≡◌, ◌≢◌, ℕ, ◌+◌, ◌<◌, List, ◌++◌, get_or, length, map}
+use Rattle.std.specs.Prelude.{◌≢◌, ℕ, ◌+◌, ◌<◌, List, ◌++◌, get_or, length, map}
 use Rattle.std.specs.List.{All}
 use Rattle.customer_sets.specs.Pairs.{ForbiddenPairs}
 use Rattle.ev_model.specs.Network.{Network}

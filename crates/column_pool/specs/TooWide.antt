@@ -1,5 +1,5 @@
 -- Bounds by a basis that is too wide, at caps of any size.
-use Rattle.std.specs.Prelude.{◌≡◌, ℕ, ◌≤◌, ◌<◌, List, ◌++◌, length, map, take, nat_lt, ◌-◌, if◌then◌else◌}
+use Rattle.std.specs.Prelude.{◌≡◌, ℕ, ◌≤◌, List, ◌++◌, length, map, take, nat_lt, ◌-◌, if◌then◌else◌}
 use Rattle.std.specs.List.{All, Contains}
 use Rattle.customer_sets.specs.Pairs.{allows_of, ForbiddenPairs}
 use Rattle.ev_model.specs.Network.{Network}

@@ -1,5 +1,5 @@
 -- What `fleet` finds, once a search has found a plan or none and a certificate.
-use Rattle.std.proofs.Common.{◌≡◌, ◌≢◌, ◌∙◌, ℕ, Bool, true, false, List, Option, None, Some, Result, Ok, Err, IfOk, IfErr, IsErrOf, inl, inr, refl, subst, sym}
+use Rattle.std.proofs.Common.{◌≡◌, ◌≢◌, ◌∙◌, ℕ, Bool, true, false, List, Option, None, Some, Result, Ok, Err, inl, inr, refl, subst, sym}
 use Rattle.command_line.specs.Words.{FleetJob, PlanFleet}
 use Rattle.ev_model.specs.Network.{Network}
 use Rattle.ev_outside.specs.Counts.{Rose}
@@ -11,8 +11,8 @@ use Rattle.evroute.proofs.Performed.{leaves_both}
 use Rattle.evroute.specs.CheckAnswer.{HasFleetNetwork}
 use Rattle.evroute.specs.Ended.{IsFleetEnded}
 use Rattle.evroute.specs.FleetAnswer.{FleetAnswers, IsFound, PutsFound, search_status}
-use Rattle.evroute.specs.Found.{Finds, status_of}
-use Rattle.evroute.specs.Run.{AreRead, ComesToSearch, FindsPlan, HasCertificateFault, HasFailedWrite, HasPlanFault, IsAnswered, JobAnswers, KeepsAllBut, LeavesPlanned, WritesBoth, WritesPlan, WritesPlanAlone}
+use Rattle.evroute.specs.Found.{Finds}
+use Rattle.evroute.specs.Run.{AreRead, FindsPlan, HasCertificateFault, HasFailedWrite, HasPlanFault, IsAnswered, JobAnswers, KeepsAllBut, WritesBoth, WritesPlan, WritesPlanAlone}
 use Rattle.evroute.specs.declared.answer.Answer.{Answer}
 use Rattle.evroute.specs.declared.answer.Ended.{Ended}
 use Rattle.evroute.specs.declared.answer.Ended.TheVariants.{Refused}

@@ -1,25 +1,22 @@
 -- What stands in the two files that `fleet` writes tells how its search ended.
-use Rattle.std.proofs.Common.{◌≡◌, ◌∙◌, ◌↔◌, ◌⊎◌, ℕ, ◌≤◌, Bool, true, false, IsTrue, List, Option, Some, None, Ok, ap, arith, inl, inr, length, map, refl, subst, sym}
+use Rattle.std.proofs.Common.{◌≡◌, ◌∙◌, ℕ, ◌≤◌, Bool, true, false, IsTrue, List, Option, Some, ap, arith, length, map, refl, subst, sym}
 use Rattle.std.proofs.lemmas.Bool.{false≢true}
 use Rattle.std.proofs.lemmas.List.{length-map}
 use Rattle.std.proofs.lemmas.Option.{same_Some}
 use Rattle.bound_certificate.specs.CertificateTexts.{certificate_text}
-use Rattle.bound_certificate.specs.Ranges.{Fits}
 use Rattle.bound_certificate.specs.Reading.{certificate_at}
-use Rattle.bound_certificate.specs.Written.{Written, WrittenSection, written, written_section}
+use Rattle.bound_certificate.specs.Written.{Written, written, written_section}
 use Rattle.bound_certificate.specs.WrittenRanges.{WrittenIs, WrittenLoose}
 use Rattle.bound_certificate.specs.declared.certificate.Certificate.{Certificate}
-use Rattle.bound_certificate.specs.declared.certificate.Section.{Section}
 use Rattle.bound_certificate.proofs.HeadReading.{reads-certificate}
 use Rattle.bound_certificate.proofs.Parts.{Anything}
 use Rattle.bound_certificate.proofs.WrittenWhole.{written_is}
 use Rattle.command_line.specs.Words.{FleetJob}
-use Rattle.ev_fleet.specs.Outcome.{IsStoppedWell, LeavesGap}
+use Rattle.ev_fleet.specs.Outcome.{IsStoppedWell}
 use Rattle.ev_fleet.specs.Plans.{cost_held}
 use Rattle.ev_fleet.specs.declared.outcome.Outcome.{Outcome}
 use Rattle.ev_model.specs.Network.{IsNetwork, Network}
 use Rattle.ev_outside.specs.Shelf.{Files}
-use Rattle.ev_text.specs.Readers.{whole_with}
 use Rattle.ev_text.specs.Texts.{StandsUnlessLonger}
 use Rattle.ev_text.proofs.Results.{Ok-injective}
 use Rattle.ev_text.proofs.WholeLaws.{whole-spells}

@@ -1,5 +1,5 @@
 -- What is reported of a search.
-use Rattle.std.proofs.Common.{◌≡◌, ◌≢◌, ◌∙◌, ℕ, ◌+◌, ◌*◌, ◌≤◌, ◌∷◌, ◌++◌, [], List, Bool, true, false, Option, None, Some, IfSome, ap, arith, inl, inr, length, map, refl, subst, sym}
+use Rattle.std.proofs.Common.{◌≡◌, ◌∙◌, ℕ, ◌+◌, ◌*◌, ◌≤◌, ◌∷◌, ◌++◌, [], List, Option, None, Some, IfSome, ap, arith, inl, inr, length, subst, sym}
 use Rattle.std.specs.List.{All}
 use Rattle.std.specs.Prelude.{if◌then◌else◌, get_or, slice_get}
 use Rattle.std.proofs.lemmas.Int.{ints}
@@ -20,10 +20,10 @@ use Rattle.ev_fleet.specs.Bounds.{IsAtMost, IsBoundOf}
 use Rattle.ev_fleet.specs.Outcome.{IsOutcome}
 use Rattle.ev_fleet.specs.Plans.{IsHeld, cost_held}
 use Rattle.ev_fleet.specs.declared.outcome.Outcome.{Outcome}
-use Rattle.ev_model.specs.Fleet.{IsFleetPlan, cost_of}
+use Rattle.ev_model.specs.Fleet.{cost_of}
 use Rattle.ev_model.specs.Network.{IsNetwork, Network}
 use Rattle.fleet_model.specs.Prices.{sum_of}
-use Rattle.fleet_model.specs.Section.{Section as PricedSection, ShowsNoPlan}
+use Rattle.fleet_model.specs.Section.{Section as PricedSection}
 use Rattle.plan_check.specs.FleetRules.{stops_of}
 use Rattle.plan_writer.specs.FleetText.{AreOutcomes, IsExactLine, IsLowest, StandsBeside, StandsBesideRoot, fleet_text}
 use Rattle.plan_writer.specs.ScaledText.{IsBoundOf as IsBoundOfCost}

@@ -1,4 +1,4 @@
-use Rattle.std.proofs.Common.{◌≡◌, ◌∙◌, ◌<◌, ◌≤◌, ◌<ℤ◌, ℕ, ℤ, pos, List, [], ◌∷◌, ◌++◌, Option, arith, ap, length, subst, sym}
+use Rattle.std.proofs.Common.{◌≡◌, ◌∙◌, ◌<◌, ◌<ℤ◌, ℕ, ℤ, pos, List, [], ◌∷◌, ◌++◌, Option, arith, ap, length, subst, sym}
 use Rattle.std.specs.Prelude.{MatchOption}
 use Rattle.std.specs.List.{All}
 use Rattle.std.proofs.lemmas.Int.{ints}
@@ -10,7 +10,7 @@ use Rattle.fleet_model.proofs.Numbers.{counted}
 use Rattle.ev_model.specs.Network.{node_count}
 use Rattle.pricing.specs.Answers.{AreClosed, IsPriced}
 use Rattle.pricing.specs.Better.{IsBetter}
-use Rattle.pricing.specs.declared.priced.Priced.TheVariants.{Better, Closed}
+use Rattle.pricing.specs.declared.priced.Priced.TheVariants.{Better}
 use Rattle.route_plan.specs.declared.plan.RoutePlan.{RoutePlan}
 use Rattle.bound_certificate.specs.Ranges.{IsPrice}
 use Rattle.column_pool.specs.Columns.{IsNodeRoute}

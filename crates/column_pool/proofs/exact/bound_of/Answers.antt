@@ -1,9 +1,6 @@
-use Rattle.std.proofs.Common.{◌≡◌, ◌∙◌, ℕ, List, ap, length, map, subst, sym}
+use Rattle.std.proofs.Common.{◌∙◌, ℕ, List, ap, length, map, subst, sym}
 use Rattle.std.specs.List.{All}
 use Rattle.route_plan.specs.declared.plan.RoutePlan.{RoutePlan}
-use Rattle.piece_fn.specs.declared.label.Label.{Label}
-use Rattle.bound_certificate.specs.Meaning.{route_shares}
-use Rattle.bound_certificate.specs.declared.certificate.Share.{Share}
 use Rattle.column_pool.specs.Bounds.{IsEmpty, IsExact}
 use Rattle.column_pool.specs.Columns.{HasPlan, share_of}
 use Rattle.column_pool.proofs.Bounding.{empty_node, exact_node, have_all, node_section}

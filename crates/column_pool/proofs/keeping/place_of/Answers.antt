@@ -1,5 +1,4 @@
-use Rattle.std.proofs.Common.{◌≡◌, ◌+◌, arith}
-use Rattle.fleet_model.specs.Places.{place_of}
+use Rattle.std.proofs.Common.{arith}
 use Rattle.fleet_model.proofs.Numbers.{numbered}
 use Rattle.column_pool.proofs.keeping.place_of.Goals as goal
 

@@ -1,4 +1,4 @@
-use Rattle.std.proofs.Common.{◌≡◌, ◌+◌, [], map, get_or}
+use Rattle.std.proofs.Common.{[], map}
 use Rattle.fleet_model.specs.Places.{customer_number}
 use Rattle.column_pool.specs.Columns.{set_of}
 use Rattle.column_pool.proofs.Filling.{set_step}

@@ -1,4 +1,4 @@
-use Rattle.std.proofs.Common.{List, ℕ, arith, subst, sym}
+use Rattle.std.proofs.Common.{ℕ, arith, subst, sym}
 use Rattle.pricing.specs.Answers.{IsPriced}
 use Rattle.pricing.specs.declared.priced.Priced.{Priced}
 use Rattle.column_pool.specs.Rising.{NoneEarns}

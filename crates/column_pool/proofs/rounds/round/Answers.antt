@@ -1,4 +1,4 @@
-use Rattle.std.proofs.Common.{List, [], ◌∷◌, map, subst, sym}
+use Rattle.std.proofs.Common.{List, [], map, subst, sym}
 use Rattle.closed_lists.specs.Questions.{Question}
 use Rattle.pricing.specs.Answers.{IsPriced}
 use Rattle.pricing.specs.declared.priced.Priced.TheVariants.{Better}

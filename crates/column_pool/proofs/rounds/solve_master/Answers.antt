@@ -1,4 +1,4 @@
-use Rattle.std.proofs.Common.{◌≤◌, ◌∙◌, ap, arith, refl, Err}
+use Rattle.std.proofs.Common.{◌∙◌, ap, refl, Err}
 use Rattle.master_simplex.specs.declared.fault.LpFault.{LpFault}
 use Rattle.column_pool.specs.Columns.{IsMaster}
 use Rattle.column_pool.specs.declared.master.Master.{Master}

@@ -1,4 +1,4 @@
-use Rattle.std.proofs.Common.{◌≡◌, ◌<◌, ℕ, List, [], ◌∷◌, ◌++◌, ap, map, subst, sym}
+use Rattle.std.proofs.Common.{◌<◌, ℕ, List, [], ◌∷◌, ◌++◌, ap, map, subst, sym}
 use Rattle.std.specs.List.{All}
 use Rattle.std.proofs.lemmas.List.Elements.{All-cons, All-nil}
 use Rattle.customer_sets.specs.Pairs.{allows_of}
@@ -7,7 +7,7 @@ use Rattle.ev_model.specs.declared.Stop.{Stop}
 use Rattle.fleet_model.specs.Pairs.{KeepsPairs}
 use Rattle.fleet_model.specs.Places.{place_of}
 use Rattle.route_plan.specs.declared.plan.RoutePlan.{RoutePlan}
-use Rattle.column_pool.specs.Columns.{AreNodeRoutes, IsNodeRoute}
+use Rattle.column_pool.specs.Columns.{IsNodeRoute}
 use Rattle.column_pool.proofs.Known.{column_keeps, column_known}
 use Rattle.column_pool.proofs.taking.add_if_kept.Goals as goal
 

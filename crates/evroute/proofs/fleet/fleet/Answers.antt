@@ -2,7 +2,7 @@ use Rattle.std.proofs.Common.{◌≡◌, IfOk, List, Option, ℕ, inl, rules, su
 use Rattle.command_line.specs.Words.{FleetJob, PlanFleet, fleet_job_of}
 use Rattle.ev_outside.specs.Shelf.{Files}
 use Rattle.evroute.proofs.Finding.{finds_none, finds_refusal, finds_since, ok_is_no_error}
-use Rattle.evroute.proofs.FleetFinds.{finds_no_plan, refused_fleet}
+use Rattle.evroute.proofs.FleetFinds.{refused_fleet}
 use Rattle.evroute.specs.CheckAnswer.{HasFleetNetwork}
 use Rattle.evroute.specs.Run.{AreRead}
 use Rattle.plan_writer.specs.RefusalText.{refusal_text}

@@ -1,7 +1,7 @@
-use Rattle.std.proofs.Common.{◌≡◌, List, [], arith, length, subst, sym}
+use Rattle.std.proofs.Common.{List, [], arith, subst, sym}
 use Rattle.closed_lists.specs.Questions.{Question}
 use Rattle.pricing.specs.Answers.{AreClosed, IsPriced}
-use Rattle.pricing.specs.declared.priced.Priced.TheVariants.{Better, Closed}
+use Rattle.pricing.specs.declared.priced.Priced.TheVariants.{Better}
 use Rattle.bound_certificate.specs.declared.certificate.Share.{Share}
 use Rattle.column_pool.specs.Bounds.{IsExact, IsPlanAtBound, plans_of}
 use Rattle.column_pool.proofs.Deciding.{exact, has_plan, none_earns, section_closed}

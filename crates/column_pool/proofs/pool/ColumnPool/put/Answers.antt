@@ -1,10 +1,9 @@
-use Rattle.std.proofs.Common.{◌≡◌, ◌∙◌, ◌+◌, ◌<◌, ◌++◌, ◌∷◌, [], arith, ap, subst, sym, List, Option, Some, None, length, set}
-use Rattle.std.specs.List.{All}
+use Rattle.std.proofs.Common.{◌≡◌, ◌∙◌, ◌+◌, ◌<◌, arith, ap, subst, sym, List, Some, None, length, set}
 use Rattle.std.proofs.lemmas.List.Elements.{All-set}
 use Rattle.pricing.specs.declared.priced.PricedRoute.{PricedRoute}
 use Rattle.column_pool.specs.Pool.{AreApart, held, IsColumn, IsPool, IsPut, place_of}
 use Rattle.column_pool.proofs.Filling.{holds_at}
-use Rattle.column_pool.proofs.Putting.{apart_pushed, apart_replaced, column_replaced, IsReplaced, place_none, place_within, put_new, put_replaced, replaced_at}
+use Rattle.column_pool.proofs.Putting.{apart_pushed, apart_replaced, column_replaced, place_none, place_within, put_new, put_replaced, replaced_at}
 use Rattle.column_pool.proofs.pool.ColumnPool.put.Goals as goal
 
 -- ---- an order that the pool hasn't
