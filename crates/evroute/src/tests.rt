@@ -546,6 +546,7 @@ fn a_failing_file_or_output_is_a_fault(rt: HostRuntime) {
             Status::Fault,
             "refused i",
         ),
+        (whole, ONE_STATION, Some(0), None, Status::Fault, ""),
         (whole, ONE_STATION, Some(1), None, Status::Fault, ""),
         (whole, ONE_STATION, None, Some(0), Status::Done, ""),
         (whole, "{", None, Some(0), Status::Fault, "refused lit"),
@@ -572,5 +573,36 @@ fn a_failing_file_or_output_is_a_fault(rt: HostRuntime) {
         .expect(&rt, "memory");
         assert_eq!(rt; ended.0, status, "{line}");
         assert_eq!(rt; ended.1.as_slice(), put.as_bytes());
+    }
+}
+
+#[test]
+fn what_a_failed_fleet_leaves(rt: HostRuntime) {
+    let alloc = rt.alloc();
+    let begun = certificate_with(alloc, "43").expect(&rt, "memory");
+    // the failing call of the files and of the output, what is put, and what PLAN and CERT begin with
+    let cases = [
+        (Some(0), None, "", "before", begun.as_str()),
+        (Some(1), None, "", "", begun.as_str()),
+        (Some(2), None, "", CHARGED, ""),
+        (
+            None,
+            Some(0),
+            "cost 43/2\nbound 43/2\ng",
+            CHARGED,
+            "evroute certificate 1\nbound 43\n",
+        ),
+    ];
+    for (failing_call, failing_put, put, plan, certificate) in cases {
+        let calls = failing_call.as_slice();
+        let mut shelf = shelf_with(alloc, ONE_STATION, "before", calls).expect(&rt, "memory");
+        let puts = failing_put.as_slice();
+        let ended = run_with(alloc, "fleet A P Q", &mut shelf, puts).expect(&rt, "memory");
+        assert_eq!(rt; ended.0, Status::Fault);
+        assert_eq!(rt; ended.1.as_slice(), put.as_bytes());
+        let left = shelf.get("P").unwrap_or(b"".as_slice());
+        assert!(rt; left.starts_with(plan.as_bytes()));
+        let left = shelf.get("Q").unwrap_or(b"".as_slice());
+        assert!(rt; left.starts_with(certificate.as_bytes()));
     }
 }
