@@ -83,8 +83,7 @@ may_within t before passed to go = elim go.leads [
 pub label_spreads : (t : Journey) (labels : List (Label State)) (full : List (Option ℕ)) (label : Label State) (from : State) (passed to : ℕ) → MayGo t label.value.passed passed to → AreFull t labels full → IsSound t labels label
     → from ≡ label.value → IsFullBy t full from passed to → SpreadsTo t labels label.value passed to
 label_spreads t labels full label from passed to go is sound same by =
-    let key = sound.key in
-    full_spreads t labels full label.value passed to go is (may_within t label.value.passed passed to go) (λ level there. (let low = sound.least level there in omega (arith, key, low)))
+    full_spreads t labels full label.value passed to go is (may_within t label.value.passed passed to go) sound.least
     (subst (λ (s : State). IsFullBy t full s passed to) same by)
 
 none_there : (n i : ℕ) (o : Option ℕ) → slice_get (replicate n None) i ≡ Some o → o ≡ None

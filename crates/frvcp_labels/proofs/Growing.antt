@@ -1,5 +1,5 @@
 -- Labels after one was added.
-use Rattle.std.proofs.Common.{◌≡◌, ℕ, ◌+◌, ◌*◌, ◌/◌, ◌<◌, ◌⊎◌, inl, inr, List, [], ◌∷◌, ◌++◌, length, map, refl, sym, ◌∙◌, ap, subst, arith, Option, Some, None, true, false}
+use Rattle.std.proofs.Common.{◌≡◌, ℕ, ◌+◌, ◌-◌, ◌*◌, ◌/◌, ◌<◌, ◌⊎◌, inl, inr, List, [], ◌∷◌, ◌++◌, length, map, refl, sym, ◌∙◌, ap, subst, arith, Option, Some, None, true, false}
 use Rattle.std.specs.Prelude.{Bool, IfSome, IsNone, nat_eq, option_map, slice_get}
 use Rattle.std.proofs.lemmas.Option.{same_Some, none-some, slice_get-map}
 use Rattle.std.proofs.lemmas.Bool.{and_parts, and_from, eqb-true, eq-eqb, false≢true}
@@ -12,7 +12,7 @@ use Rattle.label_pool.specs.Labels.{IsCovered, Labels, beside, labels_with}
 use Rattle.label_pool.specs.declared.label.Label.{Label}
 use Rattle.label_pool.proofs.Elements.{appended_before, appended_cases}
 use Rattle.piece_fn.specs.PieceFn.{level_times}
-use Rattle.frvcp_labels.specs.Search.{AreSound, HasOrigin, Holds, IsGrown, IsSound, IsSoundPool, IsSoundState, IsStep, Reached, settled_count}
+use Rattle.frvcp_labels.specs.Search.{AreSound, HasOrigin, Holds, IsBelowWays, IsGrown, IsSound, IsSoundPool, IsSoundState, IsStep, Reached, settled_count}
 use Rattle.frvcp_labels.specs.Trips.{Journey}
 use Rattle.frvcp_labels.specs.Ways.{Leaving}
 use Rattle.frvcp_labels.specs.declared.state.State.{State}
@@ -102,13 +102,14 @@ sound_stays t old new label stays is = record {
   state = is.state;
   bucket = is.bucket;
   first = is.first;
-  key = is.key;
   least = is.least;
+  below = is.below;
+  home = is.home;
   origin = origin_stays t old new label.parent label.value stays is.origin;
 }
 
 still_sound : (t : Journey) (labels : List (Label State)) (label : Label State) (live : Bool) → IsSound t labels label → IsSound t labels (record label { live = live })
-still_sound t labels label live is = record { state = is.state; bucket = is.bucket; first = is.first; key = is.key; least = is.least; origin = is.origin }
+still_sound t labels label live is = record { state = is.state; bucket = is.bucket; first = is.first; least = is.least; below = is.below; home = is.home; origin = is.origin }
 
 module _ (t : Journey) (old : List (Label State)) (new : Label State) (sound : AreSound t old) (is_new : IsSound t old new) (waits : new.settled ≡ false) where
   pub with_value : (i : ℕ) (label : Label State) → slice_get old i ≡ Some label → (other : Label State) × (slice_get (labels_with by_value old new) i ≡ Some other) × (other.value ≡ label.value)
@@ -192,19 +193,19 @@ module _ (t : Journey) (old now : Labels State) (new : Label State) where
         reached = λ v holds. covered_reached t now.labels new.value v pool.labels is.state.node (subst (λ b. IsCovered by_value now.labels b new.value) is.bucket own) holds;
       }
 
--- a new label with its least time as its key
-pub new_sound : (t : Journey) (labels : List (Label State)) (s : State) (bucket level key : ℕ) (parent : Option ℕ) → IsSoundState t s → bucket ≡ s.passed * node_count t.network + s.node → IsValue (level_times s.value)
-    → level ≡ (level_times s.value).first → key ≡ time_at (level_times s.value) level → HasOrigin t labels parent s
+-- a new label
+pub new_sound : (t : Journey) (labels : List (Label State)) (s : State) (bucket key : ℕ) (parent : Option ℕ) → IsSoundState t s → bucket ≡ s.passed * node_count t.network + s.node → IsValue (level_times s.value) → IsBelowWays t s key
+    → (s.passed ≡ length t.route - 1 → key ≡ time_at (level_times s.value) (level_times s.value).first) → HasOrigin t labels parent s
     → IsSound t labels (record { bucket = bucket; value = s; key = key; parent = parent; live = true; settled = false })
-new_sound t labels s bucket level key parent sound place valid first time origin =
+new_sound t labels s bucket key parent sound place valid below home origin =
     let v = level_times s.value in
-    let at_first : key ≡ time_at v v.first = time ∙ ap (λ l. time_at v l) first in
     let some : 0 < length v.times = valid.some in
     record {
       state = sound;
       bucket = place;
       first = (omega arith, omega (arith, some));
-      key = at_first;
-      least = λ x is. (let low = first_is_least v valid x is in omega (arith, at_first, low));
+      least = first_is_least v valid;
+      below = below;
+      home = home;
       origin = origin;
     }

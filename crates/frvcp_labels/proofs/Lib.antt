@@ -16,3 +16,6 @@ pub mod Charging
 pub mod Pays
 pub mod Plugging
 pub mod Tracing
+mod RestRate
+mod RestLaw
+mod RestTable

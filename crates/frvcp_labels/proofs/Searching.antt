@@ -6,7 +6,7 @@ use Rattle.std.proofs.lemmas.Option.{same_Some, none-some, slice_get_read}
 use Rattle.std.proofs.lemmas.List.{length-append}
 use Rattle.std.proofs.lemmas.Bool.{cases_Bool, cases_eq, false≢true, le-leb}
 use Rattle.std.proofs.Math.Dec.{eqb-suc-zero}
-use Rattle.ev_model.specs.Network.{curve_at, node_count}
+use Rattle.ev_model.specs.Network.{curve_at, node_count, scaled_limit}
 use Rattle.ev_model.specs.Time.{time_from}
 use Rattle.ev_model.specs.declared.Stop.{Stop}
 use Rattle.dominance.specs.LevelTimes.{IsLevel, time_at}
@@ -134,7 +134,7 @@ module _ (t : Journey) (old : List (Label State)) (i : ℕ) (label : Label State
   ]
 
   now_is_sound : IsSound t old label → IsSound t old (record label { settled = true })
-  now_is_sound is = record { state = is.state; bucket = is.bucket; first = is.first; key = is.key; least = is.least; origin = is.origin }
+  now_is_sound is = record { state = is.state; bucket = is.bucket; first = is.first; least = is.least; below = is.below; home = is.home; origin = is.origin }
 
   pub now_sound : AreSound t old → AreSound t settled_now
   now_sound sound j x at = elim (now_cases j x at) [
@@ -223,12 +223,18 @@ module _ (t : Journey) (labels : List (Label State)) (is : IsSpread t labels (be
 
   pub least_home : (i : ℕ) (label : Label State) → AreSound t labels → IsNext labels i label → (stops : List Stop) → IsRest t.network t.route (begin t.start) stops → label.key ≤ 0 + time_from t.network 1 0 t.start stops
   least_home i label sound next = each_way (λ n. label.key ≤ n) (λ v stops h rest.
-      let reach = h.holds.reaches in
-      let other : h.label.key ≤ v.time = (let low = (sound h.by h.label h.here).least reach.0 reach.1 in omega (arith, low, reach.2.1)) in
+      let other = (sound h.by h.label h.here).below v stops h.holds rest in
       elim (next.least h.by h.label h.here (waiting_is labels v h)) [
         | inl less ↦ omega (arith, less, other)
         | inr equal ↦ omega (arith, equal.0, other)
       ])
+
+  -- no way home is within the limit where the label that is next is past it
+  pub late_home : (limit i key : ℕ) (label : Label State) → AreSound t labels → IsNext labels i label → key ≡ label.key → limit ≡ scaled_limit t.network → limit < key → NoWayHome t
+  late_home limit i key label sound next is_key is_limit late stops rest =
+      let least = least_home i label sound next stops rest in
+      let in_time : 0 + time_from t.network 1 0 t.start stops ≤ scaled_limit t.network = rest.in_time in
+      omega (arith, least, in_time, is_key, is_limit, late)
 
 -- the start
 pub start_sound : (t : Journey) (value : List (ℕ × ℕ)) → IsTrip t.network t.route → t.start ≤ t.network.capacity → value ≡ (t.start, 0) ∷ [] → IsSoundState t (record { passed = 0; node = 0; charged = false; value = value })

@@ -121,7 +121,7 @@ module _ (t : Journey) (labels : List (Label State)) (sound : AreSound t labels)
   traced_home home level label here passed first =
       let is = sound home label here in
       let there : IsLevel (level_times label.value.value) level = subst (λ l. IsLevel (level_times label.value.value) l) (sym first) is.first in
-      let key : label.key ≡ time_at (level_times label.value.value) level = is.key ∙ ap (λ l. time_at (level_times label.value.value) l) (sym first) in
+      let key : label.key ≡ time_at (level_times label.value.value) level = is.home passed ∙ ap (λ l. time_at (level_times label.value.value) l) (sym first) in
       record {
         last = label;
         last_here = here;

@@ -1,12 +1,12 @@
 -- The label that a turn of the search takes.
-use Rattle.std.proofs.Common.{◌≡◌, ℕ, ◌+◌, ◌-◌, ◌^◌, ◌<◌, ◌≤◌, inl, inr, List, length, set, sym, ◌∙◌, ap, subst, arith, true, Option, Some}
+use Rattle.std.proofs.Common.{◌≡◌, ℕ, ◌+◌, ◌-◌, ◌^◌, ◌<◌, ◌≤◌, inl, inr, List, length, sym, ◌∙◌, ap, subst, arith, true, Option, Some}
 use Rattle.std.specs.Prelude.{IfSome, slice_get}
 use Rattle.std.proofs.lemmas.Option.{slice_get_within}
 use Rattle.std.proofs.lemmas.Bool.{cases_eq}
-use Rattle.label_pool.specs.Labels.{IsNext, Labels}
+use Rattle.label_pool.specs.Labels.{Labels}
 use Rattle.label_pool.specs.declared.label.Label.{Label}
 use Rattle.label_pool.proofs.Elements.{set_here}
-use Rattle.frvcp_labels.specs.Answers.{IsHome}
+use Rattle.frvcp_labels.specs.Answers.{IsHome, IsTaken}
 use Rattle.frvcp_labels.specs.Full.{AreFull}
 use Rattle.frvcp_labels.specs.Search.{AreSound, IsGrown, IsSoundPool, IsSpread, Reached, Spreads, settled_count}
 use Rattle.frvcp_labels.specs.Trips.{Journey}
@@ -15,17 +15,8 @@ use Rattle.frvcp_labels.specs.declared.state.State.{State}
 use Rattle.frvcp_labels.proofs.FullBattery.{full_grown}
 use Rattle.frvcp_labels.proofs.Searching.{count_most, falls, least_home, now_count, now_reached, now_sound, settled_now, turn}
 
--- the label that was next is settled now
-pub record IsTaken (old now : Labels State) (i : ℕ) : Type 0 where
-  pub label : Label State
-  pub next : IsNext old.labels i label
-  pub is : now ≡ record old { labels = set old.labels i (record label { settled = true }) }
-
-pub is_taken : (old now : Labels State) (o : Option ℕ) (i : ℕ) → o ≡ Some i
-    → IfSome o (λ n. (label : Label State) × IsNext old.labels n label × (now ≡ record old { labels = set old.labels n (record label { settled = true }) })) → IsTaken old now i
-is_taken old now o i is told =
-    let both = subst (λ (x : Option ℕ). IfSome x (λ n. (label : Label State) × IsNext old.labels n label × (now ≡ record old { labels = set old.labels n (record label { settled = true }) }))) is told in
-    record { label = both.0; next = both.1; is = both.2 }
+pub is_taken : (old now : Labels State) (o : Option ℕ) (i : ℕ) → o ≡ Some i → IfSome o (λ n. IsTaken old now n) → IsTaken old now i
+is_taken old now o i is told = subst (λ (x : Option ℕ). IfSome x (λ n. IsTaken old now n)) is told
 
 module _ (t : Journey) (old now : Labels State) (i : ℕ) (taken : IsTaken old now i) where
   labels_are : now.labels ≡ settled_now t old.labels i taken.label taken.next.here taken.next.waits

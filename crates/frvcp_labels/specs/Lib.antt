@@ -3,6 +3,7 @@ pub mod OneLevel
 pub mod Arrivals
 pub mod Trips
 pub mod Stations
+pub mod Rest
 pub mod TripView
 pub mod Leaves
 pub mod Paying

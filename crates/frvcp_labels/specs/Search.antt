@@ -3,7 +3,7 @@ use Rattle.std.specs.Prelude.{◌≡◌, ℕ, ◌+◌, ◌-◌, ◌*◌, ◌^◌
 use Rattle.std.specs.Option.{IsSome}
 use Rattle.ev_model.specs.Network.{Network, curve_at, energy, node_count, scaled_limit}
 use Rattle.ev_model.specs.Levels.{leaving_level}
-use Rattle.ev_model.specs.Time.{stop_time}
+use Rattle.ev_model.specs.Time.{stop_time, time_from}
 use Rattle.ev_model.specs.declared.Stop.{Stop}
 use Rattle.dominance.specs.Coverage.{Reaches, SomeReaches}
 use Rattle.dominance.specs.LevelTimes.{IsLevel, time_at}
@@ -12,7 +12,7 @@ use Rattle.label_pool.specs.declared.label.Label.{Label}
 use Rattle.piece_fn.specs.PieceFn.{level_times}
 use Rattle.frvcp_labels.specs.Stations.{stations}
 use Rattle.frvcp_labels.specs.Trips.{IsTrip, Journey}
-use Rattle.frvcp_labels.specs.Ways.{Leaving, MayStop, leaving_after, passed_after}
+use Rattle.frvcp_labels.specs.Ways.{IsRest, Leaving, MayStop, leaving_after, passed_after}
 use Rattle.frvcp_labels.specs.declared.state.State.{State}
 
 -- the vehicle of a state with one of its levels
@@ -78,15 +78,24 @@ pub record IsSoundState (t : Journey) (s : State) : Type 0 where
   pub times : (level : ℕ) → IsLevel (level_times s.value) level →
       time_at (level_times s.value) level ≤ scaled_limit t.network
 
--- a label has a sound state, its bucket, its least time as its key, and an origin
+-- no way home of a vehicle of the state takes less time
+abbrev pub IsBelowWays : Journey → State → ℕ → Type 0
+IsBelowWays t s time =
+    (v : Leaving) (stops : List Stop) → Holds s v → IsRest t.network t.route v stops →
+    time ≤ v.time + time_from t.network 1 v.node v.level stops
+
+-- a label has a sound state, its bucket, a key that no way home is below, which at the route's end is
+-- its least time, and an origin
 pub record IsSound (t : Journey) (labels : List (Label State)) (label : Label State) : Type 0 where
   pub state : IsSoundState t label.value
   pub bucket : label.bucket ≡ label.value.passed * node_count t.network + label.value.node
   pub first : IsLevel (level_times label.value.value) (level_times label.value.value).first
-  pub key : label.key
-      ≡ time_at (level_times label.value.value) (level_times label.value.value).first
   pub least : (level : ℕ) → IsLevel (level_times label.value.value) level →
-      label.key ≤ time_at (level_times label.value.value) level
+      time_at (level_times label.value.value) (level_times label.value.value).first
+      ≤ time_at (level_times label.value.value) level
+  pub below : IsBelowWays t label.value label.key
+  pub home : label.value.passed ≡ length t.route - 1 → label.key
+      ≡ time_at (level_times label.value.value) (level_times label.value.value).first
   pub origin : HasOrigin t labels label.parent label.value
 
 abbrev pub AreSound : Journey → List (Label State) → Type 0

@@ -1,5 +1,6 @@
 -- What a `Trip` is, by its fields.
 use Rattle.std.specs.Prelude.{◌≡◌, ◌≤◌}
+use Rattle.frvcp_labels.specs.Rest.{IsRestBound}
 use Rattle.frvcp_labels.specs.Stations.{stations}
 use Rattle.frvcp_labels.specs.Trips.{IsTrip, Journey}
 use Rattle.frvcp_labels.specs.declared.trip.Trip.TheInside.{Inside}
@@ -11,3 +12,4 @@ pub record IsSoundTrip (t : Inside) : Type 0 where
   pub trip : IsTrip t.inst.now t.route.now
   pub are_stations : t.stations.now ≡ stations t.inst.now
   pub start : t.start ≤ t.inst.now.capacity
+  pub rest : IsRestBound t.inst.now t.route.now t.rest.now.rate t.rest.now.least.items

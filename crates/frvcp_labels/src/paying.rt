@@ -108,7 +108,7 @@ fn pays(points: &[(u64, u64)], curve: &Scaled, full: u64, before: Option<(u64, u
 }
 
 /// How long charging takes from a level to the next.
-fn unit_time(curve: &Scaled, full: u64, level: u64) -> u64
+pub(crate) fn unit_time(curve: &Scaled, full: u64, level: u64) -> u64
     requires full { full ≡ last_level curve.now }
     requires fits { level < full }
     ensures { result ≡ time_on curve.now (level + 1) - time_on curve.now level }
@@ -133,7 +133,7 @@ fn is_sooner(point: (u64, u64), curve: &Scaled, before: Option<(u64, u64)>) -> b
 }
 
 /// The level of a full battery on a curve.
-fn full_level(curve: &Scaled) -> u64
+pub(crate) fn full_level(curve: &Scaled) -> u64
     ensures value { result ≡ last_level curve.now }
     ensures curve { IsScaledCurve curve.now }
 {

@@ -1,15 +1,18 @@
 //! The search by labels.
 
-ghost use Rattle.std.specs.Prelude.{◌≡◌, ◌<◌, ◌*◌, ◌+◌, ℕ, Some, IfOk, IfSome, OnOk, length, slice_get};
+ghost use Rattle.std.specs.Prelude.{◌≡◌, ◌<◌, ◌*◌, ◌+◌, ◌-◌, ◌^◌, ℕ, Some, IfOk, IfSome, IsNone, OnOk, length, slice_get};
 ghost use Rattle.label_pool.specs.declared.label.Label.{Label};
 ghost use Rattle.ev_model.specs.Network.{node_count};
-ghost use Rattle.frvcp_labels.specs.Answers.{IsHomeOrNone};
+ghost use Rattle.dominance.specs.LevelTimes.{IsValue, time_at};
+ghost use Rattle.piece_fn.specs.PieceFn.{level_times};
+ghost use Rattle.frvcp_labels.specs.Answers.{IsHomeOrNone, IsTaken, NoWayHome};
 ghost use Rattle.frvcp_labels.specs.Full.{AreFull};
-ghost use Rattle.frvcp_labels.specs.Search.{AreReached, AreSteps, HasOrigin, Holds, IsGrown, IsSoundPool, IsSoundState, IsSpread, MayGo, Reached, Spreads, SpreadsTo, SpreadsToStations};
+ghost use Rattle.frvcp_labels.specs.Search.{AreReached, AreSteps, HasOrigin, Holds, IsBelowWays, IsGrown, IsSoundPool, IsSoundState, IsSpread, MayGo, Reached, Spreads, SpreadsTo, SpreadsToStations};
 ghost use Rattle.frvcp_labels.specs.Ways.{Leaving, begin};
 ghost use Rattle.frvcp_labels.specs.declared.state.State.{State};
 
 use crate::full::none_yet;
+use crate::rest::least_total;
 use crate::state::State;
 use crate::trip::Trip;
 use dominance::LabelValue;
@@ -40,7 +43,8 @@ impl<'a> Trip<'a> {
         Ok((pool, full))
     }
 
-    /// The first label at the route's end that is taken, `None` where no label is left to be taken.
+    /// The first label at the route's end that is taken, `None` where none is left that promises a
+    /// way home within the limit.
     pub(crate) fn first_home(
         &self,
         alloc: Global,
@@ -54,13 +58,31 @@ impl<'a> Trip<'a> {
         ensures full { OnOk result (AreFull self.now pool.new.labels full.new) }
         ensures home { IfOk result (IsHomeOrNone self.now pool.new.labels) }
     {
-        while let Some(i) = pool.take_next() {
+        while let Some(i) = self.take_in_time(pool) {
             if pool.value(i).passed == self.end() {
                 return Ok(Some(i));
             }
             self.spread(alloc, pool, full, i)?;
         }
         Ok(None)
+    }
+
+    /// Takes the next label, `None` where none is left or no way home is within the limit.
+    fn take_in_time(&self, pool: &mut Pool<State>) -> Option<usize>
+        requires pool { IsSoundPool self.now pool.old }
+        requires spread { IsSpread self.now pool.old.labels (begin self.now.start) }
+        ensures none { IsNone result → NoWayHome self.now }
+        ensures next { IfSome result (λ i. IsTaken pool.old pool.new i) }
+        ensures unchanged { IsNone result → pool.new ≡ pool.old }
+        ensures small { IfSome result (λ _. length pool.new.labels < 2 ^ 63) }
+    {
+        let Some(key) = pool.next_key() else {
+            return None;
+        };
+        if self.limit() < key {
+            return None;
+        }
+        pool.take_next()
     }
 
     /// Adds the labels that one step from a label leads to.
@@ -196,9 +218,27 @@ impl<'a> Trip<'a> {
         ensures reached { OnOk result ((v : Leaving) → Holds state v →
             Reached pool.new.labels v) }
     {
-        let (_, key) = state.value.least();
+        let key = self.key(&state);
         let bucket = self.bucket(state.passed, state.node);
         pool.add(bucket, state, key, parent)?;
         Ok(())
+    }
+
+    /// A time that no way home of a vehicle of the state is below: at the route's end the least
+    /// time.
+    fn key(&self, state: &State) -> u64
+        requires state { IsSoundState self.now state.now }
+        requires few { length self.now.route * node_count self.now.network < 2 ^ 64 }
+        ensures below { IsBelowWays self.now state.now result }
+        ensures home { state.now.passed ≡ length self.now.route - 1 →
+            result ≡ time_at (level_times state.now.value) (level_times state.now.value).first }
+        ensures valid { IsValue (level_times state.now.value) }
+    {
+        let (_, least) = state.value.least();
+        if state.passed == self.end() {
+            return least;
+        }
+        let rest = self.rest.least[self.bucket(state.passed, state.node)];
+        least.max(least_total(state.value.points(), rest, self.rest.rate))
     }
 }

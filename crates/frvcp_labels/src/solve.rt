@@ -4,6 +4,7 @@ ghost use Rattle.std.specs.Prelude.{◌≤◌, IfOk, MatchOption};
 ghost use Rattle.ev_model.specs.Fastest.{HasNoPlan, IsFastest};
 ghost use Rattle.ev_model.specs.Route.{IsRoute};
 
+use crate::rest::Rest;
 use crate::stations::station_nodes;
 use crate::trip::Trip;
 use ev_list::Listed;
@@ -29,11 +30,13 @@ pub fn solve_route(
         (λ plan. IsFastest inst.now route.now start plan.stops)) }
 {
     let stations = station_nodes(alloc, inst)?;
+    let rest = Rest::new(alloc, inst, route, &stations)?;
     let trip = Trip {
         inst,
         route,
         stations: &stations,
         start,
+        rest: &rest,
     };
     let (mut pool, mut full) = trip.begin(alloc)?;
     let Some(home) = trip.first_home(alloc, &mut pool, full.as_mut_slice())? else {

@@ -3,17 +3,19 @@ ghost use Rattle.std.specs.Prelude.{◌≡◌, ◌+◌, ◌-◌, ◌*◌, ◌^�
 ghost use Rattle.ev_model.specs.Network.{energy, node_count, plug_time, scaled_limit};
 ghost use Rattle.frvcp_labels.specs.Trips.{IsTrip, drive_time, least_level};
 
+use crate::rest::Rest;
 use instance_reader::Instance;
 use std::marker::Model;
 
-/// A route on an instance, with the nodes that have a curve and the charge that the vehicle starts with.
-/// Contracts see the network, the route and that charge.
+/// A route on an instance, with the nodes that have a curve, the charge that the vehicle starts with
+/// and a bound on the rest of each way. Contracts see the network, the route and that charge.
 #[derive(Drop)]
 pub(crate) struct Trip<'a> {
     pub(crate) inst: &'a Instance,
     pub(crate) route: &'a [usize],
     pub(crate) stations: &'a [usize],
     pub(crate) start: u64,
+    pub(crate) rest: &'a Rest,
 }
 
 impl<'a> Model for Trip<'a> {
@@ -68,7 +70,7 @@ impl<'a> Trip<'a> {
         ensures value { result ≡ drive_time self.now.network from to }
         ensures small { result ≤ 2 * 10 ^ 18 }
     {
-        self.inst.denominator() * (self.inst.time(from, to) + self.inst.service(to))
+        drive_time(self.inst, from, to)
     }
 
     /// The energy that an arc takes.
@@ -118,4 +120,14 @@ impl<'a> Trip<'a> {
     {
         passed * self.inst.nodes() + node
     }
+}
+
+/// The scaled time of an arc and of the visit at its end, without plugging in and charging.
+pub(crate) fn drive_time(inst: &Instance, from: usize, to: usize) -> u64
+    requires left { from < node_count inst.now }
+    requires reached { to < node_count inst.now }
+    ensures value { result ≡ drive_time inst.now from to }
+    ensures small { result ≤ 2 * 10 ^ 18 }
+{
+    inst.denominator() * (inst.time(from, to) + inst.service(to))
 }

@@ -5,13 +5,12 @@ use Rattle.frvcp_labels.proofs.Growing.{IsAdded, added_is, new_sound}
 use Rattle.frvcp_labels.proofs.trip.Trip.add.Goals as goal
 
 abbrev label : goal.In_ok-add → Label State
-label c = record { bucket = c.bucket-bucket.result; value = c.args.state; key = c.least-key.result.1; parent = c.args.parent; live = true; settled = false }
+label c = record { bucket = c.bucket-bucket.result; value = c.args.state; key = c.key-key.result; parent = c.args.parent; live = true; settled = false }
 
 whole : (c : goal.In_ok-add) → IsAdded c.args.self.now c.args.pool.now c.add.new.self c.args.state
 whole c =
     added_is c.args.self.now c.args.pool.now c.add.new.self (label c) c.in_ok-add.field-0 c.requires.pool
-    (new_sound c.args.self.now c.args.pool.now.labels c.args.state c.bucket-bucket.result c.least-key.result.0 c.least-key.result.1 c.args.parent c.requires.state c.bucket-bucket.ensures.value c.least-key.ensures.valid c.least-key.ensures.level
-    c.least-key.ensures.time c.requires.origin)
+    (new_sound c.args.self.now c.args.pool.now.labels c.args.state c.bucket-bucket.result c.key-key.result c.args.parent c.requires.state c.bucket-bucket.ensures.value c.key-key.ensures.valid c.key-key.ensures.below c.key-key.ensures.home c.requires.origin)
     refl c.in_ok-add.ensures.unchanged c.in_ok-add.ensures.added c.in_ok-add.ensures.own c.in_ok-add.ensures.keeps
 
 pub returns-clause-pool : goal.returns-clause-pool

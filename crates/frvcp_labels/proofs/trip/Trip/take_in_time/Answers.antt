@@ -1,0 +1,12 @@
+use Rattle.std.proofs.Common.{Option, refl, subst, sym, ℕ}
+use Rattle.std.specs.Prelude.{IsNone}
+use Rattle.frvcp_labels.proofs.Searching.{late_home, none_home}
+use Rattle.frvcp_labels.proofs.trip.Trip.take_in_time.Goals as goal
+
+pub returns-in_default-clause-none : goal.returns-in_default-clause-none
+returns-in_default-clause-none c none = none_home c.args.self.now c.args.pool.now.labels c.requires.spread (c.next_key.ensures.none.0 (subst (λ (o : Option ℕ). IsNone o) (sym c.in_default.is) refl))
+
+pub returns-then-limit-key-clause-none : goal.returns-then-limit-key-clause-none
+returns-then-limit-key-clause-none c none =
+    let next = c.in-Some.ensures.key in
+    late_home c.args.self.now c.args.pool.now.labels c.requires.spread c.limit.result next.0 c.in-Some.key next.1 c.requires.pool.labels next.2 next.3 c.limit.ensures.value c.if-limit-key.true
