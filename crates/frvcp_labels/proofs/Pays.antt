@@ -1,8 +1,8 @@
 -- Charging from where it pays is enough: each charge is covered by one that begins there, or by the value itself.
-use Rattle.std.proofs.Common.{◌≡◌, ◌∙◌, ℕ, zero, suc, ◌+◌, ◌-◌, ◌*◌, ◌<◌, ◌≤◌, Bool, true, false, ◌&&◌, ◌||◌, ◌⊎◌, refl, sym, ap, subst, List, [], ◌∷◌, ◌++◌, length, map, take, drop, get_or, arith, inl, inr, Option, Some, None}
-use Rattle.std.specs.Prelude.{IfSome, MatchOption, nat_eq, nat_le, nat_lt, slice_index_or, if◌then◌else◌}
+use Rattle.std.proofs.Common.{◌≡◌, ◌∙◌, ℕ, zero, suc, ◌+◌, ◌-◌, ◌*◌, ◌<◌, ◌≤◌, Bool, true, false, ◌⊎◌, refl, sym, ap, subst, List, [], ◌∷◌, ◌++◌, length, map, take, drop, get_or, arith, inl, inr, Option, Some, None}
+use Rattle.std.specs.Prelude.{IfSome, MatchOption, nat_eq, nat_le, nat_lt, slice_index_or}
 use Rattle.std.specs.List.{All, AllZip, Any, range_with_len}
-use Rattle.std.proofs.lemmas.Bool.{cases_Bool, cases_eq, cases_lt, eq-eqb, eqb-true, false≢true, lt-leb, le-leb, leb-true, or_cases, and_parts}
+use Rattle.std.proofs.lemmas.Bool.{cases_Bool, cases_lt, eq-eqb, eqb-true, false≢true, le-leb, or_cases}
 use Rattle.std.proofs.lemmas.List.{append_assoc, drop_more, length-drop, take_all, take_more}
 use Rattle.std.proofs.lemmas.List.FromFn.{length-map-range_with_len}
 use Rattle.std.proofs.lemmas.List.Elements.{All-cons, All-head, All-nil, All-tail}

@@ -1,6 +1,6 @@
 -- Values after plugging in and charging.
 use Rattle.std.proofs.Common.{◌≡◌, ℕ, zero, suc, ◌+◌, ◌-◌, ◌*◌, ◌<◌, ◌≤◌, inl, inr, List, [], ◌∷◌, length, set, get_or, refl, sym, ◌∙◌, ap, subst, arith, Option, Some, None, true, false}
-use Rattle.std.specs.Prelude.{◌||◌, Bool, MatchOption, nat_lt, if◌then◌else◌, slice_get}
+use Rattle.std.specs.Prelude.{Bool, MatchOption, nat_lt, if◌then◌else◌, slice_get}
 use Rattle.std.specs.List.{All, AllZip}
 use Rattle.std.specs.Option.{IsSome}
 use Rattle.std.proofs.lemmas.Option.{same_Some, none-some}

@@ -1,4 +1,4 @@
-use Rattle.std.proofs.Common.{◌≡◌, ◌∙◌, ◌≤◌, ℕ, Global, None, Option, Vec, ap, arith, get_or, subst, sym}
+use Rattle.std.proofs.Common.{◌∙◌, ◌≤◌, ℕ, Global, None, Option, Vec, ap, arith, get_or, subst, sym}
 use Rattle.frvcp_labels.specs.Paying.{paying}
 use Rattle.std.specs.Prelude.{IfSome}
 use Rattle.piece_fn.proofs.Walks.{points_from}
