@@ -16,6 +16,19 @@ cut_point least level time enough = record {
   same = λ x low. refl;
 }
 
+-- a value without levels below the least is its own cut, and covers what it covers
+pub cut_of_itself : (least : ℕ) (v : LevelTimes) → least ≤ v.first → IsCut least v v
+cut_of_itself least v low = record {
+  begins = omega (arith, low);
+  left = λ x. (λ is. (is, omega (arith, low, is.0)), λ both. both.0);
+  same = λ x is. refl;
+}
+
+pub covers_a_cut : (least extra : ℕ) (v other left : LevelTimes) → CoversEach v other extra → IsCut least other left → CoversEach v left extra
+covers_a_cut least extra v other left covers cut level is =
+    let reach = covers level ((cut.left level).0 is).0 in
+    (reach.0, reach.1, (reach.2.0, omega (arith, reach.2.1, cut.same level is)))
+
 -- after an arc that leaves a level, and a cut below it
 pub arrival_is : (energy drive least limit : ℕ) (v shifted w : LevelTimes) → IsShift energy drive limit v shifted → IsCut least shifted w → IsArrival energy drive least limit v w
 arrival_is energy drive least limit v shifted w moved cut = record {

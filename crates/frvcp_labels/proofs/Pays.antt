@@ -1,17 +1,16 @@
 -- Charging from where it pays is enough: each charge is covered by one that begins there, or by the value itself.
-use Rattle.std.proofs.Common.{◌≡◌, ◌∙◌, ℕ, zero, suc, ◌+◌, ◌-◌, ◌*◌, ◌<◌, ◌≤◌, Bool, true, false, ◌⊎◌, refl, sym, ap, subst, List, [], ◌∷◌, ◌++◌, length, map, take, drop, get_or, arith, inl, inr, Option, Some, None}
-use Rattle.std.specs.Prelude.{IfSome, MatchOption, nat_eq, nat_le, nat_lt, slice_index_or}
-use Rattle.std.specs.List.{All, AllZip, Any, range_with_len}
-use Rattle.std.proofs.lemmas.Bool.{cases_Bool, cases_lt, eq-eqb, eqb-true, false≢true, le-leb, or_cases}
+use Rattle.std.proofs.Common.{◌≡◌, ◌∙◌, ℕ, zero, suc, ◌+◌, ◌-◌, ◌*◌, ◌<◌, ◌≤◌, Bool, true, false, ◌⊎◌, refl, sym, ap, subst, List, [], ◌∷◌, ◌++◌, length, take, drop, get_or, arith, inl, inr, Option, Some, None}
+use Rattle.std.specs.Prelude.{IfSome, MatchOption, nat_eq, nat_le, nat_lt}
+use Rattle.std.specs.List.{All, AllZip, Any}
+use Rattle.std.proofs.lemmas.Bool.{cases_Bool, cases_lt, eqb-true, false≢true, le-leb, or_cases}
 use Rattle.std.proofs.lemmas.List.{append_assoc, drop_more, length-drop, take_all, take_more}
-use Rattle.std.proofs.lemmas.List.FromFn.{length-map-range_with_len}
 use Rattle.std.proofs.lemmas.List.Elements.{All-cons, All-head, All-nil, All-tail}
 use Rattle.charge_curve.specs.Points.{ArePoints, IsSlowing, last_level, slope, time_on}
 use Rattle.dominance.specs.Coverage.{Reaches, SomeReaches}
 use Rattle.dominance.specs.LevelTimes.{IsLevel, LevelTimes, time_at}
 use Rattle.dominance.specs.Steps.{IsCharge, IsChargeFrom}
 use Rattle.dominance.proofs.Pieces.{never_falls, piece_end, time_on-before, time_on-first, time_on-later}
-use Rattle.piece_fn.specs.PieceFn.{IsChargeList, IsChargedFrom, first_level, is_support, level_times, starts}
+use Rattle.piece_fn.specs.PieceFn.{first_level, is_support, level_times, starts}
 use Rattle.piece_fn.proofs.Exact.{Each, IsWithin, each_support, first_support, last_support}
 use Rattle.piece_fn.proofs.LeastDifference.{Bends, IsLeastAt, least_at}
 use Rattle.piece_fn.proofs.Levels.{first_is_least, is_level, level_is, time_at-level_times}
@@ -364,45 +363,15 @@ charge_of_point ps curve limit p w point from =
       later = λ level is. from.later level is ∙ ap (λ t. t + (time_on curve level - time_on curve p.0)) time;
     }
 
--- the value with one point is charged from that point alone
-one_start : (p : ℕ × ℕ) (curve : List (ℕ × ℕ)) → starts (p ∷ []) curve ≡ p.0 ∷ []
-unfolding starts level_times
-one_start p curve =
-    let count : length (map (time_on (p ∷ [])) (range_with_len p.0 (p.0 + 1 - p.0))) ≡ 1 = length-map-range_with_len (time_on (p ∷ [])) p.0 (p.0 + 1 - p.0) ∙ omega arith in
-    rw (count, eq-eqb p.0 p.0 refl) refl
-
-pub one_levels : (v : List (ℕ × ℕ)) (p : ℕ × ℕ) (full : ℕ) → v ≡ p ∷ [] → p.0 ≤ full → (level : ℕ) → IsLevel (level_times v) level → level ≤ full
-one_levels v p full same fits level is =
-    let there = level_is (p ∷ []) level tt (subst (λ x. IsLevel (level_times x) level) same is) in
-    omega (arith, there.1, fits)
+-- the value with one point
+pub one_has_level : (v : List (ℕ × ℕ)) (p : ℕ × ℕ) → v ≡ p ∷ [] → IsLevel (level_times v) p.0
+one_has_level v p same = subst (λ x. IsLevel (level_times x) p.0) (sym same) (is_level (p ∷ []) p.0 tt (omega arith) (omega arith))
 
 pub one_times : (v : List (ℕ × ℕ)) (p : ℕ × ℕ) (limit : ℕ) → v ≡ p ∷ [] → p.1 ≤ limit → (level : ℕ) → IsLevel (level_times v) level → time_at (level_times v) level ≤ limit
 one_times v p limit same in_time level is =
     let there : IsLevel (level_times (p ∷ [])) level = subst (λ x. IsLevel (level_times x) level) same is in
     let time = time_at-level_times (p ∷ []) level tt there in
     subst (λ x. time_at (level_times x) level ≤ limit) (sym same) (omega (arith, time, in_time))
-
--- so there is the value unchanged and one that is charged
-pair_is : (v : List (ℕ × ℕ)) (p : ℕ × ℕ) (curve : List (ℕ × ℕ)) (limit : ℕ) (values : List (List (ℕ × ℕ))) → v ≡ p ∷ [] → IsChargeList v curve limit values → IsChargedFrom (p ∷ []) curve limit (p.0 ∷ []) values
-pair_is v p curve limit values same list =
-    subst (λ levels. IsChargedFrom (p ∷ []) curve limit levels values) (one_start p curve) (subst (λ x. IsChargeList x curve limit values) same list)
-
-pair_count : (p : ℕ × ℕ) (curve : List (ℕ × ℕ)) (limit : ℕ) (values : List (List (ℕ × ℕ))) → IsChargedFrom (p ∷ []) curve limit (p.0 ∷ []) values → 1 < length values
-pair_count p curve limit [] pair = absurd pair
-pair_count p curve limit (u ∷ []) pair = absurd pair.1
-pair_count p curve limit (u ∷ w ∷ rest) pair = omega arith
-
-pair_after : (p : ℕ × ℕ) (curve : List (ℕ × ℕ)) (limit : ℕ) (values : List (List (ℕ × ℕ))) (w : List (ℕ × ℕ)) → IsChargedFrom (p ∷ []) curve limit (p.0 ∷ []) values → w ≡ slice_index_or values 1 w → IsChargeFrom (level_times (p ∷ [])) curve limit p.0 (level_times w)
-pair_after p curve limit [] w pair is = absurd pair
-pair_after p curve limit (u ∷ []) w pair is = absurd pair.1
-pair_after p curve limit (u ∷ x ∷ rest) w pair is = subst (λ y. IsChargeFrom (level_times (p ∷ [])) curve limit p.0 (level_times y)) (sym is) pair.1.0
-
-pub after_count : (v : List (ℕ × ℕ)) (p : ℕ × ℕ) (curve : List (ℕ × ℕ)) (limit : ℕ) (values : List (List (ℕ × ℕ))) → v ≡ p ∷ [] → IsChargeList v curve limit values → 1 < length values
-after_count v p curve limit values same list = pair_count p curve limit values (pair_is v p curve limit values same list)
-
-pub after_one : (v : List (ℕ × ℕ)) (p : ℕ × ℕ) (curve : List (ℕ × ℕ)) (limit : ℕ) (values : List (List (ℕ × ℕ))) (w : List (ℕ × ℕ)) → v ≡ p ∷ [] → IsChargeList v curve limit values → w ≡ slice_index_or values 1 w
-    → IsChargeFrom (level_times (p ∷ [])) curve limit p.0 (level_times w)
-after_one v p curve limit values w same list is = pair_after p curve limit values w (pair_is v p curve limit values same list) is
 
 pub last_from : (ps : List (ℕ × ℕ)) (n : ℕ) → n < length ps → last_level (drop n ps) ≡ last_level ps
 last_from [] n less = absurd (omega arith)

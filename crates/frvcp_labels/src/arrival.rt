@@ -1,12 +1,13 @@
 //! What a label's value becomes at the next node.
 ghost use Rattle.std.specs.Prelude.{◌≡◌, ◌≢◌, ◌+◌, ◌-◌, ◌*◌, ◌<◌, ◌≤◌, ◌∷◌, [], ℕ, IfOk, IfSome, MatchOption};
-ghost use Rattle.dominance.specs.LevelTimes.{IsLevel};
+ghost use Rattle.dominance.specs.Coverage.{CoversEach};
+ghost use Rattle.dominance.specs.LevelTimes.{IsLevel, LevelTimes};
 ghost use Rattle.ev_model.specs.Network.{energy, node_count, process_time, scaled_limit, travel_time};
 ghost use Rattle.frvcp_labels.specs.Arrivals.{CoversVehicle, IsArrival};
 ghost use Rattle.frvcp_labels.specs.Leaves.{AreLeft, CoverCharges};
 ghost use Rattle.frvcp_labels.specs.Search.{AreSteps, CoverStops, IsSoundState, MayGo};
 ghost use Rattle.frvcp_labels.specs.Trips.{drive_time, least_level};
-ghost use Rattle.piece_fn.specs.PieceFn.{level_times};
+ghost use Rattle.piece_fn.specs.PieceFn.{IsCut, level_times};
 
 use crate::paying::charged_where_it_pays;
 use crate::state::State;
@@ -43,7 +44,7 @@ impl<'a> Trip<'a> {
         let Some(shifted) = value.shift(energy, self.drive_time(from, to), self.limit())? else {
             return Ok(None);
         };
-        shifted.cut(self.least_level(passed))
+        cut_to(shifted, self.least_level(passed))
     }
 
     /// The values on leaving a node that is driven to: first as the vehicle arrives, then those
@@ -94,10 +95,27 @@ impl<'a> Trip<'a> {
         let Some(plugged) = arrived.shift(0, self.plugging_time(node), self.limit())? else {
             return single(alloc, arrived);
         };
-        let mut values = charged_where_it_pays(alloc, &plugged, curve, self.limit())?;
+        let mut values = charged_where_it_pays(alloc, plugged, curve, self.limit())?;
         values[0] = arrived;
         Ok(values)
     }
+}
+
+/// The value without its levels below the least, `None` where no level is left. It takes no memory
+/// where no level is below.
+fn cut_to(value: PieceFn, least: u64) -> Result<Option<PieceFn>, AllocError>
+    ensures some { IfOk result (λ cut. IfSome cut (λ w.
+        IsCut least (level_times value) (level_times w))) }
+    ensures keeps { IfOk result (λ cut. (other left : LevelTimes) (extra : ℕ) →
+        CoversEach (level_times value) other extra → IsCut least other left →
+        MatchOption cut ((level : ℕ) → IsLevel left level → ⊥)
+        (λ w. CoversEach (level_times w) left extra)) }
+{
+    let (first, _) = value.least();
+    if least <= first {
+        return Ok(Some(value));
+    }
+    value.cut(least)
 }
 
 /// One value.

@@ -18,29 +18,27 @@ use std::alloc::{AllocError, Global};
 /// A value, and then what becomes of it by charging from each of its points from which that pays.
 pub(crate) fn charged_where_it_pays(
     alloc: Global,
-    value: &PieceFn,
+    value: PieceFn,
     curve: &Scaled,
     limit: u64,
 ) -> Result<Vec<PieceFn>, AllocError>
-    requires levels { (level : ℕ) → IsLevel (level_times value.now) level →
+    requires levels { (level : ℕ) → IsLevel (level_times value) level →
         level ≤ last_level curve.now }
-    requires times { (level : ℕ) → IsLevel (level_times value.now) level →
-        time_at (level_times value.now) level ≤ limit }
-    ensures answers { IfOk result (λ values. AreCharged value.now curve.now limit
-        (paying curve.now None value.now) values.items) }
-    ensures starts { IfOk result (λ values. All (λ start. IsLevel (level_times value.now) start.0)
-        (paying curve.now None value.now)) }
+    requires times { (level : ℕ) → IsLevel (level_times value) level →
+        time_at (level_times value) level ≤ limit }
+    ensures answers { IfOk result (λ values. AreCharged value curve.now limit
+        (paying curve.now None value) values.items) }
+    ensures starts { IfOk result (λ values. All (λ start. IsLevel (level_times value) start.0)
+        (paying curve.now None value)) }
     ensures keeps { IfOk result (λ values. (other : LevelTimes) (extra level time : ℕ) →
-        CoversEach (level_times value.now) other extra →
+        CoversEach (level_times value) other extra →
         IsCharge other curve.now limit level time →
         SomeReaches level_times values.items extra level time) }
 {
-    let points = value.points();
     let full = full_level(curve);
-    let starts = paying_points(alloc, points, curve, full)?;
+    let starts = paying_points(alloc, value.points(), curve, full)?;
     let mut values = Vec::with_capacity(alloc, starts.len() + 1)?;
-    let unchanged = PieceFn::from_points(alloc, points)?;
-    values.push(unchanged)?;
+    values.push(value)?;
     for start in &starts {
         let after = charge_from(alloc, *start, curve, limit)?;
         values.push(after)?;
@@ -61,8 +59,7 @@ fn charge_from(
         (level_times after)) }
 {
     let value = PieceFn::point(alloc, point.0, point.1);
-    let mut values = value.charge(curve, limit)?;
-    Ok(values.swap_remove(1))
+    value.charge_from(point.0, curve, limit)
 }
 
 /// The points of a value from which charging pays, in rising order.

@@ -1,4 +1,5 @@
 pub mod LeastDifference
+pub mod Between
 pub mod Straight
 pub mod Levels
 pub mod Exact

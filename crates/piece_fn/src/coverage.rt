@@ -9,15 +9,19 @@ ghost use Rattle.piece_fn.specs.PieceFn.{first_level};
 use crate::points::{last_level, piece_at, time_on_piece};
 
 /// Whether each level of the other value is reached, after `extra`. It walks both lists once from
-/// each side.
+/// each side, where the last levels and the least times allow it.
 pub(crate) fn covers(own: &[(u64, u64)], other: &[(u64, u64)], extra: u64) -> bool
     requires own { ArePoints own.now }
     requires other { ArePoints other.now }
     ensures { result ≡ covers_at_points own.now other.now extra }
 {
-    last_level(other) <= last_level(own)
-        && each_is_reached(own, other, extra)
-        && each_reaches(own, other, extra)
+    if last_level(own) < last_level(other) {
+        return false;
+    }
+    if !is_in_time(own[0].1, extra, other[0].1) {
+        return false;
+    }
+    each_is_reached(own, other, extra) && each_reaches(own, other, extra)
 }
 
 /// Whether a time is no later than another, after `extra`.
@@ -67,7 +71,19 @@ fn point_is_reached(own: &[(u64, u64)], extra: u64, point: (u64, u64)) -> bool
     requires first { IsOnFirst point.0 own.now }
     ensures { result ≡ point_is_reached own.now extra point }
 {
-    is_in_time(time_on_piece(own, point.0), extra, point.1)
+    match own {
+        [] => is_in_time(0, extra, point.1),
+        [last] => is_in_time(last.1, extra, point.1),
+        [before, next, ..] => {
+            if !is_in_time(before.1, extra, point.1) {
+                return false;
+            }
+            if is_in_time(next.1, extra, point.1) {
+                return true;
+            }
+            is_in_time(time_on_piece(own, point.0), extra, point.1)
+        }
+    }
 }
 
 /// Whether a point of this value reaches the other value's level there, if the other has that level. The
@@ -80,5 +96,17 @@ fn point_reaches(levels: (u64, u64), other: &[(u64, u64)], extra: u64, point: (u
     if point.0 < levels.0 || levels.1 < point.0 {
         return true;
     }
-    is_in_time(point.1, extra, time_on_piece(other, point.0))
+    match other {
+        [] => is_in_time(point.1, extra, 0),
+        [last] => is_in_time(point.1, extra, last.1),
+        [before, next, ..] => {
+            if is_in_time(point.1, extra, before.1) {
+                return true;
+            }
+            if !is_in_time(point.1, extra, next.1) {
+                return false;
+            }
+            is_in_time(point.1, extra, time_on_piece(other, point.0))
+        }
+    }
 }

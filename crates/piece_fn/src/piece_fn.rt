@@ -137,7 +137,7 @@ impl PieceFn {
     }
 
     /// What becomes of the value by charging from one of its levels, up to a full battery or the limit.
-    fn charge_from(&self, level: u64, curve: &Scaled, limit: u64) -> Result<PieceFn, AllocError>
+    pub fn charge_from(&self, level: u64, curve: &Scaled, limit: u64) -> Result<PieceFn, AllocError>
         requires level { IsLevel (level_times self.now) level }
         requires fits { level ≤ last_level curve.now }
         requires time { time_at (level_times self.now) level ≤ limit }

@@ -59,8 +59,11 @@ pub(crate) fn time_on_piece(points: &[(u64, u64)], level: u64) -> u64
         [] => 0,
         [point] => point.1,
         [point, next, ..] => {
+            if level <= point.0 {
+                return point.1;
+            }
             let slope = (next.1 - point.1) / (next.0 - point.0);
-            point.1 + slope * level.saturating_sub(point.0)
+            point.1 + slope * (level - point.0)
         }
     }
 }

@@ -1,4 +1,4 @@
-use Rattle.std.proofs.Common.{◌≡◌, ◌≤◌, ◌∙◌, ap, arith, refl, subst, sym}
+use Rattle.std.proofs.Common.{◌≡◌, ◌≤◌, ◌∙◌, ap, arith, subst, sym}
 use Rattle.charge_curve.specs.Points.{ArePoints, last_level, time_on}
 use Rattle.dominance.proofs.Pieces.{never_falls}
 use Rattle.piece_fn.specs.Cuts.{begun_at, from_piece, moved, up_to}
