@@ -18,7 +18,7 @@ use Rattle.master_table.specs.Pivoting.{IsCombinationOf, IsPivotOf, combined_row
 use Rattle.master_table.proofs.Quotients.{IsReducedOf, divides_total, gcd_pos, reduced_quotients, reduced_rest, reduced_same}
 use Rattle.master_table.proofs.Spelling.{spelled_combined, spelled_divided, spelled_negated, take_combined, total_neg}
 use Rattle.master_table.proofs.Combinations.{combination_divided, combination_same, length_map, spelled_length}
-use Rattle.master_table.proofs.Pivots.{IsPivoted, IsRows, pays_after, turned_zero}
+use Rattle.master_table.proofs.Pivots.{IsPivoted, IsRows, pays_after}
 use Rattle.master_table.proofs.Pivots as pivots
 use Rattle.master_table.proofs.Reduced.{row_after-other, row_after-pivot, row_after-same}
 
