@@ -1,8 +1,7 @@
 -- A tree with one label more.
-use Rattle.std.proofs.Common.{◌≡◌, ◌∙◌, ℕ, zero, suc, ◌+◌, ◌<◌, ◌≤◌, ◌^◌, refl, sym, subst, List, [], ◌∷◌, ◌++◌, length, arith, inl, inr, Option, Some, None, set, replicate, unsigned_abs}
+use Rattle.std.proofs.Common.{◌≡◌, ◌∙◌, ℕ, zero, suc, ◌<◌, ◌≤◌, ◌^◌, refl, sym, subst, List, [], ◌∷◌, ◌++◌, length, arith, inl, inr, Option, Some, None, replicate, unsigned_abs}
 use Rattle.std.specs.Prelude.{IfSome, slice_get, slice_index_or}
-use Rattle.std.proofs.lemmas.List.{length-append, length-set}
-use Rattle.std.proofs.lemmas.List.Elements.{All-set}
+use Rattle.std.proofs.lemmas.List.{length-append}
 use Rattle.closed_lists.specs.Questions.{Question}
 use Rattle.index_links.specs.Queue.{key_at}
 use Rattle.label_pool.proofs.Elements.{appended_before, appended_cases, element_at, read_at}
@@ -24,7 +23,6 @@ origin_stays q old now (Some p) l grown is = (is.0, grown.stays p is.0 is.1, is.
 found_stays : (q : Question) (old now : List Found) (i : ℕ) (f : Found) → IsGrown old now → IsFound q old i f → IsFound q now i f
 found_stays q old now i f grown is = record {
   range = is.range;
-  earlier = is.earlier;
   elder = is.elder;
   small = is.small;
   origin = origin_stays q old now f.parent f.label grown is.origin;
@@ -45,28 +43,24 @@ grown_on a b c first second = record {
 pub grown_same : (a : List Found) → IsGrown a a
 grown_same a = record { more = omega arith; stays = λ i f here. here }
 
--- a tree with one label more, to which the ends lead under a key
-pub tree_with : (q : Question) (old : List Found) (ends : List ℕ) (new : Found) (key : ℕ) → IsTree q old ends → IsInRange q.network new.label → unsigned_abs new.paid ≤ 2 ^ 91 → IfSome new.parent (λ p. p < length old)
-    → HasOrigin q old new.parent new.label → new.before ≤ length old → IsTree q (old ++ new ∷ []) (set ends key (length old + 1))
-tree_with q old ends new key tree range small elder origin before =
+-- a tree with one label more
+pub tree_with : {G : Type 0} (q : Question) (old : List Found) (groups more : List G) (new : Found) → length more ≡ length groups → IsTree q old groups → IsInRange q.network new.label → unsigned_abs new.paid ≤ 2 ^ 91 → IfSome new.parent (λ p. p < length old)
+    → HasOrigin q old new.parent new.label → IsTree q (old ++ new ∷ []) more
+tree_with q old groups more new same tree range small elder origin =
     let grown = grown_by old new in
-    let count = length-append old (new ∷ []) in
     record {
       labels = λ i f here. elim (appended_cases old new f i here) [
         | inl earlier ↦ found_stays q old (old ++ new ∷ []) i f grown (tree.labels i f earlier)
         | inr last ↦
             let own : IsFound q (old ++ new ∷ []) (length old) new = record {
               range = range;
-              earlier = before;
               elder = elder;
               small = small;
               origin = origin_stays q old (old ++ new ∷ []) new.parent new.label grown origin;
             } in
             subst (λ k. IsFound q (old ++ new ∷ []) k f) (sym last.0) (subst (λ (g : Found). IsFound q (old ++ new ∷ []) (length old) g) last.1 own)
       ];
-      room = length-set ends key (length old + 1) ∙ tree.room;
-      ends_within = All-set (λ e. e ≤ length (old ++ new ∷ [])) ends key (length old + 1) (omega (arith, count))
-          (λ i d less. let within = tree.ends_within i d less in omega (arith, within, count));
+      room = same ∙ tree.room;
     }
 
 -- the next number has no key

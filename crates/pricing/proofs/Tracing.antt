@@ -35,7 +35,7 @@ no_curve_and false (Some x) some = refl
 station_serves_none : (g : Network) (x : ℕ) → IsSome (curve_at g x) → is_customer g x ≡ false
 station_serves_none g x some = no_curve_and (not (nat_eq x 0)) (curve_at g x) some
 
-module _ (q : Question) (found : List Found) (ends : List ℕ) (tree : IsTree q found ends) where
+module _ {G : Type 0} (q : Question) (found : List Found) (groups : List G) (tree : IsTree q found groups) where
   pub traced_home : (home : ℕ) (f : Found) → slice_get found home ≡ Some f → EarnsAtHome q.network (section q) (paid_label q.prices f.label) → IsTraced q found home []
   traced_home home f here earns = record {
     label = f;

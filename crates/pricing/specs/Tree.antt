@@ -19,17 +19,14 @@ HasOrigin q found parent l =
 -- what holds of the label with a number
 pub record IsFound (q : Question) (found : List Found) (i : ℕ) (f : Found) : Type 0 where
   pub range : IsInRange q.network f.label
-  pub earlier : f.before ≤ i
   pub elder : IfSome f.parent (λ p. p < i)
   pub small : unsigned_abs f.paid ≤ 2 ^ 91
   pub origin : HasOrigin q found f.parent f.label
 
--- the labels that were found; by last customer's node and node, one more than the number of the last label
--- with these two, 0 where there is none
-pub record IsTree (q : Question) (found : List Found) (ends : List ℕ) : Type 0 where
+-- the labels that were found, and a group for each last customer's node and node
+pub record IsTree {Group : Type 0} (q : Question) (found : List Found) (groups : List Group) : Type 0 where
   pub labels : (i : ℕ) (f : Found) → slice_get found i ≡ Some f → IsFound q found i f
-  pub room : length ends ≡ node_count q.network * node_count q.network
-  pub ends_within : All (λ e. e ≤ length found) ends
+  pub room : length groups ≡ node_count q.network * node_count q.network
 
 -- labels have come behind others
 pub record IsGrown (old now : List Found) : Type 0 where
@@ -48,7 +45,7 @@ pub record AreSteps (q : Question) (found : List Found) (i node : ℕ) (t : Targ
 pub record IsSearch (q : Question) (s : Search) : Type 0 where
   pub network : IsNetwork q.network
   pub some : 0 < length s.tree.found.items
-  pub labels : IsTree q s.tree.found.items s.tree.ends.items
+  pub labels : IsTree q s.tree.found.items s.tree.groups.items
   pub queue_room : length s.queue ≡ length s.tree.found.items
   pub listed_within : All (λ n. n < length s.tree.found.items) s.listed.items
   pub are_better : All (IsBetterRoute q) s.routes.items

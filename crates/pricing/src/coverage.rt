@@ -6,7 +6,8 @@ ghost use Rattle.piece_fn.specs.PieceFn.{level_times};
 ghost use Rattle.pricing.specs.Answers.{IsInRange};
 ghost use Rattle.pricing.specs.Tree.{IsTree};
 
-use crate::found::{Found, Tree};
+use crate::found::Tree;
+use crate::groups::{Brief, Gap};
 use closed_lists::{Section, margin};
 use dominance::LabelValue;
 use piece_fn::Label;
@@ -32,55 +33,101 @@ pub(crate) struct Asked<'a> {
 }
 
 impl Asked<'_> {
-    /// Whether a label comes before the key and the number, and its customers let it make the label
-    /// needless.
-    fn admits(&self, other: &Found, number: usize) -> bool {
-        let (_, key) = other.label.value.least();
-        if key > self.key || key == self.key && number >= self.number {
+    /// Whether a label comes before the key and the number, has a level that is not below the one
+    /// asked for, and its customers let it make the label needless.
+    fn admits(&self, other: &Brief, level: u64) -> bool {
+        if other.key > self.key || other.top < level {
             return false;
         }
-        self.care == Care::Quick || other.label.set.is_subset(self.label.set)
+        if other.key == self.key && other.number >= self.number {
+            return false;
+        }
+        self.care == Care::Quick || other.set.is_subset(self.label.set)
+    }
+
+    /// Whether a label is no later than a time at its least time, and costs no more there than the
+    /// one asked for does at that time. Else it is later or dearer at each of its levels.
+    fn is_in_time(&self, other: &Brief, weight: u64, time: u64) -> bool {
+        if other.key > time {
+            return false;
+        }
+        let saved = u128::from(weight) * u128::from(time - other.key);
+        self.paid <= other.paid || self.paid.abs_diff(other.paid) <= saved
     }
 }
 
 impl Tree {
-    /// Whether at each level of the label another one has that level or a higher one at no more
-    /// cost and no later.
-    pub(crate) fn makes_needless(&self, terms: &Section<'_>, asked: &Asked<'_>) -> bool
-        requires tree { IsTree terms.now self.now.found.items self.now.ends.items }
+    /// The first level of the label at which no other one has that level or a higher one at no more
+    /// cost and no later; `None` where others make it needless.
+    pub(crate) fn gap(&self, terms: &Section<'_>, asked: &Asked<'_>) -> Option<Gap>
+        requires tree { IsTree terms.now self.now.found.items self.now.groups.items }
         requires range { IsInRange terms.now.network asked.now.label.now }
         requires small { unsigned_abs asked.now.paid ≤ 2 ^ 91 }
     {
+        let group = self.groups[self.key_of(terms, asked.label)].as_slice();
         let (mut level, _) = asked.label.value.least();
-        while let Some(to) = self.reach(terms, asked, level) {
-            let Some(next) = to.checked_add(1) else {
-                return true;
-            };
+        while let Some(to) = self.reach(terms, asked, group, level) {
+            let next = to.checked_add(1)?;
             if asked.label.value.at(next).is_none() {
-                return true;
+                return None;
             }
             level = next;
         }
-        false
+        Some(Gap {
+            level,
+            compared: group.len(),
+        })
     }
 
-    /// A level up to which another label does so, from a level on; `None` where none does so at
-    /// that level.
-    fn reach(&self, terms: &Section<'_>, asked: &Asked<'_>, level: u64) -> Option<u64>
-        requires tree { IsTree terms.now self.now.found.items self.now.ends.items }
+    /// Whether other labels make a label needless that was added with a gap.
+    ///
+    /// Those that it was compared with leave the level of the gap open, so the later ones are asked
+    /// first whether they close it.
+    pub(crate) fn makes_needless(&self, terms: &Section<'_>, asked: &Asked<'_>, gap: Gap) -> bool
+        requires tree { IsTree terms.now self.now.found.items self.now.groups.items }
+        requires range { IsInRange terms.now.network asked.now.label.now }
+        requires small { unsigned_abs asked.now.paid ≤ 2 ^ 91 }
+    {
+        let group = self.groups[self.key_of(terms, asked.label)].as_slice();
+        let Some(later) = group.get(gap.compared..) else {
+            return false;
+        };
+        if asked.label.value.at(gap.level).is_none() {
+            return false;
+        }
+        self.reach(terms, asked, later, gap.level).is_some() && self.gap(terms, asked).is_none()
+    }
+
+    /// A level up to which a label of the group does so, from a level on; `None` where none does so
+    /// at that level.
+    fn reach(
+        &self,
+        terms: &Section<'_>,
+        asked: &Asked<'_>,
+        group: &[Brief],
+        level: u64,
+    ) -> Option<u64>
+        requires tree { IsTree terms.now self.now.found.items self.now.groups.items }
         requires range { IsInRange terms.now.network asked.now.label.now }
         requires small { unsigned_abs asked.now.paid ≤ 2 ^ 91 }
         requires level { IsLevel (level_times asked.now.label.now.value) level }
         ensures up { IfSome result (λ to. level ≤ to) }
         ensures ends { IfSome result (λ to. IsLevel (level_times asked.now.label.now.value) to) }
     {
-        let mut end = self.ends[self.key_of(terms, asked.label)];
-        while end > 0 {
-            let number = end - 1;
-            if let Some(to) = self.reach_of(terms, asked, number, level) {
+        let weight = terms.weight();
+        let Some(time) = asked.label.value.at(level) else {
+            return None;
+        };
+        for brief in group.iter().rev() {
+            if !asked.admits(brief, level) || !asked.is_in_time(brief, weight, time) {
+                continue;
+            }
+            if brief.number >= self.found.len() {
+                continue;
+            }
+            if let Some(to) = self.reach_of(terms, asked, brief.number, level) {
                 return Some(to);
             }
-            end = self.found[number].before;
         }
         None
     }
@@ -93,7 +140,7 @@ impl Tree {
         number: usize,
         level: u64,
     ) -> Option<u64>
-        requires tree { IsTree terms.now self.now.found.items self.now.ends.items }
+        requires tree { IsTree terms.now self.now.found.items self.now.groups.items }
         requires small { unsigned_abs asked.now.paid ≤ 2 ^ 91 }
         requires number { number < length self.now.found.items }
         requires level { IsLevel (level_times asked.now.label.now.value) level }
@@ -101,9 +148,6 @@ impl Tree {
         ensures ends { IfSome result (λ to. IsLevel (level_times asked.now.label.now.value) to) }
     {
         let own = &self.found[number];
-        if !asked.admits(own, number) {
-            return None;
-        }
         match margin(terms.weight(), own.paid, asked.paid) {
             Some(extra) => own.label.value.reach(&asked.label.value, extra, level),
             None => None,

@@ -5,6 +5,7 @@ ghost use Rattle.ev_model.specs.Network.{IsNetwork};
 ghost use Rattle.pricing.specs.Answers.{IsInRange};
 ghost use Rattle.pricing.specs.Tree.{HasOrigin, IsGrown, IsTree};
 
+use crate::groups::{Brief, Gap, no_labels};
 use closed_lists::Section;
 use piece_fn::Label;
 use std::alloc::{AllocError, Global};
@@ -17,38 +18,39 @@ pub(crate) struct Found {
     pub(crate) paid: i128,
     /// The number of the label that it is one stop behind; `None` for the start.
     pub(crate) parent: Option<usize>,
-    /// One more than the number of the label before it with the same last customer and node, 0
-    /// where there is none.
-    pub(crate) before: usize,
+    /// What the labels of its group left open that came before it.
+    pub(crate) gap: Gap,
 }
 
-/// The labels by number; and by key one more than the number of the last label with it, 0 where
-/// there is none.
+/// The labels that were found.
 #[derive(Drop)]
 pub(crate) struct Tree {
+    /// The labels, by number.
     pub(crate) found: Vec<Found>,
-    pub(crate) ends: Vec<usize>,
+    /// The labels with the same last customer and node, side by side in the order of their numbers;
+    /// by key.
+    pub(crate) groups: Vec<Vec<Brief>>,
 }
 
 impl Tree {
     /// No label.
     pub(crate) fn new(alloc: Global, terms: &Section<'_>) -> Result<Tree, AllocError>
-        ensures tree { IfOk result (λ t. IsTree terms.now t.found.items t.ends.items) }
+        ensures tree { IfOk result (λ t. IsTree terms.now t.found.items t.groups.items) }
         ensures none { IfOk result (λ t. length t.found.items ≡ 0) }
         ensures network { IfOk result (λ t. IsNetwork terms.now.network) }
     {
         let nodes = terms.instance().nodes();
         Ok(Tree {
             found: Vec::new(alloc),
-            ends: vec![in alloc; 0; nodes * nodes]?,
+            groups: no_labels(alloc, nodes * nodes)?,
         })
     }
 
     /// The key of a label: its last customer's node times the number of nodes, plus its node.
     pub(crate) fn key_of(&self, terms: &Section<'_>, label: &Label) -> usize
-        requires tree { IsTree terms.now self.now.found.items self.now.ends.items }
+        requires tree { IsTree terms.now self.now.found.items self.now.groups.items }
         requires range { IsInRange terms.now.network label.now }
-        ensures within { result < length self.now.ends.items }
+        ensures within { result < length self.now.groups.items }
     {
         label.last * terms.instance().nodes() + label.node
     }
@@ -60,13 +62,14 @@ impl Tree {
         label: Label,
         paid: i128,
         parent: Option<usize>,
+        gap: Gap,
     ) -> Result<usize, AllocError>
-        requires tree { IsTree terms.now self.old.found.items self.old.ends.items }
+        requires tree { IsTree terms.now self.old.found.items self.old.groups.items }
         requires range { IsInRange terms.now.network label }
         requires small { unsigned_abs paid ≤ 2 ^ 91 }
         requires elder { IfSome parent (λ p. p < length self.old.found.items) }
         requires origin { HasOrigin terms.now self.old.found.items parent label }
-        ensures tree { OnOk result (IsTree terms.now self.new.found.items self.new.ends.items) }
+        ensures tree { OnOk result (IsTree terms.now self.new.found.items self.new.groups.items) }
         ensures grown { OnOk result (IsGrown self.old.found.items self.new.found.items) }
         ensures count { OnOk result (length self.new.found.items
             ≡ length self.old.found.items + 1) }
@@ -74,14 +77,13 @@ impl Tree {
     {
         let key = self.key_of(terms, &label);
         let number = self.found.len();
-        let before = self.ends[key];
+        self.groups[key].push(Brief::new(&label, paid, number))?;
         self.found.push(Found {
             label,
             paid,
             parent,
-            before,
+            gap,
         })?;
-        self.ends[key] = number + 1;
         Ok(number)
     }
 }

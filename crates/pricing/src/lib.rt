@@ -7,6 +7,7 @@
 mod answer;
 mod coverage;
 mod found;
+mod groups;
 mod priced;
 mod route;
 mod search;

@@ -24,7 +24,7 @@ pub(crate) fn route_of(
     home: usize,
 ) -> Result<PricedRoute, AllocError>
     requires network { IsNetwork terms.now.network }
-    requires tree { IsTree terms.now tree.now.found.items tree.now.ends.items }
+    requires tree { IsTree terms.now tree.now.found.items tree.now.groups.items }
     requires known { home < length tree.now.found.items }
     requires earns { (f : Found) → slice_get tree.now.found.items home ≡ Some f →
         EarnsAtHome terms.now.network (section terms.now) (paid_label terms.now.prices f.label) }
@@ -71,7 +71,7 @@ impl Tree {
         home: usize,
     ) -> Result<Vec<usize>, AllocError>
         requires network { IsNetwork terms.now.network }
-        requires tree { IsTree terms.now self.now.found.items self.now.ends.items }
+        requires tree { IsTree terms.now self.now.found.items self.now.groups.items }
         requires known { home < length self.now.found.items }
         requires earns { (f : Found) → slice_get self.now.found.items home ≡ Some f →
             EarnsAtHome terms.now.network (section terms.now) (paid_label terms.now.prices f.label) }

@@ -14,6 +14,7 @@ ghost use Rattle.pricing.specs.declared.found.Found.{Found};
 
 use crate::coverage::{Asked, Care};
 use crate::found::Tree;
+use crate::groups::Gap;
 use crate::priced::PricedRoute;
 use crate::route::route_of;
 use crate::steps::{Target, target_at, values_at};
@@ -57,7 +58,16 @@ impl Search {
             set: CustSet::empty(),
             value: PieceFn::point(alloc, terms.instance().max_q(), 0),
         };
-        put(&mut search.tree, &mut search.queue, terms, start, 0, None)?;
+        let gap = Gap::new(&start);
+        put(
+            &mut search.tree,
+            &mut search.queue,
+            terms,
+            start,
+            0,
+            None,
+            gap,
+        )?;
         Ok(search)
     }
 
@@ -104,7 +114,7 @@ impl Search {
             key,
             number,
         };
-        self.tree.makes_needless(terms, &asked)
+        self.tree.makes_needless(terms, &asked, found.gap)
     }
 
     /// Lists a label, looks whether it earns more than it takes at home, and makes its steps.
@@ -232,9 +242,9 @@ impl Search {
             key: u64::MAX,
             number: usize::MAX,
         };
-        if self.tree.makes_needless(terms, &asked) {
+        let Some(gap) = self.tree.gap(terms, &asked) else {
             return Ok(());
-        }
+        };
         put(
             &mut self.tree,
             &mut self.queue,
@@ -242,6 +252,7 @@ impl Search {
             label,
             paid,
             Some(from),
+            gap,
         )?;
         Ok(())
     }
@@ -401,6 +412,7 @@ impl Search {
         ensures listed { OnOk result (length self.old.listed.items < length self.new.listed.items) }
     {
         let paid = price_sum(terms.prices(), label.set);
+        let gap = Gap::new(&label);
         let number = put(
             &mut self.tree,
             &mut self.queue,
@@ -408,6 +420,7 @@ impl Search {
             label,
             paid,
             Some(from),
+            gap,
         )?;
         self.settle(alloc, terms, number)
     }
@@ -434,21 +447,22 @@ fn put(
     label: Label,
     paid: i128,
     parent: Option<usize>,
+    gap: Gap,
 ) -> Result<usize, AllocError>
-    requires tree { IsTree terms.now tree.old.found.items tree.old.ends.items }
+    requires tree { IsTree terms.now tree.old.found.items tree.old.groups.items }
     requires room { length queue.old ≡ length tree.old.found.items }
     requires range { IsInRange terms.now.network label }
     requires small { unsigned_abs paid ≤ 2 ^ 91 }
     requires elder { IfSome parent (λ p. p < length tree.old.found.items) }
     requires origin { HasOrigin terms.now tree.old.found.items parent label }
-    ensures tree { OnOk result (IsTree terms.now tree.new.found.items tree.new.ends.items) }
+    ensures tree { OnOk result (IsTree terms.now tree.new.found.items tree.new.groups.items) }
     ensures grown { OnOk result (IsGrown tree.old.found.items tree.new.found.items) }
     ensures room { OnOk result (length queue.new ≡ length tree.new.found.items) }
     ensures some { OnOk result (0 < length tree.new.found.items) }
     ensures number { IfOk result (λ i. i < length tree.new.found.items) }
 {
     let (_, key) = label.value.least();
-    let number = tree.push(terms, label, paid, parent)?;
+    let number = tree.push(terms, label, paid, parent, gap)?;
     queue.grow(number + 1)?;
     queue.put(number, key);
     Ok(number)

@@ -12,7 +12,7 @@ pub loop-parent-init : goal.loop-parent-init
 loop-parent-init c =
     let f = element_at c.args.self.now.found.items c.args.home c.requires.known in
     subst (IsTraced c.args.terms.now c.args.self.now.found.items c.args.home) (sym (ap reverse c.new-order.ensures.items))
-    (traced_home c.args.terms.now c.args.self.now.found.items c.args.self.now.ends.items c.requires.tree c.args.home f.0 f.1 (c.requires.earns f.0 f.1))
+    (traced_home c.args.terms.now c.args.self.now.found.items c.args.self.now.groups.items c.requires.tree c.args.home f.0 f.1 (c.requires.earns f.0 f.1))
 
 pub index-requires : goal.index-requires
 index-requires c =
@@ -40,13 +40,13 @@ the_parent c =
 
 pub loop-parent-smaller : goal.loop-parent-smaller
 loop-parent-smaller c =
-    elder_at c.args.terms.now c.args.self.now.found.items c.args.self.now.ends.items c.requires.tree c.loop-parent.at c.in-Some.parent c.loop-parent.invariant.label c.loop-parent.invariant.here (the_parent c)
+    elder_at c.args.terms.now c.args.self.now.found.items c.args.self.now.groups.items c.requires.tree c.loop-parent.at c.in-Some.parent c.loop-parent.invariant.label c.loop-parent.invariant.here (the_parent c)
 
 pub loop-parent-preserved : goal.loop-parent-preserved
 loop-parent-preserved c =
     let g = c.args.terms.now.network in
     let same = is_label c.args.self.now.found.items c.loop-parent.at c.loop-parent.invariant.label c.index-in-Some.result.now c.loop-parent.invariant.here c.index-in-Some.ensures in
-    let back = traced_back c.args.terms.now c.args.self.now.found.items c.args.self.now.ends.items c.requires.tree c.loop-parent.at c.in-Some.parent (reverse c.loop-parent.order.items) c.loop-parent.invariant (the_parent c) in
+    let back = traced_back c.args.terms.now c.args.self.now.found.items c.args.self.now.groups.items c.requires.tree c.loop-parent.at c.in-Some.parent (reverse c.loop-parent.order.items) c.loop-parent.invariant (the_parent c) in
     let items = turned c.args.terms.now.network c.index-in-Some.result.now.label.node c.loop-parent.order.items c.push_customer.new.order.items c.in_ok-push_customer.ensures in
     let node = ap (λ (f : Found). with_node c.args.terms.now.network f.label.node (reverse c.loop-parent.order.items)) same in
     subst (IsTraced c.args.terms.now c.args.self.now.found.items c.in-Some.parent) (sym (items ∙ node)) back
@@ -56,6 +56,6 @@ returns c = record {
   better =
       let same = is_label c.args.self.now.found.items c.loop-parent.at c.loop-parent.invariant.label c.index.result.now c.loop-parent.invariant.here c.index.ensures in
       let none = sym (ap (λ (f : Found). f.parent) same) ∙ c.in_default.is in
-      let made = traced_start c.args.terms.now c.args.self.now.found.items c.args.self.now.ends.items c.requires.tree c.loop-parent.at (reverse c.loop-parent.order.items) c.loop-parent.invariant c.requires.network none in
+      let made = traced_start c.args.terms.now c.args.self.now.found.items c.args.self.now.groups.items c.requires.tree c.loop-parent.at (reverse c.loop-parent.order.items) c.loop-parent.invariant c.requires.network none in
       subst (HasBetter c.args.terms.now) (sym c.reverse.ensures.items) made;
 }

@@ -1,7 +1,7 @@
 use Rattle.std.proofs.Common.{◌+◌, ◌-◌, length}
 use Rattle.dominance.specs.LevelTimes.{IsLevel}
 use Rattle.piece_fn.specs.PieceFn.{level_times}
-use Rattle.pricing.proofs.found.Tree.makes_needless.Given as goal
+use Rattle.pricing.proofs.found.Tree.gap.Given as goal
 
 abbrev pub invariant-loop-to : goal.invariant-loop-to
 invariant-loop-to l = IsLevel (level_times l.asked.label.now.value) l.level
