@@ -1,5 +1,5 @@
-//! The bound of a node whose pairs are decided: at most one order of customers is left that serves a
-//! customer, so that the fleet plan of the node is found customer by customer.
+//! The bound of a node whose pairs are decided: at most one order of customers is left that serves
+//! a customer, so that the fleet plan of the node is found customer by customer.
 
 ghost use Rattle.std.specs.Prelude.{◌≡◌, ◌+◌, ◌++◌, ◌∷◌, ◌<◌, ◌≤◌, [], IfOk, IfSome, length, true};
 ghost use Rattle.bound_certificate.specs.Limits.{most_items};
@@ -41,9 +41,9 @@ struct Chains {
     prices: Vec<i128>,
 }
 
-/// The bound of a node whose pairs are decided, in the ranges of certificates: the cost of the fleet
-/// plan of its chains, or that there is none. The chains go into the pool. The only `Err` is want of
-/// memory.
+/// The bound of a node whose pairs are decided, in the ranges of certificates: the cost of the
+/// fleet plan of its chains, or that there is none. The chains go into the pool. The only `Err` is
+/// want of memory.
 pub(crate) fn bound_of_decided(
     alloc: Global,
     inst: &Instance,
@@ -159,8 +159,8 @@ fn serves(plan: &RoutePlan, node: usize) -> bool
     stops.iter().any(|stop| !stop.via && stop.node == node)
 }
 
-/// The chain through a customer, whose number and node are given. At a price for him alone, and time
-/// for nothing, each route that serves him earns.
+/// The chain through a customer, whose number and node are given. At a price for him alone, and
+/// time for nothing, each route that serves him earns.
 fn chain_through(
     alloc: Global,
     inst: &Instance,

@@ -22,8 +22,8 @@ use std::alloc::{AllocError, Global};
 /// the ranges of certificates.
 ///
 /// Where the pairs are decided (no customer is left to branch on) the answer is `Exact` or `Empty`,
-/// and the section's bound is the least cost of a fleet plan that keeps them: the routes with shares
-/// are such a plan.
+/// and the section's bound is the least cost of a fleet plan that keeps them: the routes with
+/// shares are such a plan.
 ///
 /// Afterwards the pool has for each order from before the same plan or a faster one, and perhaps
 /// further routes. This holds after a refusal too. The only `Err` is want of memory.

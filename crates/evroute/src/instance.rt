@@ -47,7 +47,8 @@ pub fn limited_instance(alloc: Global, bytes: &[u8], limit: Option<u64>) -> Resu
     }
 }
 
-/// The instance of the bytes for a fleet: with the limit of the words, and without too many customers.
+/// The instance of the bytes for a fleet: with the limit of the words, and without too many
+/// customers.
 pub fn fleet_instance(alloc: Global, bytes: &[u8], limit: Option<u64>) -> Result<Instance, Ended>
     ensures ok { IfOk result (HasFleetNetwork limit bytes.now) }
     ensures rule { IfErr result IsRuleOrMemory }

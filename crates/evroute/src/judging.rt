@@ -62,7 +62,8 @@ fn certificate_of(alloc: Global, inst: &Instance, bytes: &[u8]) -> Result<Certif
     }
 }
 
-/// Looks at the sets of each section. What their types promise of a value is told by their calls alone.
+/// Looks at the sets of each section. What their types promise of a value is told by their calls
+/// alone.
 fn look_at_sections(sections: &[Section])
     ensures { All IsKept sections.now }
 {

@@ -55,7 +55,8 @@ fn without_words<R: Eprint>(rt: &R, error: Error) -> ExitCode {
     }
 }
 
-/// The end with an exit status, and the message on standard error. Nothing is done where that fails.
+/// The end with an exit status, and the message on standard error. Nothing is done where that
+/// fails.
 fn end<R: Eprint>(rt: &R, code: u8, message: Option<Message<'_>>) -> ExitCode {
     if let Some(message) = message {
         let _ = rt.eprintln(message);

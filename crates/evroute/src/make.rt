@@ -1,4 +1,5 @@
-//! The answer of `make`: an instance is made and written, and its route over all customers is charged.
+//! The answer of `make`: an instance is made and written, and its route over all customers is
+//! charged.
 
 ghost use Rattle.std.specs.Prelude.{◌≡◌, ◌<◌, ◌≤◌, IfErr, IfOk, None, Some, ℕ};
 ghost use Rattle.command_line.specs.Words.{MakeInstance, MakeJob, make_job_of};

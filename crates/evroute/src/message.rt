@@ -1,4 +1,5 @@
-//! What people are told on standard error where the exit status alone would leave them without a cause.
+//! What people are told on standard error where the exit status alone would leave them without a
+//! cause.
 
 use super::status::Status;
 use ev_outside::Failure;

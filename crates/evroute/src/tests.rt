@@ -580,7 +580,8 @@ fn a_failing_file_or_output_is_a_fault(rt: HostRuntime) {
 fn what_a_failed_fleet_leaves(rt: HostRuntime) {
     let alloc = rt.alloc();
     let begun = certificate_with(alloc, "43").expect(&rt, "memory");
-    // the failing call of the files and of the output, what is put, and what PLAN and CERT begin with
+    // the failing call of the files and of the output, what is put, and what PLAN and CERT begin
+    // with
     let cases = [
         (Some(0), None, "", "before", begun.as_str()),
         (Some(1), None, "", "", begun.as_str()),

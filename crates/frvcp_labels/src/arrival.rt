@@ -17,7 +17,8 @@ use piece_fn::PieceFn;
 use std::alloc::{AllocError, Global};
 
 impl<'a> Trip<'a> {
-    /// The value on arriving at a node, `None` where no level is left that is allowed there in time.
+    /// The value on arriving at a node, `None` where no level is left that is allowed there in
+    /// time.
     pub(crate) fn arrived(
         &self,
         value: &PieceFn,

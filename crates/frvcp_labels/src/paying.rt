@@ -85,8 +85,8 @@ fn paying_points(
     Ok(starts)
 }
 
-/// Whether charging pays from the first of these points, which are the last ones of a value. `before` is
-/// the last point before them from which it does.
+/// Whether charging pays from the first of these points, which are the last ones of a value.
+/// `before` is the last point before them from which it does.
 fn pays(points: &[(u64, u64)], curve: &Scaled, full: u64, before: Option<(u64, u64)>) -> bool
     requires points { ArePoints points.now }
     requires full { full ≡ last_level curve.now }
@@ -115,7 +115,8 @@ pub(crate) fn unit_time(curve: &Scaled, full: u64, level: u64) -> u64
         .saturating_sub(curve.time_to(level))
 }
 
-/// Whether charging to one level ends sooner from a point than from another before it, if there is one.
+/// Whether charging to one level ends sooner from a point than from another before it, if there is
+/// one.
 fn is_sooner(point: (u64, u64), curve: &Scaled, before: Option<(u64, u64)>) -> bool
     requires fits { point.0 ≤ last_level curve.now }
     requires before { IfSome before (λ b. b.0 ≤ last_level curve.now) }

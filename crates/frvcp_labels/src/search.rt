@@ -21,7 +21,8 @@ use piece_fn::PieceFn;
 use std::alloc::{AllocError, Global};
 
 impl<'a> Trip<'a> {
-    /// A pool with the label of the start, and for each bucket by when a full battery was had there.
+    /// A pool with the label of the start, and for each bucket by when a full battery was had
+    /// there.
     pub(crate) fn begin(&self, alloc: Global) -> Result<(Pool<State>, Vec<Option<u64>>), AllocError>
         ensures pool { IfOk result (λ found. IsSoundPool self.now found.0) }
         ensures full { IfOk result (λ found. AreFull self.now found.0.labels found.1.items) }

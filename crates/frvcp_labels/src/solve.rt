@@ -12,12 +12,12 @@ use instance_reader::Instance;
 use route_plan::RoutePlan;
 use std::alloc::{AllocError, Global};
 
-/// A fastest plan of the route for a vehicle that starts with the charge `start`, in units of charge: a
-/// whole plan than which no feasible plan in any fraction of a unit is faster.
+/// A fastest plan of the route for a vehicle that starts with the charge `start`, in units of
+/// charge: a whole plan than which no feasible plan in any fraction of a unit is faster.
 ///
-/// `route` holds the nodes of the route in order, from the depot to the depot. `Ok(None)` comes exactly
-/// where no plan of the route is feasible, in any fraction of a unit. Which of several fastest plans is
-/// answered isn't promised.
+/// `route` holds the nodes of the route in order, from the depot to the depot. `Ok(None)` comes
+/// exactly where no plan of the route is feasible, in any fraction of a unit. Which of several
+/// fastest plans is answered isn't promised.
 pub fn solve_route(
     alloc: Global,
     inst: &Instance,

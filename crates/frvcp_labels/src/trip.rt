@@ -7,8 +7,8 @@ use crate::rest::Rest;
 use instance_reader::Instance;
 use std::marker::Model;
 
-/// A route on an instance, with the nodes that have a curve, the charge that the vehicle starts with
-/// and a bound on the rest of each way. Contracts see the network, the route and that charge.
+/// A route on an instance, with the nodes that have a curve, the charge that the vehicle starts
+/// with and a bound on the rest of each way. Contracts see the network, the route and that charge.
 #[derive(Drop)]
 pub(crate) struct Trip<'a> {
     pub(crate) inst: &'a Instance,

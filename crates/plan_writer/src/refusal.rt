@@ -24,7 +24,8 @@ pub enum Refusal {
     Charge(u64),
     /// The word of the route breaks a rule.
     Route(RouteFault),
-    /// The instance has this many customers, which are more than the 128 that a fleet command takes.
+    /// The instance has this many customers, which are more than the 128 that a fleet command
+    /// takes.
     Customers(usize),
     /// The bytes of the plan's file are no text of a fleet plan.
     Plan(PlanText),

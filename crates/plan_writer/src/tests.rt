@@ -239,7 +239,8 @@ fn accepted_certificates_have_their_lines(rt: HostRuntime) {
     }
 }
 
-/// The line of a root with this price sum and weight; where there is no such weight, of one too wide.
+/// The line of a root with this price sum and weight; where there is no such weight, of one too
+/// wide.
 fn root_of(inst: &Instance, price_sum: i128, weight: u64) -> RootLine
     ensures some { result ≢ RootLine.Empty }
     ensures lowest { IsLowest result }
