@@ -1,5 +1,5 @@
 -- The bound of a node, from the answer of the simplex method and closed labels.
-use Rattle.std.proofs.Common.{◌≡◌, ◌≢◌, ◌∙◌, ℕ, ◌<◌, ◌≤◌, refl, sym, ap, subst, arith, inl, inr, List, [], map, length, Vec, ℤ, pos, ◌<ℤ◌, unsigned_abs}
+use Rattle.std.proofs.Common.{◌≡◌, ◌≢◌, ◌∙◌, ℕ, ◌≤◌, sym, ap, subst, arith, inl, inr, List, map, length, Vec, ℤ, pos, ◌<ℤ◌, unsigned_abs}
 use Rattle.std.specs.Global.{Global}
 use Rattle.std.specs.List.{All}
 use Rattle.std.proofs.lemmas.List.Elements.{All-weaker}
@@ -10,23 +10,17 @@ use Rattle.instance_reader.specs.Instance.{customer_nodes}
 use Rattle.master_simplex.specs.Answer.{IsAnswer, IsLpWithin, IsOptimum}
 use Rattle.master_simplex.specs.declared.prices.Lp.{Lp}
 use Rattle.piece_fn.specs.declared.label.Label.{Label}
-use Rattle.pricing.specs.Answers.{AreClosed, HasPoints, IsInRange}
+use Rattle.pricing.specs.Answers.{AreClosed}
 use Rattle.bound_certificate.specs.Meaning.{priced_section, route_shares}
-use Rattle.bound_certificate.specs.Ranges.{IsPrice, LabelFits}
+use Rattle.bound_certificate.specs.Ranges.{IsPrice}
 use Rattle.bound_certificate.specs.declared.certificate.Section.{Section}
 use Rattle.bound_certificate.specs.declared.certificate.Share.{Share}
 use Rattle.column_pool.specs.Bounds.{IsEmpty, IsExact, IsNodeSection}
 use Rattle.column_pool.specs.Columns.{AreNodeRoutes, HasPlan, IsMaster, share_of}
 use Rattle.column_pool.specs.declared.master.Master.{Master}
 use Rattle.column_pool.proofs.Covering.{sum_is_right}
-use Rattle.column_pool.proofs.Exactness.{are_shares, closed_priced, exact_root, have_plans, IsShareOf, keep_pairs, shares_fit}
-
-label_fits : (g : Network) (labels : List Label) → All (IsInRange g) labels → All (HasPoints g) labels → All (LabelFits g) labels
-label_fits g labels ranges points =
-    λ k d less.
-    let range = ranges k d less in
-    let point = points k d less in
-    record { last = range.last; node = range.node; set = range.set; valid = point.valid; points = point.points }
+use Rattle.column_pool.proofs.Exactness.{are_shares, exact_root, have_plans, IsShareOf, keep_pairs, shares_fit}
+use Rattle.column_pool.proofs.Sections.{asked, closed_section}
 
 module _ (g : Network) (p : ForbiddenPairs) (m : Master) (is : IsMaster g m) (lp : Lp) (within : IsLpWithin m.table lp) where
   abbrev section : List Label → Section
@@ -36,24 +30,13 @@ module _ (g : Network) (p : ForbiddenPairs) (m : Master) (is : IsMaster g m) (lp
   prices_fit = let small = is.cost in All-weaker (λ (z : ℤ). unsigned_abs z ≤ m.table.caps.cost) IsPrice (λ z le. omega (arith, le, small)) lp.prices.items within.prices
 
   pub node_section : (labels : Vec Label Global) → p.customers ≡ length (customer_nodes g) → length lp.prices.items ≡ length (customer_nodes g)
-      → AreClosed (record { network = g; pairs = p; weight = lp.weight; prices = lp.prices.items; labels = [] }) labels.items → IsNodeSection g p (section labels.items)
+      → AreClosed (asked g p lp.weight lp.prices.items) labels.items → IsNodeSection g p (section labels.items)
   node_section labels customers one closed =
       let weight = within.weight in
       let body = is.body in
       let count = labels.ok.0 in
       let small = labels.small in
-      record {
-        pairs = refl;
-        closed = closed_priced g (section labels.items) closed.closed;
-        fits = record {
-          weight = omega (arith, weight, body);
-          one_price = one;
-          prices = prices_fit;
-          pairs = customers;
-          few = omega (arith, count, small);
-          labels = label_fits g labels.items closed.ranges closed.points;
-        };
-      }
+      closed_section g (section labels.items) closed customers (omega (arith, weight, body)) one prices_fit (omega (arith, count, small))
 
   -- a section whose lists are these
   pub listed_section : (prices : List ℤ) (labels ls : List Label) → prices ≡ lp.prices.items → ls ≡ labels → IsNodeSection g p (section labels) → IsNodeSection g p (record { weight = lp.weight; prices = prices; pairs = p; labels = ls })

@@ -1,9 +1,9 @@
 -- What a closed list of labels shows of a node, and that it is in the ranges of certificates.
-use Rattle.std.proofs.Common.{◌≡◌, ◌∙◌, ℕ, zero, suc, ◌+◌, ◌*◌, ◌<◌, ◌≤◌, ◌^◌, ◌-◌, arith, refl, sym, ap, subst, List, [], ◌∷◌, length, get_or, map, ℤ, pos, ◌≤ℤ◌}
+use Rattle.std.proofs.Common.{◌≡◌, ◌∙◌, ℕ, zero, suc, ◌+◌, ◌*◌, ◌<◌, ◌≤◌, arith, refl, sym, ap, subst, List, [], ◌∷◌, length, get_or, map, ℤ, pos, ◌≤ℤ◌}
 use Rattle.std.specs.List.{All}
 use Rattle.std.proofs.lemmas.Int.{ints}
 use Rattle.std.proofs.lemmas.List.{length-map}
-use Rattle.std.proofs.lemmas.List.Elements.{All-cons, All-contains, All-head, All-map, All-nil, All-tail, All-weaker}
+use Rattle.std.proofs.lemmas.List.Elements.{All-contains, All-map, All-weaker}
 use Rattle.customer_sets.specs.Pairs.{ForbiddenPairs}
 use Rattle.ev_model.specs.Network.{IsNetwork, Network}
 use Rattle.ev_model.specs.declared.Stop.{Stop}
@@ -15,18 +15,15 @@ use Rattle.fleet_model.proofs.Numbers.{counted}
 use Rattle.fleet_model.proofs.Plans.{plan_pays}
 use Rattle.instance_reader.specs.Instance.{customer_nodes}
 use Rattle.piece_fn.specs.declared.label.Label.{Label}
-use Rattle.closed_lists.specs.Questions.{Question}
 use Rattle.closed_lists.specs.Sections.{paid_label, section_of}
-use Rattle.pricing.specs.Answers.{AreClosed, HasPoints, IsInRange}
+use Rattle.pricing.specs.Answers.{AreClosed, IsInRange}
 use Rattle.pricing.specs.Better.{IsBetter}
 use Rattle.bound_certificate.specs.Limits.{most_items}
-use Rattle.bound_certificate.specs.Ranges.{IsPrice, LabelFits}
-use Rattle.bound_certificate.specs.declared.certificate.Section.{Section}
-use Rattle.column_pool.specs.Bounds.{IsNodeSection}
+use Rattle.bound_certificate.specs.Ranges.{IsPrice}
 use Rattle.column_pool.specs.Columns.{IsNodeRoute}
 use Rattle.column_pool.specs.Pool.{full_time, IsColumn}
 use Rattle.column_pool.specs.Rising.{Earns, IsSectionAt, NoneEarns, worth}
-use Rattle.column_pool.proofs.Exactness.{closed_priced}
+use Rattle.column_pool.proofs.Sections.{asked, closed_section}
 
 -- ---- whole prices
 pub price_of_whole : (xs : List ℕ) (c : ℕ) → price_of (map pos xs) c ≡ pos (get_or xs c 0)
@@ -42,26 +39,7 @@ price_sum_whole xs (c ∷ cs) =
     let rest = price_sum_whole xs cs in
     omega (arith, ints, here, rest)
 
--- ---- ranges
-label_fits : (g : Network) (l : Label) → IsInRange g l → HasPoints g l → LabelFits g l
-label_fits g l range has = record {
-  last = range.last;
-  node = range.node;
-  set = range.set;
-  valid = has.valid;
-  points = has.points;
-}
-
-labels_fit : (g : Network) (labels : List Label) → All (IsInRange g) labels → All (HasPoints g) labels → All (LabelFits g) labels
-labels_fit g [] ranges points = All-nil (LabelFits g)
-labels_fit g (l ∷ labels) ranges points =
-    let here = label_fits g l (All-head (IsInRange g) l labels ranges) (All-head (HasPoints g) l labels points) in
-    All-cons (LabelFits g) l labels here (labels_fit g labels (All-tail (IsInRange g) l labels ranges) (All-tail (HasPoints g) l labels points))
-
--- the question of a weight and prices
-abbrev pub asked : Network → ForbiddenPairs → ℕ → List ℤ → Question
-asked g p weight prices = record { network = g; pairs = p; weight = weight; prices = prices; labels = [] }
-
+-- ---- what closed labels show
 abbrev LevelsFit : Network → PricedLabel → Type 0
 LevelsFit g l = (y : ℕ) → IsLevel l y → y ≤ g.capacity
 
@@ -81,23 +59,6 @@ module _ (g : Network) (p : ForbiddenPairs) (weight : ℕ) (prices : List ℤ) (
   pays : IsNetwork g → (stops : List Stop) → IsNodeRoute g p stops → price_sum prices (numbers_of g stops) ≤ℤ pos (weight * full_time g stops)
   pays network stops is = plan_pays g (section_of p weight prices labels) stops network section_is are.closed is.route.feasible is.route.only is.keeps is.route.once
 
-  pub node_section : p.customers ≡ length (customer_nodes g) → weight ≤ 2 ^ 40 → All IsPrice prices → length labels ≤ most_items
-      → IsNodeSection g p (record { weight = weight; prices = prices; pairs = p; labels = labels })
-  node_section pairs small fits few =
-      let s : Section = record { weight = weight; prices = prices; pairs = p; labels = labels } in
-      record {
-        pairs = refl;
-        closed = closed_priced g s are.closed;
-        fits = record {
-          weight = small;
-          one_price = count;
-          prices = fits;
-          pairs = pairs;
-          few = few;
-          labels = labels_fit g labels are.ranges are.points;
-        };
-      }
-
 -- the section at whole prices
 pub at_prices : (g : Network) (p : ForbiddenPairs) (weight w : ℕ) (of : List ℕ) (prices ps : List ℤ) (labels ls : List Label) → w ≡ weight → ps ≡ map pos of → prices ≡ ps → labels ≡ ls
     → length of ≡ length (customer_nodes g) → p.customers ≡ length (customer_nodes g) → weight ≤ 1 → All IsPrice ps → length ls ≤ most_items → AreClosed (asked g p w ps) ls
@@ -108,7 +69,7 @@ at_prices g p weight w of prices ps labels ls same_weight whole same_prices same
     let closed = subst (λ (ms : List Label). AreClosed (asked g p weight prices) ms) (sym same_labels) at_list in
     let long : length prices ≡ length (customer_nodes g) = ap length (same_prices ∙ whole) ∙ length-map of pos ∙ count in
     record {
-      section = node_section g p weight prices labels long closed pairs (omega (arith, small)) (subst (λ (qs : List ℤ). All IsPrice qs) (sym same_prices) fits) (omega (arith, few, ap length same_labels));
+      section = closed_section g (record { weight = weight; prices = prices; pairs = p; labels = labels }) closed pairs (omega (arith, small)) long (subst (λ (qs : List ℤ). All IsPrice qs) (sym same_prices) fits) (omega (arith, few, ap length same_labels));
       weight_is = refl;
       prices = same_prices ∙ whole;
     }

@@ -1,5 +1,5 @@
 -- The chains of all customers are a fleet plan, which bounds the node.
-use Rattle.std.proofs.Common.{◌≡◌, ◌≢◌, ◌∙◌, ℕ, ◌+◌, ◌*◌, ◌<◌, ◌≤◌, true, refl, sym, ap, subst, arith, List, [], ◌∷◌, ◌++◌, get_or, length, map, inl, inr, ℤ, pos, ◌≤ℤ◌, ◌<ℤ◌}
+use Rattle.std.proofs.Common.{◌≡◌, ◌≢◌, ◌∙◌, ℕ, ◌*◌, ◌<◌, ◌≤◌, true, refl, sym, ap, subst, arith, List, [], ◌∷◌, ◌++◌, get_or, length, map, inl, inr, ℤ, pos, ◌≤ℤ◌, ◌<ℤ◌}
 use Rattle.std.specs.List.{All}
 use Rattle.std.proofs.lemmas.Int.{ints}
 use Rattle.std.proofs.lemmas.List.Elements.{All-head, All-map, All-tail, All-weaker}
@@ -10,28 +10,22 @@ use Rattle.ev_model.specs.Network.{is_customer, IsNetwork, Network, node_count}
 use Rattle.ev_model.specs.Route.{FollowsRoute, route_of}
 use Rattle.ev_model.specs.Time.{time_of}
 use Rattle.ev_model.specs.declared.Stop.{Stop}
-use Rattle.fleet_model.specs.ClosedList.{IsClosed}
 use Rattle.fleet_model.specs.Cover.{cost_of_shares, IsFleetRoute, IsFractionalCover, Share as RouteShare, shares_of}
-use Rattle.fleet_model.specs.Labels.{Label as PricedLabel}
 use Rattle.fleet_model.specs.Pairs.{PlanKeepsPairs}
 use Rattle.fleet_model.specs.Places.{customer_number, numbers_of}
 use Rattle.fleet_model.specs.Prices.{price_sum, sum_of}
-use Rattle.fleet_model.specs.Section.{Section as PricedSection}
 use Rattle.fleet_model.proofs.Counts.{AreCustomers, number_less, times_append}
 use Rattle.fleet_model.proofs.Fleets.{plan_below}
 use Rattle.fleet_model.proofs.Numbers.{counted}
 use Rattle.fleet_model.proofs.Plans.{filtered}
 use Rattle.fleet_model.proofs.Weighed.{AreBelow}
 use Rattle.instance_reader.specs.Instance.{customer_nodes}
-use Rattle.closed_lists.specs.Questions.{Question}
-use Rattle.closed_lists.specs.Sections.{paid_label, section_of}
-use Rattle.piece_fn.specs.PieceFn.{level_times}
 use Rattle.piece_fn.specs.declared.label.Label.{Label}
-use Rattle.pricing.specs.Answers.{AreClosed, HasPoints, IsInRange}
+use Rattle.pricing.specs.Answers.{AreClosed}
 use Rattle.pricing.specs.Better.{IsBetter}
 use Rattle.bound_certificate.specs.Limits.{greatest_weight, most_items}
-use Rattle.bound_certificate.specs.Meaning.{priced_label, priced_section, route_shares}
-use Rattle.bound_certificate.specs.Ranges.{IsPrice, LabelFits}
+use Rattle.bound_certificate.specs.Meaning.{route_shares}
+use Rattle.bound_certificate.specs.Ranges.{IsPrice}
 use Rattle.bound_certificate.specs.declared.certificate.Section.{Section}
 use Rattle.bound_certificate.specs.declared.certificate.Share.{Share}
 use Rattle.column_pool.specs.Bounds.{IsExact, IsNodeSection, IsPlanAtBound, plans_of}
@@ -40,51 +34,20 @@ use Rattle.column_pool.specs.Columns.{IsNodeRoute}
 use Rattle.column_pool.proofs.Fitting.{feasible_fits}
 use Rattle.column_pool.proofs.OneOrder.{one_order}
 use Rattle.column_pool.proofs.OneWay.{Stands}
+use Rattle.column_pool.proofs.Sections.{asked, closed_section}
 use Rattle.column_pool.proofs.Serving.{served_at}
 
 -- ---- a section of closed labels
-same_label : (prices : List ℤ) (l : Label) → paid_label prices l ≡ priced_label prices l
-unfolding level_times
-same_label prices l = refl
-
-same_labels : (prices : List ℤ) (labels : List Label) → map (paid_label prices) labels ≡ map (priced_label prices) labels
-same_labels prices [] = refl
-same_labels prices (l ∷ labels) = λ i. same_label prices l i ∷ same_labels prices labels i
-
-closed_section : (g : Network) (s : Section) → IsClosed g (section_of s.pairs s.weight s.prices s.labels) → IsClosed g (priced_section s)
-closed_section g s closed =
-    let at : List PricedLabel → PricedSection = λ ls. record { weight = s.weight; prices = s.prices; allows = allows_of s.pairs; labels = ls } in
-    subst (λ ls. IsClosed g (at ls)) (same_labels s.prices s.labels) closed
-
-label_fits : (g : Network) (l : Label) → IsInRange g l → HasPoints g l → LabelFits g l
-label_fits g l range has = record { last = range.last; node = range.node; set = range.set; valid = has.valid; points = has.points }
-
-abbrev pub question : Network → Section → Question
-question g s = record { network = g; pairs = s.pairs; weight = s.weight; prices = s.prices; labels = [] }
-
-pub node_section : (g : Network) (p : ForbiddenPairs) (s : Section) → AreClosed (question g s) s.labels → s.pairs ≡ p → p.customers ≡ length (customer_nodes g) → s.weight ≤ greatest_weight → length s.prices ≡ length (customer_nodes g) → All IsPrice s.prices → length s.labels ≤ most_items
-    → IsNodeSection g p s
-node_section g p s closed same count weight prices small few = record {
-  pairs = same;
-  closed = closed_section g s closed.closed;
-  fits = record {
-    weight = weight;
-    one_price = prices;
-    prices = small;
-    pairs = ap (λ (q : ForbiddenPairs). q.customers) same ∙ count;
-    few = few;
-    labels = λ i d less. label_fits g (get_or s.labels i d) (closed.ranges i d less) (closed.points i d less);
-  };
-}
-
-pub section_closed : (g : Network) (p : ForbiddenPairs) (s : Section) (w : ℕ) (prices : List ℤ) (labels : List Label) → AreClosed (record { network = g; pairs = p; weight = w; prices = prices; labels = [] }) labels
+pub section_closed : (g : Network) (p : ForbiddenPairs) (s : Section) (w : ℕ) (prices : List ℤ) (labels : List Label) → AreClosed (asked g p w prices) labels
     → s.pairs ≡ p → s.weight ≡ w → s.prices ≡ prices → s.labels ≡ labels → p.customers ≡ length (customer_nodes g) → w ≤ greatest_weight → length prices ≡ length (customer_nodes g) → All IsPrice prices → length s.labels ≤ most_items → IsNodeSection g p s
 section_closed g p s w prices labels closed same weight is_prices is_labels count small_weight count_prices small few =
-    let a = subst (λ (q : ForbiddenPairs). AreClosed (record { network = g; pairs = q; weight = w; prices = prices; labels = [] }) labels) (sym same) closed in
-    let b = subst (λ (v : ℕ). AreClosed (record { network = g; pairs = s.pairs; weight = v; prices = prices; labels = [] }) labels) (sym weight) a in
-    let d = subst (λ (ps : List ℤ). AreClosed (record { network = g; pairs = s.pairs; weight = s.weight; prices = ps; labels = [] }) labels) (sym is_prices) b in
-    let e = subst (λ (ls : List Label). AreClosed (question g s) ls) (sym is_labels) d in
-    node_section g p s e same count (subst (λ (v : ℕ). v ≤ greatest_weight) (sym weight) small_weight) (ap length is_prices ∙ count_prices) (subst (All IsPrice) (sym is_prices) small) few
+    let a = subst (λ (q : ForbiddenPairs). AreClosed (asked g q w prices) labels) (sym same) closed in
+    let b = subst (λ (v : ℕ). AreClosed (asked g s.pairs v prices) labels) (sym weight) a in
+    let d = subst (λ (ps : List ℤ). AreClosed (asked g s.pairs s.weight ps) labels) (sym is_prices) b in
+    let e = subst (λ (ls : List Label). AreClosed (asked g s.pairs s.weight s.prices) ls) (sym is_labels) d in
+    let fits = subst (λ (v : ℕ). v ≤ greatest_weight) (sym weight) small_weight in
+    subst (λ (q : ForbiddenPairs). IsNodeSection g q s) same
+    (closed_section g s e (ap (λ (q : ForbiddenPairs). q.customers) same ∙ count) fits (ap length is_prices ∙ count_prices) (subst (All IsPrice) (sym is_prices) small) few)
 
 -- ---- some customer is served
 first_stands : (xs : List ℕ) → xs ≢ [] → (x : ℕ) × Stands x xs

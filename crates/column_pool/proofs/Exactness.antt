@@ -1,13 +1,11 @@
 -- The answer of the simplex method bounds a node where no further route earns.
-use Rattle.std.proofs.Common.{◌≡◌, ◌∙◌, ℕ, ◌+◌, ◌-◌, ◌*◌, ◌<◌, ◌≤◌, ◌^◌, refl, sym, ap, subst, arith, List, [], ◌∷◌, map, length, ℤ, pos, ◌*ℤ◌}
+use Rattle.std.proofs.Common.{◌≡◌, ◌∙◌, ℕ, ◌+◌, ◌-◌, ◌*◌, ◌<◌, ◌≤◌, ◌^◌, sym, ap, arith, List, [], ◌∷◌, map, length, ℤ, pos, ◌*ℤ◌}
 use Rattle.std.specs.List.{All}
 use Rattle.std.proofs.lemmas.Int.{ints}
 use Rattle.std.proofs.lemmas.List.Elements.{All-cons, All-get_or, All-head, All-nil, All-tail, All-weaker}
 use Rattle.customer_sets.specs.Pairs.{allows_of, ForbiddenPairs}
 use Rattle.ev_model.specs.Network.{IsNetwork, Network, node_count}
-use Rattle.fleet_model.specs.ClosedList.{IsClosed}
 use Rattle.fleet_model.specs.Cover.{cost_of_shares as cost_of_routes, CoverKeepsPairs, IsExactRoot, IsFleetRoute, IsFractionalCover, Share as RouteShare}
-use Rattle.fleet_model.specs.Labels.{Label as PricedLabel}
 use Rattle.fleet_model.specs.Pairs.{PlanKeepsPairs}
 use Rattle.fleet_model.specs.Places.{customer_number}
 use Rattle.fleet_model.specs.Prices.{sum_of}
@@ -16,33 +14,15 @@ use Rattle.fleet_model.proofs.Counts.{number_less}
 use Rattle.fleet_model.proofs.Numbers.{counted}
 use Rattle.instance_reader.specs.Instance.{customer_nodes}
 use Rattle.master_simplex.specs.Answer.{covered, cost_of_shares, IsAdded, IsCover, IsOptimum}
-use Rattle.piece_fn.specs.PieceFn.{level_times}
-use Rattle.piece_fn.specs.declared.label.Label.{Label}
 use Rattle.route_plan.specs.declared.plan.RoutePlan.{RoutePlan}
-use Rattle.closed_lists.specs.Sections.{paid_label, section_of}
-use Rattle.bound_certificate.specs.Meaning.{priced_label, priced_section, route_shares}
+use Rattle.bound_certificate.specs.Meaning.{route_shares}
 use Rattle.bound_certificate.specs.Ranges.{ShareFits}
-use Rattle.bound_certificate.specs.declared.certificate.Section.{Section}
 use Rattle.bound_certificate.specs.declared.certificate.Share.{Share}
 use Rattle.column_pool.specs.Columns.{AreNodeRoutes, HasPlan, IsMaster, IsNodeRoute, share_of}
 use Rattle.column_pool.specs.declared.master.Master.{Master}
 use Rattle.column_pool.proofs.Covering.{cost_is, cover_is, many_columns, sum_is_right}
 use Rattle.column_pool.proofs.Filling.{all_mapped}
 use Rattle.column_pool.proofs.Fitting.{feasible_fits}
-
--- ---- labels as pricing and as certificates read them
-same_label : (prices : List ℤ) (l : Label) → paid_label prices l ≡ priced_label prices l
-unfolding level_times
-same_label prices l = refl
-
-same_labels : (prices : List ℤ) (labels : List Label) → map (paid_label prices) labels ≡ map (priced_label prices) labels
-same_labels prices [] = refl
-same_labels prices (l ∷ labels) = λ i. same_label prices l i ∷ same_labels prices labels i
-
-pub closed_priced : (g : Network) (s : Section) → IsClosed g (section_of s.pairs s.weight s.prices s.labels) → IsClosed g (priced_section s)
-closed_priced g s closed =
-    let at : List PricedLabel → PricedSection = λ ls. record { weight = s.weight; prices = s.prices; allows = allows_of s.pairs; labels = ls } in
-    subst (λ ls. IsClosed g (at ls)) (same_labels s.prices s.labels) closed
 
 -- ---- what holds of a share of a route
 pub record IsShareOf (g : Network) (p : ForbiddenPairs) (over : ℕ) (x : RouteShare) : Type 0 where

@@ -88,9 +88,13 @@ sum_at_least (x ∷ xs) zero less = let rest = some_sum xs in omega (arith, ints
     some_sum (y ∷ ys) = let rest = some_sum ys in omega (arith, ints, rest)
 sum_at_least (x ∷ xs) (suc c) less = let rest = sum_at_least xs c (omega (arith, less)) in omega (arith, ints, rest)
 
-module _ (g : Network) (p : ForbiddenPairs) (c n : ℕ) (less : c < n) (stands : StandsNowhere g p c) where
-  pub nowhere_free : NoneEarns g p 0 (set (blank n) c 1)
-  nowhere_free stops is =
+module _ (g : Network) (p : ForbiddenPairs) (c n : ℕ) (of : List ℕ) (same : n ≡ length (customer_nodes g)) (within : c < length (customer_nodes g))
+    (lone : of ≡ set (blank n) c 1) (stands : StandsNowhere g p c) where
+  less : c < n
+  less = omega (arith, same, within)
+
+  lone_free : NoneEarns g p 0 (set (blank n) c 1)
+  lone_free stops is =
       let cs = numbers_of g stops in
       let long = length-blank n in
       let put = worth_set (blank n) c 1 (omega (arith, less, long)) (zero_at n c) cs in
@@ -99,8 +103,12 @@ module _ (g : Network) (p : ForbiddenPairs) (c n : ℕ) (less : c < n) (stands :
       let none : worth (set (blank n) c 1) cs ≡ worth (blank n) cs + 0 * 1 = put ∙ ap (λ k. worth (blank n) cs + k * 1) times in
       omega (arith, none, base)
 
-  pub nowhere_empty : (s : Section) → IsSectionAt g p 0 (set (blank n) c 1) s → IsEmpty g p s
-  nowhere_empty s is =
+  pub nowhere_free : NoneEarns g p 0 of
+  nowhere_free = subst (λ (xs : List ℕ). NoneEarns g p 0 xs) (sym lone) lone_free
+
+  pub nowhere_empty : (s : Section) → IsSectionAt g p 0 of s → IsEmpty g p s
+  nowhere_empty s at =
+      let is : IsSectionAt g p 0 (set (blank n) c 1) s = subst (λ (xs : List ℕ). IsSectionAt g p 0 xs s) lone at in
       let long : c < length (blank n) = (let e = length-blank n in omega (arith, e, less)) in
       let wide = length-set (blank n) c 1 in
       let price = get_or-set_same (blank n) c 1 0 long in

@@ -12,7 +12,8 @@ use Rattle.fleet_model.proofs.Counts.{AreCustomers}
 use Rattle.fleet_model.proofs.Fleets.{plan_below}
 use Rattle.fleet_model.proofs.Plans.{filtered}
 use Rattle.fleet_model.proofs.Weighed.{AreBelow}
-use Rattle.column_pool.specs.Columns.{IsNodeRoute}
+use Rattle.route_plan.specs.declared.plan.RoutePlan.{RoutePlan}
+use Rattle.column_pool.specs.Columns.{AreNodeRoutes, IsNodeRoute}
 use Rattle.column_pool.specs.Pool.{IsColumn}
 
 all_below : (n : ℕ) (xs : List ℕ) → AreBelow n xs → All (λ x. x < n) xs
@@ -35,3 +36,12 @@ module _ (g : Network) (order : List ℕ) (stops : List Stop) (is : IsColumn g o
     route = is.route;
     keeps = subst (λ xs. KeepsPairs (allows_of p) (0 ∷ map (place_of g) xs ++ 0 ∷ [])) (sym is.serves) keeps;
   }
+
+  -- a copy of the route where its order keeps the pairs
+  pub kept_alone : (p : ForbiddenPairs) (given : List ℕ) (copy : RoutePlan) → given ≡ order → KeepsPairs (allows_of p) (0 ∷ map (place_of g) given ++ 0 ∷ []) → copy.stops ≡ stops
+      → AreNodeRoutes g p (copy ∷ [])
+  kept_alone p given copy same keeps alike =
+      let P = λ (x : RoutePlan). IsNodeRoute g p x.stops in
+      let there = subst (λ (ns : List ℕ). KeepsPairs (allows_of p) (0 ∷ map (place_of g) ns ++ 0 ∷ [])) same keeps in
+      let here : P copy = subst (λ (s : List Stop). IsNodeRoute g p s) (sym alike) (column_keeps p there) in
+      All-cons P copy [] here (All-nil P)

@@ -8,6 +8,7 @@ mod Independent
 mod Filling
 mod Covering
 mod Fitting
+mod Sections
 mod Exactness
 mod Refused
 mod Earning

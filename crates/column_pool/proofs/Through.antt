@@ -1,5 +1,5 @@
 -- The chain through a customer.
-use Rattle.std.proofs.Common.{◌≡◌, ◌≢◌, ◌∙◌, ℕ, ◌+◌, ◌*◌, ◌<◌, ◌≤◌, Bool, true, refl, sym, ap, subst, arith, List, [], ◌∷◌, ◌++◌, map, inl, inr, pos, ◌<ℤ◌}
+use Rattle.std.proofs.Common.{◌≡◌, ◌≢◌, ◌∙◌, ℕ, ◌*◌, ◌<◌, ◌≤◌, Bool, true, refl, sym, ap, subst, arith, List, [], ◌∷◌, ◌++◌, map, inl, inr, pos, ◌<ℤ◌}
 use Rattle.std.specs.List.{All}
 use Rattle.std.specs.Prelude.{filter}
 use Rattle.std.proofs.lemmas.Bool.{cases_lt}

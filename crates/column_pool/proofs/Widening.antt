@@ -21,7 +21,6 @@ use Rattle.bound_certificate.specs.Limits.{most_items}
 use Rattle.bound_certificate.specs.Meaning.{basis_columns, entry_column, route_columns}
 use Rattle.bound_certificate.specs.Ranges.{AreDifferent, ColumnFits, ColumnsFit, EntryFits, same_entry}
 use Rattle.bound_certificate.specs.declared.certificate.BasisEntry.{BasisEntry}
-use Rattle.bound_certificate.specs.declared.certificate.BasisEntry.TheVariants as entry
 use Rattle.bound_certificate.specs.declared.certificate.Section.{Section}
 use Rattle.column_pool.specs.Bounds.{IsNodeBound}
 use Rattle.column_pool.specs.Columns.{AreNodeRoutes, IsNodeRoute}

@@ -1,5 +1,5 @@
 -- Where a node's pairs are decided: its routes are chains of customers, each chain with its only order.
-use Rattle.std.specs.Prelude.{◌≡◌, ℕ, ◌+◌, ◌<◌, ◌≤◌, List, [], ◌∷◌, ◌++◌, ◌&&◌, Bool, true, length, nat_eq, not, pos, replicate, set, ℤ, ◌≤ℤ◌, MatchOption, Option}
+use Rattle.std.specs.Prelude.{◌≡◌, ℕ, ◌<◌, ◌≤◌, List, [], ◌∷◌, ◌++◌, ◌&&◌, Bool, true, length, nat_eq, not, pos, replicate, set, ℤ, ◌≤ℤ◌, MatchOption, Option}
 use Rattle.std.specs.List.{All, list_any}
 use Rattle.customer_sets.specs.Pairs.{ForbiddenPairs}
 use Rattle.ev_model.specs.Fastest.{IsFastest}

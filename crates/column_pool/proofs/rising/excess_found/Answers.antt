@@ -7,7 +7,8 @@ use Rattle.pricing.specs.declared.priced.PricedRoute.{PricedRoute}
 use Rattle.fleet_model.specs.Places.{customer_number}
 use Rattle.column_pool.specs.Pool.{full_time}
 use Rattle.column_pool.specs.Rising.{NoneEarns, worth}
-use Rattle.column_pool.proofs.Closing.{asked, better_earns, none_earns}
+use Rattle.column_pool.proofs.Closing.{better_earns, none_earns}
+use Rattle.column_pool.proofs.Sections.{asked}
 use Rattle.column_pool.proofs.Filling.{holds_at}
 use Rattle.column_pool.proofs.rising.excess_found.Goals as goal
 

@@ -2,7 +2,8 @@ use Rattle.std.proofs.Common.{ℕ, arith, subst, sym}
 use Rattle.pricing.specs.Answers.{IsPriced}
 use Rattle.pricing.specs.declared.priced.Priced.{Priced}
 use Rattle.column_pool.specs.Rising.{NoneEarns}
-use Rattle.column_pool.proofs.Closing.{asked, at_prices, better_none}
+use Rattle.column_pool.proofs.Closing.{at_prices, better_none}
+use Rattle.column_pool.proofs.Sections.{asked}
 use Rattle.column_pool.proofs.rising.section_at.Goals as goal
 
 pub unreachable-requires : goal.unreachable-requires
