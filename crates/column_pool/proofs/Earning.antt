@@ -1,5 +1,6 @@
 -- Routes that earn are taken in.
-use Rattle.std.proofs.Common.{◌≡◌, ◌∙◌, ℕ, ◌+◌, ◌<◌, ◌≤◌, ◌^◌, arith, sym, ap, subst, List, [], ◌∷◌, ◌++◌, map, length, inl, inr, ℤ, unsigned_abs}
+use Rattle.std.proofs.Common.{◌≡◌, ◌∙◌, ℕ, ◌<◌, ◌≤◌, ◌^◌, arith, sym, ap, subst, List, [], ◌∷◌, ◌++◌, map, length, inl, inr, Vec, ℤ, unsigned_abs}
+use Rattle.std.specs.Global.{Global}
 use Rattle.std.specs.List.{All}
 use Rattle.std.proofs.lemmas.List.{length-append}
 use Rattle.std.proofs.lemmas.List.Elements.{All-cons, All-map, All-nil, All-weaker}
@@ -9,17 +10,19 @@ use Rattle.instance_reader.specs.Instance.{customer_nodes}
 use Rattle.master_simplex.specs.Answer.{IsAnswer, IsLpWithin}
 use Rattle.master_simplex.specs.Phase.{IsReached}
 use Rattle.master_simplex.specs.declared.prices.Lp.{Lp}
-use Rattle.piece_fn.specs.declared.label.Label.{Label}
 use Rattle.master_table.specs.Tableau.{Limits, size, Tableau}
 use Rattle.fleet_model.specs.Equations.{helpers}
-use Rattle.pricing.specs.Answers.{AreClosed, IsBetterRoute}
+use Rattle.pricing.specs.Answers.{IsBetterRoute, IsPriced}
 use Rattle.pricing.specs.Better.{IsBetter}
+use Rattle.pricing.specs.declared.priced.Priced.{Priced}
+use Rattle.pricing.specs.declared.priced.Priced.TheVariants.{Better}
 use Rattle.pricing.specs.declared.priced.PricedRoute.{PricedRoute}
 use Rattle.closed_lists.specs.Questions.{Question}
 use Rattle.route_plan.specs.declared.plan.RoutePlan.{RoutePlan}
-use Rattle.column_pool.specs.Columns.{AreNodeRoutes, column_of, IsMaster, IsNodeRoute}
+use Rattle.column_pool.specs.Columns.{AreNodeRoutes, column_of, IsFilled, IsMaster, IsNodeRoute}
 use Rattle.column_pool.specs.Pool.{IsColumn, IsPool}
 use Rattle.column_pool.specs.declared.master.Master.{Master}
+use Rattle.column_pool.proofs.Sections.{asked}
 
 module _ (q : Question) where
   pub better_column : (plan : RoutePlan) (order : List ℕ) → IsBetter q plan.stops order → IsColumn q.network order plan.stops
@@ -41,6 +44,21 @@ module _ (q : Question) where
       let P = λ (p : RoutePlan). IsNodeRoute q.network q.pairs p.stops in
       All-map P (λ (r : PricedRoute). r.plan) routes (All-weaker (IsBetterRoute q) (λ (r : PricedRoute). P r.plan) (λ r is. better_route r.plan r.order.items is) routes all)
 
+-- the routes that pricing found are taken in, behind routes of the node: the first, and then the further ones
+module _ (g : Network) (p : ForbiddenPairs) (weight : ℕ) (prices : List ℤ) (found : Priced) (priced : IsPriced (asked g p weight prices) found)
+    (plan : RoutePlan) (order : Vec ℕ Global) (further : Vec PricedRoute Global) (is : found ≡ Better plan order further)
+    (start : List RoutePlan) (before : AreNodeRoutes g p start) (old mid : Master) (same : old.plans.items ≡ start) (first : IsFilled g old (plan ∷ []) mid) where
+  better : IsPriced (asked g p weight prices) (Better plan order further)
+  better = subst (λ (x : Priced). IsPriced (asked g p weight prices) x) is priced
+
+  pub first_taken : AreNodeRoutes g p mid.plans.items
+  first_taken = first.routes p (subst (λ (ps : List RoutePlan). AreNodeRoutes g p ps) (sym same) before) (better_plan (asked g p weight prices) plan order.items better.0)
+
+  pub all_taken : (routes : List PricedRoute) (new : Master) → routes ≡ further.items → IsFilled g mid (map (λ (r : PricedRoute). r.plan) routes) new → AreNodeRoutes g p new.plans.items
+  all_taken routes new alike rest =
+      let are = better_plans (asked g p weight prices) further.items better.1 in
+      rest.routes p first_taken (subst (λ (rs : List PricedRoute). AreNodeRoutes g p (map (λ (r : PricedRoute). r.plan) rs)) (sym alike) are)
+
 -- another basis of the master problem's table
 pub reached_master : (g : Network) (old new : Master) → IsMaster g old → IsReached old.table new.table → new.plans.items ≡ old.plans.items → IsMaster g new
 reached_master g old new is reached same = record {
@@ -61,13 +79,6 @@ pub small_prices : (t : Tableau) (lp : Lp) (prices : List ℤ) → IsLpWithin t 
 small_prices t lp prices within small same =
     subst (λ zs. All (λ z. unsigned_abs z ≤ 2 ^ 84) zs) (sym same)
     (All-weaker (λ (z : ℤ). unsigned_abs z ≤ t.caps.cost) (λ z. unsigned_abs z ≤ 2 ^ 84) (λ z le. omega (arith, le, small)) lp.prices.items within.prices)
-
--- labels that are closed under the prices of an answer
-pub closed_under : (g : Network) (p : ForbiddenPairs) (lp : Lp) (weight : ℕ) (prices : List ℤ) (labels : List Label) → weight ≡ lp.weight → prices ≡ lp.prices.items
-    → AreClosed (record { network = g; pairs = p; weight = weight; prices = prices; labels = [] }) labels → AreClosed (record { network = g; pairs = p; weight = lp.weight; prices = lp.prices.items; labels = [] }) labels
-closed_under g p lp weight prices labels same alike closed =
-    subst (λ zs. AreClosed (record { network = g; pairs = p; weight = lp.weight; prices = zs; labels = [] }) labels) alike
-    (subst (λ w. AreClosed (record { network = g; pairs = p; weight = w; prices = prices; labels = [] }) labels) same closed)
 
 -- there are further plans
 pub more_plans : (old first all : List RoutePlan) (plan : RoutePlan) (routes : List PricedRoute) → first ≡ old ++ plan ∷ [] → all ≡ first ++ map (λ (r : PricedRoute). r.plan) routes → length old < length all

@@ -14,7 +14,6 @@ use crate::master::Master;
 use crate::own::put_own_routes;
 use crate::pool::ColumnPool;
 use crate::rounds::price_out;
-use crate::taking::add_kept;
 use customer_sets::Pairs;
 use instance_reader::Instance;
 use master_table::Caps;
@@ -45,7 +44,7 @@ pub(crate) fn bound_by_table(
 {
     put_own_routes(alloc, inst, pool)?;
     let mut master = Master::new(alloc, inst, caps)?;
-    match priced_out(alloc, inst, pairs, pool, &mut master) {
+    match price_out(alloc, inst, pairs, pool, &mut master) {
         Ok(bound) => Ok(bound),
         Err(MasterFault::Memory) => Err(NodeFault::Memory),
         Err(MasterFault::Wide { basis }) => Err(NodeFault::Wide {
@@ -53,28 +52,4 @@ pub(crate) fn bound_by_table(
             basis,
         }),
     }
-}
-
-/// The bound of a node by a master problem without a route, which first takes in those of the pool.
-fn priced_out(
-    alloc: Global,
-    inst: &Instance,
-    pairs: &Pairs,
-    pool: &mut ColumnPool,
-    master: &mut Master,
-) -> Result<NodeBound, MasterFault>
-    requires few { length (customer_nodes inst.now) ≤ 128 }
-    requires pairs { pairs.now.customers ≡ length (customer_nodes inst.now) }
-    requires pool { IsPool inst.now pool.old }
-    requires master { IsMaster inst.now master.old }
-    requires routes { AreNodeRoutes inst.now pairs.now master.old.plans.items }
-    ensures bound { IfOk result (IsNodeBound inst.now pairs.now) }
-    ensures pool { IsPool inst.now pool.new }
-    ensures grown { IsGrown inst.now pool.old pool.new }
-    ensures routes { AreNodeRoutes inst.now pairs.now master.new.plans.items }
-    ensures fault { IfErr result
-        (IsMasterFault inst.now master.old.table.caps master.new.plans.items) }
-{
-    add_kept(alloc, inst, pairs, pool, master)?;
-    price_out(alloc, inst, pairs, pool, master)
 }

@@ -1,9 +1,8 @@
 //! The price loop: routes that earn are added as columns until there is none.
 
-ghost use Rattle.std.specs.Prelude.{◌≡◌, ◌≤◌, ◌^◌, [], All, IfErr, IfOk, IfSome, OnOk, length, unsigned_abs};
+ghost use Rattle.std.specs.Prelude.{◌≡◌, ◌≤◌, ◌^◌, All, IfErr, IfOk, IfSome, OnOk, length, unsigned_abs};
 ghost use Rattle.instance_reader.specs.Instance.{customer_nodes};
 ghost use Rattle.master_simplex.specs.Answer.{IsAnswer, IsLpWithin};
-ghost use Rattle.pricing.specs.Answers.{IsPriced};
 ghost use Rattle.column_pool.specs.Bounds.{IsNodeBound};
 ghost use Rattle.column_pool.specs.Columns.{AreNodeRoutes, IsMaster};
 ghost use Rattle.column_pool.specs.Faults.{IsMasterFault};
@@ -15,7 +14,7 @@ use crate::exact::bound_of;
 use crate::fault::MasterFault;
 use crate::master::Master;
 use crate::pool::ColumnPool;
-use crate::taking::{take_all, take_in};
+use crate::taking::{add_kept, take_all, take_in};
 use customer_sets::Pairs;
 use instance_reader::Instance;
 use master_simplex::{Lp, LpFault, solve};
@@ -33,25 +32,6 @@ fn prices_of(alloc: Global, lp: &Lp) -> Result<Prices, AllocError>
         weight: lp.weight,
         of,
     })
-}
-
-/// What pricing finds at the prices of an answer of the simplex method.
-fn price_at(alloc: Global, inst: &Instance, pairs: &Pairs, lp: &Lp) -> Result<Priced, AllocError>
-    requires few { length (customer_nodes inst.now) ≤ 128 }
-    requires pairs { pairs.now.customers ≡ length (customer_nodes inst.now) }
-    requires weight { lp.now.weight ≤ 2 ^ 40 }
-    requires one_price { length lp.now.prices.items ≡ length (customer_nodes inst.now) }
-    requires small_prices { All (λ price. unsigned_abs price ≤ 2 ^ 84) lp.now.prices.items }
-    ensures { IfOk result (IsPriced (record {
-      network = inst.now;
-      pairs = pairs.now;
-      weight = lp.now.weight;
-      prices = lp.now.prices.items;
-      labels = [];
-    })) }
-{
-    let prices = prices_of(alloc, lp)?;
-    price(alloc, inst, pairs, &prices)
 }
 
 /// The answer of the simplex method on the master problem's table.
@@ -102,7 +82,8 @@ fn round(
         (IsMasterFault inst.now master.old.table.caps master.new.plans.items) }
 {
     let lp = solve_master(alloc, inst, master)?;
-    match price_at(alloc, inst, pairs, &lp)? {
+    let prices = prices_of(alloc, &lp)?;
+    match price(alloc, inst, pairs, &prices)? {
         Priced::Closed { labels } => {
             let bound = bound_of(alloc, inst, pairs, master, lp, labels)?;
             Ok(Some(bound))
@@ -119,7 +100,8 @@ fn round(
     }
 }
 
-/// Adds the routes that pricing finds as columns until there is none.
+/// Adds the pool's routes that keep the pairs as columns, and then those that pricing finds, until
+/// there is none.
 pub(crate) fn price_out(
     alloc: Global,
     inst: &Instance,
@@ -140,6 +122,7 @@ pub(crate) fn price_out(
     ensures fault { IfErr result
         (IsMasterFault inst.now master.old.table.caps master.new.plans.items) }
 {
+    add_kept(alloc, inst, pairs, pool, master)?;
     loop {
         if let Some(bound) = round(alloc, inst, pairs, pool, master)? {
             return Ok(bound);
