@@ -1,11 +1,10 @@
 //! The text of `check`.
 
-ghost use Rattle.std.specs.Prelude.{◌≡◌, ◌≢◌, ◌++◌, ◌∷◌, [], OnErr, OnOk, codes};
+ghost use Rattle.std.specs.Prelude.{◌≡◌, ◌≢◌, ◌++◌, OnErr, OnOk};
 ghost use Rattle.certificate_check.specs.declared.verdict.Verdict.TheVariants as verdict;
 ghost use Rattle.ev_text.specs.Scans.{IsPrefixOf};
 ghost use Rattle.plan_check.specs.declared.fault.PlanFault.TheVariants as plan;
-ghost use Rattle.plan_writer.specs.CheckText.{IsJudged, accepted_text, check_text, rule_text, verdict_text, walk_text};
-ghost use Rattle.plan_writer.specs.ScaledText.{IsBoundOf};
+ghost use Rattle.plan_writer.specs.CheckText.{IsJudged, check_text, rule_text, verdict_text, walk_text};
 
 use crate::scaled::push_bounds;
 use crate::words::{push_numbered, push_word};
@@ -50,40 +49,20 @@ pub fn push_check_report(
 {
     match judgement {
         Judgement::Accepted { cost, bound } => {
-            push_accepted(alloc, out, *cost, *bound, inst.denominator())
+            out.extend_from_slice(b"accepted\n")?;
+            push_bounds(alloc, out, *cost, *bound, inst.denominator())
         }
-        Judgement::Plan(fault) => push_rejected_plan(alloc, out, fault),
-        Judgement::Certificate(verdict) => push_rejected_certificate(alloc, out, verdict),
+        Judgement::Plan(fault) => {
+            out.extend_from_slice(b"rejected plan ")?;
+            push_rule(alloc, out, fault)?;
+            out.extend_from_slice(b"\n")
+        }
+        Judgement::Certificate(verdict) => {
+            out.extend_from_slice(b"rejected certificate ")?;
+            push_verdict(alloc, out, verdict)?;
+            out.extend_from_slice(b"\n")
+        }
     }
-}
-
-/// Appends that a plan and a certificate are accepted, with cost, bound and gap.
-fn push_accepted(
-    alloc: Global,
-    out: &mut Vec<u8>,
-    cost: Option<u128>,
-    bound: Option<u128>,
-    denominator: u64,
-) -> Result<(), AllocError>
-    requires { IsBoundOf cost bound }
-    ensures ok { OnOk result
-        (out.new.items ≡ out.old.items ++ accepted_text denominator cost bound) }
-    ensures err { OnErr result (IsPrefixOf out.old.items out.new.items) }
-{
-    out.extend_from_slice(b"accepted\n")?;
-    push_bounds(alloc, out, cost, bound, denominator)
-}
-
-/// Appends the line of a plan that is rejected.
-fn push_rejected_plan(alloc: Global, out: &mut Vec<u8>, fault: &PlanFault) -> Result<(), AllocError>
-    ensures ok { OnOk result
-        (out.new.items ≡ out.old.items
-        ++ (codes "rejected plan " ++ rule_text fault.now ++ 10 ∷ [])) }
-    ensures err { OnErr result (IsPrefixOf out.old.items out.new.items) }
-{
-    out.extend_from_slice(b"rejected plan ")?;
-    push_rule(alloc, out, fault)?;
-    out.extend_from_slice(b"\n")
 }
 
 /// Appends the number of the rule that a plan breaks, and what breaks it.
@@ -149,23 +128,6 @@ fn push_stray(alloc: Global, out: &mut Vec<u8>, route: usize, at: usize) -> Resu
 {
     push_numbered(alloc, out, b"5 route ", route as u128)?;
     push_numbered(alloc, out, b" at ", at as u128)
-}
-
-/// Appends the line of a certificate that is rejected.
-fn push_rejected_certificate(
-    alloc: Global,
-    out: &mut Vec<u8>,
-    verdict: &Verdict,
-) -> Result<(), AllocError>
-    requires { verdict.now ≢ Verdict.Accepted }
-    ensures ok { OnOk result
-        (out.new.items ≡ out.old.items
-        ++ (codes "rejected certificate " ++ verdict_text verdict.now ++ 10 ∷ [])) }
-    ensures err { OnErr result (IsPrefixOf out.old.items out.new.items) }
-{
-    out.extend_from_slice(b"rejected certificate ")?;
-    push_verdict(alloc, out, verdict)?;
-    out.extend_from_slice(b"\n")
 }
 
 /// Appends the number of the rule that a certificate breaks, and what breaks it.

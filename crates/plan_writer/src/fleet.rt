@@ -1,10 +1,9 @@
 //! The text of `fleet`.
 
-ghost use Rattle.std.specs.Prelude.{◌≡◌, ◌≢◌, ◌*◌, ◌^◌, ◌<◌, ◌≤◌, ◌<ℤ◌, ◌++◌, OnErr, OnOk, Some, int_div, pos, unsigned_abs};
+ghost use Rattle.std.specs.Prelude.{◌≡◌, ◌≢◌, ◌*◌, ◌^◌, ◌<◌, ◌≤◌, ◌<ℤ◌, ◌++◌, OnErr, OnOk, int_div, pos, unsigned_abs};
 ghost use Rattle.std.specs.Int.{IsGcd};
 ghost use Rattle.ev_text.specs.Scans.{IsPrefixOf};
-ghost use Rattle.plan_writer.specs.FleetText.{AreOutcomes, IsExactLine, IsLowest, fleet_text, nodes_line, report_text, root_line};
-ghost use Rattle.plan_writer.specs.ScaledText.{IsBoundOf};
+ghost use Rattle.plan_writer.specs.FleetText.{AreOutcomes, IsExactLine, IsLowest, fleet_text, nodes_line, root_line};
 
 use crate::fixed::push_infeasible;
 use crate::make::push_number_line;
@@ -108,27 +107,13 @@ pub fn push_fleet_report(
     ensures err { OnErr result (IsPrefixOf out.old.items out.new.items) }
 {
     match outcomes.bound {
-        Some(bound) => push_found(alloc, out, outcomes, bound, inst.denominator()),
+        Some(bound) => {
+            push_bounds(alloc, out, outcomes.cost, Some(bound), inst.denominator())?;
+            push_root(alloc, out, &outcomes.root)?;
+            push_nodes(alloc, out, outcomes.stopped)
+        }
         None => push_infeasible(out),
     }
-}
-
-/// Appends the lines of a search that shows this bound.
-fn push_found(
-    alloc: Global,
-    out: &mut Vec<u8>,
-    outcomes: &Outcomes,
-    bound: u128,
-    denominator: u64,
-) -> Result<(), AllocError>
-    requires { IsBoundOf outcomes.now.cost (Some bound) }
-    ensures ok { OnOk result
-        (out.new.items ≡ out.old.items ++ report_text denominator outcomes.now (Some bound)) }
-    ensures err { OnErr result (IsPrefixOf out.old.items out.new.items) }
-{
-    push_bounds(alloc, out, outcomes.cost, Some(bound), denominator)?;
-    push_root(alloc, out, &outcomes.root)?;
-    push_nodes(alloc, out, outcomes.stopped)
 }
 
 /// Appends the line of a root.
