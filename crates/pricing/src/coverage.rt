@@ -7,7 +7,7 @@ ghost use Rattle.pricing.specs.Answers.{IsInRange};
 ghost use Rattle.pricing.specs.Tree.{IsTree};
 
 use crate::found::Tree;
-use crate::groups::{Brief, Gap};
+use crate::groups::{Brief, Detail, Gap, Group};
 use closed_lists::{Section, margin};
 use dominance::LabelValue;
 use piece_fn::Label;
@@ -33,25 +33,25 @@ pub(crate) struct Asked<'a> {
 }
 
 impl Asked<'_> {
-    /// Whether a label comes before the key and the number, has a level that is not below the one
-    /// asked for, and its customers let it make the label needless.
-    fn admits(&self, other: &Brief, level: u64) -> bool {
-        if other.key > self.key || other.top < level {
-            return false;
-        }
-        if other.key == self.key && other.number >= self.number {
-            return false;
-        }
-        self.care == Care::Quick || other.set.is_subset(self.label.set)
+    /// Whether a label is no later than a time at its least time, has a level that is not below one,
+    /// and its customers let it make the label needless.
+    ///
+    /// All three are looked at, since which one fails can't be foreseen.
+    fn admits(&self, other: &Brief, latest: u64, level: u64) -> bool {
+        let is_within = self.care == Care::Quick || other.set.is_subset(self.label.set);
+        (other.key <= latest) & (other.top >= level) & is_within
     }
 
-    /// Whether a label is no later than a time at its least time, and costs no more there than the
-    /// one asked for does at that time. Else it is later or dearer at each of its levels.
-    fn is_in_time(&self, other: &Brief, weight: u64, time: u64) -> bool {
-        if other.key > time {
+    /// Whether a label with a least time comes before the key and the number, and costs no more at
+    /// that time than the one asked for does at a time. Else it is dearer at each of its levels.
+    fn is_met(&self, key: u64, other: &Detail, weight: u64, time: u64) -> bool {
+        if key > self.key || key == self.key && other.number >= self.number {
             return false;
         }
-        let saved = u128::from(weight) * u128::from(time - other.key);
+        let Some(earlier) = time.checked_sub(key) else {
+            return false;
+        };
+        let saved = u128::from(weight) * u128::from(earlier);
         self.paid <= other.paid || self.paid.abs_diff(other.paid) <= saved
     }
 }
@@ -64,9 +64,9 @@ impl Tree {
         requires range { IsInRange terms.now.network asked.now.label.now }
         requires small { unsigned_abs asked.now.paid ≤ 2 ^ 91 }
     {
-        let group = self.groups[self.key_of(terms, asked.label)].as_slice();
+        let group = &self.groups[self.key_of(terms, asked.label)];
         let (mut level, _) = asked.label.value.least();
-        while let Some(to) = self.reach(terms, asked, group, level) {
+        while let Some(to) = self.reach(terms, asked, group, 0, level) {
             let next = to.checked_add(1)?;
             if asked.label.value.at(next).is_none() {
                 return None;
@@ -75,7 +75,7 @@ impl Tree {
         }
         Some(Gap {
             level,
-            compared: group.len(),
+            compared: group.briefs.len(),
         })
     }
 
@@ -88,23 +88,23 @@ impl Tree {
         requires range { IsInRange terms.now.network asked.now.label.now }
         requires small { unsigned_abs asked.now.paid ≤ 2 ^ 91 }
     {
-        let group = self.groups[self.key_of(terms, asked.label)].as_slice();
-        let Some(later) = group.get(gap.compared..) else {
-            return false;
-        };
+        let group = &self.groups[self.key_of(terms, asked.label)];
         if asked.label.value.at(gap.level).is_none() {
             return false;
         }
-        self.reach(terms, asked, later, gap.level).is_some() && self.gap(terms, asked).is_none()
+        self.reach(terms, asked, group, gap.compared, gap.level)
+            .is_some()
+            && self.gap(terms, asked).is_none()
     }
 
-    /// A level up to which a label of the group does so, from a level on; `None` where none does so
-    /// at that level.
+    /// A level up to which a label of the group from a place on does so, from a level on; `None`
+    /// where none does so at that level.
     fn reach(
         &self,
         terms: &Section<'_>,
         asked: &Asked<'_>,
-        group: &[Brief],
+        group: &Group,
+        first: usize,
         level: u64,
     ) -> Option<u64>
         requires tree { IsTree terms.now self.now.found.items self.now.groups.items }
@@ -118,14 +118,19 @@ impl Tree {
         let Some(time) = asked.label.value.at(level) else {
             return None;
         };
-        for brief in group.iter().rev() {
-            if !asked.admits(brief, level) || !asked.is_in_time(brief, weight, time) {
+        let latest = time.min(asked.key);
+        for place in (first..group.briefs.len()).rev() {
+            let brief = &group.briefs[place];
+            if !asked.admits(brief, latest, level) {
                 continue;
             }
-            if brief.number >= self.found.len() {
+            let Some(detail) = group.details.get(place) else {
+                continue;
+            };
+            if detail.number >= self.found.len() || !asked.is_met(brief.key, detail, weight, time) {
                 continue;
             }
-            if let Some(to) = self.reach_of(terms, asked, brief.number, level) {
+            if let Some(to) = self.reach_of(terms, asked, detail.number, level) {
                 return Some(to);
             }
         }

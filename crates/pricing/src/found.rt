@@ -5,7 +5,7 @@ ghost use Rattle.ev_model.specs.Network.{IsNetwork};
 ghost use Rattle.pricing.specs.Answers.{IsInRange};
 ghost use Rattle.pricing.specs.Tree.{HasOrigin, IsGrown, IsTree};
 
-use crate::groups::{Brief, Gap, no_labels};
+use crate::groups::{Gap, Group, no_labels};
 use closed_lists::Section;
 use piece_fn::Label;
 use std::alloc::{AllocError, Global};
@@ -27,9 +27,8 @@ pub(crate) struct Found {
 pub(crate) struct Tree {
     /// The labels, by number.
     pub(crate) found: Vec<Found>,
-    /// The labels with the same last customer and node, side by side in the order of their numbers;
-    /// by key.
-    pub(crate) groups: Vec<Vec<Brief>>,
+    /// The labels with the same last customer and node, by key.
+    pub(crate) groups: Vec<Group>,
 }
 
 impl Tree {
@@ -77,7 +76,7 @@ impl Tree {
     {
         let key = self.key_of(terms, &label);
         let number = self.found.len();
-        self.groups[key].push(Brief::new(&label, paid, number))?;
+        self.groups[key].push(&label, paid, number)?;
         self.found.push(Found {
             label,
             paid,

@@ -17,25 +17,54 @@ pub(crate) struct Brief {
     pub(crate) top: u64,
     /// The customers that it has served.
     pub(crate) set: CustSet,
+}
+
+/// What is read of a label after that.
+#[derive(Clone, Copy, Drop)]
+pub(crate) struct Detail {
     /// The price sum of its set.
     pub(crate) paid: i128,
     /// Its number, by which the tree has it.
     pub(crate) number: usize,
 }
 
-impl Brief {
-    /// That of a label with its price sum and its number.
-    pub(crate) fn new(label: &Label, paid: i128, number: usize) -> Brief {
+/// Labels with the same last customer and node, in the order of their numbers.
+///
+/// What is read first stands side by side, since a search mostly reads this.
+#[derive(Drop)]
+pub(crate) struct Group {
+    /// What is read first of the labels, by their place in the group.
+    pub(crate) briefs: Vec<Brief>,
+    /// What is read then, by the same places.
+    pub(crate) details: Vec<Detail>,
+}
+
+impl Group {
+    /// No label.
+    pub(crate) fn new(alloc: Global) -> Group {
+        Group {
+            briefs: Vec::new(alloc),
+            details: Vec::new(alloc),
+        }
+    }
+
+    /// Puts a label with its price sum and its number behind the others.
+    pub(crate) fn push(
+        &mut self,
+        label: &Label,
+        paid: i128,
+        number: usize,
+    ) -> Result<(), AllocError> {
         let (_, key) = label.value.least();
         let points = label.value.points();
         let (top, _) = points[points.len() - 1];
-        Brief {
+        self.briefs.push(Brief {
             key,
             top,
             set: label.set,
-            paid,
-            number,
-        }
+        })?;
+        self.details.push(Detail { paid, number })?;
+        Ok(())
     }
 }
 
@@ -57,12 +86,12 @@ impl Gap {
 }
 
 /// So many empty groups.
-pub(crate) fn no_labels(alloc: Global, groups: usize) -> Result<Vec<Vec<Brief>>, AllocError>
+pub(crate) fn no_labels(alloc: Global, groups: usize) -> Result<Vec<Group>, AllocError>
     ensures { IfOk result (λ all. length all.items ≡ groups) }
 {
     let mut all = Vec::new(alloc);
     for _ in 0..groups {
-        all.push(Vec::new(alloc))?;
+        all.push(Group::new(alloc))?;
     }
     Ok(all)
 }
