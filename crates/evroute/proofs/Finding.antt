@@ -405,16 +405,21 @@ finds_no_instance job shelf made nothing answered text memory = record {
   files = leaves_no_instance job shelf made nothing answered memory;
 }
 
--- memory was refused before anything was written
-pub finds_no_memory : (job : MakeJob) (shelf : ShelfState) → Finds (MakeInstance job) shelf shelf (Err Memory)
-finds_no_memory job shelf = record {
+-- memory was refused
+pub finds_memory : (job : Job) (before after : ShelfState) → CountsStay before after → CountsNeverFall before after → LeavesFiles job before after status.Memory
+    → Finds job before after (Err Memory)
+finds_memory job before after stays falls left = record {
   answered = tt;
   answers = tt;
   fault = λ failed. absurd (memory_is_no_failure {A = Answer} (Err Memory) refl failed);
-  stays = λ none. nothing_fails shelf;
-  falls = nothing_falls shelf;
-  files = inl refl;
+  stays = λ none. stays;
+  falls = falls;
+  files = left;
 }
+
+-- memory was refused before anything was written
+pub finds_no_memory : (job : Job) (shelf : ShelfState) → LeavesFiles job shelf shelf status.Memory → Finds job shelf shelf (Err Memory)
+finds_no_memory job shelf left = finds_memory job shelf shelf (nothing_fails shelf) (nothing_falls shelf) left
 
 -- the made text was written, however the job ends
 leaves_written : (job : MakeJob) (before after : ShelfState) (ended : Status) → WritesMade job before.files after.files → LeavesMade job before after ended
@@ -454,11 +459,5 @@ finds_unwritten {A} job before after Failed within failed memory stays falls oth
   falls = falls;
   files = inr (inr ((failed refl, within), others));
 }
-finds_unwritten {A} job before after Memory within failed memory stays falls others = record {
-  answered = tt;
-  answers = tt;
-  fault = λ is. absurd (memory_is_no_failure {A = Answer} (Err Memory) refl is);
-  stays = λ none. stays (λ is. cc);
-  falls = falls;
-  files = inl (memory refl);
-}
+finds_unwritten {A} job before after Memory within failed memory stays falls others =
+    finds_memory (MakeInstance job) before after (stays (λ is. cc)) falls (inl (memory refl))

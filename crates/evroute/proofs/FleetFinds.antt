@@ -6,7 +6,7 @@ use Rattle.ev_outside.specs.Counts.{Rose}
 use Rattle.ev_outside.specs.Shelf.{CountsNeverFall, CountsStay, Files, HoldsUnder, KeepsOthers, ShelfState}
 use Rattle.ev_outside.specs.declared.shelf.ShelfFault.{ShelfFault}
 use Rattle.ev_outside.specs.declared.shelf.ShelfFault.TheVariants.{Failed, Memory}
-use Rattle.evroute.proofs.Finding.{counts_since, memory_is_no_failure, never_fall_since, nothing_fails, nothing_falls, ok_is_no_error}
+use Rattle.evroute.proofs.Finding.{counts_since, finds_memory, never_fall_since, ok_is_no_error}
 use Rattle.evroute.proofs.Performed.{leaves_both}
 use Rattle.evroute.specs.CheckAnswer.{HasFleetNetwork}
 use Rattle.evroute.specs.Ended.{IsFleetEnded}
@@ -53,34 +53,22 @@ no_refusal None stopped is = cc
 no_refusal (Some bound) true is = cc
 no_refusal (Some bound) false is = cc
 
-no_words : (bound : Option ℕ) (stopped : Bool) → status.Words ≡ search_status bound stopped → ⊥
-no_words None stopped is = cc
-no_words (Some bound) true is = cc
-no_words (Some bound) false is = cc
+answered_status : (bound : Option ℕ) (stopped : Bool) → IsAnswered (search_status bound stopped)
+answered_status None stopped = tt
+answered_status (Some bound) true = tt
+answered_status (Some bound) false = tt
 
-no_fault : (bound : Option ℕ) (stopped : Bool) → status.Fault ≡ search_status bound stopped → ⊥
-no_fault None stopped is = cc
-no_fault (Some bound) true is = cc
-no_fault (Some bound) false is = cc
-
-no_memory : (bound : Option ℕ) (stopped : Bool) → status.Memory ≡ search_status bound stopped → ⊥
-no_memory None stopped is = cc
-no_memory (Some bound) true is = cc
-no_memory (Some bound) false is = cc
+is_answered : (ended : Status) (bound : Option ℕ) (stopped : Bool) → ended ≡ search_status bound stopped → IsAnswered ended
+is_answered ended bound stopped is = subst IsAnswered (sym is) (answered_status bound stopped)
 
 found_answers : (job : FleetJob) (bytes : List ℕ) (new : Option Files) (ended : Status) (text : List ℕ) → PutsFound job bytes new ended text → FleetAnswers job bytes new ended text
 found_answers job bytes new status.Done text p = p
 found_answers job bytes new status.Negative text p = p
 found_answers job bytes new status.Stopped text p = p
 found_answers job bytes new status.Refused text p = absurd (no_refusal p.found.outcome.certificate.bound p.found.outcome.stopped p.found.status_is)
-found_answers job bytes new status.Words text p = absurd (no_words p.found.outcome.certificate.bound p.found.outcome.stopped p.found.status_is)
-found_answers job bytes new status.Fault text p = absurd (no_fault p.found.outcome.certificate.bound p.found.outcome.stopped p.found.status_is)
-found_answers job bytes new status.Memory text p = absurd (no_memory p.found.outcome.certificate.bound p.found.outcome.stopped p.found.status_is)
-
-answered_status : (bound : Option ℕ) (stopped : Bool) → IsAnswered (search_status bound stopped)
-answered_status None stopped = tt
-answered_status (Some bound) true = tt
-answered_status (Some bound) false = tt
+found_answers job bytes new status.Words text p = absurd (is_answered status.Words p.found.outcome.certificate.bound p.found.outcome.stopped p.found.status_is)
+found_answers job bytes new status.Fault text p = absurd (is_answered status.Fault p.found.outcome.certificate.bound p.found.outcome.stopped p.found.status_is)
+found_answers job bytes new status.Memory text p = absurd (is_answered status.Memory p.found.outcome.certificate.bound p.found.outcome.stopped p.found.status_is)
 
 -- ---- what a search found, in the terms of its job
 
@@ -117,7 +105,7 @@ finds_both job before mid after bytes g plan_bytes cert_bytes plan_given cert_gi
     } in
     let refused : answer.status ≢ status.Refused = λ is. no_refusal found.outcome.certificate.bound found.outcome.stopped (sym is ∙ found.status_is) in
     record {
-      answered = subst (λ (s : Status). IsAnswered s) (sym found.status_is) (answered_status found.outcome.certificate.bound found.outcome.stopped);
+      answered = is_answered answer.status found.outcome.certificate.bound found.outcome.stopped found.status_is;
       answers = (
         bytes,
         read,
@@ -154,14 +142,8 @@ finds_unplanned {A} job before after bytes g Failed read fleet failed memory sta
       falls = falls;
       files = inr (inl (comes, others));
     }
-finds_unplanned {A} job before after bytes g Memory read fleet failed memory stays falls others = record {
-  answered = tt;
-  answers = tt;
-  fault = λ is. absurd (memory_is_no_failure {A = Answer} (Err Memory) refl is);
-  stays = λ none. stays (λ is. cc);
-  falls = falls;
-  files = inl (memory refl);
-}
+finds_unplanned {A} job before after bytes g Memory read fleet failed memory stays falls others =
+    finds_memory (PlanFleet job) before after (stays (λ is. cc)) falls (inl (memory refl))
 
 write_failed_since : (before mid after : ShelfState) (name : List ℕ) → CountsStay before mid → HasFailedWrite mid after name → HasFailedWrite before after name
 write_failed_since before mid after name stays failed =
@@ -198,22 +180,4 @@ finds_uncertified {A} job before mid after bytes g plan_bytes cert_bytes plan_gi
       plan = subst (λ (fs : Option Files). HoldsUnder fs job.plan plan_bytes) (sym (memory refl)) (subst (λ (bs : List ℕ). HoldsUnder mid.files job.plan bs) plan_is plan);
       others = subst (λ (fs : Option Files). KeepsOthers job.plan before.files fs) (sym (memory refl)) keeps;
     } in
-    record {
-      answered = tt;
-      answers = tt;
-      fault = λ is. absurd (memory_is_no_failure {A = Answer} (Err Memory) refl is);
-      stays = λ none. counts_since before mid after stays (stays_on (λ is. cc));
-      falls = never_fall_since before mid after falls falls_on;
-      files = inr (inl written);
-    }
-
--- memory was refused before anything was written
-pub finds_no_plan : (job : FleetJob) (shelf : ShelfState) → Finds (PlanFleet job) shelf shelf (Err Memory)
-finds_no_plan job shelf = record {
-  answered = tt;
-  answers = tt;
-  fault = λ failed. absurd (memory_is_no_failure {A = Answer} (Err Memory) refl failed);
-  stays = λ none. nothing_fails shelf;
-  falls = nothing_falls shelf;
-  files = inl refl;
-}
+    finds_memory (PlanFleet job) before after (counts_since before mid after stays (stays_on (λ is. cc))) (never_fall_since before mid after falls falls_on) (inr (inl written))

@@ -4,6 +4,7 @@ use Rattle.std.specs.List.{All}
 use Rattle.std.specs.Prelude.{if◌then◌else◌, get_or, slice_get}
 use Rattle.std.proofs.lemmas.Int.{ints}
 use Rattle.std.proofs.lemmas.List.Elements.{All-head}
+use Rattle.std.proofs.lemmas.Option.{same_Some}
 use Rattle.bound_certificate.specs.CertificateTexts.{certificate_text}
 use Rattle.bound_certificate.specs.Meaning.{priced_section, priced_sections}
 use Rattle.bound_certificate.specs.Ranges.{Fits, SectionFits}
@@ -20,13 +21,11 @@ use Rattle.ev_fleet.specs.Bounds.{IsAtMost, IsBoundOf}
 use Rattle.ev_fleet.specs.Outcome.{IsOutcome}
 use Rattle.ev_fleet.specs.Plans.{IsHeld, cost_held}
 use Rattle.ev_fleet.specs.declared.outcome.Outcome.{Outcome}
-use Rattle.ev_model.specs.Fleet.{cost_of}
 use Rattle.ev_model.specs.Network.{IsNetwork, Network}
 use Rattle.fleet_model.specs.Prices.{sum_of}
 use Rattle.fleet_model.specs.Section.{Section as PricedSection}
 use Rattle.plan_check.specs.FleetRules.{stops_of}
 use Rattle.plan_writer.specs.FleetText.{AreOutcomes, IsExactLine, IsLowest, StandsBeside, StandsBesideRoot, fleet_text}
-use Rattle.plan_writer.specs.ScaledText.{IsBoundOf as IsBoundOfCost}
 use Rattle.plan_writer.specs.declared.fleet.RootLine.{RootLine}
 use Rattle.plan_writer.specs.declared.fleet.RootLine.TheVariants as line
 use Rattle.route_plan.specs.PlanTexts.{FitsFile, fleet_plan_text}
@@ -34,31 +33,14 @@ use Rattle.route_plan.specs.declared.plan.FleetPlan.{FleetPlan}
 use Rattle.evroute.specs.CheckAnswer.{IsValid}
 use Rattle.evroute.specs.FleetAnswer.{IsFound, TellsKind, TellsRootOf, outcomes_of, search_status}
 use Rattle.evroute.specs.declared.status.Status.{Status}
+use Rattle.evroute.proofs.Accepting.{is_bound_of_cost}
 use Rattle.evroute.proofs.SearchStatus.{status_tells}
 
 -- ---- the cost of the plan that is held
 
-some_or : {A : Type 0} → A → Option A → A
-some_or a None = a
-some_or a (Some b) = b
-
-same_some : {A : Type 0} (a b : A) → ◌≡◌ {A = Option A} (Some a) (Some b) → a ≡ b
-unfolding some_or
-same_some {A} a b is = ap (λ (o : Option A). some_or a o) is
-
 pub valid_cost : (g : Network) (plan : Option FleetPlan) (cost : Option ℕ) → IsValid g plan cost → cost ≡ cost_held g plan
 valid_cost g None cost valid = valid
 valid_cost g (Some p) cost valid = valid.1
-
-pub is_bound_of_cost : (g : Network) (plan : Option FleetPlan) (cost bound : Option ℕ) → IsValid g plan cost → IsTrueBound g bound → IsBoundOfCost cost bound
-is_bound_of_cost g None None bound valid true_bound = tt
-is_bound_of_cost g None (Some c) bound valid true_bound = absurd (cc)
-is_bound_of_cost g (Some p) None bound valid true_bound = tt
-is_bound_of_cost g (Some p) (Some c) None valid true_bound = tt
-is_bound_of_cost g (Some p) (Some c) (Some b) valid true_bound =
-    let le : 1 * b ≤ cost_of g 1 (stops_of p.routes) = true_bound 1 (stops_of p.routes) valid.0 in
-    let same : c ≡ cost_of g 1 (stops_of p.routes) = same_some c (cost_of g 1 (stops_of p.routes)) valid.1 in
-    omega (arith, le, same)
 
 pub stands_beside : (g : Network) (plan : Option FleetPlan) (cost bound : Option ℕ) → IsValid g plan cost → IsTrueBound g bound → StandsBeside cost bound
 stands_beside g plan None None valid true_bound = tt
@@ -72,14 +54,14 @@ stands_beside g (Some p) (Some c) None valid true_bound = true_bound 1 (stops_of
 same_section : (sections : List Section) (x : Section) (s : PricedSection) → slice_get sections 0 ≡ Some x → slice_get (priced_sections sections) 0 ≡ Some s → priced_section x ≡ s
 same_section [] x s here at = absurd (cc)
 same_section (y ∷ ys) x s here at =
-    ap (λ (z : Section). priced_section z) (sym (same_some y x here)) ∙ same_some (priced_section y) s at
+    ap (λ (z : Section). priced_section z) (sym (same_Some y x here)) ∙ same_Some (priced_section y) s at
 
 section_at : (c : Certificate) (x : Section) → slice_get c.sections 0 ≡ Some x → IsSectionAt c 0 (priced_section x)
 section_at c x here = at c.sections here
   where
     at : (sections : List Section) → slice_get sections 0 ≡ Some x → slice_get (priced_sections sections) 0 ≡ Some (priced_section x)
     at [] here = absurd (cc)
-    at (y ∷ ys) here = ap (λ (z : Section). Some (priced_section z)) (same_some y x here)
+    at (y ∷ ys) here = ap (λ (z : Section). Some (priced_section z)) (same_Some y x here)
 
 -- the first of some sections stands in their list
 pub first_stands : (sections : List Section) (x : Section) → 1 ≤ length sections → x ≡ get_or sections 0 x → slice_get sections 0 ≡ Some x
@@ -100,7 +82,7 @@ section_fits g c x fits here = first c.sections here fits.sections
   where
     first : (sections : List Section) → slice_get sections 0 ≡ Some x → All (SectionFits g) sections → SectionFits g x
     first [] here all = absurd (cc)
-    first (y ∷ ys) here all = subst (λ (z : Section). SectionFits g z) (same_some y x here) (All-head (SectionFits g) y ys all)
+    first (y ∷ ys) here all = subst (λ (z : Section). SectionFits g z) (same_Some y x here) (All-head (SectionFits g) y ys all)
 
 pub tells_exact : (g : Network) (c : Certificate) (over : ℕ) (shares : List Share) (x : Section) (told : RootLine) → IsNetwork g → Fits g c → IsAccepted g c →
     c.root ≡ root.Exact over shares → slice_get c.sections 0 ≡ Some x → IsExactLine (sum_of x.prices) (x.weight * g.denominator) told → TellsRootOf g c told

@@ -1,5 +1,6 @@
-use Rattle.command_line.specs.Words.{fleet_job_of}
-use Rattle.evroute.proofs.FleetFinds.{finds_no_plan}
+use Rattle.std.proofs.Common.{inl, refl}
+use Rattle.command_line.specs.Words.{PlanFleet, fleet_job_of}
+use Rattle.evroute.proofs.Finding.{finds_no_memory}
 use Rattle.evroute.proofs.fleet.plan_on.Goals as goal
 
 pub returns-in-Ok : goal.returns-in-Ok
@@ -8,4 +9,4 @@ returns-in-Ok g c = λ file bytes limit read fleet.
 
 pub returns-in-Err : goal.returns-in-Err
 returns-in-Err g c = λ file bytes limit read fleet.
-    finds_no_plan (fleet_job_of file c.args.plan.now c.args.cert.now limit c.args.nodes) (g.S.Shelf.state c.args.shelf.now)
+    finds_no_memory (PlanFleet (fleet_job_of file c.args.plan.now c.args.cert.now limit c.args.nodes)) (g.S.Shelf.state c.args.shelf.now) (inl refl)

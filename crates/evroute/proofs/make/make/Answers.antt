@@ -1,5 +1,5 @@
-use Rattle.std.proofs.Common.{◌∙◌, ℕ, List, rules, subst}
-use Rattle.command_line.specs.Words.{MakeJob, make_job_of}
+use Rattle.std.proofs.Common.{◌∙◌, ℕ, List, inl, refl, rules, subst}
+use Rattle.command_line.specs.Words.{MakeInstance, MakeJob, make_job_of}
 use Rattle.evroute.proofs.Finding.{finds_no_instance, finds_no_memory, ok_is_no_error}
 use Rattle.evroute.specs.MakeAnswer.{HasNoInstance}
 use Rattle.instance_reader.specs.Faults.{IsInstanceOf}
@@ -20,4 +20,4 @@ returns-in-Err-Range g c =
 
 pub returns-in-Err-Memory : goal.returns-in-Err-Memory
 returns-in-Err-Memory g c =
-    finds_no_memory (make_job_of c.args.seed c.args.customers c.args.stations c.args.outfile.now) (g.S.Shelf.state c.args.shelf.now)
+    finds_no_memory (MakeInstance (make_job_of c.args.seed c.args.customers c.args.stations c.args.outfile.now)) (g.S.Shelf.state c.args.shelf.now) (inl refl)
