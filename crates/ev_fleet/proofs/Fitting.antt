@@ -1,7 +1,7 @@
 -- The lines of the tree of a search are in the ranges of a certificate.
 use Rattle.std.proofs.Common.{ℕ, ◌<◌, Bool, List, [], ◌∷◌, ◌++◌, length, Option}
-use Rattle.std.specs.List.{All, Contains}
-use Rattle.std.proofs.lemmas.List.Elements.{All-append, All-cons, All-contains, All-contains_itself, All-head, All-nil, All-weaker, Contains-append_left, Contains-append_right}
+use Rattle.std.specs.List.{All}
+use Rattle.std.proofs.lemmas.List.Elements.{All-append, All-cons, All-head, All-nil}
 use Rattle.std.proofs.lemmas.Option.{slice_get_within}
 use Rattle.customer_sets.specs.Pairs.{forbid, require}
 use Rattle.bound_certificate.specs.Ranges.{LineFits}
@@ -11,14 +11,7 @@ use Rattle.bound_certificate.specs.declared.certificate.TreeLine.TheVariants.{Sp
 use Rattle.ev_fleet.specs.Bounds.{IsNotBelow}
 use Rattle.ev_fleet.specs.Searched.{EachNode, SearchedTree, branches_of, fork, names_of, tip}
 use Rattle.ev_fleet.specs.Standing.{IsSplitWell}
-
-all_left : (P : ℕ → Type 0) (xs ys : List ℕ) → All P (xs ++ ys) → All P xs
-all_left P xs ys all =
-    All-weaker (Contains xs) P (λ x has. All-contains P (xs ++ ys) x all (Contains-append_left xs ys x has)) xs (All-contains_itself xs)
-
-all_right : (P : ℕ → Type 0) (xs ys : List ℕ) → All P (xs ++ ys) → All P ys
-all_right P xs ys all =
-    All-weaker (Contains ys) P (λ x has. All-contains P (xs ++ ys) x all (Contains-append_right xs ys x has)) ys (All-contains_itself ys)
+use Rattle.ev_fleet.proofs.Halves.{all_left, all_right}
 
 pub lines_fit : (n : ℕ) (sections : List Section) (bound : Option ℕ) (allows : ℕ → ℕ → Bool) (above : List ℕ) (t : SearchedTree) → EachNode (λ a b x. IsSplitWell n a x) allows above t
     → All (IsNotBelow sections bound) (names_of t) → All (LineFits n (length sections)) (lines_of (branches_of t))

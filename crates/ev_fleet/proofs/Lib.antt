@@ -7,12 +7,12 @@ pub mod Settling
 pub mod Named
 pub mod Numbers
 pub mod Ending
+pub mod Halves
 pub mod Under
 pub mod Root
 pub mod Closing
 pub mod Steps
 pub mod Fitting
-pub mod Sums
 pub mod Outcomes
 pub mod Taken
 pub mod Least

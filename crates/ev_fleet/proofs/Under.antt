@@ -1,8 +1,8 @@
 -- Each leaf names a section whose forbidden pairs are among the leaf's.
-use Rattle.std.proofs.Common.{◌≡◌, ◌∙◌, ℕ, zero, suc, not, ◌&&◌, ◌||◌, nat_eq, option_map, Bool, true, List, [], ◌∷◌, ◌++◌, Option, Some, None, sym, ap, subst}
+use Rattle.std.proofs.Common.{◌≡◌, ◌∙◌, ℕ, zero, suc, not, ◌&&◌, ◌||◌, nat_eq, option_map, Bool, true, List, [], ◌∷◌, Option, Some, None, sym, ap, subst}
 use Rattle.std.specs.Prelude.{slice_get}
-use Rattle.std.specs.List.{All, Contains}
-use Rattle.std.proofs.lemmas.List.Elements.{All-cons, All-contains, All-contains_itself, All-head, All-weaker, Contains-append_left, Contains-append_right}
+use Rattle.std.specs.List.{All}
+use Rattle.std.proofs.lemmas.List.Elements.{All-cons, All-contains, All-head, All-weaker}
 use Rattle.std.proofs.lemmas.Bool.{and_parts}
 use Rattle.std.proofs.lemmas.Option.{none-some, same_Some}
 use Rattle.customer_sets.specs.Pairs.{allows_of, forbid, require}
@@ -13,20 +13,13 @@ use Rattle.fleet_model.specs.Tree.{IsUnder, LeavesAreUnder}
 use Rattle.ev_fleet.specs.Bounds.{HasSection, IsBoundOf, IsNotBelow}
 use Rattle.ev_fleet.specs.Searched.{EachNode, SearchedTree, branches_of, fork, names_of, own_of, tip}
 use Rattle.ev_fleet.specs.Standing.{HasOwnPairs, IsGreatestOf, NamesGreatest, on_the_way}
+use Rattle.ev_fleet.proofs.Halves.{all_left, all_right}
 use Rattle.ev_fleet.proofs.Numbers.{bounded}
 
 pub get_priced : (sections : List Section) (number : ℕ) (s : Section) → slice_get sections number ≡ Some s → slice_get (priced_sections sections) number ≡ Some (priced_section s)
 get_priced [] number s here = absurd (none-some s here)
 get_priced (x ∷ sections) zero s here = ap (option_map priced_section) here
 get_priced (x ∷ sections) (suc number) s here = get_priced sections number s here
-
-all_left : (P : ℕ → Type 0) (xs ys : List ℕ) → All P (xs ++ ys) → All P xs
-all_left P xs ys all =
-    All-weaker (Contains xs) P (λ x has. All-contains P (xs ++ ys) x all (Contains-append_left xs ys x has)) xs (All-contains_itself xs)
-
-all_right : (P : ℕ → Type 0) (xs ys : List ℕ) → All P (xs ++ ys) → All P ys
-all_right P xs ys all =
-    All-weaker (Contains ys) P (λ x has. All-contains P (xs ++ ys) x all (Contains-append_right xs ys x has)) ys (All-contains_itself ys)
 
 -- the section allows what is allowed here
 abbrev pub AllowsHere : List Section → (ℕ → ℕ → Bool) → ℕ → Type 0

@@ -1,44 +1,17 @@
-//! A fleet plan of routes that are taken greedily.
+//! Routes that are taken greedily.
 
-ghost use Rattle.std.specs.Prelude.{◌≡◌, ◌≤◌, map, length, IfOk, OnOk};
+ghost use Rattle.std.specs.Prelude.{◌≡◌, map, IfOk, OnOk};
 ghost use Rattle.std.specs.List.Sorted.{IsNonDecreasingBy, IsPermutation};
-ghost use Rattle.instance_reader.specs.Instance.{customer_nodes};
-ghost use Rattle.ev_fleet.specs.Bounds.{IsAtMost};
-ghost use Rattle.ev_fleet.specs.Greedy.{AreGreedy, TakesGreedy, meet, meets_any, rank, routes_at, visits, with_all_apart, with_apart};
-ghost use Rattle.ev_fleet.specs.Held.{MayHold, cost_at};
+ghost use Rattle.ev_fleet.specs.Greedy.{AreGreedy, meet, meets_any, rank, routes_at, visits, with_all_apart, with_apart};
 
-use crate::held::{Held, offer};
-use crate::shares::{copy_of, plan_of_routes};
+use crate::held::Held;
+use crate::shares::copy_of;
 use bound_certificate::Share;
-use instance_reader::Instance;
 use route_plan::RoutePlan;
 use std::alloc::{AllocError, Global};
 
-/// Offers a plan of routes that are taken greedily as the plan that is held: the routes with
-/// shares, those of the greatest shares first, and then the routes of the plan that is held, each
-/// where it serves no customer that is served already.
-pub(crate) fn offer_greedy(
-    alloc: Global,
-    inst: &Instance,
-    held: &mut Option<Held>,
-    shares: &[Share],
-) -> Result<(), AllocError>
-    requires few { length (customer_nodes inst.now) ≤ 128 }
-    requires held { MayHold inst.now held.old }
-    ensures held { MayHold inst.now held.new }
-    ensures kept { IsAtMost (cost_at held.new) (cost_at held.old) }
-    ensures taken { OnOk result
-        (TakesGreedy inst.now shares.now (routes_at held.old) (cost_at held.new)) }
-{
-    let routes = greedy_routes(alloc, shares, routes_at(held))?;
-    if let Some(plan) = plan_of_routes(inst, routes) {
-        offer(inst, held, plan);
-    }
-    Ok(())
-}
-
 /// The routes of the plan that is held.
-fn routes_at(held: &Option<Held>) -> &[RoutePlan]
+pub(crate) fn routes_at(held: &Option<Held>) -> &[RoutePlan]
     ensures { result.now ≡ routes_at held.now }
 {
     match held {
@@ -47,8 +20,9 @@ fn routes_at(held: &Option<Held>) -> &[RoutePlan]
     }
 }
 
-/// The routes that are taken.
-fn greedy_routes(
+/// Routes that are taken greedily: those with shares, the greatest shares first, and then the
+/// others, each where it serves no customer that is served already.
+pub(crate) fn greedy_routes(
     alloc: Global,
     shares: &[Share],
     others: &[RoutePlan],

@@ -15,10 +15,10 @@ ghost use Rattle.ev_fleet.specs.Held.{MayHold, cost_at};
 ghost use Rattle.ev_fleet.specs.Searching.{IsTakenNext, ReachesCost, TakesShares};
 ghost use Rattle.ev_fleet.specs.Splitting.{CannotSplit, IsSettled};
 
-use crate::greedy::offer_greedy;
+use crate::greedy::{greedy_routes, routes_at};
 use crate::held::{Held, offer};
 use crate::pair::choose_pair;
-use crate::shares::plan_of_shares;
+use crate::shares::{plan_of_routes, plan_of_shares};
 use bound_certificate::{Root, Section, Share};
 use branching::Tree;
 use column_pool::{ColumnPool, NodeBound, bound_node};
@@ -83,8 +83,8 @@ pub(crate) fn bound_pairs(
     Ok((section, root))
 }
 
-/// Offers the plans of the shares as the plan that is held; where they are no fleet plan, those of
-/// them that are taken greedily.
+/// Offers the plans of the shares as the plan that is held; where they are no fleet plan, a plan of
+/// routes that are taken greedily: of those with shares, and then of the plan that is held.
 fn offer_shares(
     alloc: Global,
     inst: &Instance,
@@ -101,7 +101,12 @@ fn offer_shares(
 {
     match plan_of_shares(alloc, inst, shares)? {
         Some(plan) => offer(inst, held, plan),
-        None => offer_greedy(alloc, inst, held, shares)?,
+        None => {
+            let routes = greedy_routes(alloc, shares, routes_at(held))?;
+            if let Some(plan) = plan_of_routes(inst, routes) {
+                offer(inst, held, plan);
+            }
+        }
     }
     Ok(())
 }
