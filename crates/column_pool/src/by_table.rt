@@ -4,8 +4,7 @@ ghost use Rattle.std.specs.Prelude.{◌≡◌, ◌≤◌, ◌^◌, IfErr, IfOk, 
 ghost use Rattle.instance_reader.specs.Instance.{customer_nodes};
 ghost use Rattle.master_table.specs.RowView.{limits_of};
 ghost use Rattle.column_pool.specs.Bounds.{IsNodeBound};
-ghost use Rattle.column_pool.specs.Columns.{AreNodeRoutes, IsMaster};
-ghost use Rattle.column_pool.specs.Faults.{IsMasterFault, IsNodeFault};
+ghost use Rattle.column_pool.specs.Faults.{IsNodeFault};
 ghost use Rattle.column_pool.specs.Pool.{IsGrown, IsPool};
 
 use crate::bound::NodeBound;
