@@ -1,5 +1,5 @@
 -- An accepted certificate breaks no rule, no fleet plan costs less than its bound, and what stands for the same is accepted too.
-use Rattle.std.proofs.Common.{◌≡◌, ◌∙◌, ℕ, ◌*◌, ◌≤◌, ◌⊎◌, Bool, List, [], ◌∷◌, Option, None, Some, ap, arith, inl, inr, refl, subst, sym}
+use Rattle.std.proofs.Common.{◌≡◌, ◌∙◌, ℕ, ◌*◌, ◌≤◌, ◌⊎◌, Bool, List, [], Option, None, Some, arith, inl, inr, refl, subst, sym}
 use Rattle.std.specs.List.{All}
 use Rattle.std.specs.Prelude.{slice_get}
 use Rattle.std.proofs.lemmas.List.Elements.{All-append, All-cons, All-nil}

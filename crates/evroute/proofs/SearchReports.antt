@@ -1,5 +1,5 @@
 -- What is reported of a search.
-use Rattle.std.proofs.Common.{◌≡◌, ◌∙◌, ℕ, ◌+◌, ◌*◌, ◌≤◌, ◌∷◌, ◌++◌, [], List, Option, None, Some, IfSome, ap, arith, inl, inr, length, subst, sym}
+use Rattle.std.proofs.Common.{◌≡◌, ◌∙◌, ℕ, ◌*◌, ◌≤◌, ◌∷◌, ◌++◌, [], List, Option, None, Some, IfSome, ap, arith, inl, inr, length, subst, sym}
 use Rattle.std.specs.List.{All}
 use Rattle.std.specs.Prelude.{if◌then◌else◌, get_or, slice_get}
 use Rattle.std.proofs.lemmas.Int.{ints}
