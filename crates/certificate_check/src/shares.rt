@@ -26,7 +26,8 @@ pub(crate) fn is_exact(inst: &Instance, section: &Section, over: u64, shares: &[
     requires few { length (customer_nodes inst.now) ≤ 128 }
     requires fits { SectionFits inst.now section.now }
     requires shares { SharesFit over shares.now }
-    ensures { TellsExact inst.now (priced_section section.now) over (route_shares shares.now) result }
+    ensures { TellsExact inst.now (priced_section section.now) over (route_shares shares.now)
+        result }
 {
     if !are_routes(inst, shares) {
         return false;
@@ -90,7 +91,8 @@ fn cost_the_bound(inst: &Instance, section: &Section, over: u64, shares: &[Share
     requires fits { SectionFits inst.now section.now }
     requires small { over ≤ 2 ^ 40 }
     requires cover { IsFractionalCover inst.now 1 over (route_shares shares.now) }
-    ensures { TellsCost inst.now (priced_section section.now) over (route_shares shares.now) result }
+    ensures { TellsCost inst.now (priced_section section.now) over (route_shares shares.now)
+        result }
 {
     let sum = price_total(section.prices.as_slice());
     if section.weight == 0 || sum < 0 {

@@ -39,7 +39,8 @@ fn listed_routes(
     columns: &[RoutePlan],
 ) -> Result<Option<Vec<ListedRoute>>, AllocError>
     requires few { length (customer_nodes inst.now) ≤ 128 }
-    ensures { IfOk result (λ routes. TellsColumns inst.now columns.now (option_map (λ v. v.items) routes)) }
+    ensures { IfOk result (λ routes.
+        TellsColumns inst.now columns.now (option_map (λ v. v.items) routes)) }
 {
     let mut routes = Vec::new(alloc);
     for column in columns {

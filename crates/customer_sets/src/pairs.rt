@@ -27,7 +27,8 @@ impl Model for Pairs {
 
     ghost view = { λ s. record { customers = s.customers; after = s.after; home = s.home } };
 
-    ghost invariant = { λ s. IsPairs (record { customers = s.customers; after = s.after; home = s.home }) };
+    ghost invariant = { λ s.
+        IsPairs (record { customers = s.customers; after = s.after; home = s.home }) };
 
     ghost inverse = { λ p. record { customers = p.customers; after = p.after; home = p.home } };
 }

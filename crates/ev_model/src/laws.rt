@@ -17,7 +17,8 @@ pub fn charge_time_is_linear()
         IsCurve full (before ++ p ∷ after) → IsMultipleOfSlopes full (before ++ p ∷ after) d →
         p.1 ≤ full →
         charge_time d (before ++ p ∷ after) p.1 ≡ d * p.0 }
-    ensures linear { (d full : ℕ) (before : List (ℕ × ℕ)) (p q : ℕ × ℕ) (after : List (ℕ × ℕ)) (level : ℕ) →
+    ensures linear { (d full : ℕ) (before : List (ℕ × ℕ)) (p q : ℕ × ℕ) (after : List (ℕ × ℕ)) →
+        (level : ℕ) →
         IsCurve full (before ++ p ∷ q ∷ after) →
         IsMultipleOfSlopes full (before ++ p ∷ q ∷ after) d →
         p.1 < full → p.1 ≤ level → level ≤ q.1 →

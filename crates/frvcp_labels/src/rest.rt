@@ -200,8 +200,9 @@ impl<'a> Arcs<'a> {
         ensures lowered { IsLowered (base + node_count self.now.inst.now) least.old least.new }
         ensures less { IsTrue result → sum least.new < sum least.old }
         ensures same { result ≡ false → least.new ≡ least.old }
-        ensures steady { result ≡ false → IsBelowSteps self.now.inst.now self.now.rate least.old base
-            node (slice_index least.old (base + node)) }
+        ensures steady { result ≡ false →
+            IsBelowSteps self.now.inst.now self.now.rate least.old base node
+            (slice_index least.old (base + node)) }
     {
         let own = least[base + node];
         if own == 0 {

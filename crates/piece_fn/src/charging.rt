@@ -40,7 +40,8 @@ pub(crate) fn carried(
     requires early { by.zero ≤ time_on points.now from }
     requires limit { by.base + (time_on points.now from - by.zero) ≤ limit }
     ensures { IfOk result (λ v. v.items
-        ≡ up_to limit (moved by.down by.zero by.base (begun_at from (from_piece from points.now)))) }
+        ≡ up_to limit
+        (moved by.down by.zero by.base (begun_at from (from_piece from points.now)))) }
 {
     let rest = piece_at(points, from);
     let first = (

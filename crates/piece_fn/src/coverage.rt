@@ -52,7 +52,8 @@ fn each_reaches(own: &[(u64, u64)], other: &[(u64, u64)], extra: u64) -> bool
     requires own { ArePoints own.now }
     requires other { ArePoints other.now }
     ensures { result
-        ≡ list_all (point_reaches (first_level other.now) (last_level other.now) other.now extra) own.now }
+        ≡ list_all (point_reaches (first_level other.now) (last_level other.now) other.now extra)
+        own.now }
 {
     let (low, high) = (other[0].0, last_level(other));
     let mut rest = other;

@@ -212,7 +212,8 @@ impl LabelValue for PieceFn {
             IsCharge (level_times self.now) curve.now limit level time →
             SomeReaches level_times values.items 0 level time) }
         ensures only { IfOk result (λ values. All (λ value. (level : ℕ) →
-            IsLevel (level_times value) level → IsCharge (level_times self.now) curve.now limit level
+            IsLevel (level_times value) level →
+            IsCharge (level_times self.now) curve.now limit level
             (time_at (level_times value) level)) values.items) }
         ensures valid { IfOk result (λ values.
             All (λ value. IsValue (level_times value)) values.items) }

@@ -74,7 +74,8 @@ impl Tree {
         requires tree { IsTree terms.now self.now.found.items self.now.groups.items }
         requires known { home < length self.now.found.items }
         requires earns { (f : Found) → slice_get self.now.found.items home ≡ Some f →
-            EarnsAtHome terms.now.network (section terms.now) (paid_label terms.now.prices f.label) }
+            EarnsAtHome terms.now.network (section terms.now)
+            (paid_label terms.now.prices f.label) }
         ensures better { IfOk result (λ order. HasBetter terms.now order.items) }
     {
         let mut order = Vec::new(alloc);

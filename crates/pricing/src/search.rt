@@ -167,7 +167,8 @@ impl Search {
         requires search { IsSearch terms.now self.old }
         requires known { number < length self.old.tree.found.items }
         requires earns { (f : Found) → slice_get self.old.tree.found.items number ≡ Some f →
-            EarnsAtHome terms.now.network (section terms.now) (paid_label terms.now.prices f.label) }
+            EarnsAtHome terms.now.network (section terms.now)
+            (paid_label terms.now.prices f.label) }
         ensures search { OnOk result (IsSearch terms.now self.new) }
         ensures same { OnOk result (self.new.tree.found.items ≡ self.old.tree.found.items) }
         ensures listed { OnOk result (self.new.listed.items ≡ self.old.listed.items) }
