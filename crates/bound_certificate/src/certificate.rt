@@ -59,7 +59,8 @@ pub struct Share {
     pub plan: RoutePlan,
 }
 
-/// An entry of a basis: the helper of a customer, by number, or a listed column, by its number from 0.
+/// An entry of a basis: the helper of a customer, by number, or a listed column, by its number from
+/// 0.
 #[derive(Clone, Copy, Debug, PartialEq, Eq)]
 pub enum BasisEntry {
     Helper(usize),

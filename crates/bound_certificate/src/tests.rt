@@ -12,7 +12,8 @@ pub(crate) const FIRST: &str =
 pub(crate) const SECOND: &str =
     "evroute certificate 2\nlevels 1 0\nbound 46\nroot exact 1 1\nshare 1 0 1 v2+4 0\nsections 1\nsection 1 0 5\nprices 46\nlabel 0 0 - 10:0\nlabel 1 1 1 4:20\nlabel 0 2 - 7:16 8:17 10:29\nlabel 1 2 1 2:26 8:32 10:44\nlabel 1 1 1 5:22 6:23 8:35\nleaf 0\n";
 
-/// A certificate of two sections under a split, with a wide root, on the instance with two customers.
+/// A certificate of two sections under a split, with a wide root, on the instance with two
+/// customers.
 pub(crate) const WIDE: &str =
     "evroute certificate 1\nbound none\nroot wide 2\ncolumn 0 1\ncolumn 0\nbasis h2 0\nsections 2\nsection 0 0 0\nprices 0 1\nsection 3 2 1\nprices -5 0\npair 0 2\npair 1 0\nlabel 2 2 1,2 3:4\nsplit 1 2\nleaf 0\nleaf 1\n";
 

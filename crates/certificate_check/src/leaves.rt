@@ -80,7 +80,8 @@ fn open_children(
     Ok(())
 }
 
-/// The first rule that a section breaks at a leaf where these pairs are forbidden, if it breaks one.
+/// The first rule that a section breaks at a leaf where these pairs are forbidden, if it breaks
+/// one.
 fn fault_at(leaf: usize, pairs: &Pairs, section: &Section, bound: Option<u128>) -> Option<Verdict>
     requires customers { section.now.pairs.customers ≡ pairs.now.customers }
     requires few { length section.now.prices ≤ 128 }

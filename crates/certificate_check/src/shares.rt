@@ -85,7 +85,8 @@ fn shares_at(node: usize, shares: &[Share]) -> u128
     sum
 }
 
-/// Whether the shares of a cover cost the price sum of the section over its weight, which is above 0.
+/// Whether the shares of a cover cost the price sum of the section over its weight, which is above
+/// 0.
 fn cost_the_bound(inst: &Instance, section: &Section, over: u64, shares: &[Share]) -> bool
     requires few { length (customer_nodes inst.now) ≤ 128 }
     requires fits { SectionFits inst.now section.now }

@@ -31,8 +31,8 @@ impl Model for Curve {
 }
 
 impl Curve {
-    /// The curve through breakpoints (time from empty, charge reached by then), cut at a full battery
-    /// of `max_q`.
+    /// The curve through breakpoints (time from empty, charge reached by then), cut at a full
+    /// battery of `max_q`.
     ///
     /// The first broken rule is answered: [`CurveFault::Start`], [`CurveFault::Rise`],
     /// [`CurveFault::Concave`], [`CurveFault::Short`], [`CurveFault::TooMany`]. Equal slopes are

@@ -21,7 +21,8 @@ use dominance::LabelValue;
 use piece_fn::{Label, PieceFn};
 use std::alloc::AllocError;
 
-/// What is left of a value after an arc, at the level `least` or above; `None` where nothing is left.
+/// What is left of a value after an arc, at the level `least` or above; `None` where nothing is
+/// left.
 fn arrived(
     value: &PieceFn,
     energy: u64,

@@ -12,7 +12,8 @@ use crate::{CheckWords, Job};
 use clap::ArgMatches;
 use std::alloc::{AllocError, Global};
 
-/// The job of judging the plan of a file and the certificate of another over the instance of a third.
+/// The job of judging the plan of a file and the certificate of another over the instance of a
+/// third.
 pub(crate) fn check_job(
     alloc: Global,
     rest: &[&str],

@@ -1,4 +1,5 @@
-//! The laws of words. A law is a function whose meaning is its contract, which is proved for all words.
+//! The laws of words. A law is a function whose meaning is its contract, which is proved for all
+//! words.
 
 ghost use Rattle.std.specs.List.{list_all};
 ghost use Rattle.std.specs.Prelude.{◌≡◌, ◌<◌, ◌≤◌, ◌↔◌, ◌^◌, ◌∷◌, [], List, ℕ, Some, codes, decimal, length, true};

@@ -98,9 +98,9 @@ pub enum Job {
 }
 
 /// The job of the words, which stand behind the program's name, read by one `clap` command: `fixed
-/// FILE ROUTE [--limit N] [--charge N]`, `fleet FILE PLAN CERT [--limit N] [--nodes N]`, `check FILE
-/// PLAN CERT [--limit N]`, `convert FILE OUTFILE --time-digits N --energy-digits N` or `make SEED
-/// CUSTOMERS STATIONS OUTFILE`. `None` comes exactly where the words are no such job.
+/// FILE ROUTE [--limit N] [--charge N]`, `fleet FILE PLAN CERT [--limit N] [--nodes N]`, `check
+/// FILE PLAN CERT [--limit N]`, `convert FILE OUTFILE --time-digits N --energy-digits N` or `make
+/// SEED CUSTOMERS STATIONS OUTFILE`. `None` comes exactly where the words are no such job.
 ///
 /// Options stand anywhere before a word `--`, each at most once; the value is the next word or
 /// follows a `=`. A name that begins with `-` and has more behind it is given after `--`. Numbers

@@ -83,7 +83,8 @@ impl UnitDigits {
         }
     }
 
-    /// Appends what stands for a token with this spelling, at this place, under a key with this unit.
+    /// Appends what stands for a token with this spelling, at this place, under a key with this
+    /// unit.
     fn push(
         self,
         text: &mut Vec<u8>,
@@ -146,7 +147,8 @@ fn convert_tokens(alloc: Global, bytes: &[u8], digits: UnitDigits) -> Result<Vec
 }
 
 impl Conversion {
-    /// Converts the token in front of these bytes, which stand at this place. Answers what follows it.
+    /// Converts the token in front of these bytes, which stand at this place. Answers what follows
+    /// it.
     fn step<'a>(&mut self, bytes: &'a [u8], at: usize) -> Result<&'a [u8], ImportFault>
         requires { 0 < length bytes.now }
         ensures ok { IfOk result (λ rest.

@@ -5,8 +5,8 @@ ghost use Rattle.decimal_import.specs.Literal.{Literal};
 ghost use Rattle.decimal_import.specs.Rounding.{IsCeiling, over, under, least_whole};
 ghost use Rattle.decimal_import.specs.Token.{cut};
 
-/// A text is cut from the left into its longest tokens, up to the first byte where no token begins or
-/// the token isn't whole.
+/// A text is cut from the left into its longest tokens, up to the first byte where no token begins
+/// or the token isn't whole.
 pub fn tokens_are_the_longest()
     ensures { (bytes : List ℕ) → IsCutInto bytes (cut bytes).0 (cut bytes).1 }
 {}

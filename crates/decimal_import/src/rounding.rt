@@ -84,8 +84,8 @@ fn capped_number(digits: &[u8]) -> u128
     number
 }
 
-/// The digits before and behind the point of a literal, with the point behind the first `point` of them,
-/// rounded up. `None` where the number is past the limit.
+/// The digits before and behind the point of a literal, with the point behind the first `point` of
+/// them, rounded up. `None` where the number is past the limit.
 fn round_at(point: u128, whole: &[u8], fraction: &[u8]) -> Option<u64>
     ensures some { IfSome result (λ n. (n ≡ rounded_at point (whole.now ++ fraction.now)) × (n
         ≤ 10 ^ 18)) }

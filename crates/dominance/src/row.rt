@@ -13,7 +13,8 @@ use charge_curve::Scaled;
 use std::alloc::{AllocError, Global};
 use std::marker::Model;
 
-/// A value that keeps the time of every level. It is the plain yardstick for values that keep fewer.
+/// A value that keeps the time of every level. It is the plain yardstick for values that keep
+/// fewer.
 ///
 /// Contracts see the first level and the times, one for each level from there.
 #[derive(Drop)]

@@ -26,8 +26,8 @@ pub trait Covers {
 
 /// The least time at each battery level that a partial route may have.
 ///
-/// A value has a first level, in whole units of energy, and for each level from there up to its last one
-/// scaled time. There is at least one level, and times never fall.
+/// A value has a first level, in whole units of energy, and for each level from there up to its
+/// last one scaled time. There is at least one level, and times never fall.
 pub trait LabelValue: Covers {
     ghost meaning: { Self → LevelTimes };
 
@@ -54,12 +54,14 @@ pub trait LabelValue: Covers {
             MatchOption shifted ((level : ℕ) → IsLevel left level → ⊥)
             (λ value. CoversEach (meaning value) left extra)) };
 
-    /// The values after a charge: a vehicle may charge from any of the levels to any level up to a full
-    /// battery, which takes the time between them on the curve. Times past `limit` are dropped.
+    /// The values after a charge: a vehicle may charge from any of the levels to any level up to a
+    /// full battery, which takes the time between them on the curve. Times past `limit` are
+    /// dropped.
     ///
-    /// Each charge is covered by one of the values, and each level of a value is the end of a charge.
-    /// Where this value covers another with `extra`, each charge of the other is covered by one of the
-    /// values, with `extra`. One of them alone need not cover each charge from some level of the other.
+    /// Each charge is covered by one of the values, and each level of a value is the end of a
+    /// charge. Where this value covers another with `extra`, each charge of the other is covered by
+    /// one of the values, with `extra`. One of them alone need not cover each charge from some
+    /// level of the other.
     fn charge(&self, curve: &Scaled, limit: u64) -> Result<Vec<Self>, AllocError>
     where
         Self: Sized,

@@ -1,4 +1,5 @@
-//! A vector that contracts see as the list of its items, so that types of the project can hold lists.
+//! A vector that contracts see as the list of its items, so that types of the project can hold
+//! lists.
 #![tactic(auto)]
 
 ghost use Rattle.std.specs.Prelude.{◌≡◌, ◌↔◌, [], ◌∷◌, ◌++◌, OnErr, OnOk, IsTrue, length};

@@ -15,8 +15,8 @@ ghost use Rattle.ev_model.specs.Network.{IsNetwork};
 ghost use Rattle.ev_model.specs.Route.{FollowsRoute, IsRoute};
 ghost use Rattle.ev_model.specs.Time.{time_of};
 
-/// One station: charging one unit before the customer takes 43 halves, charging three units after it
-/// 45. Three halves of a unit before the customer take 92 halves of halves.
+/// One station: charging one unit before the customer takes 43 halves, charging three units after
+/// it 45. Three halves of a unit before the customer take 92 halves of halves.
 pub fn one_station()
     ensures network { IsNetwork network }
     ensures route { IsRoute network (0 ∷ 1 ∷ 0 ∷ []) }

@@ -1,4 +1,5 @@
-//! Laws that say that the definitions mean what they should. Each is the contract of an empty function.
+//! Laws that say that the definitions mean what they should. Each is the contract of an empty
+//! function.
 
 ghost use Rattle.std.specs.Prelude.{◌≡◌, ◌↔◌, ◌+◌, ◌-◌, ◌*◌, ◌<◌, ◌≤◌, ◌∷◌, ◌++◌, List, ℕ, false};
 ghost use Rattle.std.specs.List.{Contains};

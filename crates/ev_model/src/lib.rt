@@ -1,7 +1,7 @@
 //! The definitions of the problem: networks, plans, feasible plans, and fastest plans.
 //!
-//! The definitions stand in `specs/`. What stands here is the record of a stop, laws that say that the
-//! definitions mean what they should, and the worked examples, computed from the definitions.
+//! The definitions stand in `specs/`. What stands here is the record of a stop, laws that say that
+//! the definitions mean what they should, and the worked examples, computed from the definitions.
 #![tactic(auto)]
 
 mod examples;
@@ -18,8 +18,8 @@ pub use laws::{
 
 /// A stop of a plan.
 ///
-/// `node` is the node's number. `added` is the amount charged there, in units of charge (in kths of a
-/// unit in a plan in kths). `via` tells that the stop was inserted and isn't part of the route.
+/// `node` is the node's number. `added` is the amount charged there, in units of charge (in kths of
+/// a unit in a plan in kths). `via` tells that the stop was inserted and isn't part of the route.
 #[derive(Clone, Copy, Debug, PartialEq, Eq)]
 pub struct Stop {
     pub node: usize,

@@ -9,8 +9,8 @@ use super::shelf::{Shelf, ShelfFault};
 use super::storage::Storage;
 use super::streams::{read_up_to, write_whole};
 
-/// The files of a storage as a shelf. All bytes are read and written, once and in order. One count, that
-/// of the storage, stands for all reads and writes of all names.
+/// The files of a storage as a shelf. All bytes are read and written, once and in order. One count,
+/// that of the storage, stands for all reads and writes of all names.
 #[derive(Drop)]
 pub struct FileShelf<S: Storage> {
     storage: S,

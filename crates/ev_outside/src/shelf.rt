@@ -37,8 +37,8 @@ pub trait Shelf {
     ghost state: { Self → ShelfState };
 
     /// Appends the bytes of the file to `into`, or its first `most` bytes where it is longer. A
-    /// name that isn't there has no bytes. After a refusal a part of them may have been appended. No
-    /// count rises but where the call answers `Failed`.
+    /// name that isn't there has no bytes. After a refusal a part of them may have been appended.
+    /// No count rises but where the call answers `Failed`.
     fn read(&mut self, name: &str, most: usize, into: &mut Vec<u8>) -> Result<(), ShelfFault>
         ensures bytes { OnOk result
             (AppendsFile (state self.old).files name.now most into.old.items into.new.items) }

@@ -34,8 +34,8 @@ pub trait Sink {
     // The bytes that were written, where the sink tells them, and how many calls have failed.
     ghost state: { Self → SinkState };
 
-    /// Adds the bytes at the end of what was written. After a refusal a prefix of them was added. The
-    /// count doesn't rise but where the call answers `Failed`.
+    /// Adds the bytes at the end of what was written. After a refusal a prefix of them was added.
+    /// The count doesn't rise but where the call answers `Failed`.
     fn put(&mut self, bytes: &[u8]) -> Result<(), SinkFault>
         ensures bytes { OnOk result
             (Adds (state self.old).written (state self.new).written bytes.now) }

@@ -24,8 +24,8 @@ pub trait Stream {
     // How many calls have failed.
     ghost failed: { Self → ℕ };
 
-    /// Writes the first of the bytes, one at least where there is one, and answers how many. A call that
-    /// took nothing of a piece that isn't empty has failed.
+    /// Writes the first of the bytes, one at least where there is one, and answers how many. A call
+    /// that took nothing of a piece that isn't empty has failed.
     fn write(&mut self, bytes: &[u8]) -> Result<usize, CallFailed>
         ensures takes { MatchResult result (λ n. takes self.old (take n bytes.now) self.new)
             (λ _. takes self.old [] self.new) }
@@ -48,14 +48,15 @@ pub trait Storage: Stream {
     // written, where they are told.
     ghost told: { Self → Option Told };
 
-    /// Opens a file to be read from its beginning. A name that isn't there has no bytes, or the call
-    /// fails.
+    /// Opens a file to be read from its beginning. A name that isn't there has no bytes, or the
+    /// call fails.
     fn open(&mut self, name: &str) -> Result<(), CallFailed>
         ensures opens { OnOk result (Opens (told self.old) name.now (told self.new)) }
         ensures files { files_of (told self.new) ≡ files_of (told self.old) }
         ensures counts { IsCounted result (Self.failed self.old) (Self.failed self.new) };
 
-    /// Reads the next bytes of the file that is open, and answers how many; none where it has no more.
+    /// Reads the next bytes of the file that is open, and answers how many; none where it has no
+    /// more.
     fn read(&mut self, into: &mut [u8]) -> Result<usize, CallFailed>
         ensures within { IfOk result (λ n. n ≤ length into.new) }
         ensures bytes { ReadConsumes (rest_of (told self.old)) (rest_of (told self.new))
@@ -63,7 +64,8 @@ pub trait Storage: Stream {
         ensures files { files_of (told self.new) ≡ files_of (told self.old) }
         ensures counts { IsCounted result (Self.failed self.old) (Self.failed self.new) };
 
-    /// Makes a file that is empty, to be written. Nothing is known of its bytes where the call fails.
+    /// Makes a file that is empty, to be written. Nothing is known of its bytes where the call
+    /// fails.
     fn create(&mut self, name: &str) -> Result<(), CallFailed>
         ensures creates { OnOk result (Creates name.now (told self.new)) }
         ensures others { KeepsOthers name.now

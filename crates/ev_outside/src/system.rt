@@ -34,7 +34,8 @@ impl<'a, R: Files> Model for SystemFiles<'a, R> {
 }
 
 impl<'a, R: Files> SystemFiles<'a, R> {
-    /// The files that the runtime reaches. No call has failed yet. The memory is for the name of a file.
+    /// The files that the runtime reaches. No call has failed yet. The memory is for the name of a
+    /// file.
     pub fn new(alloc: Global, rt: &'a R) -> Self
         ensures { result ≡ 0 }
     {

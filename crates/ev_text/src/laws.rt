@@ -1,5 +1,5 @@
-//! The laws of number texts and of a scan's answers. A law is a function without a body: what it says
-//! is its contract, which is proved for all texts, numbers and places.
+//! The laws of number texts and of a scan's answers. A law is a function without a body: what it
+//! says is its contract, which is proved for all texts, numbers and places.
 
 ghost use Rattle.std.specs.Prelude.{◌≡◌, ◌≢◌, ◌<◌, ◌≤◌, ◌++◌, ◌↔◌, [], List, ℕ, Ok, Err, decimal};
 ghost use Rattle.std.specs.Fmt.{signed_decimal};
@@ -10,8 +10,8 @@ ghost use Rattle.ev_text.specs.Scans.{IsPrefixOf, IsProperPrefix, TakesNumber, T
 /// A number has one spelling, and it is read back.
 ///
 /// `only`: `decimal n` is the one text of decimal digits with the value `n` and no leading zero.
-/// `read_back`: where it stands at a scan's place, and then a byte that is no digit or the end, each
-/// limit that is not below `n` lets it be taken.
+/// `read_back`: where it stands at a scan's place, and then a byte that is no digit or the end,
+/// each limit that is not below `n` lets it be taken.
 pub fn one_spelling(n: u128)
     ensures only { (text : List ℕ) → IsSpelling n text ↔ (text ≡ decimal n) }
     ensures read_back { (limit : ℕ) (scan : List ℕ × ℕ) (rest : List ℕ) → n ≤ limit →

@@ -1,8 +1,9 @@
 //! A scanner over text in bytes, and the spelling of whole numbers.
 //!
-//! A number has one spelling: its decimal digits without leading zeros, with a `-` in front where it
-//! is negative, and `0` for zero. That is what std writes for `{}`, so contracts cite std's `decimal`
-//! and `signed_decimal`; `one_spelling` states that no other text of digits in this form has the value.
+//! A number has one spelling: its decimal digits without leading zeros, with a `-` in front where
+//! it is negative, and `0` for zero. That is what std writes for `{}`, so contracts cite std's
+//! `decimal` and `signed_decimal`; `one_spelling` states that no other text of digits in this form
+//! has the value.
 #![tactic(auto)]
 
 mod laws;

@@ -12,7 +12,8 @@ pub fn push_whole(alloc: Global, out: &mut Vec<u8>, n: u128) -> Result<(), Alloc
     out.extend_from_slice(digits.as_bytes())
 }
 
-/// Appends the spelling of a signed number to `out`. After an `Err` the bytes of `out` are as before.
+/// Appends the spelling of a signed number to `out`. After an `Err` the bytes of `out` are as
+/// before.
 pub fn push_signed(alloc: Global, out: &mut Vec<u8>, n: i128) -> Result<(), AllocError>
     ensures ok { OnOk result (out.new.items ≡ out.old.items ++ signed_decimal n) }
     ensures err { OnErr result (out.new.items ≡ out.old.items) }

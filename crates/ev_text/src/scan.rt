@@ -111,7 +111,8 @@ fn below_zero_from(
     }
 }
 
-/// The number in front of the text from `at` on, with its sign, and the place behind its last digit.
+/// The number in front of the text from `at` on, with its sign, and the place behind its last
+/// digit.
 fn signed_from(bytes: &[u8], at: usize, limit: u128) -> Result<(i128, usize), TextFault>
     requires within { at ≤ length bytes.now }
     requires small { limit < 2 ^ 127 }
@@ -156,9 +157,10 @@ impl<'a> Scan<'a> {
 
     /// Takes the number that stands at the place: the longest run of decimal digits.
     ///
-    /// Refusals, of which the first that applies is answered: `End` where no byte is left, `NotWhole`
-    /// where no digit stands there or a `0` with another digit behind it, `TooLarge` where the number
-    /// is greater than `limit`. The place is moved behind the last digit, and stays after a refusal.
+    /// Refusals, of which the first that applies is answered: `End` where no byte is left,
+    /// `NotWhole` where no digit stands there or a `0` with another digit behind it, `TooLarge`
+    /// where the number is greater than `limit`. The place is moved behind the last digit, and
+    /// stays after a refusal.
     pub fn whole(&mut self, limit: u128) -> Result<u128, TextFault>
         ensures ok { IfOk result (λ n. whole_at limit self.old ≡ Ok (n, self.new)) }
         ensures fault { IfErr result (λ fault. whole_at limit self.old ≡ Err fault) }
@@ -174,8 +176,9 @@ impl<'a> Scan<'a> {
 
     /// Takes the word `w`, which has to stand at the place.
     ///
-    /// Refusals: `End` where the rest of the text is `w` cut off before its end, and else `Word` where
-    /// it does not begin with `w`. The place is moved behind the word, and stays after a refusal.
+    /// Refusals: `End` where the rest of the text is `w` cut off before its end, and else `Word`
+    /// where it does not begin with `w`. The place is moved behind the word, and stays after a
+    /// refusal.
     pub fn word(&mut self, w: &[u8]) -> Result<(), TextFault>
         ensures ok { OnOk result (word_at w.now self.old ≡ Ok self.new) }
         ensures fault { IfErr result (λ fault. word_at w.now self.old ≡ Err fault) }
@@ -186,7 +189,8 @@ impl<'a> Scan<'a> {
         Ok(())
     }
 
-    /// Takes a word that may be missing, and answers whether it stands at the place, which else stays.
+    /// Takes a word that may be missing, and answers whether it stands at the place, which else
+    /// stays.
     pub fn take_if(&mut self, w: &[u8]) -> bool
         ensures { optional_at w.now self.old ≡ Ok (result, self.new) }
     {
@@ -226,7 +230,8 @@ impl<'a> Scan<'a> {
         Ok(number)
     }
 
-    /// Takes a number of at most `limit` in size, with a `-` in front where it is below 0; 0 has none.
+    /// Takes a number of at most `limit` in size, with a `-` in front where it is below 0; 0 has
+    /// none.
     ///
     /// Refusals: those of `whole`, where `NotWhole` and `End` behind a sign are told at the digits.
     /// `TooLarge` is told at the sign where there is one, and is told of `-0` too. The place stays

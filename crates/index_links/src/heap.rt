@@ -73,8 +73,8 @@ impl IndexHeap {
         }
     }
 
-    /// Takes out the item that is least by key and then by number. `None` comes exactly where nothing
-    /// is held.
+    /// Takes out the item that is least by key and then by number. `None` comes exactly where
+    /// nothing is held.
     pub fn take_least(&mut self) -> Option<usize>
         ensures empty { IsNone result ↔ IsEmpty self.old }
         ensures least { IfSome result (λ i. (key : ℕ) × IsLeast self.old key i) }
@@ -90,8 +90,8 @@ impl IndexHeap {
         Some(root)
     }
 
-    /// The key of the item that is least by key and then by number. `None` comes exactly where nothing
-    /// is held.
+    /// The key of the item that is least by key and then by number. `None` comes exactly where
+    /// nothing is held.
     pub fn least_key(&self) -> Option<u64>
         ensures empty { IsNone result ↔ IsEmpty self.now }
         ensures least { IfSome result (λ key. (i : ℕ) × IsLeast self.now key i) }
@@ -158,8 +158,8 @@ fn winner_and_loser(keys: &[Option<u64>], a: usize, b: usize) -> (usize, usize)
     }
 }
 
-/// Two children of the parent that stand side by side: the one at `at` and the one behind it, or the
-/// first two where `at` is the last. `None` where there is one child at most.
+/// Two children of the parent that stand side by side: the one at `at` and the one behind it, or
+/// the first two where `at` is the last. `None` where there is one child at most.
 fn neighbours(children: &Rings, parent: usize, at: usize) -> Option<(usize, usize)>
     requires parent { parent < length children.now.lists }
     requires at { IsIn at (list_at children.now.lists parent) }

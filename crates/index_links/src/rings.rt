@@ -107,8 +107,9 @@ impl Rings {
         }
     }
 
-    /// Makes room for list numbers below `lists` and item numbers below `items`. New lists are empty,
-    /// and new items stand in no list. It never shrinks, and after an `Err` nothing has changed.
+    /// Makes room for list numbers below `lists` and item numbers below `items`. New lists are
+    /// empty, and new items stand in no list. It never shrinks, and after an `Err` nothing has
+    /// changed.
     pub fn grow(&mut self, lists: usize, items: usize) -> Result<(), AllocError>
         ensures ok { OnOk result (self.new
             ≡ record {

@@ -1,7 +1,7 @@
 //! Makes a large valid instance from a number.
 //!
-//! Its depot, customers and stations stand at drawn locations in a square of 1000 by 1000 units, and
-//! driving takes as much time and energy as the Manhattan distance.
+//! Its depot, customers and stations stand at drawn locations in a square of 1000 by 1000 units,
+//! and driving takes as much time and energy as the Manhattan distance.
 #![tactic(auto)]
 
 ghost use Rattle.std.specs.Prelude.{◌≡◌, ◌↔◌, ◌<◌, ◌≤◌, ◌+◌, ◌^◌, Some, IfOk, IsErrOf, IsUtf8, vec_len};

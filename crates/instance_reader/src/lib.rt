@@ -3,8 +3,8 @@
 //! [`read_instance`] answers the instance that the bytes mean, or the first rule that they break.
 //! The rules stand one to a module, in the order in which they are tried: `required_keys`, `kinds`
 //! (which also takes the fields out of the value), `sizes`, `shapes`, `nodes`, `types`, `curves`,
-//! `limits`, `levels`. Each has its definition, the first broken place in the list of its places, in
-//! the file of `specs/` with its name.
+//! `limits`, `levels`. Each has its definition, the first broken place in the list of its places,
+//! in the file of `specs/` with its name.
 #![tactic(auto)]
 
 mod build;

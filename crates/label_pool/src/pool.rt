@@ -12,8 +12,8 @@ use std::marker::Model;
 
 /// Labels by number, in buckets.
 ///
-/// Clauses see the labels by number, each with its bucket, value, key and parent and whether it is live
-/// and settled, and how many buckets there are.
+/// Clauses see the labels by number, each with its bucket, value, key and parent and whether it is
+/// live and settled, and how many buckets there are.
 #[derive(Drop)]
 pub struct Pool<V: Covers + Drop> {
     labels: Vec<Label<V>>,
@@ -54,8 +54,8 @@ impl<V: Covers + Drop> Pool<V> {
         self.labels.len()
     }
 
-    /// The first live label of the bucket, by number. `None` comes exactly where there is none. It takes
-    /// no memory.
+    /// The first live label of the bucket, by number. `None` comes exactly where there is none. It
+    /// takes no memory.
     pub fn first_live(&self, bucket: usize) -> Option<usize>
         requires { bucket < self.now.buckets }
         ensures { IsFirstLive self.now.labels bucket 0 result }
@@ -63,8 +63,8 @@ impl<V: Covers + Drop> Pool<V> {
         self.live.first(bucket)
     }
 
-    /// The live label behind `i` in its bucket, by number. `None` comes exactly where there is none. It
-    /// takes no memory.
+    /// The live label behind `i` in its bucket, by number. `None` comes exactly where there is
+    /// none. It takes no memory.
     pub fn next_live(&self, i: usize) -> Option<usize>
         requires { (bucket : ℕ) × IsLive self.now.labels bucket i }
         ensures { (bucket : ℕ) → IsLive self.now.labels bucket i →
@@ -121,11 +121,12 @@ impl<V: Covers + Drop> Pool<V> {
         Some(i)
     }
 
-    /// Adds a label to the bucket, as live and unsettled, and answers its number, which is the next one.
-    /// `None` comes exactly where a live label of the bucket covers the value, and then nothing changes.
+    /// Adds a label to the bucket, as live and unsettled, and answers its number, which is the next
+    /// one. `None` comes exactly where a live label of the bucket covers the value, and then
+    /// nothing changes.
     ///
-    /// Labels of the bucket that the new one covers are live no longer. All else stays as it is, and
-    /// after an `Err` everything.
+    /// Labels of the bucket that the new one covers are live no longer. All else stays as it is,
+    /// and after an `Err` everything.
     pub fn add(
         &mut self,
         bucket: usize,

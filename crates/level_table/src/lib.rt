@@ -1,11 +1,11 @@
 //! The fastest plan of one route, by a table of the least times home over every whole level of the
 //! battery.
 //!
-//! From each place on the way, and with each whole charge, a vehicle drives on, or plugs in, charges
-//! one unit after another and unplugs; the first unit pays the time to plug in. So each cell of the
-//! table has two entries, for a vehicle that is plugged in and for one that isn't: the least time
-//! home from there, filled from the end of the route until no move makes home nearer. The plan makes
-//! the best move from place to place.
+//! From each place on the way, and with each whole charge, a vehicle drives on, or plugs in,
+//! charges one unit after another and unplugs; the first unit pays the time to plug in. So each
+//! cell of the table has two entries, for a vehicle that is plugged in and for one that isn't: the
+//! least time home from there, filled from the end of the route until no move makes home nearer.
+//! The plan makes the best move from place to place.
 #![tactic(auto)]
 
 mod fault;

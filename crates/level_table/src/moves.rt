@@ -44,8 +44,8 @@ impl<'a> Trip<'a> {
         }
     }
 
-    /// What charging one unit does, `None` exactly where it can't be charged. The first unit pays the
-    /// time to plug in.
+    /// What charging one unit does, `None` exactly where it can't be charged. The first unit pays
+    /// the time to plug in.
     fn charge(&self, from: Place) -> Option<Leg>
         requires { IsPlace self.now.network self.now.route from }
         ensures value { MatchOption result (CanMove self.now.network self.now.route Charge from → ⊥)

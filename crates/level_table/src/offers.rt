@@ -21,8 +21,8 @@ pub(crate) struct Offer {
 }
 
 impl<'a> Trip<'a> {
-    /// The nearest way home within the limit, by what the entries hold for the places that the moves
-    /// lead to.
+    /// The nearest way home within the limit, by what the entries hold for the places that the
+    /// moves lead to.
     pub(crate) fn best(&self, entries: &[Option<Reach>], from: Place) -> Option<Offer>
         requires place { IsPlace self.now.network self.now.route from }
         requires table { IsTable self.now.network self.now.route entries.now }

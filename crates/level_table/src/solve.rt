@@ -18,15 +18,15 @@ use std::alloc::{AllocError, Global};
 /// The most cells of a table.
 const MOST_CELLS: u128 = 20_000_000;
 
-/// A fastest plan of the route for a vehicle that starts with the charge `start`, in units of charge:
-/// a whole plan than which no feasible plan in any fraction of a unit is faster.
+/// A fastest plan of the route for a vehicle that starts with the charge `start`, in units of
+/// charge: a whole plan than which no feasible plan in any fraction of a unit is faster.
 ///
 /// `route` holds the nodes of the route in order, from the depot to the depot. `Ok(None)` comes
 /// exactly where no plan of the route is feasible, in any fraction of a unit.
 ///
-/// The cells of the table are counted as `(route.len() - 1) * (stations + 1) * (max_q + 1)`, where the
-/// stations are the nodes that have a curve. `Levels` states this number and comes exactly where it is
-/// past 2 * 10^7.
+/// The cells of the table are counted as `(route.len() - 1) * (stations + 1) * (max_q + 1)`, where
+/// the stations are the nodes that have a curve. `Levels` states this number and comes exactly
+/// where it is past 2 * 10^7.
 pub fn solve_levels(
     alloc: Global,
     inst: &Instance,

@@ -89,8 +89,8 @@ impl<'a> Trip<'a> {
         changed
     }
 
-    /// Takes the nearest way home over the moves from an entry's place, where it is nearer than what
-    /// the entry holds. It tells whether the entry changed.
+    /// Takes the nearest way home over the moves from an entry's place, where it is nearer than
+    /// what the entry holds. It tells whether the entry changed.
     fn improve(&self, entries: &mut [Option<Reach>], index: usize) -> bool
         requires cell { index < entry_count self.now.network self.now.route }
         requires table { IsTable self.now.network self.now.route entries.old }

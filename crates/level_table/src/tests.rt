@@ -21,8 +21,8 @@ fn instance(alloc: Global, file: &str, limit: Option<u64>) -> Option<Instance> {
     }
 }
 
-/// Its stops as text: the node of each, with `v` before an inserted one and the amount charged after
-/// `+`.
+/// Its stops as text: the node of each, with `v` before an inserted one and the amount charged
+/// after `+`.
 fn text(alloc: Global, stops: &[Stop]) -> Option<String> {
     let mut text = String::new(alloc);
     for stop in stops {

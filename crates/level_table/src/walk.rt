@@ -19,8 +19,8 @@ use ev_model::Stop;
 use std::alloc::{AllocError, Global};
 
 impl<'a> Trip<'a> {
-    /// The stops of a fastest whole plan of the route from a level, `None` exactly where no whole plan
-    /// is feasible.
+    /// The stops of a fastest whole plan of the route from a level, `None` exactly where no whole
+    /// plan is feasible.
     pub(crate) fn fastest(&self, alloc: Global, start: u64) -> Result<Option<Vec<Stop>>, AllocError>
         requires level { start ≤ self.now.network.capacity }
         ensures { IfOk result (λ answer. MatchOption answer

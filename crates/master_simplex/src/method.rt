@@ -119,9 +119,9 @@ fn optimum(alloc: Global, t: &Table) -> Result<Lp, LpFault>
 /// shares of at least 0, and else a ray. After an answer the basis of the table is the one that it
 /// belongs to.
 ///
-/// `Wide` comes only with a basis that is past the table's caps, of which at most one column is no basis
-/// column of the table after the call. After a refusal the table has the same solutions and perhaps
-/// another basis.
+/// `Wide` comes only with a basis that is past the table's caps, of which at most one column is no
+/// basis column of the table after the call. After a refusal the table has the same solutions and
+/// perhaps another basis.
 pub fn solve(alloc: Global, t: &mut Table) -> Result<Lp, LpFault>
     ensures answer { IfOk result (λ lp. IsAnswer t.new lp) }
     ensures within { IfOk result (λ lp. IsLpWithin t.new lp) }

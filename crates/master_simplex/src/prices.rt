@@ -10,10 +10,10 @@ use std::alloc::{AllocError, Global};
 
 /// What the simplex method answers about the added columns of a table.
 ///
-/// Where their shares can cover each customer exactly once: a weight above 0, a price for each customer,
-/// and a cover of least cost, `shares` (column and share) divided by `over`, whose cost is the price sum
-/// divided by the weight. Where they can't: weight 0, prices with a sum above 0 of which no added column
-/// has more than 0, `over` 0 and no shares.
+/// Where their shares can cover each customer exactly once: a weight above 0, a price for each
+/// customer, and a cover of least cost, `shares` (column and share) divided by `over`, whose cost
+/// is the price sum divided by the weight. Where they can't: weight 0, prices with a sum above 0 of
+/// which no added column has more than 0, `over` 0 and no shares.
 #[derive(Drop)]
 pub struct Lp {
     pub weight: u64,

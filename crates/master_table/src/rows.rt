@@ -80,8 +80,8 @@ fn common_divisor(first: i128, xs: &[i128]) -> u128
     found
 }
 
-/// What finds exact quotients without a division (Granlund and Montgomery 1994): the inverse, modulo
-/// 2^64, of a divisor's odd part, and how often 2 divides it.
+/// What finds exact quotients without a division (Granlund and Montgomery 1994): the inverse,
+/// modulo 2^64, of a divisor's odd part, and how often 2 divides it.
 #[derive(Clone, Copy)]
 struct Inverse {
     odd: u64,
@@ -100,7 +100,8 @@ fn inverse_of(d: i128) -> Inverse {
     Inverse { odd: inverse, twos }
 }
 
-/// The quotient, where the division is exact and the quotient below 2^64 in size, and else any number.
+/// The quotient, where the division is exact and the quotient below 2^64 in size, and else any
+/// number.
 fn guess(x: i128, by: Inverse) -> i128
     ensures { unsigned_abs result ≤ 2 ^ 64 }
 {
@@ -193,7 +194,8 @@ fn divisor_of(row: &Row, n: usize) -> u128
     common_divisor(row.weight, &row.entries[..n])
 }
 
-/// The combination of two rows, divided by the greatest common divisor of its weight and multipliers.
+/// The combination of two rows, divided by the greatest common divisor of its weight and
+/// multipliers.
 fn next_row(
     alloc: Global,
     own: i128,

@@ -29,9 +29,10 @@ pub struct AddedColumn {
 /// The equations of a master problem, brought to the present basis by pivots.
 ///
 /// There is a row for each customer, with whole coefficients of greatest common divisor 1: the body
-/// equation of the row's basis column. Behind them stand the cost row, which is the price list of the
-/// basis, and the helper row, which is its helper list. The first columns are the helpers, one for each
-/// customer, and behind them stand the columns that were added. Contracts see the table as a `Tableau`.
+/// equation of the row's basis column. Behind them stand the cost row, which is the price list of
+/// the basis, and the helper row, which is its helper list. The first columns are the helpers, one
+/// for each customer, and behind them stand the columns that were added. Contracts see the table as
+/// a `Tableau`.
 #[derive(Drop)]
 pub struct Table {
     rows: Vec<Row>,
@@ -75,12 +76,12 @@ impl Table {
         })
     }
 
-    /// Adds a column with a 1 in the row of each customer of the set, brought to the present rows, and
-    /// answers its number.
+    /// Adds a column with a 1 in the row of each customer of the set, brought to the present rows,
+    /// and answers its number.
     ///
-    /// `Wide` comes exactly where an entry of the column is past its cap, and names the first row with
-    /// such an entry, and the column by the number that it would have. After a refusal the table is as
-    /// before.
+    /// `Wide` comes exactly where an entry of the column is past its cap, and names the first row
+    /// with such an entry, and the column by the number that it would have. After a refusal the
+    /// table is as before.
     pub fn add_column(&mut self, set: CustSet, cost: u64) -> Result<usize, TableFault>
         ensures number { IfOk result (λ col. col ≡ length self.old.columns) }
         ensures ok { OnOk result (self.new ≡ with_column (route set cost) self.old) }
@@ -109,8 +110,8 @@ impl Table {
         Ok(col)
     }
 
-    /// The entry of a row at a column. The row after the customers' is the cost row, the next one the
-    /// helper row; the column after the last is the right side. It takes no memory.
+    /// The entry of a row at a column. The row after the customers' is the cost row, the next one
+    /// the helper row; the column after the last is the right side. It takes no memory.
     pub fn entry(&self, row: usize, col: usize) -> i128
         requires row { row < size self.now + 2 }
         requires col { col ≤ length self.now.columns }
@@ -182,8 +183,8 @@ impl Table {
     /// Brings the column into the basis, in place of the row's basis column. Afterwards the column
     /// stands, among the customers' rows, in that row alone, with a coefficient above 0.
     ///
-    /// `Wide` comes exactly where a number of the new rows is past its cap, and names the first. After a
-    /// refusal the table is as before.
+    /// `Wide` comes exactly where a number of the new rows is past its cap, and names the first.
+    /// After a refusal the table is as before.
     pub fn pivot(&mut self, row: usize, col: usize) -> Result<(), TableFault>
         requires row { row < size self.old }
         requires col { col < length self.old.columns }

@@ -84,7 +84,8 @@ fn push_moved(
     Ok(())
 }
 
-/// Appends the last level within the limit on the piece from `last` to `next`, where it is above `last`.
+/// Appends the last level within the limit on the piece from `last` to `next`, where it is above
+/// `last`.
 fn push_end(
     points: &mut Points,
     last: (u64, u64),

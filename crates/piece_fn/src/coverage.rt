@@ -47,7 +47,8 @@ fn each_is_reached(own: &[(u64, u64)], other: &[(u64, u64)], extra: u64) -> bool
     true
 }
 
-/// Whether each point of this value that is among the other's levels reaches the other's level there.
+/// Whether each point of this value that is among the other's levels reaches the other's level
+/// there.
 fn each_reaches(own: &[(u64, u64)], other: &[(u64, u64)], extra: u64) -> bool
     requires own { ArePoints own.now }
     requires other { ArePoints other.now }
@@ -66,7 +67,8 @@ fn each_reaches(own: &[(u64, u64)], other: &[(u64, u64)], extra: u64) -> bool
     true
 }
 
-/// Whether a point of the other value is reached. The points are those of this value from its piece on.
+/// Whether a point of the other value is reached. The points are those of this value from its piece
+/// on.
 fn point_is_reached(own: &[(u64, u64)], extra: u64, point: (u64, u64)) -> bool
     requires own { ArePoints own.now }
     requires first { IsOnFirst point.0 own.now }
@@ -87,8 +89,8 @@ fn point_is_reached(own: &[(u64, u64)], extra: u64, point: (u64, u64)) -> bool
     }
 }
 
-/// Whether a point of this value reaches the other value's level there, if the other has that level. The
-/// points are those of the other value from its piece on.
+/// Whether a point of this value reaches the other value's level there, if the other has that
+/// level. The points are those of the other value from its piece on.
 fn point_reaches(levels: (u64, u64), other: &[(u64, u64)], extra: u64, point: (u64, u64)) -> bool
     requires other { ArePoints other.now }
     requires first { IsOnFirst point.0 other.now }

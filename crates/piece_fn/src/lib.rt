@@ -1,5 +1,5 @@
-//! Label values that keep few supporting points: the least time at each battery level is linear between
-//! them (Froger, Mendoza, Jabali, Laporte 2019).
+//! Label values that keep few supporting points: the least time at each battery level is linear
+//! between them (Froger, Mendoza, Jabali, Laporte 2019).
 #![tactic(auto)]
 
 mod charging;

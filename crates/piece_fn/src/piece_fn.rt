@@ -20,8 +20,8 @@ use std::marker::Model;
 
 /// A value by few supporting points (level, scaled time).
 ///
-/// Levels rise, times never fall, and the time gap of neighbouring points is a multiple of their level
-/// gap, so the time at each whole level is whole. Contracts see the points.
+/// Levels rise, times never fall, and the time gap of neighbouring points is a multiple of their
+/// level gap, so the time at each whole level is whole. Contracts see the points.
 #[derive(Drop)]
 pub struct PieceFn {
     points: Points,
@@ -136,7 +136,8 @@ impl PieceFn {
         Ok(Some(PieceFn { points }))
     }
 
-    /// What becomes of the value by charging from one of its levels, up to a full battery or the limit.
+    /// What becomes of the value by charging from one of its levels, up to a full battery or the
+    /// limit.
     pub fn charge_from(&self, level: u64, curve: &Scaled, limit: u64) -> Result<PieceFn, AllocError>
         requires level { IsLevel (level_times self.now) level }
         requires fits { level ≤ last_level curve.now }

@@ -9,7 +9,8 @@ ghost use Rattle.piece_fn.specs.PieceFn.{first_level};
 use crate::coverage::is_in_time;
 use crate::points::{piece_at, time_on_piece};
 
-/// The greatest level up to which each level of the other value is reached, from a level on that is.
+/// The greatest level up to which each level of the other value is reached, from a level on that
+/// is.
 pub(crate) fn farthest(
     own: &[(u64, u64)],
     other: &[(u64, u64)],
@@ -54,7 +55,8 @@ fn next_bend(points: &[(u64, u64)], low: u64) -> u64
     }
 }
 
-/// The greatest level up to `high` to which coverage lasts from `low` on, where no point is between.
+/// The greatest level up to `high` to which coverage lasts from `low` on, where no point is
+/// between.
 fn lasts_to(own: &[(u64, u64)], other: &[(u64, u64)], extra: u64, low: u64, high: u64) -> u64
     requires own { ArePoints own.now }
     requires other { ArePoints other.now }

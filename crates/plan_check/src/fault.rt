@@ -15,6 +15,7 @@ pub enum PlanFault {
     Unserved { customer: usize },
     /// The route serves no customer.
     EmptyRoute { route: usize },
-    /// The stop wasn't inserted, and is neither at a customer nor the first or the last of its route.
+    /// The stop wasn't inserted, and is neither at a customer nor the first or the last of its
+    /// route.
     Stray { route: usize, at: usize },
 }

@@ -33,8 +33,8 @@ pub(crate) struct Asked<'a> {
 }
 
 impl Asked<'_> {
-    /// Whether a label is no later than a time at its least time, has a level that is not below one,
-    /// and its customers let it make the label needless.
+    /// Whether a label is no later than a time at its least time, has a level that is not below
+    /// one, and its customers let it make the label needless.
     ///
     /// All three are looked at, since which one fails can't be foreseen.
     fn admits(&self, other: &Brief, latest: u64, level: u64) -> bool {

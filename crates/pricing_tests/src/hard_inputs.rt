@@ -1,4 +1,5 @@
-//! Inputs at the ends of their ranges, each with the answer that follows from what pricing promises.
+//! Inputs at the ends of their ranges, each with the answer that follows from what pricing
+//! promises.
 
 use crate::instances::{Draws, Family, instance_of};
 use crate::routes::time_of;
@@ -77,8 +78,8 @@ fn prices(
     Ok(prices)
 }
 
-/// What pricing says: the scaled time of the first route and how many customers it serves, or `None`
-/// where the labels are closed.
+/// What pricing says: the scaled time of the first route and how many customers it serves, or
+/// `None` where the labels are closed.
 fn told(
     rt: &impl Abort,
     alloc: Global,
@@ -95,9 +96,9 @@ fn told(
     }
 }
 
-/// One place: no route takes time, so one earns exactly where a customer has a price above 0 and its
-/// own route is allowed. Where no more than one customer may be served, or no other customer has such
-/// a price, the route serves one customer.
+/// One place: no route takes time, so one earns exactly where a customer has a price above 0 and
+/// its own route is allowed. Where no more than one customer may be served, or no other customer
+/// has such a price, the route serves one customer.
 #[test]
 fn customers_at_one_place_are_priced(rt: HostRuntime) {
     let alloc = rt.alloc();

@@ -109,8 +109,8 @@ const CURVES: &str =
 /// The curve of the worked instances.
 const FAST: &str = r#"{"cs_type":"fast","time":[0,4,10],"charge":[0,8,10]}"#;
 
-/// Customers alone; one or two stations; with a reserve, a level at home, a limit; where the depot is
-/// a station; and with arcs of time 0 and energy 0.
+/// Customers alone; one or two stations; with a reserve, a level at home, a limit; where the depot
+/// is a station; and with arcs of time 0 and energy 0.
 pub(crate) const FAMILIES: [Family; 10] = [
     Family {
         nodes: 6,

@@ -1,5 +1,5 @@
-//! Tests of pricing and of the test of closed lists, beside what is found without them: all routes of
-//! an instance, and a look at each level of each label.
+//! Tests of pricing and of the test of closed lists, beside what is found without them: all routes
+//! of an instance, and a look at each level of each label.
 #![tactic(auto)]
 
 #[cfg(test)]

@@ -178,7 +178,8 @@ impl Terms {
         sum
     }
 
-    /// Whether a route keeps the pairs and takes, times the weight, less than its customers' prices.
+    /// Whether a route keeps the pairs and takes, times the weight, less than its customers'
+    /// prices.
     pub(crate) fn earns(&self, inst: &Instance, route: &Route) -> bool {
         let order = route.order.as_slice();
         let cost = i128::from(self.weight).saturating_mul(i128::from(route.time));

@@ -13,9 +13,9 @@ use std::alloc::{AllocError, Global};
 
 /// A feasible whole plan with the same stops as a feasible plan in kths, and no slower.
 ///
-/// `p` is feasible from the charge `start`, in whole units. The answer is a fastest one of the plans
-/// of [`rounded`] over all offsets below `k`. Its scaled time multiplied by `k` is at most the scaled
-/// time of `p` in kths. One plan is held at a time, and `k` plans are walked along.
+/// `p` is feasible from the charge `start`, in whole units. The answer is a fastest one of the
+/// plans of [`rounded`] over all offsets below `k`. Its scaled time multiplied by `k` is at most
+/// the scaled time of `p` in kths. One plan is held at a time, and `k` plans are walked along.
 pub fn best_rounding(
     alloc: Global,
     inst: &Instance,

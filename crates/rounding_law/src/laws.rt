@@ -44,9 +44,10 @@ pub fn rounded_levels_tell_the_plan()
         whole ≡ rounded_plan g k j start stops }
 {}
 
-/// The times of the `k` whole plans that a plan in kths rounds to add up to at most its time in kths,
-/// and to exactly that time where no stop that charges has a time to plug in. A stop that charges
-/// nothing charges nothing in any of them, so none pays a plug time that the plan doesn't pay.
+/// The times of the `k` whole plans that a plan in kths rounds to add up to at most its time in
+/// kths, and to exactly that time where no stop that charges has a time to plug in. A stop that
+/// charges nothing charges nothing in any of them, so none pays a plug time that the plan doesn't
+/// pay.
 pub fn rounded_times_add_up()
     ensures at_most { (g : Network) (k start : ℕ) (stops : List Stop) →
         IsNetwork g → IsFeasible g k start stops →
@@ -65,8 +66,8 @@ pub fn no_fraction_is_faster()
         × (k * time_of g 1 start whole ≤ time_of g k start stops) }
 {}
 
-/// A feasible whole plan of a route that no whole plan beats is a fastest plan of the route over all
-/// fractions; where no whole plan is feasible, no plan is.
+/// A feasible whole plan of a route that no whole plan beats is a fastest plan of the route over
+/// all fractions; where no whole plan is feasible, no plan is.
 pub fn whole_plans_suffice()
     ensures fastest { (g : Network) (route : List ℕ) (start : ℕ) (stops : List Stop) →
         IsNetwork g → IsFeasible g 1 start stops → FollowsRoute route stops →

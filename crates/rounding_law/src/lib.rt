@@ -2,9 +2,9 @@
 //!
 //! A plan whose amounts are in kths of a unit rounds to `k` whole plans, one for each offset `j`
 //! below `k`: each battery level of `z` kths becomes `(z + j) / k`, rounded down. Energies, the
-//! reserve, the level at home and a full battery are whole, so each of these plans keeps the battery.
-//! A stop that charges nothing charges nothing in any of them, so they plug in no more often. Their
-//! times add up to at most the plan's time in kths, so one of them is no slower.
+//! reserve, the level at home and a full battery are whole, so each of these plans keeps the
+//! battery. A stop that charges nothing charges nothing in any of them, so they plug in no more
+//! often. Their times add up to at most the plan's time in kths, so one of them is no slower.
 #![tactic(auto)]
 
 mod best;

@@ -15,9 +15,9 @@ use std::alloc::{AllocError, Global};
 /// The whole plan that a plan in kths of a unit rounds to with the offset `j`, which is below `k`.
 ///
 /// `p` is a feasible plan from the charge `start`, in whole units. Each battery level of `z` kths
-/// along the plan becomes `(z + j) / k` units, rounded down, with the same `j` throughout; the amounts
-/// are the differences of these levels. The stops' nodes and marks stay, and the battery is kept. The
-/// plan may last longer than the limit; see [`crate::best_rounding`].
+/// along the plan becomes `(z + j) / k` units, rounded down, with the same `j` throughout; the
+/// amounts are the differences of these levels. The stops' nodes and marks stay, and the battery is
+/// kept. The plan may last longer than the limit; see [`crate::best_rounding`].
 pub fn rounded(
     alloc: Global,
     p: &FracPlan,

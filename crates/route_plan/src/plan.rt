@@ -10,7 +10,8 @@ pub struct RoutePlan {
     pub stops: Listed<Stop>,
 }
 
-/// A plan of one vehicle in fractions of a unit: the amount of each stop is in kths of a unit of charge.
+/// A plan of one vehicle in fractions of a unit: the amount of each stop is in kths of a unit of
+/// charge.
 #[derive(Drop)]
 pub struct FracPlan {
     /// How many equal parts a unit of charge has; 1 in a whole plan.

@@ -11,11 +11,12 @@ use ev_text::Scan;
 use instance_reader::Instance;
 use std::alloc::Global;
 
-/// The first broken rule of the word of a route. `at` of `Text` is a byte of the word, elsewhere it is
-/// a position in the route; both are counted from 0.
+/// The first broken rule of the word of a route. `at` of `Text` is a byte of the word, elsewhere it
+/// is a position in the route; both are counted from 0.
 #[derive(Clone, Copy, Debug, Drop, PartialEq, Eq)]
 pub enum RouteFault {
-    /// A number or a comma was expected at this byte. A number past 10^9 or with a leading zero is none.
+    /// A number or a comma was expected at this byte. A number past 10^9 or with a leading zero is
+    /// none.
     Text { at: usize },
     /// There are more than 400 nodes.
     TooLong,

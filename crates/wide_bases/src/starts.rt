@@ -16,8 +16,8 @@ use std::alloc::{AllocError, Global};
 
 /// Whether some start of the entries is past the table's caps.
 ///
-/// The table goes from start to start: of no entry, of the first, of the first two, and on. It stops
-/// at the first that is past, and where an entry depends on those before it.
+/// The table goes from start to start: of no entry, of the first, of the first two, and on. It
+/// stops at the first that is past, and where an entry depends on those before it.
 fn table_has_start_past(t: &mut Table, entries: &[usize]) -> Result<bool, AllocError>
     requires start { IsStart t.old entries.now 0 [] }
     requires entries { All (λ j. j < length t.old.columns) entries.now }

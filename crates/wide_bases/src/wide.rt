@@ -10,8 +10,8 @@ use master_table::Caps;
 use std::alloc::{AllocError, Global};
 
 /// Whether the listed basis is too wide: some number of its first entries are independent, and with
-/// the helpers that follow, by rising customer, are a basis past the caps of 2^40 and 2^84. `Err` is
-/// want of memory alone.
+/// the helpers that follow, by rising customer, are a basis past the caps of 2^40 and 2^84. `Err`
+/// is want of memory alone.
 ///
 /// There are `n` customers. An entry names a column: below `n` the helper of the customer with this
 /// number, and from there on the listed routes, in their order.

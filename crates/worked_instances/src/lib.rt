@@ -2,7 +2,8 @@
 //! folder `examples` are the same texts.
 #![tactic(auto)]
 
-/// A depot, a customer (node 1) and a station (node 2). Without charging the way home is out of reach.
+/// A depot, a customer (node 1) and a station (node 2). Without charging the way home is out of
+/// reach.
 pub const ONE_STATION: &str =
     r#"{"max_q":10,"css":[{"node_id":2,"cs_type":"fast"}],"breakpoints_by_type":[{"cs_type":"fast","time":[0,4,10],"charge":[0,8,10]}],"process_times":[0,0,0],"energy_matrix":[[0,6,3],[6,0,2],[5,2,0]],"time_matrix":[[0,10,8],[10,0,3],[8,3,0]]}"#;
 

@@ -6,7 +6,8 @@ ghost use Rattle.bound_certificate.specs.Ranges.{AreDifferent, BasisFits, EntryF
 
 use crate::certificate::BasisEntry;
 
-/// Whether a basis has as many entries as there are customers, each in its range, and no two the same.
+/// Whether a basis has as many entries as there are customers, each in its range, and no two the
+/// same.
 pub(crate) fn basis_fits(customers: usize, columns: usize, basis: &[BasisEntry]) -> bool
     ensures { IsTrue result ↔ BasisFits customers columns basis.now }
 {

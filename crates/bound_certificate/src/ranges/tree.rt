@@ -14,7 +14,8 @@ pub(crate) fn is_whole_tree(lines: &[TreeLine]) -> bool
     closes(lines)
 }
 
-/// Whether the one tree that is open before the lines is closed by the last of them, and not before.
+/// Whether the one tree that is open before the lines is closed by the last of them, and not
+/// before.
 fn closes(lines: &[TreeLine]) -> bool
     ensures { IsTrue result ↔ Closes 1 lines.now }
 {
