@@ -27,8 +27,6 @@ fn a_value_steps_along_an_arc_and_charges(rt: HostRuntime) {
     assert_eq!(rt; charged.len(), 2);
     assert_eq!(rt; charged[0].points(), [(7, 16)].as_slice());
     assert_eq!(rt; charged[1].points(), f.points());
-    let from_there = point.charge_from(7, &scaled, MOST).expect(&rt, "memory");
-    assert_eq!(rt; from_there.points(), f.points());
     assert!(rt; f.covers(&point, 0));
     assert!(rt; !f.covers(&point, 1));
     assert!(rt; f.covers_whole(&f));
