@@ -1,17 +1,27 @@
 use crate::{Covers, LabelValue, Row};
 use charge_curve::Curve;
+use std::alloc::{AllocError, Global};
 
 const MOST: u64 = 1_000_000_000_000_000_000;
 
+/// A row with the levels 7 to 10.
+fn four_levels(alloc: Global) -> Result<Row, AllocError> {
+    Row::from_times(alloc, 7, &[16, 17, 23, 29])
+}
+
 #[test]
-fn a_row_steps_along_an_arc_and_charges(rt: HostRuntime) {
-    let alloc = rt.alloc();
-    let row = Row::from_times(alloc, 7, &[16, 17, 23, 29]).expect(&rt, "memory");
+fn a_row_covers_itself_and_nothing_later(rt: HostRuntime) {
+    let row = four_levels(rt.alloc()).expect(&rt, "memory");
     assert_eq!(rt; row.times(), [16, 17, 23, 29].as_slice());
     assert_eq!(rt; row.least(), (7, 16));
     assert!(rt; row.covers(&row, 0));
     assert!(rt; !row.covers(&row, 1));
     assert!(rt; row.covers_whole(&row));
+}
+
+#[test]
+fn a_row_steps_along_an_arc(rt: HostRuntime) {
+    let row = four_levels(rt.alloc()).expect(&rt, "memory");
     for (limit, times) in [
         (MOST, [22u64, 23, 29, 35].as_slice()),
         (30, [22, 23, 29].as_slice()),
@@ -24,11 +34,16 @@ fn a_row_steps_along_an_arc_and_charges(rt: HostRuntime) {
         assert_eq!(rt; shifted.times(), times);
     }
     assert!(rt; row.shift(11, 0, MOST).expect(&rt, "memory").is_none());
+}
+
+#[test]
+fn a_row_charges_along_a_curve(rt: HostRuntime) {
+    let alloc = rt.alloc();
     let curve = Curve::new(alloc, &[(0, 0), (4, 8), (10, 10)], 10).expect(&rt, "a curve");
     let scaled = curve.scale(2).expect(&rt, "memory");
     let point = Row::from_times(alloc, 7, &[16]).expect(&rt, "memory");
     let charged = point.charge(&scaled, MOST).expect(&rt, "memory");
     assert_eq!(rt; charged.len(), 1);
-    assert_eq!(rt; charged[0].times(), row.times());
+    assert_eq!(rt; charged[0].times(), [16, 17, 23, 29].as_slice());
     assert_eq!(rt; charged[0].least(), (7, 16));
 }

@@ -37,13 +37,12 @@ fn last_failure<R: Files>(alloc: Global, files: &SystemFiles<'_, R>) -> Result<S
     }
 }
 
+/// A file of several pieces is read whole, and up to a byte inside a piece.
 #[test]
-fn real_files_and_the_output_take_what_is_written(rt: HostRuntime) -> Result<(), Fail> {
+fn a_long_file_is_read_up_to_a_byte(rt: HostRuntime) -> Result<(), Fail> {
     let alloc = rt.alloc();
-    let name = "ev_outside_real_file";
-    let mut shelf = FileShelf::new(SystemFiles::new(rt.alloc(), &rt));
-
-    // A file of several pieces, read whole, and up to a byte inside a piece.
+    let name = "ev_outside_long_file";
+    let mut shelf = FileShelf::new(SystemFiles::new(alloc, &rt));
     let mut long = Vec::new(alloc);
     for at in 0..10000u32 {
         long.push((at % 251) as u8)?;
@@ -61,35 +60,53 @@ fn real_files_and_the_output_take_what_is_written(rt: HostRuntime) -> Result<(),
         assert_eq!(rt; read.first().copied(), Some(b'>'), "of at most {most}");
         assert!(rt; long.starts_with(&read[1..]), "of at most {most}");
     }
-
-    // A shorter text takes the place of the longer one.
-    write_to(&mut shelf, name, b"short")?;
-    assert_eq!(rt;
-        read_from(alloc, &mut shelf, name, 100)?.as_slice(),
-        b">short".as_slice()
-    );
-    write_to(&mut shelf, name, b"")?;
-    assert_eq!(rt;
-        read_from(alloc, &mut shelf, name, 100)?.as_slice(),
-        b">".as_slice()
-    );
-
-    // What isn't there can't be read, and no folder can be written.
     fs::remove_file(&rt, name)?;
+    Ok(())
+}
+
+#[test]
+fn a_shorter_text_takes_the_place_of_a_longer_one(rt: HostRuntime) -> Result<(), Fail> {
+    let alloc = rt.alloc();
+    let name = "ev_outside_short_file";
+    let mut shelf = FileShelf::new(SystemFiles::new(alloc, &rt));
+    for text in [b"a longer text".as_slice(), b"short", b""] {
+        write_to(&mut shelf, name, text)?;
+        let read = read_from(alloc, &mut shelf, name, 100)?;
+        assert_eq!(rt; read.get(1..), Some(text));
+    }
+    fs::remove_file(&rt, name)?;
+    Ok(())
+}
+
+#[test]
+fn a_file_that_is_not_there_cannot_be_read(rt: HostRuntime) -> Result<(), Fail> {
+    let alloc = rt.alloc();
+    let mut shelf = FileShelf::new(SystemFiles::new(alloc, &rt));
     assert_eq!(rt;
-        read_from(alloc, &mut shelf, name, 100).err(),
+        read_from(alloc, &mut shelf, "ev_outside_no_file", 100).err(),
         Some(ShelfFault::Failed)
     );
     assert_eq!(rt;
         last_failure(alloc, shelf.storage())?.as_str(),
-        "ev_outside_real_file: No such file or directory (os error 2)"
+        "ev_outside_no_file: No such file or directory (os error 2)"
     );
+    Ok(())
+}
+
+#[test]
+fn a_folder_cannot_be_written(rt: HostRuntime) -> Result<(), Fail> {
+    let alloc = rt.alloc();
+    let mut shelf = FileShelf::new(SystemFiles::new(alloc, &rt));
     assert_eq!(rt; write_to(&mut shelf, "/", b"text"), Err(ShelfFault::Failed));
     assert_eq!(rt;
         last_failure(alloc, shelf.storage())?.as_str(),
         "/: Is a directory (os error 21)"
     );
+    Ok(())
+}
 
+#[test]
+fn the_output_takes_what_is_put(rt: HostRuntime) -> Result<(), Fail> {
     let mut out = OutSink::new(SystemOutput::new(&rt));
     put_into(&mut out, b"the output takes this line\n")?;
     put_into(&mut out, b"")?;

@@ -2,6 +2,7 @@
 ghost use Rattle.std.specs.Prelude.{◌≡◌, ◌<◌, ◌≤◌, length};
 
 use crate::{IndexHeap, Rings};
+use std::alloc::Global;
 use std::collections::BTreeSet;
 use std::process::Abort;
 
@@ -17,52 +18,76 @@ fn next_random(seed: u64) -> u64 {
         .wrapping_add(1442695040888963407)
 }
 
-#[test]
-fn items_are_linked_and_unlinked_at_any_place(rt: HostRuntime) {
-    let mut rings = Rings::new(rt.alloc());
-    rings.grow(2, 3).expect(&rt, "memory");
+/// Two lists, of which the first has the items 0, 1 and 2, in this order.
+fn three_in_a_list(rt: &impl Abort, alloc: Global) -> Rings
+    ensures lists { length result.lists ≡ 2 }
+    ensures items { result.items ≡ 3 }
+{
+    let mut rings = Rings::new(alloc);
+    rings.grow(2, 3).expect(rt, "memory");
     assert!(rt; !rings.is_linked(0));
     rings.link_last(0, 0);
     assert!(rt; !rings.is_linked(1));
     rings.link_last(0, 1);
     assert!(rt; !rings.is_linked(2));
     rings.link_last(0, 2);
+    rings
+}
+
+#[test]
+fn an_item_is_unlinked_from_the_middle(rt: HostRuntime) {
+    let mut rings = three_in_a_list(&rt, rt.alloc());
     assert!(rt; rings.is_linked(1));
     rings.unlink(1);
     assert_eq!(rt; rings.first(0), Some(0));
-    assert!(rt; rings.is_linked(0));
+    assert!(rt; rings.is_linked(0) && rings.is_linked(2) && !rings.is_linked(1));
     assert_eq!(rt; rings.next(0), Some(2));
-    assert!(rt; rings.is_linked(2));
     assert_eq!(rt; rings.next(2), None);
     assert_eq!(rt; rings.first(1), None);
+}
 
-    // 1 before 2, and then 3 before the first
-    assert!(rt; !rings.is_linked(1));
-    rings.link_before(2, 1);
+#[test]
+fn an_item_is_linked_before_another(rt: HostRuntime) {
+    let mut rings = three_in_a_list(&rt, rt.alloc());
     rings.grow(2, 4).expect(&rt, "memory");
-    assert!(rt; rings.is_linked(0) && !rings.is_linked(3));
-    rings.link_before(0, 3);
-    assert_eq!(rt; rings.first(0), Some(3));
-    assert!(rt; rings.is_linked(3));
-    assert_eq!(rt; rings.next(3), Some(0));
-    assert!(rt; rings.is_linked(0));
-    assert_eq!(rt; rings.next(0), Some(1));
-    assert!(rt; rings.is_linked(1));
-    assert_eq!(rt; rings.next(1), Some(2));
-    assert!(rt; rings.is_linked(2));
+    assert!(rt; rings.is_linked(2) && !rings.is_linked(3));
+    rings.link_before(2, 3);
+    assert!(rt; rings.is_linked(1) && rings.is_linked(2) && rings.is_linked(3));
+    assert_eq!(rt; rings.next(1), Some(3));
+    assert_eq!(rt; rings.next(3), Some(2));
     assert_eq!(rt; rings.next(2), None);
 }
 
 #[test]
-fn the_least_item_by_key_and_then_number_is_taken(rt: HostRuntime) {
-    let mut heap = IndexHeap::new(rt.alloc());
-    heap.grow(3).expect(&rt, "memory");
+fn an_item_is_linked_before_the_first(rt: HostRuntime) {
+    let mut rings = three_in_a_list(&rt, rt.alloc());
+    rings.grow(2, 4).expect(&rt, "memory");
+    assert!(rt; rings.is_linked(0) && !rings.is_linked(3));
+    rings.link_before(0, 3);
+    assert_eq!(rt; rings.first(0), Some(3));
+    assert!(rt; rings.is_linked(0) && rings.is_linked(3));
+    assert_eq!(rt; rings.next(3), Some(0));
+    assert_eq!(rt; rings.next(0), Some(1));
+}
+
+/// A heap that holds the items 0, 1 and 2 under these keys.
+fn three_in_a_heap(rt: &impl Abort, alloc: Global, keys: [u64; 3]) -> IndexHeap
+    ensures { length result ≡ 3 }
+{
+    let mut heap = IndexHeap::new(alloc);
+    heap.grow(3).expect(rt, "memory");
     assert!(rt; !heap.holds(0));
-    heap.put(0, 5);
+    heap.put(0, keys[0]);
     assert!(rt; !heap.holds(1));
-    heap.put(1, 3);
+    heap.put(1, keys[1]);
     assert!(rt; !heap.holds(2));
-    heap.put(2, 4);
+    heap.put(2, keys[2]);
+    heap
+}
+
+#[test]
+fn the_least_item_by_key_is_taken(rt: HostRuntime) {
+    let mut heap = three_in_a_heap(&rt, rt.alloc(), [5, 3, 4]);
     assert!(rt; heap.holds(1));
     heap.remove(1);
     assert_eq!(rt; heap.least_key(), Some(4));
@@ -70,15 +95,14 @@ fn the_least_item_by_key_and_then_number_is_taken(rt: HostRuntime) {
     assert_eq!(rt; heap.take_least(), Some(0));
     assert_eq!(rt; heap.take_least(), None);
     assert_eq!(rt; heap.least_key(), None);
+}
 
-    // equal keys
-    heap.grow(2).expect(&rt, "memory");
-    assert!(rt; !heap.holds(2));
-    heap.put(2, 7);
+#[test]
+fn the_least_number_is_taken_at_equal_keys(rt: HostRuntime) {
+    let mut heap = three_in_a_heap(&rt, rt.alloc(), [7, 7, 7]);
+    assert_eq!(rt; heap.take_least(), Some(0));
     assert!(rt; !heap.holds(0));
     heap.put(0, 7);
-    assert!(rt; !heap.holds(1));
-    heap.put(1, 7);
     assert_eq!(rt; heap.take_least(), Some(0));
     assert_eq!(rt; heap.take_least(), Some(1));
     assert_eq!(rt; heap.take_least(), Some(2));

@@ -1,14 +1,32 @@
+ghost use Rattle.std.specs.Prelude.{◌≡◌, IfOk, [], ◌∷◌};
+ghost use Rattle.charge_curve.specs.Points.{last_level};
+
 use crate::PieceFn;
-use charge_curve::Curve;
+use charge_curve::{Curve, Scaled};
 use dominance::{Covers, LabelValue, Row};
 use std::alloc::{AllocError, Global};
+use std::process::Abort;
 
 const MOST: u64 = 1_000_000_000_000_000_000;
 
+/// The value through three points. Its levels are 7 to 10.
+fn three_points(alloc: Global) -> Result<PieceFn, AllocError>
+    ensures { IfOk result (λ value. value ≡ (7, 16) ∷ (8, 17) ∷ (10, 29) ∷ []) }
+{
+    PieceFn::from_points(alloc, &[(7, 16), (8, 17), (10, 29)])
+}
+
+/// A curve up to a full battery of 10, in halves of a unit of time.
+fn scaled_curve(rt: &impl Abort, alloc: Global) -> Scaled
+    ensures { last_level result ≡ 10 }
+{
+    let curve = Curve::new(alloc, &[(0, 0), (4, 8), (10, 10)], 10).expect(rt, "a curve");
+    curve.scale(2).expect(rt, "memory")
+}
+
 #[test]
-fn a_value_steps_along_an_arc_and_charges(rt: HostRuntime) {
-    let alloc = rt.alloc();
-    let f = PieceFn::from_points(alloc, &[(7, 16), (8, 17), (10, 29)]).expect(&rt, "memory");
+fn a_value_steps_along_an_arc(rt: HostRuntime) {
+    let f = three_points(rt.alloc()).expect(&rt, "memory");
     for (limit, points) in [
         (MOST, [(5u64, 22u64), (6, 23), (8, 35)].as_slice()),
         (30, [(5, 22), (6, 23), (7, 29)].as_slice()),
@@ -20,25 +38,60 @@ fn a_value_steps_along_an_arc_and_charges(rt: HostRuntime) {
         assert_eq!(rt; shifted.points(), points);
     }
     assert!(rt; f.shift(11, 0, MOST).expect(&rt, "memory").is_none());
-    let curve = Curve::new(alloc, &[(0, 0), (4, 8), (10, 10)], 10).expect(&rt, "a curve");
-    let scaled = curve.scale(2).expect(&rt, "memory");
-    let point = PieceFn::point(alloc, 7, 16);
-    let charged = point.charge(&scaled, MOST).expect(&rt, "memory");
+}
+
+#[test]
+fn a_point_is_charged_along_a_curve(rt: HostRuntime) {
+    let curve = scaled_curve(&rt, rt.alloc());
+    let point = PieceFn::point(rt.alloc(), 7, 16);
+    let charged = point.charge(&curve, MOST).expect(&rt, "memory");
     assert_eq!(rt; charged.len(), 2);
     assert_eq!(rt; charged[0].points(), [(7, 16)].as_slice());
-    assert_eq!(rt; charged[1].points(), f.points());
+    assert_eq!(rt;
+        charged[1].points(),
+        [(7, 16), (8, 17), (10, 29)].as_slice()
+    );
+}
+
+#[test]
+fn a_point_is_charged_from_its_level(rt: HostRuntime) {
+    let curve = scaled_curve(&rt, rt.alloc());
+    let point = PieceFn::point(rt.alloc(), 7, 16);
+    let charged = point.charge_from(7, &curve, MOST).expect(&rt, "memory");
+    assert_eq!(rt; charged.points(), [(7, 16), (8, 17), (10, 29)].as_slice());
+}
+
+#[test]
+fn a_value_covers_itself_and_its_first_point(rt: HostRuntime) {
+    let f = three_points(rt.alloc()).expect(&rt, "memory");
+    let point = PieceFn::point(rt.alloc(), 7, 16);
     assert!(rt; f.covers(&point, 0));
     assert!(rt; !f.covers(&point, 1));
     assert!(rt; f.covers_whole(&f));
-    let late = PieceFn::point(alloc, 8, 17);
+}
+
+#[test]
+fn a_later_point_reaches_no_level_of_a_value(rt: HostRuntime) {
+    let f = three_points(rt.alloc()).expect(&rt, "memory");
+    let late = PieceFn::point(rt.alloc(), 8, 17);
     assert_eq!(rt; late.reach(&f, 0, 7), None);
     assert_eq!(rt; late.reach(&f, 0, 9), None);
     assert_eq!(rt; f.reach(&f, 0, 7), Some(10));
+}
+
+#[test]
+fn times_stand_on_the_lines_between_points(rt: HostRuntime) {
+    let f = three_points(rt.alloc()).expect(&rt, "memory");
     assert_eq!(rt; f.at(9), Some(23));
     assert_eq!(rt; f.at(11), None);
     assert_eq!(rt; f.least(), (7, 16));
     assert!(rt; PieceFn::is_points(f.points()));
     assert!(rt; !PieceFn::is_points(&[(7, 16), (9, 17)]));
+}
+
+#[test]
+fn a_cut_begins_on_the_line(rt: HostRuntime) {
+    let f = three_points(rt.alloc()).expect(&rt, "memory");
     let cut = f
         .cut(9)
         .expect(&rt, "memory")

@@ -3,7 +3,7 @@ use Rattle.charge_curve.specs.CutCurve.{CutCurve}
 use Rattle.ev_model.specs.Curve.{IsMultipleOfSlopes}
 use Rattle.ev_model.specs.Examples.OneStation.{curve}
 use Rattle.ev_model.proofs.Fits.{curve_fits}
-use Rattle.dominance.proofs.tests.a_row_steps_along_an_arc_and_charges.Goals as goal
+use Rattle.dominance.proofs.tests.a_row_charges_along_a_curve.Goals as goal
 
 made_fits : {E : Type 0} (full : ℕ) (made : Result CutCurve E) (c : CutCurve) → made ≡ Ok c → IfOk made (λ x. x ≡ record { points = curve; full = full }) → IsMultipleOfSlopes c.full c.points 2
 made_fits {E} full made c is value =
