@@ -12,6 +12,3 @@ pub use text::{
     CertText, certificate_faults_are_first, push_certificate, read_certificate,
     texts_spell_certificates, written_certificates_are_read,
 };
-
-#[cfg(test)]
-mod tests;

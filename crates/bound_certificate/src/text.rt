@@ -11,6 +11,3 @@ pub use laws::{
 };
 pub use reading::read_certificate;
 pub use writing::push_certificate;
-
-#[cfg(test)]
-mod tests;

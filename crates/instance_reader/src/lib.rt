@@ -31,6 +31,3 @@ pub use instance::Instance;
 pub use laws::bytes_mean_one_thing;
 pub use places::{Key, Part, Place};
 pub use read::read_instance;
-
-#[cfg(test)]
-mod tests;

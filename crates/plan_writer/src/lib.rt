@@ -14,6 +14,3 @@ pub use fixed::push_fixed;
 pub use fleet::{Outcomes, RootLine, push_fleet_report};
 pub use make::push_make_report;
 pub use refusal::{Refusal, push_refusal};
-
-#[cfg(test)]
-mod tests;

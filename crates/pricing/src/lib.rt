@@ -15,6 +15,3 @@ mod steps;
 
 pub use answer::price;
 pub use priced::{Priced, PricedRoute, Prices};
-
-#[cfg(test)]
-mod tests;

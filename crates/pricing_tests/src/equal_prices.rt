@@ -1,8 +1,10 @@
+//! What pricing answers at equal prices on the worked instances.
+
 ghost use Rattle.std.specs.Prelude.{◌≡◌, ◌^◌, ◌≤◌, All, IfSome, length, unsigned_abs};
 
-use crate::{Priced, Prices, price};
 use customer_sets::Pairs;
 use instance_reader::{Instance, read_instance};
+use pricing::{Priced, Prices, price};
 use route_plan::walk;
 use std::alloc::Global;
 use worked_instances::{ONE_STATION, RESERVE, THREE_CUSTOMERS, TWO_CUSTOMERS};

@@ -5,6 +5,8 @@
 #[cfg(test)]
 mod drawn;
 #[cfg(test)]
+mod equal_prices;
+#[cfg(test)]
 mod hard_inputs;
 #[cfg(test)]
 mod instances;

@@ -1,5 +1,7 @@
-use crate::tests::{FIRST, SECOND, WIDE};
-use crate::{CertText, Certificate, push_certificate, read_certificate};
+//! Texts of certificates that are read and written, and where a text that is none breaks off.
+
+use crate::certificates::{FIRST, SECOND, WIDE};
+use bound_certificate::{CertText, Certificate, push_certificate, read_certificate};
 use instance_reader::{Instance, read_instance};
 use std::alloc::Global;
 use worked_instances::{ONE_STATION, RESERVE, TWO_CUSTOMERS};

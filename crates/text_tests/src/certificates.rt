@@ -1,4 +1,6 @@
-use crate::{Certificate, TreeLine, read_certificate};
+//! Which certificates fit an instance.
+
+use bound_certificate::{Certificate, TreeLine, read_certificate};
 use ev_list::Listed;
 use instance_reader::{Instance, read_instance};
 use std::alloc::{AllocError, Global};

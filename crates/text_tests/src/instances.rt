@@ -1,6 +1,6 @@
 //! Files from outside: a small instance with some of its fields replaced, and what is answered.
 
-use crate::{LimitFault, read_instance};
+use instance_reader::{LimitFault, read_instance};
 use std::alloc::{AllocError, Global};
 use std::test::Fail;
 

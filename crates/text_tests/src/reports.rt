@@ -1,10 +1,8 @@
+//! The lines that each command puts: reports and refusals.
+
 ghost use Rattle.std.specs.Prelude.{◌≢◌};
 ghost use Rattle.plan_writer.specs.FleetText.{IsLowest};
 
-use crate::{
-    Judgement, Outcomes, Refusal, RootLine, push_check_report, push_fixed, push_fleet_report,
-    push_make_report, push_refusal,
-};
 use bound_certificate::CertText;
 use certificate_check::Verdict;
 use charge_curve::CurveFault;
@@ -14,6 +12,10 @@ use ev_model::Stop;
 use ev_text::TextFault;
 use instance_reader::{Instance, Key, Part, Place, ReadFault, read_instance};
 use plan_check::PlanFault;
+use plan_writer::{
+    Judgement, Outcomes, Refusal, RootLine, push_check_report, push_fixed, push_fleet_report,
+    push_make_report, push_refusal,
+};
 use route_plan::{PlanText, RouteFault, RoutePlan, WalkFault};
 use std::alloc::Global;
 use worked_instances::ONE_STATION;
