@@ -18,9 +18,17 @@ pub enum Message<'a> {
 }
 
 impl<'a> Message<'a> {
+    ghost use Rattle.std.specs.Prelude.{◌≡◌, ◌≢◌, IsNone, MatchOption, Some};
+    ghost use Rattle.evroute.specs.Codes.{code_of};
+
     /// The message at an exit status, where the last call of the system that failed is this one.
     /// There is none where the job was answered.
-    pub fn at(code: u8, failure: Option<Failure<'a>>) -> Option<Message<'a>> {
+    pub fn at(code: u8, failure: Option<Failure<'a>>) -> Option<Message<'a>>
+        ensures memory { code ≡ code_of Status.Memory → result ≡ Some Message.Memory }
+        ensures fault { code ≡ code_of Status.Fault → MatchOption failure.entry (IsNone result)
+            (λ f. result ≡ Some (Message.Failure f)) }
+        ensures none { code ≢ code_of Status.Memory → code ≢ code_of Status.Fault → IsNone result }
+    {
         if code == Status::Memory.code() {
             return Some(Message::Memory);
         }

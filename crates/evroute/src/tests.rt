@@ -1,7 +1,9 @@
+use crate::message::Message;
 use crate::{Status, run};
 use command_line::usage;
-use ev_outside::{MemoryShelf, MemorySink};
+use ev_outside::{Failure, MemoryShelf, MemorySink};
 use std::alloc::{AllocError, Global};
+use std::io::Error;
 use worked_instances::{FINE_UNITS, ONE_STATION, RESERVE, THREE_CUSTOMERS, TWO_CUSTOMERS};
 
 /// A file with decimals.
@@ -606,4 +608,32 @@ fn what_a_failed_fleet_leaves(rt: HostRuntime) {
         let left = shelf.get("Q").unwrap_or(b"".as_slice());
         assert!(rt; left.starts_with(certificate.as_bytes()));
     }
+}
+
+#[test]
+fn a_message_names_the_cause(rt: HostRuntime) -> Result<(), AllocError> {
+    let alloc = rt.alloc();
+    let cause = Error::from_raw_os_error(2);
+    let failure = Failure {
+        name: "absent.json",
+        cause,
+    };
+    for (message, want) in [
+        (
+            Message::at(Status::Fault.code(), Some(failure)),
+            "evroute: absent.json: No such file or directory (os error 2)",
+        ),
+        (
+            Message::at(Status::Memory.code(), Some(failure)),
+            "evroute: out of memory",
+        ),
+        (
+            Some(Message::Words(cause)),
+            "evroute: the words can't be had: No such file or directory (os error 2)",
+        ),
+    ] {
+        let text = message.expect(&rt, "a message").to_string(alloc)?;
+        assert_eq!(rt; text.as_str(), want);
+    }
+    Ok(())
 }
