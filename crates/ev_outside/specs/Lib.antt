@@ -6,3 +6,5 @@ pub mod MemoryShelf
 pub mod Storage
 pub mod PieceStorage
 pub mod PieceLaws
+pub mod Sure
+pub mod Answers

@@ -1,5 +1,5 @@
 //! Named files of a system.
-ghost use Rattle.std.specs.Prelude.{◌≡◌, ◌≤◌, OnOk, OnErr, IsErrOf};
+ghost use Rattle.std.specs.Prelude.{◌≡◌, ◌≤◌, false, OnOk, OnErr, IsErrOf};
 ghost use Rattle.ev_outside.specs.Counts.{CountsOne, Rose};
 ghost use Rattle.ev_text.specs.Scans.{IsPrefixOf};
 ghost use Rattle.ev_outside.specs.Shelf.{AppendsFile, CountsNeverFall, CountsStay, HoldsUnder, KeepsOthers};
@@ -7,21 +7,37 @@ ghost use Rattle.ev_outside.specs.Storage.{files_of, shelf_of};
 
 use super::shelf::{Shelf, ShelfFault};
 use super::storage::Storage;
-use super::streams::{read_up_to, write_whole};
+use super::streams::{read_named, write_named};
+use super::system::SystemFiles;
+use std::alloc::Global;
+use std::rt::Files;
 
 /// The files of a storage as a shelf. All bytes are read and written, once and in order. One count,
 /// that of the storage, stands for all reads and writes of all names.
 #[derive(Drop)]
-pub struct FileShelf<S: Storage> {
+pub struct StorageShelf<S: Storage> {
     storage: S,
 }
 
-impl<S: Storage> FileShelf<S> {
+/// The files of the system as a shelf.
+pub type FileShelf<'a, R> = StorageShelf<SystemFiles<'a, R>>;
+
+impl<'a, R: Files> StorageShelf<SystemFiles<'a, R>> {
+    /// The files that the runtime reaches, whose files can be cloned. No call has failed yet. The
+    /// memory is for the name of a file that people are told.
+    pub fn new(alloc: Global, rt: &'a R) -> Self
+        ensures failed { result.storage.failed ≡ 0 }
+    {
+        StorageShelf::over(SystemFiles::new(alloc, rt))
+    }
+}
+
+impl<S: Storage> StorageShelf<S> {
     /// The files that the storage reaches.
-    pub fn new(storage: S) -> Self
+    pub fn over(storage: S) -> Self
         ensures { result.storage ≡ storage }
     {
-        FileShelf { storage }
+        StorageShelf { storage }
     }
 
     /// The storage.
@@ -32,7 +48,7 @@ impl<S: Storage> FileShelf<S> {
     }
 }
 
-impl<S: Storage> Shelf for FileShelf<S> {
+impl<S: Storage> Shelf for StorageShelf<S> {
     ghost state = { λ shelf. shelf_of (S.told shelf.storage) (S.failed shelf.storage) };
 
     fn read(&mut self, name: &str, most: usize, into: &mut Vec<u8>) -> Result<(), ShelfFault>
@@ -55,9 +71,11 @@ impl<S: Storage> Shelf for FileShelf<S> {
             CountsOne (S.failed self.old.storage) (S.failed self.new.storage) }
         ensures uncounted { (IsErrOf result ShelfFault.Failed → ⊥) →
             S.failed self.new.storage ≡ S.failed self.old.storage }
+        ensures closed { S.is_open self.new.storage ≡ false }
     {
-        self.storage.open(name)?;
-        read_up_to(&mut self.storage, most, into)
+        let answer = read_named(&mut self.storage, name, most, into);
+        self.storage.close();
+        answer
     }
 
     fn write(&mut self, name: &str, bytes: &[u8]) -> Result<(), ShelfFault>
@@ -81,10 +99,11 @@ impl<S: Storage> Shelf for FileShelf<S> {
             CountsOne (S.failed self.old.storage) (S.failed self.new.storage) }
         ensures uncounted { (IsErrOf result ShelfFault.Failed → ⊥) →
             S.failed self.new.storage ≡ S.failed self.old.storage }
+        ensures closed { S.is_open self.new.storage ≡ false }
         ensures never_memory { IsErrOf result ShelfFault.Memory → ⊥ }
     {
-        self.storage.create(name)?;
-        write_whole(&mut self.storage, bytes)?;
-        Ok(())
+        let answer = write_named(&mut self.storage, name, bytes);
+        self.storage.close();
+        Ok(answer?)
     }
 }

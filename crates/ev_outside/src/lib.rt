@@ -1,12 +1,13 @@
 //! What a program has outside itself: named files ([`Shelf`]) and its output ([`Sink`]).
 //!
-//! Both are traits whose calls have a written meaning. [`FileShelf`] and [`OutSink`] are proved to
-//! meet it over the calls of a system ([`Storage`], [`Stream`]), which may take or give a part.
-//! [`SystemFiles`] and [`SystemOutput`] are the real ones. [`MemoryShelf`] and [`MemorySink`] are
-//! fakes in memory whose calls fail where a test wants them to, those of [`SureShelf`] and
-//! [`SureSink`] never do.
+//! Both are traits whose calls have a written meaning. [`StorageShelf`] and [`StreamSink`] are
+//! proved to meet it over the calls of a system ([`Storage`], [`Stream`]), which may take or give a
+//! part. Over the real calls, [`SystemFiles`] and [`SystemOutput`], they are [`FileShelf`] and
+//! [`OutSink`]. [`MemoryShelf`] and [`MemorySink`] are fakes in memory whose calls fail where a
+//! test wants them to, those of [`SureShelf`] and [`SureSink`] never do.
 #![tactic(auto)]
 
+mod answers;
 mod failure;
 mod files;
 mod memory_shelf;
@@ -22,10 +23,10 @@ mod sure_sink;
 mod system;
 
 pub use failure::Failure;
-pub use files::FileShelf;
+pub use files::{FileShelf, StorageShelf};
 pub use memory_shelf::MemoryShelf;
 pub use memory_sink::MemorySink;
-pub use output::OutSink;
+pub use output::{OutSink, StreamSink};
 pub use piece_storage::PieceStorage;
 pub use shelf::{Shelf, ShelfFault};
 pub use sink::{Sink, SinkFault};

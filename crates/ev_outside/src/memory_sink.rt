@@ -57,6 +57,10 @@ impl MemorySink {
 }
 
 impl Sink for MemorySink {
+    ghost use Rattle.std.specs.Prelude.{true};
+
+    ghost takes_memory = { true };
+
     ghost state = { λ sink. record { written = Some sink.bytes; faults = sink.faults } };
 
     /// Keeps the bytes. A call that is to fail keeps the first half of them, rounded down.

@@ -6,19 +6,33 @@ ghost use Rattle.ev_outside.specs.Sink.{Adds, AddsPrefix};
 use super::sink::{Sink, SinkFault};
 use super::storage::Stream;
 use super::streams::write_whole;
+use super::system::SystemOutput;
+use std::io::Print;
 
-/// A stream as a sink. All bytes are written, once and in order.
+/// A stream as a sink. All bytes are written, once and in order. No memory.
 #[derive(Drop)]
-pub struct OutSink<S: Stream> {
+pub struct StreamSink<S: Stream> {
     stream: S,
 }
 
-impl<S: Stream> OutSink<S> {
+/// The standard output of the system as a sink.
+pub type OutSink<'a, R> = StreamSink<SystemOutput<'a, R>>;
+
+impl<'a, R: Print> StreamSink<SystemOutput<'a, R>> {
+    /// The standard output of the runtime. No call has failed yet. No memory.
+    pub fn new(rt: &'a R) -> Self
+        ensures failed { result.stream.failed ≡ 0 }
+    {
+        StreamSink::over(SystemOutput::new(rt))
+    }
+}
+
+impl<S: Stream> StreamSink<S> {
     /// The output that goes to the stream.
-    pub fn new(stream: S) -> Self
+    pub fn over(stream: S) -> Self
         ensures { result.stream ≡ stream }
     {
-        OutSink { stream }
+        StreamSink { stream }
     }
 
     /// The stream.
@@ -29,7 +43,11 @@ impl<S: Stream> OutSink<S> {
     }
 }
 
-impl<S: Stream> Sink for OutSink<S> {
+impl<S: Stream> Sink for StreamSink<S> {
+    ghost use Rattle.std.specs.Prelude.{false};
+
+    ghost takes_memory = { false };
+
     ghost state = { λ sink. record {
       written = S.written sink.stream;
       faults = S.failed sink.stream;

@@ -21,6 +21,7 @@ pub struct PieceStorage {
     files: MemoryShelf,
     rest: Vec<u8>,
     target: String,
+    opened: bool,
     piece: usize,
     calls: u64,
     failed: u64,
@@ -37,6 +38,7 @@ impl PieceStorage {
             files,
             rest: Vec::new(alloc),
             target: String::new(alloc),
+            opened: false,
             piece,
             calls: 0,
             failed: 0,
@@ -118,6 +120,8 @@ impl Stream for PieceStorage {
 impl Storage for PieceStorage {
     ghost told = { told_by };
 
+    ghost is_open = { λ storage. storage.opened };
+
     ghost writes = { λ a b piece writes. writes };
 
     fn open(&mut self, name: &str) -> Result<(), CallFailed> {
@@ -132,6 +136,7 @@ impl Storage for PieceStorage {
             return Err(self.fail());
         };
         self.rest = rest;
+        self.opened = true;
         Ok(())
     }
 
@@ -160,9 +165,14 @@ impl Storage for PieceStorage {
         match self.files.set(name, &[]) {
             Ok(()) => {
                 self.target = target;
+                self.opened = true;
                 Ok(())
             }
             Err(AllocError) => Err(self.fail()),
         }
+    }
+
+    fn close(&mut self) {
+        self.opened = false;
     }
 }

@@ -1,5 +1,5 @@
 //! The output.
-ghost use Rattle.std.specs.Prelude.{◌≡◌, ◌≤◌, OnOk, OnErr, IsErrOf};
+ghost use Rattle.std.specs.Prelude.{◌≡◌, ◌≤◌, Bool, true, OnOk, OnErr, IsErrOf};
 ghost use Rattle.ev_outside.specs.Counts.{Rose};
 ghost use Rattle.ev_outside.specs.Sink.{SinkState, Adds, AddsPrefix};
 
@@ -34,6 +34,9 @@ pub trait Sink {
     // The bytes that were written, where the sink tells them, and how many calls have failed.
     ghost state: { Self → SinkState };
 
+    // Putting takes memory. Where it takes none, `Memory` never comes.
+    ghost takes_memory: { Bool };
+
     /// Adds the bytes at the end of what was written. After a refusal a prefix of them was added.
     /// The count doesn't rise but where the call answers `Failed`.
     fn put(&mut self, bytes: &[u8]) -> Result<(), SinkFault>
@@ -45,5 +48,6 @@ pub trait Sink {
             → Rose (state self.old).faults (state self.new).faults }
         ensures falls { (state self.old).faults ≤ (state self.new).faults }
         ensures stays { (IsErrOf result SinkFault.Failed → ⊥)
-            → (state self.new).faults ≡ (state self.old).faults };
+            → (state self.new).faults ≡ (state self.old).faults }
+        ensures memory { IsErrOf result SinkFault.Memory → takes_memory ≡ true };
 }

@@ -1,5 +1,5 @@
 //! The calls of a system on its files and its output, each of which may take or give a part.
-ghost use Rattle.std.specs.Prelude.{◌≡◌, ◌<◌, ◌≤◌, ◌++◌, ℕ, List, [], Option, take, length, IfOk, OnOk, MatchResult};
+ghost use Rattle.std.specs.Prelude.{◌≡◌, ◌<◌, ◌≤◌, ◌++◌, Bool, false, ℕ, List, [], Option, take, length, IfOk, OnOk, MatchResult};
 ghost use Rattle.std.specs.Io.KnownBytes.{ReadConsumes};
 ghost use Rattle.ev_outside.specs.Counts.{IsCounted};
 ghost use Rattle.ev_outside.specs.Shelf.{KeepsOthers};
@@ -48,6 +48,9 @@ pub trait Storage: Stream {
     // written, where they are told.
     ghost told: { Self → Option Told };
 
+    // A file is open.
+    ghost is_open: { Self → Bool };
+
     /// Opens a file to be read from its beginning. A name that isn't there has no bytes, or the
     /// call fails.
     fn open(&mut self, name: &str) -> Result<(), CallFailed>
@@ -71,6 +74,12 @@ pub trait Storage: Stream {
         ensures others { KeepsOthers name.now
             (files_of (told self.old)) (files_of (told self.new)) }
         ensures counts { IsCounted result (Self.failed self.old) (Self.failed self.new) };
+
+    /// Closes the file that is open, if one is. No bytes of any file change.
+    fn close(&mut self)
+        ensures closed { is_open self.new ≡ false }
+        ensures files { files_of (told self.new) ≡ files_of (told self.old) }
+        ensures failed { Self.failed self.new ≡ Self.failed self.old };
 
     ghost writes: { (a b : Self) (piece : List ℕ) → Self.takes a piece b →
         WritesTo (told a) piece (told b) };

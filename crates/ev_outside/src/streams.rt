@@ -1,7 +1,8 @@
 //! Loops over the calls of a system, which may take or give a part of what they are asked for.
-ghost use Rattle.std.specs.Prelude.{◌≡◌, ◌+◌, ◌++◌, ◌≤◌, List, ℕ, take, length, OnOk, IfSome, IsErrOf, MatchResult};
+ghost use Rattle.std.specs.Prelude.{◌≡◌, ◌+◌, ◌++◌, ◌≤◌, List, ℕ, take, length, OnOk, OnErr, IfSome, IsErrOf, MatchResult};
 ghost use Rattle.ev_text.specs.Scans.{IsPrefixOf};
 ghost use Rattle.ev_outside.specs.Counts.{CountsOne, IsCounted};
+ghost use Rattle.ev_outside.specs.Shelf.{AppendsFile, HoldsUnder, KeepsOthers};
 ghost use Rattle.ev_outside.specs.Storage.{files_of, rest_of};
 
 use super::shelf::ShelfFault;
@@ -9,6 +10,41 @@ use super::storage::{CallFailed, Storage, Stream};
 
 /// The most bytes that one read asks for.
 const CHUNK: usize = 4096;
+
+/// Opens the file, and appends what it gives, or its first `most` bytes.
+pub(crate) fn read_named<S: Storage>(
+    storage: &mut S,
+    name: &str,
+    most: usize,
+    into: &mut Vec<u8>,
+) -> Result<(), ShelfFault>
+    ensures bytes { OnOk result (AppendsFile (files_of (S.told storage.old)) name.now most
+        into.old.items into.new.items) }
+    ensures prefix { OnErr result (IsPrefixOf into.old.items into.new.items) }
+    ensures files { files_of (S.told storage.new) ≡ files_of (S.told storage.old) }
+    ensures failed { IsErrOf result ShelfFault.Failed →
+        CountsOne (S.failed storage.old) (S.failed storage.new) }
+    ensures stays { (IsErrOf result ShelfFault.Failed → ⊥) →
+        S.failed storage.new ≡ S.failed storage.old }
+{
+    storage.open(name)?;
+    read_up_to(storage, most, into)
+}
+
+/// Makes the file, and writes all the bytes into it, in order.
+pub(crate) fn write_named<S: Storage>(
+    storage: &mut S,
+    name: &str,
+    bytes: &[u8],
+) -> Result<(), CallFailed>
+    ensures bytes { OnOk result (HoldsUnder (files_of (S.told storage.new)) name.now bytes.now) }
+    ensures others { KeepsOthers name.now (files_of (S.told storage.old))
+        (files_of (S.told storage.new)) }
+    ensures counts { IsCounted result (S.failed storage.old) (S.failed storage.new) }
+{
+    storage.create(name)?;
+    write_whole(storage, bytes)
+}
 
 /// Appends what the open file still gives, or its first `most` bytes.
 pub(crate) fn read_up_to<S: Storage>(

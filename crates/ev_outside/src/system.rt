@@ -1,16 +1,18 @@
 //! The files and the output of the system. These calls are trusted to do what [`Storage`] and
-//! [`Stream`] say; what they count and how many bytes they take is proved. They keep the cause of
-//! the last call that failed, for people alone: no contract tells it.
-ghost use Rattle.std.specs.Prelude.{◌≡◌, ◌<◌, ◌≤◌, ℕ, [], None, IfOk, length, refl};
-ghost use Rattle.std.specs.Io.KnownBytes.{ReadConsumes};
+//! [`Stream`] say; what they answer and count is proved, and that the cause of the last call that
+//! failed is kept for people.
+ghost use Rattle.std.specs.Prelude.{◌≡◌, ◌<◌, ◌≤◌, ◌↔◌, ℕ, [], None, Some, false, is_some, IfErr, IfOk, IfSome, codes, IsErr, IsNone, IsSome, MatchOption, MatchResult, OnErr, OnOk, length, refl, string_bytes};
+ghost use Rattle.std.specs.Io.KnownBytes.{ReadConsumes, WriteAppends};
 ghost use Rattle.ev_outside.specs.Counts.{CountsOne, IsCounted};
+ghost use Rattle.ev_outside.specs.Shelf.{KeepsOthers};
+ghost use Rattle.ev_outside.specs.Storage.{Creates, Opens, files_of, rest_of};
 
+use super::answers::{read_piece, write_piece};
 use super::failure::Failure;
 use super::storage::{CallFailed, Storage, Stream};
 use std::alloc::Global;
-use std::fs;
-use std::io::{self, Error, ErrorKind, Print, Read, Write};
-use std::marker::Model;
+use std::fs::{self, OpenFile};
+use std::io::{self, Error, Print};
 use std::rt::Files;
 
 /// The files of the system, which don't tell their bytes.
@@ -18,26 +20,22 @@ use std::rt::Files;
 pub struct SystemFiles<'a, R: Files> {
     rt: &'a R,
     alloc: Global,
+    /// The file that is open. Its descriptor is above 2.
     file: Option<R::File>,
     /// The name that was asked for last, where there was memory for it.
     name: Option<String>,
-    /// Why the last call that failed did.
+    /// Why the last call on this file that failed did.
     cause: Option<Error>,
     failed: u64,
 }
 
-// The files are seen as the count of calls that failed.
-impl<'a, R: Files> Model for SystemFiles<'a, R> {
-    ghost Value = { ℕ };
-
-    ghost view = { λ files. files.failed };
-}
-
 impl<'a, R: Files> SystemFiles<'a, R> {
-    /// The files that the runtime reaches. No call has failed yet. The memory is for the name of a
-    /// file.
+    /// The files that the runtime reaches. None is open, and no call has failed yet. The memory is
+    /// for the name of a file that people are told.
     pub fn new(alloc: Global, rt: &'a R) -> Self
-        ensures { result ≡ 0 }
+        ensures failed { result.failed ≡ 0 }
+        ensures cause { IsNone result.cause }
+        ensures closed { IsNone result.file }
     {
         SystemFiles {
             rt,
@@ -49,8 +47,15 @@ impl<'a, R: Files> SystemFiles<'a, R> {
         }
     }
 
-    /// The last call that failed, for people: the name of its file, and why it failed.
-    pub fn last_failure(&self) -> Option<Failure<'_>> {
+    /// The last call that failed on the file that was asked for last, for people: the name of the
+    /// file (`a file` where there was no memory for it), and why the call failed. None comes
+    /// exactly where none has.
+    pub fn last_failure(&self) -> Option<Failure<'_>>
+        ensures none { IsNone result ↔ IsNone self.now.cause }
+        ensures cause { IfSome result (λ failure. self.now.cause ≡ Some failure.cause) }
+        ensures name { IfSome result (λ failure. IfSome self.now.name
+            (λ name. failure.name.now ≡ string_bytes name)) }
+    {
         let cause = self.cause?;
         let name = match &self.name {
             Some(name) => name.as_str(),
@@ -59,16 +64,41 @@ impl<'a, R: Files> SystemFiles<'a, R> {
         Some(Failure { name, cause })
     }
 
-    /// Keeps the name that is asked for, where there is memory for it.
-    fn keep_name(&mut self, name: &str)
-        ensures { self.new ≡ self.old }
+    /// Begins with another file: keeps its name, where there is memory for it, and forgets why
+    /// calls on the one before failed.
+    fn begin(&mut self, name: &str)
+        ensures name { IfSome self.new.name (λ kept. string_bytes kept ≡ name.now) }
+        ensures failed { self.new.failed ≡ self.old.failed }
+        ensures cause { IsNone self.new.cause }
     {
         self.name = String::from_str(self.alloc, name).ok();
+        self.cause = None;
+    }
+
+    /// Keeps the file that the system opened, or counts that it opened none.
+    fn hold(&mut self, opened: io::Result<R::File>) -> Result<(), CallFailed>
+        ensures counts { IsCounted result self.old.failed self.new.failed }
+        ensures held { OnOk result (IsSome self.new.file) }
+        ensures cause { MatchResult result (λ _. self.new.cause ≡ self.old.cause)
+            (λ _. IsSome self.new.cause) }
+        ensures refused { IfErr opened (λ cause. IsErr result × (self.new.cause ≡ Some cause)) }
+        ensures name { self.new.name ≡ self.old.name }
+    {
+        match opened.and_then(above_standard) {
+            Ok(file) => {
+                self.file = Some(file);
+                Ok(())
+            }
+            Err(cause) => Err(self.fail(cause)),
+        }
     }
 
     /// Counts a call that failed, up to the last value of the count.
     fn fail(&mut self, cause: Error) -> CallFailed
-        ensures { CountsOne self.old self.new }
+        ensures failed { CountsOne self.old.failed self.new.failed }
+        ensures cause { self.new.cause ≡ Some cause }
+        ensures name { self.new.name ≡ self.old.name }
+        ensures file { self.new.file ≡ self.old.file }
     {
         self.cause = Some(cause);
         self.failed = self.failed.saturating_add(1);
@@ -76,12 +106,18 @@ impl<'a, R: Files> SystemFiles<'a, R> {
     }
 }
 
+/// The same open file under a descriptor above 2. Where one of the descriptors 0 to 2 is closed,
+/// the system opens a file under it, and what is put or told would be written into the file.
+fn above_standard<F: OpenFile + Drop>(file: F) -> io::Result<F> {
+    file.try_clone()
+}
+
 impl<'a, R: Files> Stream for SystemFiles<'a, R> {
     ghost takes = { λ _ _ _. Unit {0} };
 
     ghost written = { λ _. None };
 
-    ghost failed = { λ failed. failed };
+    ghost failed = { λ files. files.failed };
 
     ghost nothing = { λ a. tt };
 
@@ -89,53 +125,96 @@ impl<'a, R: Files> Stream for SystemFiles<'a, R> {
 
     ghost adds = { λ a b piece taken. refl };
 
-    fn write(&mut self, bytes: &[u8]) -> Result<usize, CallFailed> {
+    fn write(&mut self, bytes: &[u8]) -> Result<usize, CallFailed>
+        ensures takes { MatchResult result (λ _. Unit {0}) (λ _. Unit {0}) }
+        ensures some { IfOk result
+            (λ n. (n ≤ length bytes.now) × (0 < length bytes.now → 0 < n)) }
+        ensures counts { IsCounted result self.old.failed self.new.failed }
+
+        // The file that is open took what is answered. Where none is open, the call fails.
+        ensures took { MatchOption self.old.file (IsErr result) (λ old. MatchOption self.new.file ⊥
+            (λ new. WriteAppends (R.File.contents old) (R.File.contents new) result bytes.now)) }
+        ensures cause { MatchResult result (λ _. self.new.cause ≡ self.old.cause)
+            (λ _. IsSome self.new.cause) }
+        ensures name { self.new.name ≡ self.old.name }
+    {
         let Some(file) = &mut self.file else {
             return Err(self.fail(no_file()));
         };
-        match file.write(bytes) {
-            Ok(count) if count > 0 || bytes.is_empty() => Ok(count),
-            Ok(_) => Err(self.fail(nothing_taken())),
+        match write_piece(file, bytes) {
+            Ok(count) => Ok(count),
             Err(cause) => Err(self.fail(cause)),
         }
     }
 }
 
 impl<'a, R: Files> Storage for SystemFiles<'a, R> {
+    ghost use Rattle.std.specs.Prelude.{None, is_some};
+
     ghost told = { λ _. None };
+
+    ghost is_open = { λ files. is_some files.file };
 
     ghost writes = { λ a b piece taken. tt };
 
-    fn open(&mut self, name: &str) -> Result<(), CallFailed> {
-        self.keep_name(name);
-        match fs::open(self.rt, name) {
-            Ok(file) => {
-                self.file = Some(file);
-                Ok(())
-            }
-            Err(cause) => Err(self.fail(cause)),
-        }
+    fn open(&mut self, name: &str) -> Result<(), CallFailed>
+        ensures opens { OnOk result (Opens None name.now None) }
+        ensures files { files_of None ≡ files_of None }
+        ensures counts { IsCounted result self.old.failed self.new.failed }
+        ensures held { OnOk result (IsSome self.new.file) }
+        ensures cause { MatchResult result (λ _. IsNone self.new.cause)
+            (λ _. IsSome self.new.cause) }
+        ensures name { IfSome self.new.name (λ kept. string_bytes kept ≡ name.now) }
+    {
+        self.begin(name);
+        let opened = fs::open(self.rt, name);
+        self.hold(opened)
     }
 
-    fn read(&mut self, into: &mut [u8]) -> Result<usize, CallFailed> {
+    fn read(&mut self, into: &mut [u8]) -> Result<usize, CallFailed>
+        ensures within { IfOk result (λ n. n ≤ length into.new) }
+        ensures bytes { ReadConsumes (rest_of None) (rest_of None) result into.new }
+        ensures files { files_of None ≡ files_of None }
+        ensures counts { IsCounted result self.old.failed self.new.failed }
+
+        // The file that is open gave what is answered. Where none is open, the call fails.
+        ensures gave { MatchOption self.old.file (IsErr result) (λ old. MatchOption self.new.file ⊥
+            (λ new. ReadConsumes (R.File.remaining old) (R.File.remaining new) result into.new)) }
+        ensures cause { MatchResult result (λ _. self.new.cause ≡ self.old.cause)
+            (λ _. IsSome self.new.cause) }
+        ensures name { self.new.name ≡ self.old.name }
+    {
         let Some(file) = &mut self.file else {
             return Err(self.fail(no_file()));
         };
-        match file.read(into) {
+        match read_piece(file, into) {
             Ok(count) => Ok(count),
             Err(cause) => Err(self.fail(cause)),
         }
     }
 
-    fn create(&mut self, name: &str) -> Result<(), CallFailed> {
-        self.keep_name(name);
-        match fs::create(self.rt, name) {
-            Ok(file) => {
-                self.file = Some(file);
-                Ok(())
-            }
-            Err(cause) => Err(self.fail(cause)),
-        }
+    fn create(&mut self, name: &str) -> Result<(), CallFailed>
+        ensures creates { OnOk result (Creates name.now None) }
+        ensures others { KeepsOthers name.now (files_of None) (files_of None) }
+        ensures counts { IsCounted result self.old.failed self.new.failed }
+        ensures held { OnOk result (IsSome self.new.file) }
+        ensures cause { MatchResult result (λ _. IsNone self.new.cause)
+            (λ _. IsSome self.new.cause) }
+        ensures name { IfSome self.new.name (λ kept. string_bytes kept ≡ name.now) }
+    {
+        self.begin(name);
+        let created = fs::create(self.rt, name);
+        self.hold(created)
+    }
+
+    fn close(&mut self)
+        ensures closed { is_some self.new.file ≡ false }
+        ensures files { files_of None ≡ files_of None }
+        ensures failed { self.new.failed ≡ self.old.failed }
+        ensures cause { self.new.cause ≡ self.old.cause }
+        ensures name { self.new.name ≡ self.old.name }
+    {
+        self.file = None;
     }
 }
 
@@ -148,17 +227,11 @@ pub struct SystemOutput<'a, R: Print> {
     failed: u64,
 }
 
-// The output is seen as the count of calls that failed.
-impl<'a, R: Print> Model for SystemOutput<'a, R> {
-    ghost Value = { ℕ };
-
-    ghost view = { λ output. output.failed };
-}
-
 impl<'a, R: Print> SystemOutput<'a, R> {
-    /// The standard output of the runtime. No call has failed yet.
+    /// The standard output of the runtime. No call has failed yet. No memory.
     pub fn new(rt: &'a R) -> Self
-        ensures { result ≡ 0 }
+        ensures failed { result.failed ≡ 0 }
+        ensures cause { IsNone result.cause }
     {
         SystemOutput {
             rt,
@@ -167,8 +240,12 @@ impl<'a, R: Print> SystemOutput<'a, R> {
         }
     }
 
-    /// The last call that failed, for people.
-    pub fn last_failure(&self) -> Option<Failure<'_>> {
+    /// The last call that failed, for people. None comes exactly where no call has failed.
+    pub fn last_failure(&self) -> Option<Failure<'_>>
+        ensures none { IsNone result ↔ IsNone self.now.cause }
+        ensures cause { IfSome result (λ failure. self.now.cause ≡ Some failure.cause) }
+        ensures name { IfSome result (λ failure. failure.name.now ≡ codes "standard output") }
+    {
         let cause = self.cause?;
         Some(Failure {
             name: "standard output",
@@ -178,7 +255,8 @@ impl<'a, R: Print> SystemOutput<'a, R> {
 
     /// Counts a call that failed, up to the last value of the count.
     fn fail(&mut self, cause: Error) -> CallFailed
-        ensures { CountsOne self.old self.new }
+        ensures failed { CountsOne self.old.failed self.new.failed }
+        ensures cause { self.new.cause ≡ Some cause }
     {
         self.cause = Some(cause);
         self.failed = self.failed.saturating_add(1);
@@ -191,7 +269,7 @@ impl<'a, R: Print> Stream for SystemOutput<'a, R> {
 
     ghost written = { λ _. None };
 
-    ghost failed = { λ failed. failed };
+    ghost failed = { λ output. output.failed };
 
     ghost nothing = { λ a. tt };
 
@@ -199,10 +277,16 @@ impl<'a, R: Print> Stream for SystemOutput<'a, R> {
 
     ghost adds = { λ a b piece taken. refl };
 
-    fn write(&mut self, bytes: &[u8]) -> Result<usize, CallFailed> {
-        match io::writer(self.rt).write(bytes) {
-            Ok(taken) if taken > 0 || bytes.is_empty() => Ok(taken),
-            Ok(_) => Err(self.fail(nothing_taken())),
+    fn write(&mut self, bytes: &[u8]) -> Result<usize, CallFailed>
+        ensures takes { MatchResult result (λ _. Unit {0}) (λ _. Unit {0}) }
+        ensures some { IfOk result
+            (λ n. (n ≤ length bytes.now) × (0 < length bytes.now → 0 < n)) }
+        ensures counts { IsCounted result self.old.failed self.new.failed }
+        ensures cause { MatchResult result (λ _. self.new.cause ≡ self.old.cause)
+            (λ _. IsSome self.new.cause) }
+    {
+        match write_piece(&mut io::writer(self.rt), bytes) {
+            Ok(count) => Ok(count),
             Err(cause) => Err(self.fail(cause)),
         }
     }
@@ -211,9 +295,4 @@ impl<'a, R: Print> Stream for SystemOutput<'a, R> {
 /// The cause where a call asks for a file and none is open.
 fn no_file() -> Error {
     Error::other("no file is open")
-}
-
-/// The cause where a write takes none of its bytes.
-fn nothing_taken() -> Error {
-    Error::new(ErrorKind::WriteZero, "nothing was written")
 }

@@ -1,6 +1,9 @@
 use super::*;
 use std::alloc::Global;
+use std::cell::Cell;
+use std::fmt::Display;
 use std::fs;
+use std::io::{self, Error, Print};
 use std::rt::Files;
 use std::test::Fail;
 
@@ -42,7 +45,7 @@ fn last_failure<R: Files>(alloc: Global, files: &SystemFiles<'_, R>) -> Result<S
 fn a_long_file_is_read_up_to_a_byte(rt: HostRuntime) -> Result<(), Fail> {
     let alloc = rt.alloc();
     let name = "ev_outside_long_file";
-    let mut shelf = FileShelf::new(SystemFiles::new(alloc, &rt));
+    let mut shelf = FileShelf::new(alloc, &rt);
     let mut long = Vec::new(alloc);
     for at in 0..10000u32 {
         long.push((at % 251) as u8)?;
@@ -68,7 +71,7 @@ fn a_long_file_is_read_up_to_a_byte(rt: HostRuntime) -> Result<(), Fail> {
 fn a_shorter_text_takes_the_place_of_a_longer_one(rt: HostRuntime) -> Result<(), Fail> {
     let alloc = rt.alloc();
     let name = "ev_outside_short_file";
-    let mut shelf = FileShelf::new(SystemFiles::new(alloc, &rt));
+    let mut shelf = FileShelf::new(alloc, &rt);
     for text in [b"a longer text".as_slice(), b"short", b""] {
         write_to(&mut shelf, name, text)?;
         let read = read_from(alloc, &mut shelf, name, 100)?;
@@ -78,36 +81,99 @@ fn a_shorter_text_takes_the_place_of_a_longer_one(rt: HostRuntime) -> Result<(),
     Ok(())
 }
 
+/// What the system refuses is refused, and people are told the name and the cause.
 #[test]
-fn a_file_that_is_not_there_cannot_be_read(rt: HostRuntime) -> Result<(), Fail> {
+fn a_call_that_the_system_refuses_has_failed(rt: HostRuntime) -> Result<(), Fail> {
     let alloc = rt.alloc();
-    let mut shelf = FileShelf::new(SystemFiles::new(alloc, &rt));
-    assert_eq!(rt;
-        read_from(alloc, &mut shelf, "ev_outside_no_file", 100).err(),
-        Some(ShelfFault::Failed)
-    );
-    assert_eq!(rt;
-        last_failure(alloc, shelf.storage())?.as_str(),
-        "ev_outside_no_file: No such file or directory (os error 2)"
-    );
+    let mut shelf = FileShelf::new(alloc, &rt);
+    for (reads, name, cause) in [
+        (
+            true,
+            "ev_outside_no_file",
+            "No such file or directory (os error 2)",
+        ),
+        (true, "/", "Is a directory (os error 21)"),
+        (false, "/", "Is a directory (os error 21)"),
+        (false, "/dev/full", "No space left on device (os error 28)"),
+        (
+            false,
+            "ev_outside_no_folder/file",
+            "No such file or directory (os error 2)",
+        ),
+    ] {
+        let fault = if reads {
+            read_from(alloc, &mut shelf, name, 100).err()
+        } else {
+            write_to(&mut shelf, name, b"text").err()
+        };
+        assert_eq!(rt; fault, Some(ShelfFault::Failed), "{name}");
+        let told = last_failure(alloc, shelf.storage())?;
+        let wanted = format!(in alloc; "{name}: {cause}")?;
+        assert_eq!(rt; told.as_str(), wanted.as_str());
+    }
     Ok(())
 }
 
+/// An output that takes at most `most` bytes at a time, and fails at one of its calls.
+#[derive(Drop)]
+struct NarrowOutput {
+    most: usize,
+    fails: u64,
+    calls: Cell<u64>,
+    taken: Cell<usize>,
+}
+
+impl Print for NarrowOutput {
+    fn print<D: Display + Drop>(&self, _value: D) -> io::Result<()> {
+        Err(Error::other("no text is taken"))
+    }
+
+    fn println<D: Display + Drop>(&self, _value: D) -> io::Result<()> {
+        Err(Error::other("no text is taken"))
+    }
+
+    fn write_all(&self, _bytes: &[u8]) -> io::Result<()> {
+        Err(Error::other("no bytes are taken whole"))
+    }
+
+    fn write_some(&self, bytes: &[u8]) -> io::Result<usize> {
+        let call = self.calls.get();
+        self.calls.set(call.saturating_add(1));
+        if call == self.fails {
+            return Err(Error::other("the call fails"));
+        }
+        let taken = bytes.len().min(self.most);
+        self.taken.set(self.taken.get().saturating_add(taken));
+        Ok(taken)
+    }
+}
+
+/// The output counts what was taken, and not what was asked.
 #[test]
-fn a_folder_cannot_be_written(rt: HostRuntime) -> Result<(), Fail> {
-    let alloc = rt.alloc();
-    let mut shelf = FileShelf::new(SystemFiles::new(alloc, &rt));
-    assert_eq!(rt; write_to(&mut shelf, "/", b"text"), Err(ShelfFault::Failed));
-    assert_eq!(rt;
-        last_failure(alloc, shelf.storage())?.as_str(),
-        "/: Is a directory (os error 21)"
-    );
+fn a_narrow_output_takes_all_bytes_or_has_failed(rt: HostRuntime) -> Result<(), Fail> {
+    for (most, fails, wanted, taken) in [
+        (2usize, 9u64, Ok(()), 5usize),
+        (9, 9, Ok(()), 5),
+        (2, 1, Err(SinkFault::Failed), 2),
+        (0, 9, Err(SinkFault::Failed), 0),
+    ] {
+        let output = NarrowOutput {
+            most,
+            fails,
+            calls: Cell::new(0),
+            taken: Cell::new(0),
+        };
+        let mut out = OutSink::new(&output);
+        assert_eq!(rt; put_into(&mut out, b"five!"), wanted, "{most} at a time");
+        assert_eq!(rt; output.taken.get(), taken, "{most} at a time");
+        assert_eq!(rt; out.stream().last_failure().is_some(), wanted.is_err());
+    }
     Ok(())
 }
 
 #[test]
 fn the_output_takes_what_is_put(rt: HostRuntime) -> Result<(), Fail> {
-    let mut out = OutSink::new(SystemOutput::new(&rt));
+    let mut out = OutSink::new(&rt);
     put_into(&mut out, b"the output takes this line\n")?;
     put_into(&mut out, b"")?;
     assert!(rt; out.stream().last_failure().is_none());
@@ -177,7 +243,7 @@ fn files_are_read_and_written_whole_in_pieces_of_any_length(rt: HostRuntime) -> 
         let mut files = MemoryShelf::new(alloc, Vec::new(alloc));
         files.set("plan", b"five!")?;
         let storage = PieceStorage::new(alloc, files, piece, [fails].to_vec(alloc)?);
-        let mut shelf = FileShelf::new(storage);
+        let mut shelf = StorageShelf::over(storage);
 
         // An open, up to five reads of pieces, and one more that gives nothing; then a create and
         // up to five writes.
@@ -214,6 +280,9 @@ fn sure_files_and_a_sure_output_never_fail(rt: HostRuntime) -> Result<(), Fail> 
         read_from(alloc, &mut shelf, "plan", 3)?.as_slice(),
         b">tex".as_slice()
     );
+    shelf.set("plan", b"other")?;
+    assert_eq!(rt; shelf.get("plan"), Some(b"other".as_slice()));
+    assert_eq!(rt; shelf.get("certificate"), None);
     let mut sink = SureSink::new(alloc);
     put_into(&mut sink, b"two ")?;
     put_into(&mut sink, b"texts")?;
