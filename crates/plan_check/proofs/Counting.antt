@@ -1,13 +1,13 @@
 -- How often customers stand in plans, and the sets that tell it.
-use Rattle.std.proofs.Common.{◌≡◌, ◌∙◌, ℕ, suc, ◌+◌, ◌<◌, Bool, true, false, ◌&&◌, ◌||◌, not, List, [], ◌∷◌, ◌++◌, Some, length, drop, take, get_or, slice_get, nat_eq, nat_lt, refl, sym, ap, arith, inl, inr, append_assoc, if◌then◌else◌}
+use Rattle.std.proofs.Common.{◌≡◌, ◌∙◌, ℕ, suc, ◌+◌, ◌<◌, Bool, true, false, not, List, [], ◌∷◌, ◌++◌, Some, length, drop, take, get_or, min, set, slice_get, nat_eq, nat_lt, refl, subst, sym, ap, arith, inl, inr, append_assoc, if◌then◌else◌}
+use Rattle.std.specs.Prelude.{slice_index}
 use Rattle.std.specs.List.{AllPairs, find, range_with_len}
 use Rattle.std.proofs.lemmas.Bool.{cases_eq, cases_order, eq-eqb, ne_eqb}
 use Rattle.std.proofs.lemmas.Bool.Decides.{nat_tests}
-use Rattle.std.proofs.lemmas.List.{append-nil, at_drop_more, map-append, take_more}
+use Rattle.std.proofs.lemmas.List.{append-nil, at_drop_more, get_or-set_other, get_or-set_same, map-append, take_more}
 use Rattle.std.proofs.lemmas.List.FromFn.{get_or-range_with_len, length-range_with_len}
 use Rattle.std.proofs.lemmas.List.Kept.{AllPairs-filter, AllPairs-from_increasing}
 use Rattle.std.proofs.lemmas.Option.{get_or_from_slice_get, same_Some, slice_get_within}
-use Rattle.customer_sets.specs.CustSet.{has}
 use Rattle.ev_model.specs.Fleet.{all_customers, customers_of, times_in}
 use Rattle.ev_model.specs.Network.{Network, is_customer, node_count}
 use Rattle.ev_model.specs.declared.Stop.{Stop}
@@ -15,8 +15,7 @@ use Rattle.instance_reader.specs.Instance.{customer_nodes}
 use Rattle.route_plan.specs.declared.plan.RoutePlan.{RoutePlan}
 use Rattle.plan_check.specs.FirstFaults.{first_twice, first_unserved}
 use Rattle.plan_check.specs.FleetRules.{stops_of, times_served}
-use Rattle.plan_check.specs.Tallies.{Tallies, first_in, first_outside}
-use Rattle.plan_check.specs.declared.tally.Tally.{Tally}
+use Rattle.plan_check.specs.Tallies.{Tallies, first_again, first_missed}
 
 pub times_in-append : (xs ys : List ℕ) (x : ℕ) → times_in (xs ++ ys) x ≡ times_in xs x + times_in ys x
 times_in-append [] ys x = omega arith
@@ -65,73 +64,80 @@ same_number g i j x y at_i at_j = elim (cases_eq i j) [
       ne_eqb i j other ∙ sym (ne_eqb x y (λ equal. other (one_number g i j x at_i (at_j ∙ ap (λ n. Some n) (sym equal)))))
 ]
 
--- the node after one more visit
-once_more : (times : ℕ) (here seen : Bool) → seen ≡ nat_lt 0 times → (here || seen) ≡ nat_lt 0 (times + (if here then 1 else 0))
-once_more times true seen is = grind (arith, nat_tests)
-once_more times false seen is = grind (arith, nat_tests)
-
--- the node after one more visit, and whether it was seen before that
-twice_more : (times : ℕ) (here seen again : Bool) → seen ≡ nat_lt 0 times → again ≡ nat_lt 1 times → ((here && seen) || again) ≡ nat_lt 1 (times + (if here then 1 else 0))
-twice_more times true seen again is more = grind (arith, nat_tests)
-twice_more times false seen again is more = grind (arith, nat_tests)
-
 one_visit : (nodes : List ℕ) (node x : ℕ) → times_in (nodes ++ node ∷ []) x ≡ times_in nodes x + (if nat_eq node x then 1 else 0)
 one_visit nodes node x = omega (arith, times_in-append nodes (node ∷ []) x)
 
--- the sets with one more customer
-pub tallies_customer : (g : Network) (before after : Tally) (nodes : List ℕ) (number node : ℕ) → slice_get (customer_nodes g) number ≡ Some node →
-    ((x : ℕ) → has after.served x ≡ (nat_eq number x || has before.served x)) →
-    ((x : ℕ) → has after.again x ≡ ((nat_eq number x && has before.served x) || has before.again x)) →
-    Tallies g before nodes → Tallies g after (nodes ++ node ∷ [])
-tallies_customer g before after nodes number node at served again tallies = record {
-  once = λ i x at_i.
-      served i ∙ ap (λ b. b || has before.served i) (same_number g number i node x at at_i)
-      ∙ once_more (times_in nodes x) (nat_eq node x) (has before.served i) (tallies.once i x at_i) ∙ ap (λ n. nat_lt 0 n) (sym (one_visit nodes node x));
-  more = λ i x at_i.
-      again i ∙ ap (λ b. (b && has before.served i) || has before.again i) (same_number g number i node x at at_i)
-      ∙ twice_more (times_in nodes x) (nat_eq node x) (has before.served i) (has before.again i) (tallies.once i x at_i) (tallies.more i x at_i)
-      ∙ ap (λ n. nat_lt 1 n) (sym (one_visit nodes node x));
-}
+-- the counts with one more customer
+pub tallies_customer : (g : Network) (before after nodes : List ℕ) (number : ℕ) → number < length before →
+    after ≡ set before number (min (slice_index before number + 1) 255) →
+    (node : ℕ) → slice_get (customer_nodes g) number ≡ Some node → Tallies g before nodes → Tallies g after (nodes ++ node ∷ [])
+tallies_customer g before after nodes number within is node at tallies = record { counts = counts }
+  where
+    counts : (i x : ℕ) → slice_get (customer_nodes g) i ≡ Some x → slice_index after i ≡ min (times_in (nodes ++ node ∷ []) x) 255
+    counts i x at_i =
+        let was : slice_index before i ≡ min (times_in nodes x) 255 = tallies.counts i x at_i in
+        let more = one_visit nodes node x in
+        let same = same_number g number i node x at at_i in
+        elim (cases_eq number i) [
+          | inl here ↦
+              let visit : nat_eq node x ≡ true = sym same ∙ eq-eqb number i here in
+              let total : times_in (nodes ++ node ∷ []) x ≡ times_in nodes x + 1 = rw visit at more in
+              let set_here : slice_index after number ≡ min (slice_index before number + 1) 255 =
+              ap (λ l. slice_index l number) is ∙ get_or-set_same before number (min (slice_index before number + 1) 255) 0 within in
+              let now : slice_index after i ≡ min (slice_index before i + 1) 255 = subst (λ k. slice_index after k ≡ min (slice_index before k + 1) 255) here set_here in
+              omega (arith, was, total, now)
+          | inr other ↦
+              let visit : nat_eq node x ≡ false = sym same ∙ ne_eqb number i other in
+              let total : times_in (nodes ++ node ∷ []) x ≡ times_in nodes x + 0 = rw visit at more in
+              let now : slice_index after i ≡ slice_index before i =
+              ap (λ l. slice_index l i) is ∙ get_or-set_other before number i (min (slice_index before number + 1) 255) 0 (λ same. other (sym same)) in
+              omega (arith, was, total, now)
+        ]
 
--- a customer that is not in the set is passed over
-pub absent_passed : (set nodes : List ℕ) (i : ℕ) → i < length nodes → has set i ≡ false → first_in set (i + 1) (drop (i + 1) nodes) ≡ first_in set i (drop i nodes)
-absent_passed set nodes i within absent =
-    let step : first_in set i (drop i nodes) ≡ (if has set i then Some (get_or nodes i 0) else first_in set (i + 1) (drop (i + 1) nodes)) = at_drop_more (first_in set i) nodes i 0 within in
-    sym (rw absent at step)
+-- a customer that was counted once or not at all is passed over
+pub once_passed : (visits nodes : List ℕ) (i : ℕ) → i < length nodes → (1 < slice_index visits i → ⊥) → first_again visits (i + 1) (drop (i + 1) nodes) ≡ first_again visits i (drop i nodes)
+once_passed visits nodes i within few =
+    let step : first_again visits i (drop i nodes) ≡ (if nat_lt 1 (slice_index visits i) then Some (get_or nodes i 0) else first_again visits (i + 1) (drop (i + 1) nodes)) = at_drop_more (first_again visits i) nodes i 0 within in
+    let test : nat_lt 1 (slice_index visits i) ≡ false = grind (arith, nat_tests, few) in
+    sym (rw test at step)
 
--- a customer that is in the set is passed over
-pub present_passed : (set nodes : List ℕ) (i : ℕ) → i < length nodes → has set i ≡ true → first_outside set (i + 1) (drop (i + 1) nodes) ≡ first_outside set i (drop i nodes)
-present_passed set nodes i within present =
-    let step : first_outside set i (drop i nodes) ≡ (if has set i then first_outside set (i + 1) (drop (i + 1) nodes) else Some (get_or nodes i 0)) = at_drop_more (first_outside set i) nodes i 0 within in
-    sym (rw present at step)
+-- a customer that was counted is passed over
+pub counted_passed : (visits nodes : List ℕ) (i : ℕ) → i < length nodes → (slice_index visits i ≡ 0 → ⊥) → first_missed visits (i + 1) (drop (i + 1) nodes) ≡ first_missed visits i (drop i nodes)
+counted_passed visits nodes i within some =
+    let step : first_missed visits i (drop i nodes) ≡ (if nat_eq (slice_index visits i) 0 then Some (get_or nodes i 0) else first_missed visits (i + 1) (drop (i + 1) nodes)) = at_drop_more (first_missed visits i) nodes i 0 within in
+    let test : nat_eq (slice_index visits i) 0 ≡ false = ne_eqb (slice_index visits i) 0 some in
+    sym (rw test at step)
 
--- the first customer whose number is in a set
-pub first_in-find : (p : ℕ → Bool) (set : List ℕ) (number : ℕ) (nodes : List ℕ) →
-    ((i x : ℕ) → slice_get nodes i ≡ Some x → has set (number + i) ≡ p x) → first_in set number nodes ≡ find p nodes
-first_in-find p set number [] tells = refl
-first_in-find p set number (n ∷ ns) tells =
+-- the first customer whose number passes a test
+first_again-find : (p : ℕ → Bool) (visits : List ℕ) (number : ℕ) (nodes : List ℕ) →
+    ((i x : ℕ) → slice_get nodes i ≡ Some x → nat_lt 1 (slice_index visits (number + i)) ≡ p x) → first_again visits number nodes ≡ find p nodes
+first_again-find p visits number [] tells = refl
+first_again-find p visits number (n ∷ ns) tells =
     let none : number + 0 ≡ number = omega arith in
-    let here : has set number ≡ p n = ap (λ i. has set i) (sym none) ∙ tells 0 n refl in
-    let rest = first_in-find p set (number + 1) ns (λ i x at. let next : number + 1 + i ≡ number + suc i = omega arith in ap (λ j. has set j) next ∙ tells (suc i) x at) in
+    let here : nat_lt 1 (slice_index visits number) ≡ p n = ap (λ i. nat_lt 1 (slice_index visits i)) (sym none) ∙ tells 0 n refl in
+    let rest = first_again-find p visits (number + 1) ns (λ i x at. let next : number + 1 + i ≡ number + suc i = omega arith in ap (λ j. nat_lt 1 (slice_index visits j)) next ∙ tells (suc i) x at) in
     rw (here, rest) refl
 
-turned : {X : Type 0} (b : Bool) (x y : X) → (if b then y else x) ≡ (if not b then x else y)
-turned true x y = refl
-turned false x y = refl
-
--- the first customer whose number is not in a set
-pub first_outside-find : (p : ℕ → Bool) (set : List ℕ) (number : ℕ) (nodes : List ℕ) →
-    ((i x : ℕ) → slice_get nodes i ≡ Some x → has set (number + i) ≡ p x) → first_outside set number nodes ≡ find (λ x. not (p x)) nodes
-first_outside-find p set number [] tells = refl
-first_outside-find p set number (n ∷ ns) tells =
+first_missed-find : (p : ℕ → Bool) (visits : List ℕ) (number : ℕ) (nodes : List ℕ) →
+    ((i x : ℕ) → slice_get nodes i ≡ Some x → nat_eq (slice_index visits (number + i)) 0 ≡ p x) → first_missed visits number nodes ≡ find p nodes
+first_missed-find p visits number [] tells = refl
+first_missed-find p visits number (n ∷ ns) tells =
     let none : number + 0 ≡ number = omega arith in
-    let here : has set number ≡ p n = ap (λ i. has set i) (sym none) ∙ tells 0 n refl in
-    let rest = first_outside-find p set (number + 1) ns (λ i x at. let next : number + 1 + i ≡ number + suc i = omega arith in ap (λ j. has set j) next ∙ tells (suc i) x at) in
-    rw (here, rest) (turned (p n) (Some n) (find (λ x. not (p x)) ns))
+    let here : nat_eq (slice_index visits number) 0 ≡ p n = ap (λ i. nat_eq (slice_index visits i) 0) (sym none) ∙ tells 0 n refl in
+    let rest = first_missed-find p visits (number + 1) ns (λ i x at. let next : number + 1 + i ≡ number + suc i = omega arith in ap (λ j. nat_eq (slice_index visits j) 0) next ∙ tells (suc i) x at) in
+    rw (here, rest) refl
 
--- the sets of all routes tell the first customer that is served more than once, and the first that is not
-pub first_in-twice : (g : Network) (t : Tally) (plans : List RoutePlan) → Tallies g t (all_customers g (stops_of plans)) → first_in t.again 0 (customer_nodes g) ≡ first_twice g plans
-first_in-twice g t plans tallies = first_in-find (λ x. nat_lt 1 (times_served g plans x)) t.again 0 (customer_nodes g) (λ i x at. let same : 0 + i ≡ i = omega arith in rw same (tallies.more i x at))
+above_one : (times seen : ℕ) → seen ≡ min times 255 → nat_lt 1 seen ≡ nat_lt 1 times
+above_one times seen is = grind (arith, nat_tests)
 
-pub first_outside-unserved : (g : Network) (t : Tally) (plans : List RoutePlan) → Tallies g t (all_customers g (stops_of plans)) → first_outside t.served 0 (customer_nodes g) ≡ first_unserved g plans
-first_outside-unserved g t plans tallies = first_outside-find (λ x. nat_lt 0 (times_served g plans x)) t.served 0 (customer_nodes g) (λ i x at. let same : 0 + i ≡ i = omega arith in rw same (tallies.once i x at))
+is_none : (times seen : ℕ) → seen ≡ min times 255 → nat_eq seen 0 ≡ not (nat_lt 0 times)
+is_none times seen is = grind (arith, nat_tests)
+
+-- the counts over all routes tell the first customer that is served more than once, and the first that is not
+pub first_again-twice : (g : Network) (visits : List ℕ) (plans : List RoutePlan) → Tallies g visits (all_customers g (stops_of plans)) → first_again visits 0 (customer_nodes g) ≡ first_twice g plans
+first_again-twice g visits plans tallies = first_again-find (λ x. nat_lt 1 (times_served g plans x)) visits 0 (customer_nodes g)
+    (λ i x at. let same : 0 + i ≡ i = omega arith in rw same (above_one (times_served g plans x) (slice_index visits i) (tallies.counts i x at)))
+
+pub first_missed-unserved : (g : Network) (visits : List ℕ) (plans : List RoutePlan) → Tallies g visits (all_customers g (stops_of plans)) → first_missed visits 0 (customer_nodes g) ≡ first_unserved g plans
+first_missed-unserved g visits plans tallies = first_missed-find (λ x. not (nat_lt 0 (times_served g plans x))) visits 0 (customer_nodes g)
+    (λ i x at. let same : 0 + i ≡ i = omega arith in rw same (is_none (times_served g plans x) (slice_index visits i) (tallies.counts i x at)))

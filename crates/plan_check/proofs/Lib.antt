@@ -6,3 +6,4 @@ pub mod Served
 pub mod Routes
 pub mod Firsts
 pub mod FleetPlans
+pub mod CustomersOnce

@@ -107,7 +107,7 @@ some_known : (g : Network) (from : ℕ) (ss : List Stop) → AreStopsFrom g from
 some_known g from [] stops ends = absurd ends
 some_known g from (s ∷ ss) stops ends = omega (arith, stops.1.known)
 
-plan_known : (g : Network) (stops : List Stop) → IsFeasible g 1 g.capacity stops → AreKnown g stops
+pub plan_known : (g : Network) (stops : List Stop) → IsFeasible g 1 g.capacity stops → AreKnown g stops
 plan_known g [] feasible = absurd feasible.plan
 plan_known g (first ∷ ss) feasible =
     let plan = feasible.plan in

@@ -1,3 +1,4 @@
 pub mod FleetRules
 pub mod FirstFaults
 pub mod Tallies
+pub mod LargeFaults

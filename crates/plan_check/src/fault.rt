@@ -19,3 +19,12 @@ pub enum PlanFault {
     /// route.
     Stray { route: usize, at: usize },
 }
+
+/// Why a fleet plan for any number of customers isn't accepted.
+#[derive(Clone, Copy, Debug, Drop, PartialEq, Eq)]
+pub enum LargeFault {
+    /// The plan breaks a rule; the first is told.
+    Plan { fault: PlanFault },
+    /// Memory was refused.
+    Memory,
+}

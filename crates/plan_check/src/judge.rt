@@ -8,14 +8,15 @@ ghost use Rattle.instance_reader.specs.Instance.{customer_nodes};
 ghost use Rattle.plan_check.specs.FirstFaults.{cost_from, first_empty, first_stray, first_stray_from, later_fault, serves, strays};
 ghost use Rattle.route_plan.specs.FirstPlaces.{behind_first};
 ghost use Rattle.plan_check.specs.FleetRules.{IsFirstBroken, stops_of};
-ghost use Rattle.plan_check.specs.Tallies.{AllKnown, AreKnown, first_in, first_outside};
+ghost use Rattle.plan_check.specs.LargeFaults.{IsLargeFault};
+ghost use Rattle.plan_check.specs.Tallies.{AllKnown, AreKnown, first_again, first_missed};
 
-use crate::fault::PlanFault;
-use crate::tally::tally_of;
-use customer_sets::CustSet;
+use crate::fault::{LargeFault, PlanFault};
+use crate::tally::count_visits;
 use ev_model::Stop;
 use instance_reader::Instance;
 use route_plan::{FleetPlan, RoutePlan, walk};
+use std::alloc::Global;
 
 /// The cost of a fleet plan, or its first broken rule. It takes no memory.
 ///
@@ -36,9 +37,36 @@ pub fn check_fleet(inst: &Instance, plan: &FleetPlan) -> Result<u128, PlanFault>
     ensures cost { IfOk result (λ cost. cost ≡ cost_of inst.now 1 (stops_of plan.now.routes)) }
     ensures broken { IfErr result (IsFirstBroken inst.now plan.now.routes) }
 {
-    let routes = plan.routes.as_slice();
+    let mut visits = [0; 128];
+    judge(inst, plan.routes.as_slice(), &mut visits)
+}
+
+/// The cost of a fleet plan for any number of customers, or its first broken rule: cost, rules and
+/// their order are those of [`check_fleet`].
+pub fn check_large(alloc: Global, inst: &Instance, plan: &FleetPlan) -> Result<u128, LargeFault>
+    ensures valid { IfOk result (λ cost. IsFleetPlan inst.now 1 (stops_of plan.now.routes)) }
+    ensures cost { IfOk result (λ cost. cost ≡ cost_of inst.now 1 (stops_of plan.now.routes)) }
+    ensures broken { IfErr result (IsLargeFault inst.now plan.now.routes) }
+{
+    let Ok(mut visits) = vec![in alloc; 0; inst.customers().len()] else {
+        return Err(LargeFault::Memory);
+    };
+    match judge(inst, plan.routes.as_slice(), visits.as_mut_slice()) {
+        Ok(cost) => Ok(cost),
+        Err(fault) => Err(LargeFault::Plan { fault }),
+    }
+}
+
+/// The cost of the routes of a fleet plan, or the first broken rule, by room for a
+/// count of visits for each customer.
+fn judge(inst: &Instance, routes: &[RoutePlan], visits: &mut [u8]) -> Result<u128, PlanFault>
+    requires room { length (customer_nodes inst.now) ≤ length visits.old }
+    ensures valid { IfOk result (λ cost. IsFleetPlan inst.now 1 (stops_of routes.now)) }
+    ensures cost { IfOk result (λ cost. cost ≡ cost_of inst.now 1 (stops_of routes.now)) }
+    ensures broken { IfErr result (IsFirstBroken inst.now routes.now) }
+{
     let cost = cost_of_routes(inst, routes)?;
-    match later_fault(inst, routes) {
+    match later_fault(inst, routes, visits) {
         Some(fault) => Err(fault),
         None => Ok(cost),
     }
@@ -58,17 +86,17 @@ fn cost_of_routes(inst: &Instance, routes: &[RoutePlan]) -> Result<u128, PlanFau
     Ok(cost)
 }
 
-/// The first broken rule behind the walks.
-fn later_fault(inst: &Instance, routes: &[RoutePlan]) -> Option<PlanFault>
-    requires few { length (customer_nodes inst.now) ≤ 128 }
+/// The first broken rule behind the walks, by room for a count of visits for each customer.
+fn later_fault(inst: &Instance, routes: &[RoutePlan], visits: &mut [u8]) -> Option<PlanFault>
+    requires room { length (customer_nodes inst.now) ≤ length visits.old }
     requires known { AllKnown inst.now routes.now }
     ensures { result ≡ later_fault inst.now routes.now }
 {
-    let tally = tally_of(inst, routes);
-    if let Some(customer) = first_in(inst, tally.again) {
+    count_visits(inst, routes, visits);
+    if let Some(customer) = first_again(inst, visits) {
         return Some(PlanFault::Twice { customer });
     }
-    if let Some(customer) = first_outside(inst, tally.served) {
+    if let Some(customer) = first_missed(inst, visits) {
         return Some(PlanFault::Unserved { customer });
     }
     if let Some(route) = empty_route(inst, routes) {
@@ -77,30 +105,30 @@ fn later_fault(inst: &Instance, routes: &[RoutePlan]) -> Option<PlanFault>
     stray(inst, routes)
 }
 
-/// The first customer in the set.
-#[tactic(auto, using(crate::proofs::Counting::absent_passed))]
-fn first_in(inst: &Instance, set: CustSet) -> Option<usize>
-    requires { length (customer_nodes inst.now) ≤ 128 }
-    ensures { result ≡ first_in set 0 (customer_nodes inst.now) }
+/// The first customer that was counted more than once.
+#[tactic(auto, using(crate::proofs::Counting::once_passed))]
+fn first_again(inst: &Instance, visits: &[u8]) -> Option<usize>
+    requires { length (customer_nodes inst.now) ≤ length visits.now }
+    ensures { result ≡ first_again visits.now 0 (customer_nodes inst.now) }
 {
     let customers = inst.customers();
     for (number, node) in customers.iter().enumerate() {
-        if set.has(number) {
+        if visits[number] > 1 {
             return Some(*node);
         }
     }
     None
 }
 
-/// The first customer that isn't in the set.
-#[tactic(auto, using(crate::proofs::Counting::present_passed))]
-fn first_outside(inst: &Instance, set: CustSet) -> Option<usize>
-    requires { length (customer_nodes inst.now) ≤ 128 }
-    ensures { result ≡ first_outside set 0 (customer_nodes inst.now) }
+/// The first customer that wasn't counted.
+#[tactic(auto, using(crate::proofs::Counting::counted_passed))]
+fn first_missed(inst: &Instance, visits: &[u8]) -> Option<usize>
+    requires { length (customer_nodes inst.now) ≤ length visits.now }
+    ensures { result ≡ first_missed visits.now 0 (customer_nodes inst.now) }
 {
     let customers = inst.customers();
     for (number, node) in customers.iter().enumerate() {
-        if !set.has(number) {
+        if visits[number] == 0 {
             return Some(*node);
         }
     }

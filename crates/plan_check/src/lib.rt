@@ -6,8 +6,8 @@ mod judge;
 mod laws;
 mod tally;
 
-pub use fault::PlanFault;
-pub use judge::check_fleet;
+pub use fault::{LargeFault, PlanFault};
+pub use judge::{check_fleet, check_large};
 pub use laws::fleet_plans_break_no_rule;
 
 #[cfg(test)]

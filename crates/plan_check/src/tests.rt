@@ -1,4 +1,4 @@
-use crate::{PlanFault, check_fleet};
+use crate::{LargeFault, PlanFault, check_fleet, check_large};
 use ev_list::Listed;
 use ev_model::Stop;
 use instance_reader::{Instance, read_instance};
@@ -98,4 +98,24 @@ fn each_route_serves_customers_alone(rt: HostRuntime) {
         Some(Err(no_customer))
     );
     assert_eq!(rt; judged(alloc, &inst, &[&astray]), Some(Err(stray)));
+}
+
+#[test]
+fn any_number_of_customers_is_judged(rt: HostRuntime) {
+    let alloc = rt.alloc();
+    let inst = read_instance(alloc, ONE_STATION.as_bytes()).expect(&rt, "an instance");
+    let stops = [at(0), via(2, 1), at(1), at(0)]
+        .to_vec(alloc)
+        .expect(&rt, "memory");
+    let mut plan = FleetPlan {
+        routes: Listed::new(alloc),
+    };
+    let fault = PlanFault::Unserved { customer: 1 };
+    assert_eq!(rt;
+        check_large(alloc, &inst, &plan),
+        Err(LargeFault::Plan { fault })
+    );
+    let stops = Listed::from_vec(stops);
+    plan.routes.push(RoutePlan { stops }).expect(&rt, "memory");
+    assert_eq!(rt; check_large(alloc, &inst, &plan), Ok(43));
 }
