@@ -19,3 +19,5 @@ pub mod Tracing
 mod RestRate
 mod RestLaw
 mod RestTable
+mod WayLaw
+mod WayTables

@@ -14,7 +14,7 @@ use Rattle.ev_model.specs.Time.{charging_time, plugging_time, time_from}
 use Rattle.ev_model.specs.declared.Stop.{Stop}
 use Rattle.piece_fn.proofs.Levels.{level_is, time_at-level_times}
 use Rattle.piece_fn.specs.PieceFn.{first_level, level_times}
-use Rattle.frvcp_labels.specs.Rest.{IsBelowPoints, IsRestBound, step_cost}
+use Rattle.frvcp_labels.specs.Rest.{IsBelowPoints, IsRate, IsRestBound, step_cost}
 use Rattle.frvcp_labels.specs.Search.{IsBelowWays}
 use Rattle.frvcp_labels.specs.Trips.{Journey}
 use Rattle.frvcp_labels.specs.Ways.{IsRest, Leaving, MayStop, leaving_after, passed_after}
@@ -23,28 +23,28 @@ use Rattle.frvcp_labels.proofs.FirstLevel.{first_is_least}
 use Rattle.frvcp_labels.proofs.Rests.{rest_step}
 
 -- one step, and the rest behind it
-step_sum : (d travel process plug rate energy level added after charging rest next time : ℕ) → rest ≤ d * (travel + process) + rate * energy + next → next ≤ time + rate * after → rate * added ≤ charging → after + energy ≡ level + added
+pub step_sum : (d travel process plug rate energy level added after charging rest next time : ℕ) → rest ≤ d * (travel + process) + rate * energy + next → next ≤ time + rate * after → rate * added ≤ charging → after + energy ≡ level + added
     → rest ≤ 1 * (d * (travel + process + plug)) + charging + time + rate * level
 step_sum d travel process plug rate energy level added after charging rest next time step later charge levels =
     let worth : rate * (after + energy) ≡ rate * (level + added) = ap (λ x. rate * x) levels in
     omega (arith, step, later, charge, worth)
 
+-- what is charged takes at least so long
+pub charged : (g : Network) (rate : ℕ) → IsRate g rate → (from level : ℕ) (s : Stop) → IsStop g s → leaving_level g 1 from level s ≤ g.capacity
+    → rate * s.added ≤ charging_time 1 g.denominator (curve_at g s.node) (arriving_level g 1 from level s) (leaving_level g 1 from level s)
+charged g rate is from level s stop within = elim (cases_lt 0 s.added) [
+  | inl some ↦
+      let at = is s.node stop.known (stop.station (inr some)) (arriving_level g 1 from level s) (leaving_level g 1 from level s) (omega arith) within in
+      let gap : leaving_level g 1 from level s - arriving_level g 1 from level s ≡ s.added = omega arith in
+      subst (λ x. rate * x ≤ charging_time 1 g.denominator (curve_at g s.node) (arriving_level g 1 from level s) (leaving_level g 1 from level s)) gap at
+  | inr none ↦
+      let zero : rate * s.added ≡ rate * 0 = ap (λ x. rate * x) (omega arith) in
+      omega (arith, zero)
+]
+
 module _ (g : Network) (route : List ℕ) (rate : ℕ) (least : List ℕ) (is : IsRestBound g route rate least) where
   abbrev rest_at : ℕ → ℕ → ℕ
   rest_at passed node = slice_index least (passed * node_count g + node)
-
-  -- what is charged takes at least so long
-  charged : (from level : ℕ) (s : Stop) → IsStop g s → leaving_level g 1 from level s ≤ g.capacity
-      → rate * s.added ≤ charging_time 1 g.denominator (curve_at g s.node) (arriving_level g 1 from level s) (leaving_level g 1 from level s)
-  charged from level s stop within = elim (cases_lt 0 s.added) [
-    | inl some ↦
-        let at = is.is_rate s.node stop.known (stop.station (inr some)) (arriving_level g 1 from level s) (leaving_level g 1 from level s) (omega arith) within in
-        let gap : leaving_level g 1 from level s - arriving_level g 1 from level s ≡ s.added = omega arith in
-        subst (λ x. rate * x ≤ charging_time 1 g.denominator (curve_at g s.node) (arriving_level g 1 from level s) (leaving_level g 1 from level s)) gap at
-    | inr none ↦
-        let zero : rate * s.added ≡ rate * 0 = ap (λ x. rate * x) (omega arith) in
-        omega (arith, zero)
-  ]
 
   -- no entry is above the cost of a stop that may be made
   goes_on : (v : Leaving) (s : Stop) → MayStop g route v s → v.node < node_count g → rest_at v.passed v.node ≤ step_cost g rate v.node s.node + rest_at (passed_after v.passed s) s.node
@@ -74,7 +74,7 @@ module _ (g : Network) (route : List ℕ) (rate : ℕ) (least : List ℕ) (is : 
       let reserve = may.reserve in
       step_sum g.denominator (travel_time g v.node s.node) (process_time g s.node) (plugging_time g s) rate (energy g v.node s.node) v.level s.added (leaving_level g 1 v.node v.level s)
       (charging_time 1 g.denominator (curve_at g s.node) (arriving_level g 1 v.node v.level s) (leaving_level g 1 v.node v.level s)) (rest_at v.passed v.node) (rest_at (passed_after v.passed s) s.node)
-      (time_from g 1 s.node (leaving_level g 1 v.node v.level s) ss) (goes_on v s may known) later (charged v.node v.level s may.stop may.within) (omega arith)
+      (time_from g 1 s.node (leaving_level g 1 v.node v.level s) ss) (goes_on v s may known) later (charged g rate is.is_rate v.node v.level s may.stop may.within) (omega arith)
 
 -- between two points that a number is below, where times and worths grow evenly
 between : (most rest rate first time unit d e : ℕ) → most + rate * first ≤ time + rest → most + rate * (first + (d + e)) ≤ time + unit * (d + e) + rest → most + rate * (first + d) ≤ time + unit * d + rest

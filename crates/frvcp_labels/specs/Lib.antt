@@ -10,3 +10,5 @@ pub mod Paying
 pub mod Search
 pub mod Full
 pub mod Answers
+pub mod Bounds
+pub mod BoundsView

@@ -10,6 +10,7 @@
 #![tactic(auto)]
 
 mod arrival;
+mod bounds;
 mod full;
 mod paying;
 mod rest;
@@ -20,6 +21,7 @@ mod stations;
 mod trace;
 mod trip;
 
+pub use bounds::RouteBounds;
 pub use solve::solve_route;
 pub use stations::station_nodes;
 

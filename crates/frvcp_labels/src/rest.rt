@@ -54,7 +54,7 @@ impl Rest {
 }
 
 /// The fastest rate of the stations, 0 where there is none.
-fn fastest_rate(inst: &Instance, stations: &[usize]) -> u64
+pub(crate) fn fastest_rate(inst: &Instance, stations: &[usize]) -> u64
     requires { stations.now ≡ stations_of inst.now }
     ensures { IsRate inst.now result }
 {
@@ -85,15 +85,15 @@ fn rate_at(inst: &Instance, node: usize) -> u64
 
 /// The arcs of an instance, with the nodes that have a curve and a rate.
 #[derive(Drop)]
-struct Arcs<'a> {
-    inst: &'a Instance,
-    stations: &'a [usize],
-    rate: u64,
+pub(crate) struct Arcs<'a> {
+    pub(crate) inst: &'a Instance,
+    pub(crate) stations: &'a [usize],
+    pub(crate) rate: u64,
 }
 
 impl<'a> Arcs<'a> {
     /// The cost of an arc, or the greatest number where that is less.
-    fn cost(&self, from: usize, to: usize) -> u64
+    pub(crate) fn cost(&self, from: usize, to: usize) -> u64
         requires left { from < node_count self.now.inst.now }
         requires reached { to < node_count self.now.inst.now }
         ensures { result ≤ step_cost self.now.inst.now self.now.rate from to }
@@ -160,7 +160,7 @@ impl<'a> Arcs<'a> {
     }
 
     /// Lowers the entries of a layer until going on over a station lowers none.
-    fn settle_layer(&self, least: &mut [u64], base: usize)
+    pub(crate) fn settle_layer(&self, least: &mut [u64], base: usize)
         requires stations { self.now.stations.now ≡ stations_of self.now.inst.now }
         requires inside { base + node_count self.now.inst.now ≤ length least.old }
         ensures lowered { IsLowered (base + node_count self.now.inst.now) least.old least.new }

@@ -10,7 +10,7 @@ use Rattle.std.proofs.lemmas.List.{get_or-set_same, get_or-set_other, get_or_pas
 use Rattle.std.proofs.lemmas.List.Sums.{sum_by-set}
 use Rattle.ev_model.specs.Network.{Network, scaled_limit}
 use Rattle.ev_model.specs.Route.{IsRoute}
-use Rattle.frvcp_labels.specs.Stations.{stations}
+use Rattle.level_table.specs.Stations.{stations}
 use Rattle.level_table.specs.Table.{IsClosedAt, IsNoFarther, IsOffer, IsSupported, IsTable, entry_at, nearer_count, rank_at, rank_over, total_rank}
 use Rattle.level_table.specs.Moves.{place_after}
 use Rattle.level_table.specs.Places.{IsTrip, entry_count, index_of, place_of}

@@ -1,3 +1,4 @@
+pub mod StationNodes
 pub mod Charging
 pub mod Grid
 pub mod Filling

@@ -14,7 +14,7 @@ use Rattle.ev_model.specs.Plan.{AreStopsFrom, EndsAtDepot, IsPlanIn}
 use Rattle.ev_model.specs.Route.{FollowsRoute, route_of}
 use Rattle.ev_model.specs.Time.{charging_time, time_from, time_of}
 use Rattle.ev_model.specs.declared.Stop.{Stop}
-use Rattle.frvcp_labels.specs.Stations.{stations}
+use Rattle.level_table.specs.Stations.{stations}
 use Rattle.level_table.specs.Table.{IsNoFarther, IsOffer, IsSupported, IsTable, entry_at, offer_rank, rank_at}
 use Rattle.level_table.specs.Moves.{CanMove, move_time, next_node, node_of, passed_after, place_after, plug_before}
 use Rattle.level_table.specs.Places.{IsHome, IsPlace, IsTrip, index_of, node_at}
@@ -28,7 +28,7 @@ use Rattle.level_table.specs.declared.reach.Reach.{Reach}
 use Rattle.level_table.proofs.Charging.{charging-adds, charging-nothing}
 use Rattle.level_table.proofs.Filling.{few-steps, route-length}
 use Rattle.level_table.proofs.Grid.{place-below, place-of_index}
-use Rattle.frvcp_labels.proofs.StationList.{station-curve, station-known}
+use Rattle.level_table.proofs.StationNodes.{station-curve, station-known}
 use Rattle.level_table.proofs.WayHome.{entry_time, not_zero, passed_after-station, rank-times_back, time_at}
 
 -- the stop with more charged at it

@@ -12,7 +12,7 @@ use Rattle.ev_model.specs.Plan.{AreStopsFrom, EndsAtDepot}
 use Rattle.ev_model.specs.Route.{FollowsRoute, route_of}
 use Rattle.ev_model.specs.Time.{charging_time, time_from, time_of}
 use Rattle.ev_model.specs.declared.Stop.{Stop}
-use Rattle.frvcp_labels.specs.Stations.{stations}
+use Rattle.level_table.specs.Stations.{stations}
 use Rattle.level_table.specs.Table.{IsClosed, IsTable, entry_at, rank_at}
 use Rattle.level_table.specs.Moves.{CanDrive, CanMove, move_time, next_node, node_of, passed_after, place_after}
 use Rattle.level_table.specs.Places.{IsHome, IsPlace, IsTrip, entry_count, index_of}
@@ -24,7 +24,7 @@ use Rattle.level_table.specs.declared.reach.Reach.{Reach}
 use Rattle.level_table.proofs.Charging.{charging-adds, charging-nothing}
 use Rattle.level_table.proofs.Filling.{few-steps, route-length}
 use Rattle.level_table.proofs.Grid.{home-below, home-index, place-below, place-of_index}
-use Rattle.frvcp_labels.proofs.StationList.{station-number}
+use Rattle.level_table.proofs.StationNodes.{station-number}
 
 -- the time that a cell holds; one without a way home counts as past the limit
 abbrev pub entry_time : ℕ → Option Reach → ℕ

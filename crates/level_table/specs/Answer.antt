@@ -5,7 +5,7 @@ use Rattle.ev_model.specs.Feasible.{IsFeasible}
 use Rattle.ev_model.specs.Route.{FollowsRoute}
 use Rattle.ev_model.specs.Time.{time_of}
 use Rattle.ev_model.specs.declared.Stop.{Stop}
-use Rattle.frvcp_labels.specs.Stations.{stations}
+use Rattle.level_table.specs.Stations.{stations}
 
 -- a feasible whole plan of the route than which no feasible whole plan of the route is faster
 pub record IsFastestWhole (g : Network) (route : List ℕ) (start : ℕ) (stops : List Stop) : Type 0 where

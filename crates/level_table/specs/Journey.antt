@@ -1,7 +1,7 @@
 -- What contracts see of a trip.
 use Rattle.std.specs.Prelude.{◌≡◌, ℕ, List}
 use Rattle.ev_model.specs.Network.{Network}
-use Rattle.frvcp_labels.specs.Stations.{stations}
+use Rattle.level_table.specs.Stations.{stations}
 use Rattle.level_table.specs.Places.{IsTrip}
 use Rattle.level_table.specs.declared.trip.Trip.TheInside.{Inside}
 

@@ -1,3 +1,4 @@
+pub mod Stations
 pub mod Reach
 pub mod Answer
 pub mod Entries

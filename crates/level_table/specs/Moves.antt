@@ -2,7 +2,7 @@
 use Rattle.std.specs.Prelude.{◌≡◌, ◌≢◌, ℕ, ◌+◌, ◌-◌, ◌*◌, ◌<◌, ◌≤◌, List, length, nat_eq, false, true, IsSome, if◌then◌else◌}
 use Rattle.ev_model.specs.Network.{Network, curve_at, energy, plug_time, process_time, travel_time}
 use Rattle.ev_model.specs.Time.{charging_time}
-use Rattle.frvcp_labels.specs.Stations.{stations}
+use Rattle.level_table.specs.Stations.{stations}
 use Rattle.level_table.specs.Places.{node_at}
 use Rattle.level_table.specs.declared.moves.Leg.{Leg}
 use Rattle.level_table.specs.declared.moves.Move.{Move}

@@ -2,7 +2,7 @@
 use Rattle.std.specs.Prelude.{◌≡◌, ℕ, ◌+◌, ◌-◌, ◌*◌, ◌/◌, ◌%◌, ◌<◌, ◌≤◌, List, length, nat_eq, slice_index, if◌then◌else◌}
 use Rattle.ev_model.specs.Network.{IsNetwork, Network}
 use Rattle.ev_model.specs.Route.{IsRoute}
-use Rattle.frvcp_labels.specs.Stations.{stations}
+use Rattle.level_table.specs.Stations.{stations}
 use Rattle.level_table.specs.Answer.{cell_count, most_cells}
 use Rattle.level_table.specs.Entries.{entry_in_cell}
 use Rattle.level_table.specs.declared.place.Place.{Place}

@@ -7,10 +7,9 @@ ghost use Rattle.level_table.specs.Answer.{cell_count, most_cells};
 ghost use Rattle.level_table.specs.declared.fault.LevelFault.{LevelFault};
 
 use crate::fault::LevelFault;
-use crate::stations::station_count;
+use crate::stations::{station_count, stations_of};
 use crate::trip::Trip;
 use ev_list::Listed;
-use frvcp_labels::station_nodes;
 use instance_reader::Instance;
 use route_plan::RoutePlan;
 use std::alloc::{AllocError, Global};
@@ -74,7 +73,7 @@ fn fastest_plan(
     ensures { IfOk result (λ answer. MatchOption answer (HasNoPlan inst.now route.now start)
         (λ plan. IsFastest inst.now route.now start plan.stops)) }
 {
-    let stations = station_nodes(alloc, inst)?;
+    let stations = stations_of(alloc, inst)?;
     let trip = Trip {
         inst,
         route,

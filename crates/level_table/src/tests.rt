@@ -2,9 +2,8 @@
 
 use crate::{LevelFault, solve_levels};
 use ev_model::Stop;
-use frvcp_labels::solve_route;
 use instance_reader::{Instance, read_instance};
-use route_plan::{RoutePlan, read_route, walk};
+use route_plan::read_route;
 use std::alloc::Global;
 use std::test::Fail;
 use worked_instances::{
@@ -83,54 +82,6 @@ fn worked_instances_are_solved(rt: HostRuntime) -> Result<(), Fail> {
     ] {
         let answer = answer_text(alloc, file, "0,1,0", start, limit).expect(&rt, "memory");
         assert_eq!(rt; answer.as_str(), want, "{file} from {start}");
-    }
-    Ok(())
-}
-
-/// How long a plan takes, scaled.
-fn time(inst: &Instance, start: u64, plan: Option<RoutePlan>) -> Option<u64> {
-    let plan = plan?;
-    match walk(inst, start, plan.stops.as_slice()) {
-        Ok(walk) => Some(walk.time),
-        Err(_) => None,
-    }
-}
-
-/// How long the plans of the table and of the search by labels take.
-fn both_times(
-    alloc: Global,
-    file: &str,
-    start: u64,
-    limit: Option<u64>,
-) -> Option<(Option<u64>, Option<u64>)> {
-    let inst = instance(alloc, file, limit)?;
-    let Ok(route) = read_route(alloc, "0,1,0", &inst) else {
-        return None;
-    };
-    if start > inst.max_q() {
-        return None;
-    }
-    let by_table = solve_levels(alloc, &inst, route.as_slice(), start).ok()?;
-    let by_labels = solve_route(alloc, &inst, route.as_slice(), start).ok()?;
-    Some((time(&inst, start, by_table), time(&inst, start, by_labels)))
-}
-
-#[test]
-fn table_and_labels_take_the_same_time(rt: HostRuntime) -> Result<(), Fail> {
-    let alloc = rt.alloc();
-    for (file, start, limit) in [
-        (ONE_STATION, 10, None),
-        (ONE_STATION, 3, None),
-        (ONE_STATION, 2, None),
-        (TWO_STATIONS, 10, None),
-        (TWO_STATIONS, 8, Some(60)),
-        (PLUG_TIME, 10, None),
-        (TWO_PLUG_TIMES, 10, None),
-        (RESERVE, 7, None),
-        (HOME_LEVEL, 10, None),
-    ] {
-        let (by_table, by_labels) = both_times(alloc, file, start, limit).expect(&rt, "memory");
-        assert_eq!(rt; by_table, by_labels, "{file} from {start}");
     }
     Ok(())
 }

@@ -2,7 +2,7 @@
 
 ghost use Rattle.std.specs.Prelude.{◌≡◌, ◌+◌, ◌-◌, ◌*◌, ◌<◌, ◌≤◌, ◌^◌, ◌⊎◌, length};
 ghost use Rattle.ev_model.specs.Network.{node_count, scaled_limit};
-ghost use Rattle.frvcp_labels.specs.Stations.{stations};
+ghost use Rattle.level_table.specs.Stations.{stations};
 ghost use Rattle.level_table.specs.Places.{entry_count, index_of, IsHome, IsPlace, IsTrip};
 ghost use Rattle.level_table.specs.Places.{node_at, place_of};
 

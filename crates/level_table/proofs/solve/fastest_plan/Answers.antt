@@ -9,11 +9,11 @@ pub returns-in_default : goal.returns-in_default
 returns-in_default c =
     let whole : HasNoWholePlan c.args.inst.now c.args.route.now c.args.start =
     subst (λ (o : Option (Vec Stop Global)). MatchOption o (HasNoWholePlan c.args.inst.now c.args.route.now c.args.start) (λ v. IsFastestWhole c.args.inst.now c.args.route.now c.args.start v.items)) c.in_default.is c.in_ok-stops.ensures in
-    none-in_any_fraction c.args.inst.now c.args.route.now c.args.start c.station_nodes.ensures.network whole
+    none-in_any_fraction c.args.inst.now c.args.route.now c.args.start c.stations_of.ensures.network whole
 
 pub returns : goal.returns
 returns c =
     let whole : IsFastestWhole c.args.inst.now c.args.route.now c.args.start c.in-Some.stops.items =
     subst (λ (o : Option (Vec Stop Global)). MatchOption o (HasNoWholePlan c.args.inst.now c.args.route.now c.args.start) (λ v. IsFastestWhole c.args.inst.now c.args.route.now c.args.start v.items)) c.in-Some.is c.in_ok-stops.ensures in
     subst (λ stops. IsFastest c.args.inst.now c.args.route.now c.args.start stops) (sym c.from_vec.ensures)
-    (fastest-in_any_fraction c.args.inst.now c.args.route.now c.args.start c.in-Some.stops.items c.station_nodes.ensures.network whole)
+    (fastest-in_any_fraction c.args.inst.now c.args.route.now c.args.start c.in-Some.stops.items c.stations_of.ensures.network whole)

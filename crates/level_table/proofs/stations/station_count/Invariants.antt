@@ -1,5 +1,5 @@
 use Rattle.std.proofs.Common.{◌≡◌, ◌≤◌, length}
-use Rattle.frvcp_labels.proofs.StationList.{stations_below}
+use Rattle.level_table.specs.Stations.{stations_below}
 use Rattle.level_table.proofs.stations.station_count.Given as goal
 
 abbrev pub invariant-loop-node : goal.invariant-loop-node

@@ -1,7 +1,7 @@
 use Rattle.std.proofs.Common.{◌≡◌, ◌≢◌, ◌∙◌, ◌+◌, ◌-◌, ◌*◌, ◌≤◌, ℕ, List, length, false, refl, sym, ap, subst, arith}
 use Rattle.std.proofs.lemmas.Bool.Decides.{nat_tests}
 use Rattle.ev_model.specs.Network.{Network, energy, process_time, travel_time}
-use Rattle.frvcp_labels.specs.Stations.{stations}
+use Rattle.level_table.specs.Stations.{stations}
 use Rattle.level_table.specs.Journey.{Journey}
 use Rattle.level_table.specs.Moves.{IsEnough, IsLeg, next_node, node_of, passed_after}
 use Rattle.level_table.specs.Places.{node_at}

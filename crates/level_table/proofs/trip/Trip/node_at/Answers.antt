@@ -1,8 +1,8 @@
 use Rattle.std.proofs.Common.{◌≡◌, ◌∙◌, ◌-◌, ◌<◌, List, get_or, ℕ, ap, subst, sym, arith}
 use Rattle.ev_model.specs.Network.{node_count}
-use Rattle.frvcp_labels.specs.Stations.{stations}
+use Rattle.level_table.specs.Stations.{stations}
 use Rattle.level_table.specs.Journey.{Journey}
-use Rattle.frvcp_labels.proofs.StationList.{station-known}
+use Rattle.level_table.proofs.StationNodes.{station-known}
 use Rattle.level_table.proofs.trip.Trip.node_at.Goals as goal
 
 pub returns-else-slot-eq0-clause-known : goal.returns-else-slot-eq0-clause-known

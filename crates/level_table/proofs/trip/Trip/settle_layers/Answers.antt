@@ -1,6 +1,6 @@
 use Rattle.std.proofs.Common.{◌+◌, ◌-◌, ◌*◌, ◌≤◌, length, arith}
 use Rattle.std.proofs.Math.Nat.{mul-le-mul_right}
-use Rattle.frvcp_labels.specs.Stations.{stations}
+use Rattle.level_table.specs.Stations.{stations}
 use Rattle.level_table.proofs.trip.Trip.settle_layers.Goals as goal
 
 pub settle-requires-clause-end : goal.settle-requires-clause-end
