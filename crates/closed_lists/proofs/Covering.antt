@@ -1,5 +1,5 @@
 -- What a label covers, and what the labels of a section cover together.
-use Rattle.std.proofs.Common.{◌≡◌, ◌≢◌, ◌∙◌, ℕ, ◌+◌, ◌-◌, ◌*◌, ◌/◌, ◌<◌, ◌≤◌, ◌^◌, List, length, sym, ap, subst, arith, inl, inr, pos, ◌+ℤ◌, ◌-ℤ◌, ◌<ℤ◌, ◌≤ℤ◌, false}
+use Rattle.std.proofs.Common.{◌≡◌, ◌≢◌, ◌∙◌, ℕ, ◌+◌, ◌-◌, ◌*◌, ◌/◌, ◌<◌, ◌≤◌, ◌^◌, List, length, sym, ap, subst, arith, inl, inr, true, unsigned_abs, pos, ◌+ℤ◌, ◌-ℤ◌, ◌<ℤ◌, ◌≤ℤ◌, false}
 use Rattle.std.specs.List.{All, Contains}
 use Rattle.std.specs.Prelude.{slice_index, slice_index_or}
 use Rattle.std.proofs.lemmas.Bool.{cases_eq, cases_lt}
@@ -92,6 +92,23 @@ at_nodes q e last node all is key inside d =
 -- what an entry tells of its label
 pub entry_tells : (q : Question) (nodes : ℕ) (e : Entry) (l : Label) → IsEntry nodes q.prices q.labels e → ((d : Label) → l ≡ slice_index_or q.labels e.number d) → IsEntryOf nodes q.prices l e
 entry_tells q nodes e l is at = subst (λ (k : Label). IsEntryOf nodes q.prices k e) (sym (at l)) (is.told l)
+
+-- an entry with the key of two nodes and a time that is no later than one: its label is at these
+pub record IsCandidate (q : Question) (last node : ℕ) (e : Entry) : Type 0 where
+  pub known : IsEntry (node_count q.network) q.prices q.labels e
+  pub at : (d : Label) → ((slice_index_or q.labels e.number d).last ≡ last) × ((slice_index_or q.labels e.number d).node ≡ node)
+  pub small : unsigned_abs e.paid ≤ 2 ^ 91
+
+pub candidate : (q : Question) (last node key place time : ℕ) (entries : List Entry) (e : Entry) → All (IsLabelOf q.network) q.labels → AreEntries (node_count q.network) q.prices q.labels entries → key ≡ last * node_count q.network + node → node < node_count q.network
+    → TellsTime entries place key time true → e ≡ slice_index_or entries place e → IsCandidate q last node e
+candidate q last node key place time entries e all are is inside tells here =
+    let known : IsEntry (node_count q.network) q.prices q.labels e = subst (λ (f : Entry). IsEntry (node_count q.network) q.prices q.labels f) (sym here) (are.each place e tells.0) in
+    let its : e.key ≡ key = ap (λ (f : Entry). f.key) here ∙ (tells.1 e).0 in
+    record {
+      known = known;
+      at = at_nodes q e last node all known (its ∙ is) inside;
+      small = (known.told (some_of q.labels e.number known.known)).small;
+    }
 
 -- the label of an entry with another key is not at the state's nodes
 other_key : (q : Question) (nodes : ℕ) (b : State) (e : Entry) → IsEntry nodes q.prices q.labels e → e.key ≢ b.last * nodes + b.node → Misses q b e

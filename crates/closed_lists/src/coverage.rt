@@ -13,6 +13,7 @@ ghost use Rattle.closed_lists.specs.Targets.{IsCoveredAll, IsCoveredTo, IsMissed
 
 use crate::links::{Entry, first, is_in_time};
 use crate::paid::{is_too_dear, margin};
+use crate::places::TRIES;
 use crate::section::Section;
 use customer_sets::CustSet;
 use dominance::LabelValue;
@@ -56,8 +57,97 @@ impl Section<'_> {
     }
 
     /// A level up to which each state of the value is covered from a level on; `None` where the
-    /// state at that level is not covered.
+    /// state at that level is not covered. Labels of the same set are looked at first, and all only
+    /// where none that is needed covers it.
     fn reach(&self, target: &Target, value: &PieceFn, level: u64) -> Option<u64>
+        requires last { target.now.last < node_count self.now.network }
+        requires node { target.now.node < node_count self.now.network }
+        requires paid { unsigned_abs target.now.paid ≤ 2 ^ 92 }
+        requires times { (y : ℕ) → IsLevel (level_times value.now) y →
+            time_at (level_times value.now) y ≤ 10 ^ 18 }
+        requires level { IsLevel (level_times value.now) level }
+        ensures some { IfSome result (IsCoveredTo (section self.now) target.now value.now level) }
+        ensures none { IfNone result
+            (IsCovered (section self.now) (state_of target.now value.now level) → ⊥) }
+    {
+        if let Some(to) = self.reach_same(target, value, level) {
+            return Some(to);
+        }
+        match self.reach_kept(target, value, level) {
+            Some(to) => Some(to),
+            None => self.reach_any(target, value, level),
+        }
+    }
+
+    /// The same by a label with the target's set; `None` says nothing.
+    fn reach_same(&self, target: &Target, value: &PieceFn, level: u64) -> Option<u64>
+        requires last { target.now.last < node_count self.now.network }
+        requires node { target.now.node < node_count self.now.network }
+        requires paid { unsigned_abs target.now.paid ≤ 2 ^ 92 }
+        requires times { (y : ℕ) → IsLevel (level_times value.now) y →
+            time_at (level_times value.now) y ≤ 10 ^ 18 }
+        requires level { IsLevel (level_times value.now) level }
+        ensures some { IfSome result (IsCoveredTo (section self.now) target.now value.now level) }
+    {
+        let key = target.last * self.inst.nodes() + target.node;
+        let mark = self.places.mark(key, target.set);
+        for tried in 0..TRIES {
+            let at = self.places.at(mark, tried)?;
+            if let Some(to) = self.reach_at(at, target, value, level) {
+                return Some(to);
+            }
+        }
+        None
+    }
+
+    /// The same by the label of the entry at a place; `None` says nothing.
+    fn reach_at(&self, at: usize, target: &Target, value: &PieceFn, level: u64) -> Option<u64>
+        requires last { target.now.last < node_count self.now.network }
+        requires node { target.now.node < node_count self.now.network }
+        requires paid { unsigned_abs target.now.paid ≤ 2 ^ 92 }
+        requires times { (y : ℕ) → IsLevel (level_times value.now) y →
+            time_at (level_times value.now) y ≤ 10 ^ 18 }
+        requires level { IsLevel (level_times value.now) level }
+        ensures some { IfSome result (IsCoveredTo (section self.now) target.now value.now level) }
+    {
+        let Some(time) = value.at(level) else {
+            return None;
+        };
+        let key = target.last * self.inst.nodes() + target.node;
+        let entries = self.entries();
+        if !is_in_time(entries, at, key, time) {
+            return None;
+        }
+        self.reach_of(&entries[at], target, value, level, time)
+    }
+
+    /// The same by a label that no other makes needless; `None` says nothing.
+    fn reach_kept(&self, target: &Target, value: &PieceFn, level: u64) -> Option<u64>
+        requires last { target.now.last < node_count self.now.network }
+        requires node { target.now.node < node_count self.now.network }
+        requires paid { unsigned_abs target.now.paid ≤ 2 ^ 92 }
+        requires times { (y : ℕ) → IsLevel (level_times value.now) y →
+            time_at (level_times value.now) y ≤ 10 ^ 18 }
+        requires level { IsLevel (level_times value.now) level }
+        ensures some { IfSome result (IsCoveredTo (section self.now) target.now value.now level) }
+    {
+        let Some(time) = value.at(level) else {
+            return None;
+        };
+        let key = target.last * self.inst.nodes() + target.node;
+        let entries = self.entries();
+        let mut at = first(entries, key);
+        while is_in_time(entries, at, key, time) {
+            if let Some(to) = self.reach_of(&entries[at], target, value, level, time) {
+                return Some(to);
+            }
+            at = self.places.after(at, entries.len());
+        }
+        None
+    }
+
+    /// The same by any label; `None` where the state at the level is not covered.
+    fn reach_any(&self, target: &Target, value: &PieceFn, level: u64) -> Option<u64>
         requires last { target.now.last < node_count self.now.network }
         requires node { target.now.node < node_count self.now.network }
         requires paid { unsigned_abs target.now.paid ≤ 2 ^ 92 }

@@ -8,6 +8,7 @@ mod coverage;
 mod fault;
 mod links;
 mod paid;
+mod places;
 mod ranges;
 mod section;
 mod steps;

@@ -13,6 +13,7 @@ ghost use Rattle.closed_lists.specs.Questions.{IsQuestion};
 
 use crate::links::{Entry, entries};
 use crate::paid::price_sum;
+use crate::places::Places;
 use customer_sets::Pairs;
 use instance_reader::Instance;
 use piece_fn::Label;
@@ -31,6 +32,7 @@ pub struct Section<'a> {
     pub(crate) prices: &'a [i128],
     pub(crate) labels: &'a [Label],
     pub(crate) entries: Vec<Entry>,
+    pub(crate) places: Places,
 }
 
 impl<'a> Model for Section<'a> {
@@ -70,6 +72,7 @@ impl<'a> Section<'a> {
         }) }
     {
         let entries = entries(alloc, inst, prices, labels)?;
+        let places = Places::new(alloc, prices.len(), entries.as_slice(), labels)?;
         Ok(Section {
             inst,
             pairs,
@@ -77,6 +80,7 @@ impl<'a> Section<'a> {
             prices,
             labels,
             entries,
+            places,
         })
     }
 

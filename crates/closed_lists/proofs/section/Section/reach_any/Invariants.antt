@@ -1,7 +1,7 @@
 use Rattle.std.proofs.Common.{◌-◌, length}
 use Rattle.closed_lists.specs.Targets.{state_of}
 use Rattle.closed_lists.proofs.Covering.{IsLeft}
-use Rattle.closed_lists.proofs.section.Section.reach.Given as goal
+use Rattle.closed_lists.proofs.section.Section.reach_any.Given as goal
 
 abbrev pub invariant-loop-entries : goal.invariant-loop-entries
 invariant-loop-entries l = IsLeft l.self (state_of l.target l.value l.level) l.entries l.begin l.at
