@@ -164,7 +164,7 @@ length_told g bytes len = (
 )
 
 module _ (g : Network) (network : IsNetwork g) where
-  reads : Reads StandsUnlessLonger (certificate_at g) (certificate_text g) (WrittenIs g) (WrittenLoose g) Anything
+  pub reads : Reads StandsUnlessLonger (certificate_at g) (certificate_text g) (WrittenIs g) (WrittenLoose g) Anything
   reads =
       reads-certificate g (omega (arith, network.small_capacity)) (omega (arith, network.small_limit)) (omega (arith, network.small_capacity, network.reserve_within)) (omega (arith, network.small_capacity, network.home_within))
 

@@ -33,3 +33,5 @@ pub mod BodyReading
 pub mod WrittenFits
 pub mod WrittenLabels
 pub mod WrittenWhole
+pub mod Chosen
+pub mod OneCertificate

@@ -10,5 +10,5 @@ pub use certificate::{BasisEntry, Certificate, Root, Section, Share, TreeLine};
 pub use laws::fitting_certificates_have_sections_and_a_tree;
 pub use text::{
     CertText, certificate_faults_are_first, push_certificate, read_certificate,
-    texts_spell_certificates, written_certificates_are_read,
+    texts_mean_one_certificate, texts_spell_certificates, written_certificates_are_read,
 };

@@ -8,9 +8,11 @@ use Rattle.fleet_model.specs.Places.{customer_count}
 use Rattle.fleet_model.specs.Prices.{sum_of}
 use Rattle.fleet_model.specs.Section.{Section}
 use Rattle.fleet_model.specs.Wide.{IsTooWide}
-use Rattle.bound_certificate.specs.Meaning.{basis_columns, route_columns}
+use Rattle.bound_certificate.specs.Meaning.{basis_columns, route_columns, route_shares}
+use Rattle.bound_certificate.specs.declared.certificate.Certificate.{Certificate}
 use Rattle.bound_certificate.specs.declared.certificate.Root.{Root}
 use Rattle.bound_certificate.specs.declared.certificate.Root.TheVariants as root
+use Rattle.certificate_check.specs.Accepted.{IsSectionAt}
 
 -- the bound is true: no fleet plan costs less, in any fraction of a unit of charge; no bound says that there is no
 -- fleet plan, in any fraction
@@ -31,6 +33,26 @@ pub record CostExactly (g : Network) (s : Section) (over : ℕ) (shares : List S
   pub cover : IsFractionalCover g 1 over shares
   pub some_weight : 1 ≤ s.weight
   pub cost : pos (cost_of_shares g 1 shares * s.weight) ≡ sum_of s.prices *ℤ pos over
+
+-- there is no fractional cover, in any fraction of a unit
+abbrev pub HasNoCover : Network → Type 0
+HasNoCover g =
+    (k weight : ℕ) (others : List Share) → 1 ≤ k → IsFractionalCover g k weight others → ⊥
+
+-- what a root shows of the first section: that there is no fractional cover; or that none costs
+-- less than the price sum of the section over its weight, and of an exact root that the listed
+-- shares are one that costs just that
+abbrev pub IsTrueRoot : Network → Section → Root → Type 0
+IsTrueRoot g s root.None = HasNoCover g
+IsTrueRoot g s (root.Exact over shares) =
+    IsLeastCost g s × CostExactly g s over (route_shares shares)
+IsTrueRoot g s (root.Wide columns basis) = IsLeastCost g s
+
+-- a certificate tells the truth of its network: by its bound of all fleet plans, and by its root of
+-- all fractional covers
+pub record IsTrueCertificate (g : Network) (c : Certificate) : Type 0 where
+  pub bound : IsTrueBound g c.bound
+  pub root : (s : Section) × IsSectionAt c 0 s × IsTrueRoot g s c.root
 
 -- whether the basis of a wide root is too wide, is settled
 abbrev pub IsSettled : Network → Root → Type 0

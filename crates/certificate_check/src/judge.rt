@@ -1,8 +1,10 @@
 //! The judge of certificates.
 
-ghost use Rattle.std.specs.Prelude.{◌≤◌, IfOk, length};
+ghost use Rattle.std.specs.Prelude.{◌≡◌, ◌≤◌, IfOk, length};
 ghost use Rattle.bound_certificate.specs.Ranges.{Fits};
+ghost use Rattle.certificate_check.specs.Truth.{IsTrueCertificate};
 ghost use Rattle.certificate_check.specs.Verdicts.{IsVerdict};
+ghost use Rattle.certificate_check.specs.declared.verdict.Verdict.TheVariants.{Accepted};
 ghost use Rattle.instance_reader.specs.Instance.{customer_nodes};
 
 use crate::leaves::leaf_fault;
@@ -33,6 +35,11 @@ use std::alloc::{AllocError, Global};
 ///    the price sum of section 0 over its weight, which is not 0. `Wide`: the columns are such
 ///    plans, and the basis over them is past the caps of 2^40 and 2^84.
 ///
+/// Where it is accepted, whoever wrote the certificate, every fleet plan in any fraction of a unit
+/// of charge costs at least its bound, and there is none where it has no bound. No fractional cover
+/// costs less than the price sum of section 0 over its weight, in any fraction of a unit; where the
+/// root is `Exact`, its shares are one that costs just that, and where it is `None`, there is none.
+///
 /// Beside what [`closed_lists::check_closed`] takes for one section at a time, a tree takes about
 /// 2,100 bytes for each of its subtrees that are open at once, and a wide root takes a set and a
 /// time for each column.
@@ -41,6 +48,18 @@ pub fn check_certificate(
     inst: &Instance,
     cert: &Certificate,
 ) -> Result<Verdict, AllocError>
+    requires few { length (customer_nodes inst.now) ≤ 128 }
+    requires fits { Fits inst.now cert.now }
+    ensures verdict { IfOk result (IsVerdict inst.now cert.now) }
+    ensures shows { IfOk result (λ v. v ≡ Accepted → IsTrueCertificate inst.now cert.now) }
+{
+    // That the instance's network is one is told by its calls.
+    let _nodes = inst.nodes();
+    verdict_on(alloc, inst, cert)
+}
+
+/// That a certificate is accepted, or the first rule that it breaks.
+fn verdict_on(alloc: Global, inst: &Instance, cert: &Certificate) -> Result<Verdict, AllocError>
     requires few { length (customer_nodes inst.now) ≤ 128 }
     requires fits { Fits inst.now cert.now }
     ensures { IfOk result (IsVerdict inst.now cert.now) }

@@ -1,10 +1,12 @@
 //! Laws of the texts of certificates. Each is the contract of an empty function.
 
 ghost use Rattle.std.specs.Prelude.{◌≡◌, ◌↔◌, ◌⊎◌, ◌<◌, ◌≤◌, ◌++◌, List, ℕ, Err, Ok, length, take};
+ghost use Rattle.std.specs.List.{All};
 ghost use Rattle.ev_model.specs.Network.{IsNetwork, Network};
 ghost use Rattle.ev_text.specs.Texts.{IsLonger};
 ghost use Rattle.bound_certificate.specs.CertificateIn.{BeginsLoosely, BeginsOtherVersion, SpellsWritten, certificate_in};
 ghost use Rattle.bound_certificate.specs.CertificateTexts.{certificate_text};
+ghost use Rattle.bound_certificate.specs.Kept.{AreSame, IsKept, IsSpelledBy};
 ghost use Rattle.bound_certificate.specs.Limits.{most_bytes};
 ghost use Rattle.bound_certificate.specs.Ranges.{Fits, customer_count};
 ghost use Rattle.bound_certificate.specs.Written.{Written, written};
@@ -25,6 +27,16 @@ pub fn written_certificates_are_read()
     ensures { (g : Network) → IsNetwork g → customer_count g ≤ 128 → (c : Certificate) →
         Fits g c → length (certificate_text g (written g c)) ≤ most_bytes →
         certificate_in g (certificate_text g (written g c)) ≡ Ok (written g c) }
+{}
+
+/// A text means one certificate: bytes are the text of no two that fit, but for how the forbidden
+/// pairs are kept; and what is written of a certificate that fits tells it.
+pub fn texts_mean_one_certificate()
+    ensures text { (g : Network) → IsNetwork g → customer_count g ≤ 128 → (bytes : List ℕ)
+        (c d : Certificate) → IsSpelledBy g bytes c → IsSpelledBy g bytes d → AreSame c d }
+    ensures written { (g : Network) (c d : Certificate) → Fits g c → Fits g d →
+        All IsKept c.sections → All IsKept d.sections → written g c ≡ written g d →
+        AreSame c d }
 {}
 
 /// What the first fault of a text tells. What stands before its place begins a text in which each

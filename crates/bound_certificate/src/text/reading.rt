@@ -1,11 +1,14 @@
 //! Reading the text of a certificate.
 
 ghost use Rattle.std.specs.Prelude.{◌≡◌, ◌≢◌, ◌≤◌, Err, IfErr, IfOk, OnOk, Ok, length, nat_eq};
+ghost use Rattle.std.specs.List.{All};
 ghost use Rattle.instance_reader.specs.Instance.{customer_nodes};
 ghost use Rattle.bound_certificate.specs.CertificateIn.{certificate_in, has_other_version, or_refused, own_version, version_at};
+ghost use Rattle.bound_certificate.specs.Kept.{AreSame, IsKept, IsSpelledBy};
 ghost use Rattle.bound_certificate.specs.Ranges.{Fits};
 ghost use Rattle.bound_certificate.specs.Reading.{body_at, bound_at, certificate_at, node_where};
 ghost use Rattle.bound_certificate.specs.Written.{written};
+ghost use Rattle.bound_certificate.specs.declared.certificate.Certificate.{Certificate};
 ghost use Rattle.bound_certificate.specs.declared.text.cert_text.CertText.TheVariants.{Memory};
 
 mod basis;
@@ -52,9 +55,14 @@ pub fn read_certificate(
     requires { length (customer_nodes inst.now) ≤ 128 }
     ensures ok { IfOk result (λ c. certificate_in inst.now bytes.now ≡ Ok (written inst.now c)) }
     ensures fits { IfOk result (Fits inst.now) }
+    ensures spelled { IfOk result (IsSpelledBy inst.now bytes.now) }
+    ensures one { IfOk result (λ c. (d : Certificate) → IsSpelledBy inst.now bytes.now d →
+        AreSame c d) }
     ensures fault { IfErr result (λ fault. fault ≢ CertText.Memory →
         certificate_in inst.now bytes.now ≡ Err fault) }
 {
+    // That the instance's network is one is told by its calls.
+    let _nodes = inst.nodes();
     let len = bytes.len();
     if len > MOST_BYTES {
         return Err(CertText::TooLong { len });
@@ -107,6 +115,7 @@ fn take_certificate(
     ensures ok { IfOk result (λ c. certificate_at inst.now scan.old
         ≡ Ok (written inst.now c, scan.new)) }
     ensures fits { IfOk result (Fits inst.now) }
+    ensures kept { IfOk result (λ c. All IsKept c.sections) }
     ensures fault { IfErr result (λ fault. fault ≢ CertText.Memory →
         or_refused (certificate_at inst.now scan.old) ≡ Err fault) }
 {
@@ -150,6 +159,7 @@ fn take_body(alloc: Global, inst: &Instance, scan: &mut Scan<'_>) -> Result<Cert
     requires { length (customer_nodes inst.now) ≤ 128 }
     ensures ok { IfOk result (λ c. body_at inst.now scan.old ≡ Ok (written inst.now c, scan.new)) }
     ensures fits { IfOk result (Fits inst.now) }
+    ensures kept { IfOk result (λ c. All IsKept c.sections) }
     ensures fault { IfErr result (λ fault. fault ≢ CertText.Memory →
         or_refused (body_at inst.now scan.old) ≡ Err fault) }
 {

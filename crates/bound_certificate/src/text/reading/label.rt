@@ -8,6 +8,7 @@ ghost use Rattle.ev_model.specs.Network.{scaled_limit};
 ghost use Rattle.ev_text.specs.Readers.{number_where};
 ghost use Rattle.instance_reader.specs.Instance.{customer_nodes};
 ghost use Rattle.bound_certificate.specs.CertificateIn.{or_refused};
+ghost use Rattle.bound_certificate.specs.Kept.{HasSet};
 ghost use Rattle.bound_certificate.specs.Ranges.{LabelFits, PointFits, customer_count};
 ghost use Rattle.bound_certificate.specs.Reading.{customer_at, is_above, is_customer_node, is_higher, is_later, label_at, point_at, points_at, set_at, set_behind};
 ghost use Rattle.bound_certificate.specs.Written.{nodes_in, written_label};
@@ -21,10 +22,14 @@ use customer_sets::CustSet;
 use ev_text::{Scan, TextFault};
 use instance_reader::Instance;
 use piece_fn::{Label, PieceFn};
+use smallvec::SmallVec;
 use std::alloc::Global;
 
 /// A level with its time.
 type Point = (u64, u64);
+
+/// The points of a label; a few take no memory.
+type Points = SmallVec<Point, 8>;
 
 /// Takes the line of a label.
 pub(crate) fn take_label(
@@ -36,6 +41,7 @@ pub(crate) fn take_label(
     ensures ok { IfOk result (λ label. label_at inst.now scan.old
         ≡ Ok (written_label inst.now label, scan.new)) }
     ensures fits { IfOk result (LabelFits inst.now) }
+    ensures kept { IfOk result HasSet }
     ensures fault { IfErr result (λ fault. fault ≢ CertText.Memory →
         or_refused (label_at inst.now scan.old) ≡ Err fault) }
 {
@@ -45,6 +51,8 @@ pub(crate) fn take_label(
     let node = take_node(inst, scan)?;
     scan.word(b" ")?;
     let set = take_set(inst, scan)?;
+    // What its type promises of a set is told by its calls alone.
+    let _members = set.len();
     let points = take_points(alloc, inst, scan)?;
     let value = PieceFn::from_points(alloc, points.as_slice())?;
     Ok(Label {
@@ -124,7 +132,7 @@ fn is_above(last: Option<usize>, node: usize) -> bool
 
 /// Takes the points of a label, of which there is one at least, parted by spaces, and the line feed
 /// behind them.
-fn take_points(alloc: Global, inst: &Instance, scan: &mut Scan<'_>) -> Result<Vec<Point>, CertText>
+fn take_points(alloc: Global, inst: &Instance, scan: &mut Scan<'_>) -> Result<Points, CertText>
     ensures ok { IfOk result (λ points. points_at inst.now scan.old
         ≡ Ok (points.items, scan.new)) }
     ensures points { IfOk result (λ points. ArePoints points.items) }
@@ -132,7 +140,7 @@ fn take_points(alloc: Global, inst: &Instance, scan: &mut Scan<'_>) -> Result<Ve
     ensures fault { IfErr result (λ fault. fault ≢ CertText.Memory →
         or_refused (points_at inst.now scan.old) ≡ Err fault) }
 {
-    let mut points = Vec::new(alloc);
+    let mut points = SmallVec::new(alloc);
     let mut last = take_point(inst, scan, None)?;
     points.push(last)?;
     while scan.take_if(b" ") {

@@ -6,6 +6,7 @@ ghost use Rattle.ev_model.specs.Network.{Network};
 ghost use Rattle.ev_text.specs.Readers.{number_where, so_many};
 ghost use Rattle.instance_reader.specs.Instance.{customer_nodes};
 ghost use Rattle.bound_certificate.specs.CertificateIn.{or_refused};
+ghost use Rattle.bound_certificate.specs.Kept.{HasSet, IsKept};
 ghost use Rattle.bound_certificate.specs.Limits.{greatest_weight, most_items};
 ghost use Rattle.bound_certificate.specs.Ranges.{LabelFits, SectionFits, customer_count};
 ghost use Rattle.bound_certificate.specs.Reading.{label_at, price_row, prices_at, section_at, section_behind, sections_at};
@@ -46,6 +47,7 @@ pub(crate) fn take_sections(
     ensures some { IfOk result (λ sections. 1 ≤ length sections.items) }
     ensures few { IfOk result (λ sections. length sections.items ≤ most_items) }
     ensures fits { IfOk result (λ sections. All (SectionFits inst.now) sections.items) }
+    ensures kept { IfOk result (λ sections. All IsKept sections.items) }
     ensures fault { IfErr result (λ fault. fault ≢ CertText.Memory →
         or_refused (sections_at inst.now scan.old) ≡ Err fault) }
 {
@@ -83,6 +85,7 @@ fn take_each_section(
         ≡ Ok (map (written_section inst.now) sections.items, scan.new)) }
     ensures count { IfOk result (λ sections. length sections.items ≡ count) }
     ensures fits { IfOk result (λ sections. All (SectionFits inst.now) sections.items) }
+    ensures kept { IfOk result (λ sections. All IsKept sections.items) }
     ensures fault { IfErr result (λ fault. fault ≢ CertText.Memory →
         or_refused (so_many count (section_at inst.now) scan.old) ≡ Err fault) }
 {
@@ -100,12 +103,15 @@ fn take_section(alloc: Global, inst: &Instance, scan: &mut Scan<'_>) -> Result<S
     ensures ok { IfOk result (λ section. section_at inst.now scan.old
         ≡ Ok (written_section inst.now section, scan.new)) }
     ensures fits { IfOk result (SectionFits inst.now) }
+    ensures kept { IfOk result IsKept }
     ensures fault { IfErr result (λ fault. fault ≢ CertText.Memory →
         or_refused (section_at inst.now scan.old) ≡ Err fault) }
 {
     let head = take_section_head(scan)?;
     let prices = take_prices(alloc, inst, scan)?;
     let pairs = take_pairs(inst, scan, head.pairs)?;
+    // What their type promises of pairs is told by its calls alone.
+    let _customers = pairs.customers();
     let labels = take_labels(alloc, inst, scan, head.labels)?;
     Ok(Section {
         weight: head.weight,
@@ -192,6 +198,7 @@ fn take_labels(
         ≡ Ok (map (written_label inst.now) labels.items, scan.new)) }
     ensures count { IfOk result (λ labels. length labels.items ≡ count) }
     ensures fits { IfOk result (λ labels. All (LabelFits inst.now) labels.items) }
+    ensures kept { IfOk result (λ labels. All HasSet labels.items) }
     ensures fault { IfErr result (λ fault. fault ≢ CertText.Memory →
         or_refused (so_many count (label_at inst.now) scan.old) ≡ Err fault) }
 {

@@ -3,6 +3,7 @@ use Rattle.bound_certificate.specs.CertificateIn.{certificate_in, has_other_vers
 use Rattle.bound_certificate.specs.Written.{written}
 use Rattle.bound_certificate.specs.declared.text.cert_text.CertText.TheVariants.{Memory}
 use Rattle.bound_certificate.proofs.BodyReading.{all_is_read, fault_behind, fault_inside}
+use Rattle.bound_certificate.proofs.OneCertificate.{one_certificate, spelled_where_read}
 use Rattle.bound_certificate.proofs.text.reading.read_certificate.Goals as goal
 
 pub returns-in_err-certificate-clause-fault : goal.returns-in_err-certificate-clause-fault
@@ -23,3 +24,10 @@ pub returns-clause-ok : goal.returns-clause-ok
 returns-clause-ok c =
     let own : has_other_version c.args.inst.now c.args.bytes.now ≡ false = search rules in
     all_is_read c.args.inst.now c.args.bytes.now (omega arith) own c.new-scan.result c.new-scan.ensures c.take_certificate.new.scan (written c.args.inst.now c.in_ok-certificate.certificate) c.in_ok-certificate.ensures.ok c.in_ok-end.ensures.ok
+
+pub returns-clause-spelled : goal.returns-clause-spelled
+returns-clause-spelled c =
+    spelled_where_read c.args.inst.now c.nodes-nodes.ensures.network c.args.bytes.now c.in_ok-certificate.certificate (returns-clause-ok c) c.in_ok-certificate.ensures.fits c.in_ok-certificate.ensures.kept
+
+pub returns-clause-one : goal.returns-clause-one
+returns-clause-one c = λ d is. one_certificate c.args.inst.now c.nodes-nodes.ensures.network c.requires c.args.bytes.now c.in_ok-certificate.certificate d (returns-clause-spelled c) is

@@ -2,6 +2,7 @@ use Rattle.std.proofs.Common.{rules, ◌≡◌, ◌≢◌, ◌∙◌, List, Err,
 use Rattle.std.specs.List.{All}
 use Rattle.std.proofs.lemmas.List.{length-map}
 use Rattle.bound_certificate.specs.CertificateIn.{or_refused}
+use Rattle.bound_certificate.specs.Kept.{IsKept}
 use Rattle.bound_certificate.specs.Ranges.{Fits, LineFits, customer_count}
 use Rattle.bound_certificate.specs.Reading.{body_at}
 use Rattle.bound_certificate.specs.Written.{written_line, written_root, written_section}
@@ -61,3 +62,6 @@ returns-clause-fits c =
     } in
     subst (λ (xs : List Section). Fits g (record { bound = c.in_ok-bound.bound; root = c.in_ok-root.root; sections = xs; tree = c.from_vec-2.result })) (sym c.from_vec.ensures)
     (subst (λ (ls : List TreeLine). Fits g (record { bound = c.in_ok-bound.bound; root = c.in_ok-root.root; sections = sections; tree = ls })) (sym c.from_vec-2.ensures) all)
+
+pub returns-clause-kept : goal.returns-clause-kept
+returns-clause-kept c = subst (All IsKept) (sym c.from_vec.ensures) c.in_ok-sections.ensures.kept

@@ -4,7 +4,7 @@ use Rattle.bound_certificate.proofs.text.reading.label.take_points.Goals as goal
 
 pub loop-last-init : goal.loop-last-init
 loop-last-init c = (
-  points-begin c.args.inst.now c.args.scan.now c.take_point.new.scan c.push.new.self.items c.in_ok-last.last c.in_ok-last.ensures.ok (c.in_ok-push.ensures.items ∙ ap (λ xs. xs ++ c.in_ok-last.last ∷ []) c.new-points.ensures.items),
+  points-begin c.args.inst.now c.args.scan.now c.take_point.new.scan c.push.new.self.items c.in_ok-last.last c.in_ok-last.ensures.ok (c.in_ok-push.ensures.ok ∙ ap (λ xs. xs ++ c.in_ok-last.last ∷ []) c.new-points.ensures.items),
   c.in_ok-last.ensures.limits.0,
   c.in_ok-last.ensures.limits.1,
 )
@@ -16,7 +16,7 @@ loop-last-smaller c =
 pub loop-last-preserved : goal.loop-last-preserved
 loop-last-preserved c = (
   points-go_on c.args.inst.now c.args.scan.now c.loop-last.scan c.take_if.new.self c.take_point-in-loop-last.new.scan c.loop-last.points.items c.push-in-loop-last.new.self.items c.loop-last.last c.in_ok-last-2.last
-      c.loop-last.invariant.0 c.loop-last-test.ensures c.in_ok-last-2.ensures.ok c.in_ok-push-2.ensures.items,
+      c.loop-last.invariant.0 c.loop-last-test.ensures c.in_ok-last-2.ensures.ok c.in_ok-push-2.ensures.ok,
   c.loop-last.invariant.1,
   c.loop-last.invariant.2,
 )

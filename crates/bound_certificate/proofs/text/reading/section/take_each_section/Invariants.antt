@@ -1,5 +1,6 @@
 use Rattle.std.proofs.Common.{◌-◌}
 use Rattle.std.specs.List.{All}
+use Rattle.bound_certificate.specs.Kept.{IsKept}
 use Rattle.bound_certificate.specs.Ranges.{SectionFits}
 use Rattle.bound_certificate.specs.Reading.{section_at}
 use Rattle.bound_certificate.specs.Written.{written_section}
@@ -7,4 +8,4 @@ use Rattle.bound_certificate.proofs.CertificateLoops.{AreTakenTo}
 use Rattle.bound_certificate.proofs.text.reading.section.take_each_section.Given as goal
 
 abbrev pub invariant-loop : goal.invariant-loop
-invariant-loop l = AreTakenTo (section_at l.inst) (written_section l.inst) l.fn.scan l.count l.sections.items (l.count - l.counter) l.scan × All (SectionFits l.inst) l.sections.items
+invariant-loop l = AreTakenTo (section_at l.inst) (written_section l.inst) l.fn.scan l.count l.sections.items (l.count - l.counter) l.scan × All (SectionFits l.inst) l.sections.items × All IsKept l.sections.items

@@ -4,6 +4,7 @@ use Rattle.std.proofs.lemmas.List.{length-map}
 use Rattle.std.proofs.lemmas.List.Elements.{All-nil}
 use Rattle.ev_text.specs.Readers.{so_many}
 use Rattle.bound_certificate.specs.CertificateIn.{or_refused}
+use Rattle.bound_certificate.specs.Kept.{HasSet}
 use Rattle.bound_certificate.specs.Ranges.{LabelFits}
 use Rattle.bound_certificate.specs.Reading.{label_at}
 use Rattle.bound_certificate.specs.Written.{written_label}
@@ -15,6 +16,7 @@ pub loop-init : goal.loop-init
 loop-init c = (
   taken-begins (label_at c.args.inst.now) (written_label c.args.inst.now) c.args.scan.now c.args.count (c.args.count - 0) c.new-labels.result.items (omega arith) c.new-labels.ensures.items,
   subst (All (LabelFits c.args.inst.now)) (sym c.new-labels.ensures.items) (All-nil (LabelFits c.args.inst.now)),
+  subst (All HasSet) (sym c.new-labels.ensures.items) (All-nil HasSet),
 )
 
 pub loop-preserved : goal.loop-preserved
@@ -22,6 +24,7 @@ loop-preserved c = (
   taken-goes_on (label_at c.args.inst.now) (written_label c.args.inst.now) c.args.scan.now c.loop.scan c.take_label.new.scan c.args.count (c.args.count - c.loop.counter) (c.args.count - (c.loop.counter + 1)) c.loop.labels.items c.push.new.self.items c.in_ok-label.label
       (omega arith) c.loop.invariant.0 c.in_ok-label.ensures.ok c.in_ok-push.ensures.items,
   all_more (LabelFits c.args.inst.now) c.loop.labels.items c.push.new.self.items c.in_ok-label.label c.loop.invariant.1 c.in_ok-label.ensures.fits c.in_ok-push.ensures.items,
+  all_more HasSet c.loop.labels.items c.push.new.self.items c.in_ok-label.label c.loop.invariant.2 c.in_ok-label.ensures.kept c.in_ok-push.ensures.items,
 )
 
 pub returns-in_err-label-clause-fault : goal.returns-in_err-label-clause-fault
@@ -36,6 +39,9 @@ returns-clause-ok c = taken-ends (label_at c.args.inst.now) (written_label c.arg
 
 pub returns-clause-fits : goal.returns-clause-fits
 returns-clause-fits c = c.loop.invariant.1
+
+pub returns-clause-kept : goal.returns-clause-kept
+returns-clause-kept c = c.loop.invariant.2
 
 pub returns-clause-count : goal.returns-clause-count
 returns-clause-count c =

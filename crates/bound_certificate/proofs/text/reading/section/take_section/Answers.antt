@@ -1,6 +1,7 @@
 use Rattle.std.proofs.Common.{arith, rules, ◌≡◌, ◌≢◌, ◌∙◌, Err, ap, length, subst, sym}
 use Rattle.std.specs.List.{All}
 use Rattle.bound_certificate.specs.CertificateIn.{or_refused}
+use Rattle.bound_certificate.specs.Kept.{HasSet}
 use Rattle.bound_certificate.specs.Ranges.{IsPrice, LabelFits}
 use Rattle.bound_certificate.specs.Reading.{section_at}
 use Rattle.bound_certificate.specs.declared.text.cert_text.CertText.TheVariants.{Memory}
@@ -31,3 +32,9 @@ returns-clause-fits c =
       few = let count = ap (λ xs. length xs) c.from_vec-2.ensures in omega (arith, count, c.in_ok-labels.ensures.count, c.in_ok-head.ensures.labels);
       labels = subst (All (LabelFits c.args.inst.now)) (sym c.from_vec-2.ensures) c.in_ok-labels.ensures.fits;
     }
+
+pub returns-clause-kept : goal.returns-clause-kept
+returns-clause-kept c = record {
+  pairs_are = c.customers-customers.ensures.pairs;
+  sets = subst (All HasSet) (sym c.from_vec-2.ensures) c.in_ok-labels.ensures.kept;
+}
