@@ -5,6 +5,7 @@ ghost use Rattle.instance_reader.specs.Instance.{customer_nodes};
 ghost use Rattle.pricing.specs.Answers.{IsPriced};
 ghost use Rattle.pricing.specs.Tree.{IsSearch};
 
+use crate::completion::Completion;
 use crate::coverage::Care;
 use crate::priced::{Priced, PricedRoute, Prices};
 use crate::search::Search;
@@ -22,9 +23,10 @@ use std::alloc::{AllocError, Global};
 /// several routes or lists is answered isn't promised.
 ///
 /// First a quick search compares labels whatever customers they have served; where it finds no
-/// route an exact one follows. Both take the label of least time next. The exact list is tested
-/// before it is answered; what the test finds wanting is added, and the search goes on. The only
-/// `Err` is want of memory.
+/// route an exact one follows. Both leave out what can't earn, by a table. Where neither finds a
+/// route, an exact search that leaves nothing out makes the list. Each takes the label of least
+/// time next. The list is tested before it is answered; what the test finds wanting is added, and
+/// the search goes on. The only `Err` is want of memory.
 pub fn price(
     alloc: Global,
     inst: &Instance,
@@ -46,16 +48,22 @@ pub fn price(
 {
     let of = prices.of.as_slice();
     let terms = Section::new(alloc, inst, pairs, prices.weight, of, &[])?;
-    let mut quick = Search::new(alloc, &terms, Care::Quick)?;
+    let table = Completion::new(alloc, &terms)?;
+    let mut quick = Search::new(alloc, &terms, &table, Care::Quick)?;
     quick.run(alloc, &terms)?;
     if !quick.routes.is_empty() {
         return Ok(better_of(&terms, quick));
     }
-    exact(alloc, inst, pairs, prices, &terms)
+    let mut exact = Search::new(alloc, &terms, &table, Care::Exact)?;
+    exact.run(alloc, &terms)?;
+    if !exact.routes.is_empty() {
+        return Ok(better_of(&terms, exact));
+    }
+    closed(alloc, inst, pairs, prices, &terms)
 }
 
-/// The answer of the exact search.
-fn exact(
+/// The answer of the exact search that leaves nothing out.
+fn closed(
     alloc: Global,
     inst: &Instance,
     pairs: &Pairs,
@@ -77,7 +85,8 @@ fn exact(
     ensures { IfOk result (IsPriced terms.now) }
 {
     let of = prices.of.as_slice();
-    let mut search = Search::new(alloc, terms, Care::Exact)?;
+    let none = Completion::none(alloc);
+    let mut search = Search::new(alloc, terms, &none, Care::Exact)?;
     while search.routes.is_empty() {
         search.run(alloc, terms)?;
         if !search.routes.is_empty() {
@@ -93,13 +102,14 @@ fn exact(
 }
 
 /// The routes that a search found.
-fn better_of(terms: &Section<'_>, search: Search) -> Priced
+fn better_of(terms: &Section<'_>, search: Search<'_>) -> Priced
     requires search { IsSearch terms.now search }
     requires some { 0 < length search.routes.items }
     ensures { IsPriced terms.now result }
 {
     let Search {
         care: _,
+        table: _,
         tree: _,
         queue: _,
         listed: _,

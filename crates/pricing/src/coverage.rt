@@ -30,6 +30,8 @@ pub(crate) struct Asked<'a> {
     pub(crate) paid: i128,
     pub(crate) key: u64,
     pub(crate) number: usize,
+    /// No level below this one counts.
+    pub(crate) lowest: u64,
 }
 
 impl Asked<'_> {
@@ -65,7 +67,11 @@ impl Tree {
         requires small { unsigned_abs asked.now.paid ≤ 2 ^ 91 }
     {
         let group = &self.groups[self.key_of(terms, asked.label)];
-        let (mut level, _) = asked.label.value.least();
+        let (least, _) = asked.label.value.least();
+        let mut level = least.max(asked.lowest);
+        if asked.label.value.at(level).is_none() {
+            return None;
+        }
         while let Some(to) = self.reach(terms, asked, group, 0, level) {
             let next = to.checked_add(1)?;
             if asked.label.value.at(next).is_none() {

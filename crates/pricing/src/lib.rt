@@ -5,9 +5,12 @@
 #![tactic(auto)]
 
 mod answer;
+mod completion;
 mod coverage;
 mod found;
 mod groups;
+mod legs;
+mod needs;
 mod priced;
 mod route;
 mod search;

@@ -12,6 +12,7 @@ ghost use Rattle.pricing.specs.Answers.{HasPoints, IsInRange};
 ghost use Rattle.pricing.specs.Tree.{AreCopies, AreSteps, HasOrigin, IsFurther, IsGrown, IsMended, IsSearch, IsTree};
 ghost use Rattle.pricing.specs.declared.found.Found.{Found};
 
+use crate::completion::Completion;
 use crate::coverage::{Asked, Care};
 use crate::found::Tree;
 use crate::groups::Gap;
@@ -30,8 +31,10 @@ const MOST_ROUTES: usize = 80;
 
 /// A search for routes that earn more than they take.
 #[derive(Drop)]
-pub(crate) struct Search {
+pub(crate) struct Search<'a> {
     pub(crate) care: Care,
+    /// By which it leaves out what can't earn.
+    pub(crate) table: &'a Completion,
     pub(crate) tree: Tree,
     /// The labels that wait, by their least time.
     pub(crate) queue: IndexHeap,
@@ -40,18 +43,18 @@ pub(crate) struct Search {
     pub(crate) routes: Vec<PricedRoute>,
 }
 
-impl Search {
+impl<'a> Search<'a> {
     /// A search in which the start waits.
-    pub(crate) fn new(alloc: Global, terms: &Section<'_>, care: Care) -> Result<Search, AllocError>
+    pub(crate) fn new(
+        alloc: Global,
+        terms: &Section<'_>,
+        table: &'a Completion,
+        care: Care,
+    ) -> Result<Search<'a>, AllocError>
         ensures { IfOk result (IsSearch terms.now) }
     {
-        let mut search = Search {
-            care,
-            tree: Tree::new(alloc, terms)?,
-            queue: IndexHeap::new(alloc),
-            listed: Vec::new(alloc),
-            routes: Vec::new(alloc),
-        };
+        let mut tree = Tree::new(alloc, terms)?;
+        let mut queue = IndexHeap::new(alloc);
         let start = Label {
             last: 0,
             node: 0,
@@ -59,16 +62,15 @@ impl Search {
             value: PieceFn::point(alloc, terms.instance().max_q(), 0),
         };
         let gap = Gap::new(&start);
-        put(
-            &mut search.tree,
-            &mut search.queue,
-            terms,
-            start,
-            0,
-            None,
-            gap,
-        )?;
-        Ok(search)
+        put(&mut tree, &mut queue, terms, start, 0, None, gap)?;
+        Ok(Search {
+            care,
+            table,
+            tree,
+            queue,
+            listed: Vec::new(alloc),
+            routes: Vec::new(alloc),
+        })
     }
 
     /// Takes the labels that wait, by least time, and makes the steps from those that are not
@@ -113,6 +115,7 @@ impl Search {
             paid: found.paid,
             key,
             number,
+            lowest: self.table.need(found.label.node),
         };
         self.tree.makes_needless(terms, &asked, found.gap)
     }
@@ -132,8 +135,9 @@ impl Search {
     {
         self.listed.push(number)?;
         self.look_home(alloc, terms, number)?;
+        let budget = self.table.budget(&self.tree.found[number].label.value);
         for node in 0..terms.instance().nodes() {
-            self.go(alloc, terms, number, node)?;
+            self.go(alloc, terms, number, node, budget)?;
         }
         Ok(())
     }
@@ -179,13 +183,14 @@ impl Search {
         Ok(())
     }
 
-    /// Lets the labels wait that a step from a label to a node leads to.
+    /// Lets the labels wait that a step from a label with a budget to a node leads to.
     fn go(
         &mut self,
         alloc: Global,
         terms: &Section<'_>,
         from: usize,
         node: usize,
+        budget: u64,
     ) -> Result<(), AllocError>
         requires search { IsSearch terms.now self.old }
         requires known { from < length self.old.tree.found.items }
@@ -194,10 +199,16 @@ impl Search {
         ensures grown { OnOk result (IsGrown self.old.tree.found.items self.new.tree.found.items) }
         ensures listed { OnOk result (self.new.listed.items ≡ self.old.listed.items) }
     {
-        let label = &self.tree.found[from].label;
+        let found = &self.tree.found[from];
+        let label = &found.label;
         let Some(target) = target_at(terms, label, node) else {
             return Ok(());
         };
+        let paid = paid_at(terms, found.paid, node);
+        let table = self.table;
+        if table.leaves_out(terms, budget, label.node, node, target.set, paid) {
+            return Ok(());
+        }
         let values = values_at(alloc, terms, label, node)?;
         self.add_all(terms, from, node, &target, values)
     }
@@ -236,12 +247,20 @@ impl Search {
         ensures listed { OnOk result (self.new.listed.items ≡ self.old.listed.items) }
     {
         let paid = price_sum(terms.prices(), label.set);
+        let budget = self.table.budget(&label.value);
+        if self
+            .table
+            .is_beyond(terms, budget, label.node, label.set, paid)
+        {
+            return Ok(());
+        }
         let asked = Asked {
             care: self.care,
             label: &label,
             paid,
             key: u64::MAX,
             number: usize::MAX,
+            lowest: self.table.need(label.node),
         };
         let Some(gap) = self.tree.gap(terms, &asked) else {
             return Ok(());
@@ -259,7 +278,7 @@ impl Search {
     }
 }
 
-impl Search {
+impl Search<'_> {
     /// Copies of the listed labels, in order.
     pub(crate) fn labels(
         &self,
@@ -424,6 +443,16 @@ impl Search {
             gap,
         )?;
         self.settle(alloc, terms, number)
+    }
+}
+
+/// What is paid for at a node, by what was paid for before it.
+fn paid_at(terms: &Section<'_>, paid: i128, node: usize) -> i128
+    requires { node < node_count terms.now.network }
+{
+    match terms.customer_number(node) {
+        Some(number) => paid.saturating_add(terms.prices().get(number).copied().unwrap_or(0)),
+        None => paid,
     }
 }
 

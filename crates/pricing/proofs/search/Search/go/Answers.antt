@@ -4,18 +4,22 @@ use Rattle.pricing.proofs.search.Search.go.Goals as goal
 
 pub target_at-requires-clause-label : goal.target_at-requires-clause-label
 target_at-requires-clause-label c =
-    label_in_range c.args.terms.now.network c.index.result.now.label c.requires.search.network
-    (c.requires.search.labels.labels c.args.from c.index.result.now (read c.args.self.now.tree.found.items c.args.from c.index.result.now c.requires.known c.index.ensures)).range
+    label_in_range c.args.terms.now.network c.index-found.result.now.label c.requires.search.network
+    (c.requires.search.labels.labels c.args.from c.index-found.result.now (read c.args.self.now.tree.found.items c.args.from c.index-found.result.now c.requires.known c.index-found.ensures)).range
 
 pub values_at-requires-clause-label : goal.values_at-requires-clause-label
 values_at-requires-clause-label c =
-    label_in_range c.args.terms.now.network c.index.result.now.label c.requires.search.network
-    (c.requires.search.labels.labels c.args.from c.index.result.now (read c.args.self.now.tree.found.items c.args.from c.index.result.now c.requires.known c.index.ensures)).range
+    label_in_range c.args.terms.now.network c.index-found.result.now.label c.requires.search.network
+    (c.requires.search.labels.labels c.args.from c.index-found.result.now (read c.args.self.now.tree.found.items c.args.from c.index-found.result.now c.requires.known c.index-found.ensures)).range
 
 pub add_all-requires-clause-steps : goal.add_all-requires-clause-steps
 add_all-requires-clause-steps c = record {
-  from = c.index.result.now;
-  here = read c.args.self.now.tree.found.items c.args.from c.index.result.now c.requires.known c.index.ensures;
+  from = c.index-found.result.now;
+  here = read c.args.self.now.tree.found.items c.args.from c.index-found.result.now c.requires.known c.index-found.ensures;
   leads = c.in-Some.ensures.leads;
   left = c.in_ok-values.ensures.left;
 }
+
+pub leaves_out-requires-clause-left : goal.leaves_out-requires-clause-left
+leaves_out-requires-clause-left c =
+    (c.requires.search.labels.labels c.args.from c.index-found.result.now (read c.args.self.now.tree.found.items c.args.from c.index-found.result.now c.requires.known c.index-found.ensures)).range.node

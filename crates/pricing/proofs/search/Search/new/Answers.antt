@@ -13,4 +13,4 @@ put-requires-clause-range c =
       set = c.empty.ensures;
       value = c.point.ensures ∙ ap (λ q. (q, 0) ∷ []) full;
     } in
-    start_range c.args.terms.now (record { last = 0; node = 0; set = c.empty.result; value = c.point.result }) c.in_ok-new.ensures.network start
+    start_range c.args.terms.now (record { last = 0; node = 0; set = c.empty.result; value = c.point.result }) c.in_ok-tree.ensures.network start

@@ -1,6 +1,6 @@
 use Rattle.std.proofs.Common.{◌+◌, ◌-◌, ◌*◌, ◌^◌, length}
 use Rattle.pricing.specs.Tree.{IsSearch}
-use Rattle.pricing.proofs.answer.exact.Given as goal
+use Rattle.pricing.proofs.answer.closed.Given as goal
 
 abbrev pub invariant-loop-of : goal.invariant-loop-of
 invariant-loop-of l = IsSearch l.terms l.search
