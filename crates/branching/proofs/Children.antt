@@ -1,10 +1,10 @@
 -- The children of a node have the pairs that are forbidden on the way to them.
 use Rattle.std.proofs.Common.{◌≡◌, ◌∙◌, ℕ, zero, suc, ◌-◌, ◌<◌, ◌≤◌, Bool, true, false, not, ◌&&◌, ◌||◌, List, ◌⊎◌, inl, inr, refl, sym, ap, subst, arith, Some}
-use Rattle.std.specs.Prelude.{nat_eq, slice_get}
+use Rattle.std.specs.Prelude.{nat_eq, Option}
 use Rattle.std.proofs.lemmas.Bool.{cases_Bool, cases_lt, eqb-true, and_parts}
 use Rattle.customer_sets.specs.Pairs.{ForbiddenPairs, allows_of, forbid, is_forbidden, IsPairs, require}
 use Rattle.fleet_model.specs.Tree.{BranchTree, leaf, split}
-use Rattle.branching.specs.Nodes.{HasNode}
+use Rattle.branching.specs.Nodes.{HasNode, node_at}
 use Rattle.branching.specs.SearchTree.{AreChildren, HasPairs, IsBranchPair, IsTreeUnder, leaves_with}
 use Rattle.branching.specs.declared.node.Node.{Node}
 use Rattle.branching.proofs.Under.{Splits}
@@ -84,13 +84,13 @@ children_split n i j section bound node one two are ok pair = record {
 }
 
 -- the node of a key that some leaf names is made for as many customers as the tree
-pub named_customers : (n : ℕ) (nodes : List Node) (key : ℕ) (allows : ℕ → ℕ → Bool) (t : BranchTree) → 0 < leaves_with key t → IsTreeUnder n nodes allows t → HasNode nodes key (λ node. node.pairs.customers ≡ n)
+pub named_customers : (n : ℕ) (nodes : List (Option Node)) (key : ℕ) (allows : ℕ → ℕ → Bool) (t : BranchTree) → 0 < leaves_with key t → IsTreeUnder n nodes allows t → HasNode nodes key (λ node. node.pairs.customers ≡ n)
 named_customers n nodes key allows (leaf k) some under = elim (cases_Bool (nat_eq k key)) [
   | inl hit ↦
       let is : k ≡ key = eqb-true k key hit in
       record {
         node = under.node;
-        here = subst (λ x. slice_get nodes x ≡ Some under.node) is under.here;
+        here = subst (λ x. node_at nodes x ≡ Some under.node) is under.here;
         is = under.is.customers;
       }
   | inr miss ↦

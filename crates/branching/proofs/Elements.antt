@@ -1,30 +1,42 @@
--- Elements of a list after a write and behind an append.
-use Rattle.std.proofs.Common.{◌≡◌, ℕ, zero, suc, List, [], ◌∷◌, ◌++◌, get_or, length, set, refl, ap, Some}
-use Rattle.std.specs.Prelude.{slice_get}
-use Rattle.std.proofs.lemmas.Option.{none-some, slice_get_read, slice_get_within}
+-- Nodes by key after one is written.
+use Rattle.std.proofs.Common.{◌≡◌, ◌≢◌, ◌∙◌, ℕ, ◌<◌, List, length, set, arith, Option, Some, None, sym, ap, subst}
+use Rattle.std.proofs.lemmas.Option.{none-some}
+use Rattle.std.proofs.lemmas.List.{get_or-set_other, get_or-set_same, get_or_past}
+use Rattle.branching.specs.Nodes.{node_at}
+use Rattle.branching.specs.declared.node.Node.{Node}
 
-module _ {X : Type 0} where
-  pub set_here : (xs : List X) (i : ℕ) (x y : X) → slice_get xs i ≡ Some y → slice_get (set xs i x) i ≡ Some x
-  set_here [] i x y h = absurd (none-some y h)
-  set_here (z ∷ zs) zero x y h = refl
-  set_here (z ∷ zs) (suc i) x y h = set_here zs i x y h
+pub node_within : (nodes : List (Option Node)) (key : ℕ) (node : Node) → node_at nodes key ≡ Some node → key < length nodes
+node_within nodes key node here = grind (arith, here, get_or_past)
 
-  pub set_there : (xs : List X) (i j : ℕ) (x : X) → (j ≡ i → ⊥) → slice_get (set xs i x) j ≡ slice_get xs j
-  set_there [] i j x n = refl
-  set_there (z ∷ zs) zero zero x n = absurd (n refl)
-  set_there (z ∷ zs) zero (suc j) x n = refl
-  set_there (z ∷ zs) (suc i) zero x n = refl
-  set_there (z ∷ zs) (suc i) (suc j) x n = set_there zs i j x (λ e. n (ap suc e))
+pub node_set : (nodes : List (Option Node)) (key : ℕ) (old new : Node) → node_at nodes key ≡ Some old → node_at (set nodes key (Some new)) key ≡ Some new
+node_set nodes key old new here = get_or-set_same nodes key (Some new) None (node_within nodes key old here)
 
-  pub appended_here : (xs : List X) (x : X) → slice_get (xs ++ x ∷ []) (length xs) ≡ Some x
-  appended_here [] x = refl
-  appended_here (z ∷ zs) x = appended_here zs x
+pub node_kept : (nodes : List (Option Node)) (key other : ℕ) (new : Node) → other ≢ key → node_at (set nodes key (Some new)) other ≡ node_at nodes other
+node_kept nodes key other new apart = get_or-set_other nodes key other (Some new) None apart
 
-  pub appended_before : (xs ys : List X) (i : ℕ) (x : X) → slice_get xs i ≡ Some x → slice_get (xs ++ ys) i ≡ Some x
-  appended_before [] ys i x h = absurd (none-some x h)
-  appended_before (z ∷ zs) ys zero x h = h
-  appended_before (z ∷ zs) ys (suc i) x h = appended_before zs ys i x h
+-- a second child was added to the nodes, and the first takes the place of the node
+module _ (nodes before added : List (Option Node)) (key other : ℕ) (node one two : Node) (same : before ≡ nodes) (here : node_at before key ≡ Some node)
+    (free : node_at before other ≡ None) (there : node_at added other ≡ Some two) (kept : (k : ℕ) → k ≢ other → node_at added k ≡ node_at before k) where
+  pub split_here : node_at nodes key ≡ Some node
+  split_here = subst (λ xs. node_at xs key ≡ Some node) same here
 
-  -- what was read at a place where there is an element
-  pub read_at : (xs : List X) (i : ℕ) (there x : X) → slice_get xs i ≡ Some there → x ≡ get_or xs i x → slice_get xs i ≡ Some x
-  read_at xs i there x h e = slice_get_read xs (length xs) i x refl (slice_get_within xs i there h) e
+  pub split_free : node_at nodes other ≡ None
+  split_free = subst (λ xs. node_at xs other ≡ None) same free
+
+  apart : key ≢ other
+  apart e = none-some node (sym free ∙ subst (λ k. node_at before k ≡ Some node) e here)
+
+  pub split_still : node_at added key ≡ Some node
+  split_still = kept key apart ∙ here
+
+  pub split_added : (k : ℕ) → k ≢ other → node_at added k ≡ node_at nodes k
+  split_added k fresh = kept k fresh ∙ ap (λ xs. node_at xs k) same
+
+  pub split_first : node_at (set added key (Some one)) key ≡ Some one
+  split_first = node_set added key node one split_still
+
+  pub split_second : node_at (set added key (Some one)) other ≡ Some two
+  split_second = node_kept added key other one (λ e. apart (sym e)) ∙ there
+
+  pub split_others : (k : ℕ) → k ≢ key → k ≢ other → node_at (set added key (Some one)) k ≡ node_at nodes k
+  split_others k away fresh = node_kept added key k one away ∙ split_added k fresh

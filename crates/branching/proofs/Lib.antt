@@ -6,7 +6,6 @@ pub mod Under
 pub mod Children
 pub mod Counts
 pub mod Works
-pub mod Next
-pub mod Least
+pub mod Walk
 pub mod Plans
 pub mod Stored

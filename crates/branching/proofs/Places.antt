@@ -1,6 +1,6 @@
 -- Where the leaf of a key stands among the lines, and what the lines become where it is split there.
 use Rattle.std.proofs.Common.{◌≡◌, ◌∙◌, ℕ, zero, suc, ◌+◌, ◌<◌, true, List, [], ◌∷◌, ◌++◌, set, inl, inr, refl, sym, ap, subst, arith, Some}
-use Rattle.std.specs.Prelude.{nat_eq, slice_get}
+use Rattle.std.specs.Prelude.{nat_eq, IsSome, Option, slice_get}
 use Rattle.std.specs.List.{All, flat_map, insert}
 use Rattle.std.proofs.lemmas.Bool.{cases_Bool, eq-eqb}
 use Rattle.std.proofs.lemmas.List.Elements.{All-nil, All-cons}
@@ -8,6 +8,8 @@ use Rattle.std.proofs.lemmas.Option.{none-some, same_Some}
 use Rattle.fleet_model.specs.Tree.{BranchTree, leaf, split}
 use Rattle.branching.specs.SearchTree.{leaves_with}
 use Rattle.branching.specs.Shape.{key_lines, NamesNode, split_line, stands}
+use Rattle.branching.specs.Nodes.{node_at}
+use Rattle.branching.specs.declared.node.Node.{Node}
 use Rattle.branching.specs.declared.shape.Line.{Line}
 use Rattle.branching.specs.declared.shape.Line.TheVariants.{Split, Leaf}
 
@@ -31,13 +33,13 @@ some_stand key zero (x ∷ ls) h =
 some_stand key (suc at) (Leaf k ∷ ls) h = omega (arith, some_stand key at ls h)
 some_stand key (suc at) (Split i j ∷ ls) h = some_stand key at ls h
 
-pub names_all : (n : ℕ) (ls : List Line) → ((key : ℕ) → 0 < stands key ls → key < n) → All (NamesNode n) ls
-names_all n [] h = All-nil (NamesNode n)
-names_all n (Leaf k ∷ ls) h =
+pub names_all : (nodes : List (Option Node)) (ls : List Line) → ((key : ℕ) → 0 < stands key ls → IsSome (node_at nodes key)) → All (NamesNode nodes) ls
+names_all nodes [] h = All-nil (NamesNode nodes)
+names_all nodes (Leaf k ∷ ls) h =
     let one : nat_eq k k ≡ true = eq-eqb k k refl in
     let counted : stands k (Leaf k ∷ ls) ≡ 1 + stands k ls = rw one refl in
-    All-cons (NamesNode n) (Leaf k) ls (h k (omega (arith, counted))) (names_all n ls (λ key some. h key (omega (arith, some))))
-names_all n (Split i j ∷ ls) h = All-cons (NamesNode n) (Split i j) ls tt (names_all n ls h)
+    All-cons (NamesNode nodes) (Leaf k) ls (h k (omega (arith, counted))) (names_all nodes ls (λ key some. h key (omega (arith, some))))
+names_all nodes (Split i j ∷ ls) h = All-cons (NamesNode nodes) (Split i j) ls tt (names_all nodes ls h)
 
 module _ (key i j other : ℕ) where
   unchanged : (ls : List Line) → stands key ls ≡ 0 → flat_map (split_line key i j other) ls ≡ ls

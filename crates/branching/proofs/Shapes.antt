@@ -1,6 +1,6 @@
 -- The lines of a shape give their tree back, and grow as it does.
 use Rattle.std.proofs.Common.{◌≡◌, ◌∙◌, ℕ, List, [], ◌∷◌, ◌++◌, map, inl, inr, refl, sym, ap, append_assoc, append-nil}
-use Rattle.std.specs.Prelude.{nat_eq}
+use Rattle.std.specs.Prelude.{nat_eq, Option}
 use Rattle.std.specs.List.{flat_map}
 use Rattle.std.proofs.lemmas.Bool.{cases_Bool}
 use Rattle.std.proofs.lemmas.Grind.{flat_map-append}
@@ -38,7 +38,7 @@ key_lines-grown key i j other (split a b apart together) =
     let both = flat_map-append (split_line key i j other) (key_lines apart) (key_lines together) in
     ap (λ ls. Split a b ∷ ls) (rw (first, second) (sym both))
 
-pub named-lines : (nodes : List Node) (t : BranchTree) → map (named_line nodes) (key_lines t) ≡ lines_of (sections_named nodes t)
+pub named-lines : (nodes : List (Option Node)) (t : BranchTree) → map (named_line nodes) (key_lines t) ≡ lines_of (sections_named nodes t)
 named-lines nodes (leaf key) = refl
 named-lines nodes (split i j apart together) =
     let first = named-lines nodes apart in

@@ -1,15 +1,15 @@
 -- What is left of a search falls where a node is split or closed.
-use Rattle.std.proofs.Common.{◌≡◌, ◌∙◌, ℕ, zero, suc, ◌+◌, ◌*◌, ◌^◌, ◌<◌, ◌≤◌, true, List, [], ◌∷◌, ◌++◌, get_or, set, refl, sym, ap, subst, arith, Some}
-use Rattle.std.specs.Prelude.{slice_get}
+use Rattle.std.proofs.Common.{◌≡◌, ◌≢◌, ◌∙◌, ℕ, zero, suc, ◌+◌, ◌*◌, ◌^◌, ◌<◌, ◌≤◌, true, List, [], ◌∷◌, set, refl, sym, ap, subst, arith, Option, Some, None}
 use Rattle.std.specs.List.{sum_by}
 use Rattle.std.proofs.Math.Nat.{one-le-pow, pow-le-pow_right, pow-suc}
-use Rattle.std.proofs.lemmas.List.Sums.{sum_by-set, sum_by_push}
-use Rattle.std.proofs.lemmas.Option.{get_or_from_slice_get, slice_get_within}
-use Rattle.branching.specs.Nodes.{awaits, IsOpen, IsTaken, lives}
-use Rattle.branching.specs.Work.{allowed_pairs, node_work, work_left}
+use Rattle.std.proofs.lemmas.List.Sums.{sum_by-cons, sum_by-set}
+use Rattle.std.proofs.lemmas.Option.{none-some}
+use Rattle.branching.specs.Nodes.{awaits, IsOpen, IsTaken, lives, node_at}
+use Rattle.branching.specs.Work.{allowed_pairs, node_work, work_at, work_left}
 use Rattle.branching.specs.declared.node.Node.{Node}
 use Rattle.branching.specs.declared.node.NodeState.{NodeState}
 use Rattle.branching.specs.declared.node.NodeState.TheVariants.{Open, Taken, Closed}
+use Rattle.branching.proofs.Elements.{node_within}
 
 two_powers : (a b c : ℕ) → a < c → b < c → 3 ^ a + 3 ^ b < 3 ^ c
 two_powers a b zero la lb = absurd (omega (arith, la))
@@ -39,16 +39,63 @@ waiting_lives Closed is = is
 pub open_lives : (node : Node) → IsOpen node → lives node.state ≡ true
 open_lives node is = waiting_lives node.state is
 
-pub work-set : (nodes : List Node) (key : ℕ) (old new : Node) → slice_get nodes key ≡ Some old → work_left (set nodes key new) + node_work old ≡ work_left nodes + node_work new
+pub work-set : (nodes : List (Option Node)) (key : ℕ) (old new : Node) → node_at nodes key ≡ Some old → work_left (set nodes key (Some new)) + node_work old ≡ work_left nodes + node_work new
 unfolding work_left
 work-set nodes key old new here =
-    let is : get_or nodes key old ≡ old = get_or_from_slice_get nodes key old old here in
-    let sum = sum_by-set node_work nodes key new old (slice_get_within nodes key old here) in
-    subst (λ (x : Node). sum_by node_work (set nodes key new) + node_work x ≡ sum_by node_work nodes + node_work new) is sum
+    let sum = sum_by-set work_at nodes key (Some new) None (node_within nodes key old here) in
+    subst (λ o. sum_by work_at (set nodes key (Some new)) + work_at o ≡ sum_by work_at nodes + node_work new) here sum
 
-work-push : (nodes : List Node) (new : Node) → work_left (nodes ++ new ∷ []) ≡ work_left nodes + node_work new
+-- lists that have the same at each key leave the same work
+same_work : (xs ys : List (Option Node)) → ((k : ℕ) → node_at ys k ≡ node_at xs k) → sum_by work_at ys ≡ sum_by work_at xs
+same_work [] [] same = refl
+same_work [] (y ∷ ys) same =
+    let none : work_at y ≡ 0 = ap work_at (same 0) in
+    let rest = same_work [] ys (λ k. same (suc k)) in
+    let sum = sum_by-cons work_at y ys in
+    omega (arith, none, rest, sum)
+same_work (x ∷ xs) [] same =
+    let none : work_at x ≡ 0 = ap work_at (sym (same 0)) in
+    let rest = same_work xs [] (λ k. same (suc k)) in
+    let sum = sum_by-cons work_at x xs in
+    omega (arith, none, rest, sum)
+same_work (x ∷ xs) (y ∷ ys) same =
+    let head : work_at y ≡ work_at x = ap work_at (same 0) in
+    let rest = same_work xs ys (λ k. same (suc k)) in
+    let one = sum_by-cons work_at x xs in
+    let two = sum_by-cons work_at y ys in
+    omega (arith, head, rest, one, two)
+
+more_work : (xs ys : List (Option Node)) (key : ℕ) (node : Node) → node_at xs key ≡ None → node_at ys key ≡ Some node → ((k : ℕ) → k ≢ key → node_at ys k ≡ node_at xs k)
+    → sum_by work_at ys ≡ sum_by work_at xs + node_work node
+more_work xs [] key node free there others = absurd (none-some node there)
+more_work [] (y ∷ ys) zero node free there others =
+    let is : work_at y ≡ node_work node = ap work_at there in
+    let rest = same_work [] ys (λ k. others (suc k) (λ e. omega (arith, e))) in
+    let sum = sum_by-cons work_at y ys in
+    omega (arith, is, rest, sum)
+more_work (x ∷ xs) (y ∷ ys) zero node free there others =
+    let is : work_at y ≡ node_work node = ap work_at there in
+    let none : work_at x ≡ 0 = ap work_at free in
+    let rest = same_work xs ys (λ k. others (suc k) (λ e. omega (arith, e))) in
+    let one = sum_by-cons work_at x xs in
+    let two = sum_by-cons work_at y ys in
+    omega (arith, is, none, rest, one, two)
+more_work [] (y ∷ ys) (suc key) node free there others =
+    let none : work_at y ≡ 0 = ap work_at (others 0 (λ e. omega (arith, e))) in
+    let rest = more_work [] ys key node free there (λ k apart. others (suc k) (λ e. apart (omega (arith, e)))) in
+    let sum = sum_by-cons work_at y ys in
+    omega (arith, none, rest, sum)
+more_work (x ∷ xs) (y ∷ ys) (suc key) node free there others =
+    let head : work_at y ≡ work_at x = ap work_at (others 0 (λ e. omega (arith, e))) in
+    let rest = more_work xs ys key node free there (λ k apart. others (suc k) (λ e. apart (omega (arith, e)))) in
+    let one = sum_by-cons work_at x xs in
+    let two = sum_by-cons work_at y ys in
+    omega (arith, head, rest, one, two)
+
+pub work-added : (nodes changed : List (Option Node)) (key : ℕ) (node : Node) → node_at nodes key ≡ None → node_at changed key ≡ Some node
+    → ((k : ℕ) → k ≢ key → node_at changed k ≡ node_at nodes k) → work_left changed ≡ work_left nodes + node_work node
 unfolding work_left
-work-push nodes new = sum_by_push node_work nodes new
+work-added nodes changed key node free there others = more_work nodes changed key node free there others
 
 some_work : (node : Node) → lives node.state ≡ true → 0 < node_work node
 some_work node is =
@@ -59,20 +106,23 @@ no_work : (node : Node) → node.state ≡ Closed → node_work node ≡ 0
 unfolding node_work
 no_work node is = rw is refl
 
-pub work_closes : (nodes : List Node) (key : ℕ) (old new : Node) → slice_get nodes key ≡ Some old → IsTaken old → new.state ≡ Closed → work_left (set nodes key new) < work_left nodes
+pub work_closes : (nodes : List (Option Node)) (key : ℕ) (old new : Node) → node_at nodes key ≡ Some old → IsTaken old → new.state ≡ Closed → work_left (set nodes key (Some new)) < work_left nodes
 work_closes nodes key old new here taken closed =
     omega (arith, work-set nodes key old new here, some_work old (taken_lives old taken), no_work new closed)
 
-pub work_stays : (nodes : List Node) (key : ℕ) (old new : Node) → slice_get nodes key ≡ Some old → lives old.state ≡ true → lives new.state ≡ true → new.pairs ≡ old.pairs → work_left (set nodes key new) ≡ work_left nodes
+pub work_stays : (nodes : List (Option Node)) (key : ℕ) (old new : Node) → node_at nodes key ≡ Some old → lives old.state ≡ true → lives new.state ≡ true → new.pairs ≡ old.pairs
+    → work_left (set nodes key (Some new)) ≡ work_left nodes
 work_stays nodes key old new here was is same =
     let equal : node_work new ≡ node_work old = live_work new is ∙ ap (λ p. 3 ^ allowed_pairs p) same ∙ sym (live_work old was) in
     omega (arith, work-set nodes key old new here, equal)
 
-pub work_splits : (nodes : List Node) (key : ℕ) (old one two : Node) → slice_get nodes key ≡ Some old → IsTaken old → one.state ≡ Open → two.state ≡ Open
-    → allowed_pairs one.pairs < allowed_pairs old.pairs → allowed_pairs two.pairs < allowed_pairs old.pairs → work_left (set nodes key one ++ two ∷ []) < work_left nodes
-work_splits nodes key old one two here taken first second less_one less_two =
+-- the second child is added, and then the first takes the place of the node
+pub work_splits : (nodes added : List (Option Node)) (key other : ℕ) (old one two : Node) → node_at nodes key ≡ Some old → node_at nodes other ≡ None → node_at added other ≡ Some two
+    → ((k : ℕ) → k ≢ other → node_at added k ≡ node_at nodes k) → node_at added key ≡ Some old → IsTaken old → one.state ≡ Open → two.state ≡ Open
+    → allowed_pairs one.pairs < allowed_pairs old.pairs → allowed_pairs two.pairs < allowed_pairs old.pairs → work_left (set added key (Some one)) < work_left nodes
+work_splits nodes added key other old one two here free there others still taken first second less_one less_two =
     let before = live_work old (taken_lives old taken) in
     let left = live_work one (new_lives one first) in
     let right = live_work two (new_lives two second) in
     let powers = two_powers (allowed_pairs one.pairs) (allowed_pairs two.pairs) (allowed_pairs old.pairs) less_one less_two in
-    omega (arith, work-set nodes key old one here, work-push (set nodes key one) two, before, left, right, powers)
+    omega (arith, work-set added key old one still, work-added nodes added other two free there others, before, left, right, powers)

@@ -1,4 +1,5 @@
 pub mod Nodes
+pub mod Walk
 pub mod SearchTree
 pub mod Shape
 pub mod TreeCode

@@ -1,16 +1,16 @@
 -- The branching tree of a search: its leaves name nodes by their keys.
-use Rattle.std.specs.Prelude.{◌≡◌, ◌≢◌, ℕ, ◌+◌, ◌<◌, ◌≤◌, Bool, true, false, cond, nat_eq, nat_lt, List, [], ◌∷◌, ◌++◌, length, set, slice_get, Option, Some, None}
+use Rattle.std.specs.Prelude.{◌≡◌, ◌≢◌, ℕ, ◌+◌, ◌<◌, ◌≤◌, Bool, true, false, cond, nat_eq, List, set, Option, Some, None, is_some}
 use Rattle.customer_sets.specs.Pairs.{ForbiddenPairs, allows_of, any_pair, forbid, require}
 use Rattle.fleet_model.specs.Tree.{BranchTree, leaf, split}
-use Rattle.branching.specs.Nodes.{HasNode}
+use Rattle.branching.specs.Nodes.{HasNode, node_at}
 use Rattle.branching.specs.declared.node.Node.{Node}
 use Rattle.branching.specs.declared.node.NodeState.TheVariants.{Open, Closed}
 
 pub record SearchTree : Type 0 where
   -- among how many customers there are pairs
   pub customers : ℕ
-  -- by key
-  pub nodes : List Node
+  -- by key, and nothing at a key that no node has
+  pub nodes : List (Option Node)
   -- a leaf names its node by its key
   pub tree : BranchTree
 
@@ -32,7 +32,7 @@ pub record HasPairs (n : ℕ) (allows : ℕ → ℕ → Bool) (p : ForbiddenPair
 
 -- under what is allowed at the root of the tree, each split is possible where it stands, and each
 -- leaf names a node with the pairs that are forbidden on the way to it
-abbrev pub IsTreeUnder : ℕ → List Node → (ℕ → ℕ → Bool) → BranchTree → Type 0
+abbrev pub IsTreeUnder : ℕ → List (Option Node) → (ℕ → ℕ → Bool) → BranchTree → Type 0
 IsTreeUnder n nodes allows (leaf key) = HasNode nodes key (λ node. HasPairs n allows node.pairs)
 IsTreeUnder n nodes allows (split i j apart together) =
     IsBranchPair n allows i j
@@ -48,7 +48,7 @@ leaves_with key (split i j apart together) = leaves_with key apart + leaves_with
 pub record IsSearchTree (t : SearchTree) : Type 0 where
   pub few : t.customers ≤ 128
   pub under : IsTreeUnder t.customers t.nodes any_pair t.tree
-  pub leaves : (key : ℕ) → leaves_with key t.tree ≡ cond (nat_lt key (length t.nodes)) 1 0
+  pub leaves : (key : ℕ) → leaves_with key t.tree ≡ cond (is_some (node_at t.nodes key)) 1 0
 
 -- the section that a node names, by number
 abbrev pub section_in : Option Node → ℕ
@@ -56,8 +56,8 @@ section_in None = 0
 section_in (Some node) = node.section
 
 -- the tree whose leaves name sections in place of nodes
-abbrev pub sections_named : List Node → BranchTree → BranchTree
-sections_named nodes (leaf key) = leaf (section_in (slice_get nodes key))
+abbrev pub sections_named : List (Option Node) → BranchTree → BranchTree
+sections_named nodes (leaf key) = leaf (section_in (node_at nodes key))
 sections_named nodes (split i j apart together) =
     split i j (sections_named nodes apart) (sections_named nodes together)
 
@@ -66,15 +66,15 @@ pub record IsRoot (customers : ℕ) (t : SearchTree) : Type 0 where
   pub pairs : ForbiddenPairs
   pub among : pairs.customers ≡ customers
   pub any : (a b : ℕ) → allows_of pairs a b ≡ true
-  pub is : t ≡ record {
-    customers = customers;
-    nodes = record { state = Open; pairs = pairs; section = 0; bound = 0 } ∷ [];
-    tree = leaf 0;
-  }
+  pub many : t.customers ≡ customers
+  pub node : node_at t.nodes 0
+      ≡ Some (record { state = Open; pairs = pairs; section = 0; bound = 0 })
+  pub alone : (key : ℕ) → key ≢ 0 → node_at t.nodes key ≡ None
+  pub tree : t.tree ≡ leaf 0
 
 -- the tree with another node of that key
 abbrev pub with_node : SearchTree → ℕ → Node → SearchTree
-with_node t key node = record t { nodes = set t.nodes key node }
+with_node t key node = record t { nodes = set t.nodes key (Some node) }
 
 -- the node once it is closed
 abbrev pub closed_with : ℕ → Node → Node
@@ -99,16 +99,17 @@ pub record AreChildren (node : Node) (i j section bound : ℕ) (apart together :
   pub demands : (a b : ℕ) → a ≤ node.pairs.customers → b ≤ node.pairs.customers →
       allows_of together.pairs a b ≡ require i j (allows_of node.pairs) a b
 
--- the first child takes the key of the node that is split, and the second the next free one
-pub record IsSplitOf (old : SearchTree) (key i j section bound : ℕ)
+-- the first child takes the key of the node that is split, and the second one that no node has
+pub record IsSplitOf (old : SearchTree) (key other i j section bound : ℕ)
     (new : SearchTree) : Type 0 where
   pub node : Node
-  pub here : slice_get old.nodes key ≡ Some node
+  pub here : node_at old.nodes key ≡ Some node
+  pub free : node_at old.nodes other ≡ None
   pub apart : Node
   pub together : Node
   pub children : AreChildren node i j section bound apart together
-  pub is : new ≡ record {
-    customers = old.customers;
-    nodes = set old.nodes key apart ++ together ∷ [];
-    tree = grown key i j (length old.nodes) old.tree;
-  }
+  pub first : node_at new.nodes key ≡ Some apart
+  pub second : node_at new.nodes other ≡ Some together
+  pub others : (k : ℕ) → k ≢ key → k ≢ other → node_at new.nodes k ≡ node_at old.nodes k
+  pub customers : new.customers ≡ old.customers
+  pub tree : new.tree ≡ grown key i j other old.tree

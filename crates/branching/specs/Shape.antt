@@ -1,8 +1,9 @@
 -- The shape of a tree as lines in preorder.
-use Rattle.std.specs.Prelude.{ℕ, ◌+◌, ◌<◌, cond, nat_eq, List, [], ◌∷◌, ◌++◌, slice_get}
+use Rattle.std.specs.Prelude.{ℕ, ◌+◌, cond, nat_eq, List, [], ◌∷◌, ◌++◌, Option, IsSome}
 use Rattle.fleet_model.specs.Tree.{BranchTree, leaf, split}
 use Rattle.bound_certificate.specs.declared.certificate.TreeLine.{TreeLine}
 use Rattle.bound_certificate.specs.declared.certificate.TreeLine.TheVariants.{Split as SplitLine, Leaf as LeafLine}
+use Rattle.branching.specs.Nodes.{node_at}
 use Rattle.branching.specs.SearchTree.{section_in}
 use Rattle.branching.specs.declared.node.Node.{Node}
 use Rattle.branching.specs.declared.shape.Line.{Line}
@@ -40,14 +41,14 @@ stands key [] = 0
 stands key (Leaf k ∷ lines) = cond (nat_eq k key) 1 0 + stands key lines
 stands key (Split i j ∷ lines) = stands key lines
 
--- a leaf names one of so many nodes
-abbrev pub NamesNode : ℕ → Line → Type 0
-NamesNode nodes (Leaf key) = key < nodes
+-- a leaf names a node
+abbrev pub NamesNode : List (Option Node) → Line → Type 0
+NamesNode nodes (Leaf key) = IsSome (node_at nodes key)
 NamesNode nodes (Split i j) = Unit {0}
 
 -- the line of a certificate
-abbrev pub named_line : List Node → Line → TreeLine
-named_line nodes (Leaf key) = LeafLine (section_in (slice_get nodes key))
+abbrev pub named_line : List (Option Node) → Line → TreeLine
+named_line nodes (Leaf key) = LeafLine (section_in (node_at nodes key))
 named_line nodes (Split i j) = SplitLine i j
 
 -- what becomes of a line where a split takes the place of the leaf with the key

@@ -8,7 +8,7 @@ use Rattle.branching.specs.declared.tree.Tree.TheInside.{Inside}
 abbrev pub search_tree_of : Inside → SearchTree
 search_tree_of t = record {
   customers = t.customers;
-  nodes = t.nodes.items;
+  nodes = t.nodes.slots;
   tree = tree_of t.shape.items;
 }
 

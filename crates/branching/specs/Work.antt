@@ -1,6 +1,6 @@
 -- What is left of a search at most: it ends, since a split forbids a further pair in both of its
 -- children.
-use Rattle.std.specs.Prelude.{ℕ, ◌^◌, cond, List}
+use Rattle.std.specs.Prelude.{ℕ, ◌^◌, cond, List, Option, Some, None}
 use Rattle.std.specs.Int.{sum_through}
 use Rattle.std.specs.List.{sum_by}
 use Rattle.customer_sets.specs.Pairs.{ForbiddenPairs, allows_of}
@@ -16,6 +16,11 @@ allowed_pairs p =
 unfoldable pub node_work : Node → ℕ
 node_work node = cond (lives node.state) (3 ^ allowed_pairs node.pairs) 0
 
+-- nothing is left at a key that no node has
+abbrev pub work_at : Option Node → ℕ
+work_at None = 0
+work_at (Some node) = node_work node
+
 -- it falls where a node is split or closed, and stays where one is taken
-unfoldable pub work_left : List Node → ℕ
-work_left nodes = sum_by node_work nodes
+unfoldable pub work_left : List (Option Node) → ℕ
+work_left nodes = sum_by work_at nodes

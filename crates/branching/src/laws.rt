@@ -9,7 +9,7 @@ ghost use Rattle.fleet_model.specs.Pairs.{FleetKeepsPairs};
 ghost use Rattle.fleet_model.specs.Places.{customer_count};
 ghost use Rattle.fleet_model.specs.Section.{Section};
 ghost use Rattle.fleet_model.specs.Tree.{IsBranchTree, IsUnder, KeepsSomeLeaf, LeavesAreUnder};
-ghost use Rattle.branching.specs.Nodes.{HasNode};
+ghost use Rattle.branching.specs.Nodes.{HasNode, node_at};
 ghost use Rattle.branching.specs.SearchTree.{IsSearchTree, SearchTree, sections_named};
 ghost use Rattle.branching.specs.declared.node.Node.{Node};
 
@@ -41,7 +41,7 @@ pub fn a_tree_of_nodes_is_a_branching_tree()
 /// names a section that holds under the leaf.
 pub fn leaves_are_under_what_their_nodes_name()
     ensures { (t : SearchTree) (sections : List Section) (bound : Option ℕ) → IsSearchTree t →
-        ((key : ℕ) (node : Node) → slice_get t.nodes key ≡ Some node →
+        ((key : ℕ) (node : Node) → node_at t.nodes key ≡ Some node →
         (s : Section) × (slice_get sections node.section ≡ Some s)
         × IsUnder (allows_of node.pairs) s bound) →
         LeavesAreUnder sections bound any_pair (sections_named t.nodes t.tree) }

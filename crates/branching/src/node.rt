@@ -2,12 +2,14 @@
 
 ghost use Rattle.std.specs.Prelude.{◌≡◌, ◌↔◌, ◌≢◌, ◌<◌, ◌≤◌, ℕ, IsNone, IsTrue, IfSome};
 ghost use Rattle.customer_sets.specs.Pairs.{allows_of, forbid, IsNarrowedBy, IsPairs, require};
-ghost use Rattle.branching.specs.Nodes.{awaits, IsLeastBound, IsNext, least_of, lives, next_of, NoneIsLive, NoneIsOpen};
+ghost use Rattle.branching.specs.Nodes.{awaits, IsLeastBound, IsNext, lives, NoneIsLive, NoneIsOpen};
 ghost use Rattle.branching.specs.SearchTree.{AreChildren, IsBranchPair};
+ghost use Rattle.branching.specs.Walk.{first_of, IsFirst, is_wanted, precedes};
 ghost use Rattle.branching.specs.declared.node.Node.{Node};
 ghost use Rattle.branching.specs.declared.node.NodeState.TheVariants.{Open};
 
 use customer_sets::Pairs;
+use slab::Slab;
 
 /// How far the search has come with a node.
 #[derive(Clone, Copy, Debug, PartialEq, Eq)]
@@ -54,54 +56,74 @@ impl Node {
 
 /// The key of the open node of least bound, of several the least key. `None` comes exactly where no
 /// node is open.
-pub(crate) fn next_open(nodes: &[Node]) -> Option<usize>
-    ensures none { IsNone result ↔ NoneIsOpen nodes.now }
-    ensures next { IfSome result (λ key. (node : Node) × IsNext nodes.now key node) }
+pub(crate) fn next_open(nodes: &Slab<Node>) -> Option<usize>
+    ensures none { IsNone result ↔ NoneIsOpen nodes.now.slots }
+    ensures next { IfSome result (λ key. (node : Node) × IsNext nodes.now.slots key node) }
 {
-    let mut next = None;
-    for (key, node) in nodes.iter().enumerate() {
-        next = next_of(next, key, node);
-    }
-    match next {
+    match first_node(nodes, false) {
         Some((key, _)) => Some(key),
         None => None,
     }
 }
 
-/// The key and the bound of the next node among those so far and another one behind them.
-fn next_of(next: Option<(usize, u128)>, key: usize, node: &Node) -> Option<(usize, u128)>
-    ensures { result ≡ next_of next key node.now }
+/// The least bound of the open and taken nodes. `None` comes exactly where there is none.
+pub(crate) fn least_live(nodes: &Slab<Node>) -> Option<u128>
+    ensures none { IsNone result ↔ NoneIsLive nodes.now.slots }
+    ensures least { IfSome result (IsLeastBound nodes.now.slots) }
 {
-    match next {
-        Some((_, bound)) if !node.is_open() || bound <= node.bound => next,
-        _ if !node.is_open() => None,
+    match first_node(nodes, true) {
+        Some((_, bound)) => Some(bound),
+        None => None,
+    }
+}
+
+/// The key and the bound of the open node of least bound, of several of that of the least key; of
+/// the open and the taken ones where the taken ones count too.
+fn first_node(nodes: &Slab<Node>, taken_too: bool) -> Option<(usize, u128)>
+    ensures { IsFirst nodes.now.slots taken_too result }
+{
+    let mut first = None;
+    for (key, node) in nodes.iter() {
+        first = first_of(first, key, node, taken_too);
+    }
+    first
+}
+
+/// The key and the bound of the first node among those so far and another one.
+fn first_of(
+    first: Option<(usize, u128)>,
+    key: usize,
+    node: &Node,
+    taken_too: bool,
+) -> Option<(usize, u128)>
+    ensures { result ≡ first_of taken_too first key node.now }
+{
+    if !is_wanted(node, taken_too) {
+        return first;
+    }
+    match first {
+        Some((before, bound)) if precedes((before, bound), key, node.bound) => first,
         _ => Some((key, node.bound)),
     }
 }
 
-/// The least bound of the open and taken nodes. `None` comes exactly where there is none.
-pub(crate) fn least_live(nodes: &[Node]) -> Option<u128>
-    ensures none { IsNone result ↔ NoneIsLive nodes.now }
-    ensures least { IfSome result (IsLeastBound nodes.now) }
+/// Whether the node is open, or, where the taken ones count too, open or taken.
+fn is_wanted(node: &Node, taken_too: bool) -> bool
+    ensures { result ≡ is_wanted taken_too node.now }
 {
-    let mut least = None;
-    for node in nodes {
-        least = least_of(least, node);
+    if taken_too {
+        node.is_live()
+    } else {
+        node.is_open()
     }
-    least
 }
 
-/// The least bound among the nodes so far and another one.
-fn least_of(least: Option<u128>, node: &Node) -> Option<u128>
-    ensures { result ≡ least_of least node.now }
+/// Whether a key and a bound come before others: by the bound, and by the key where the bounds are
+/// equal.
+fn precedes(first: (usize, u128), key: usize, bound: u128) -> bool
+    ensures { result ≡ precedes first key bound }
 {
-    if !node.is_live() {
-        return least;
-    }
-    match least {
-        Some(bound) => Some(bound.min(node.bound)),
-        None => Some(node.bound),
-    }
+    first.1 < bound || first.1 == bound && first.0 <= key
 }
 
 /// Whether `i` and `j` are places of customers, `j` may follow `i`, and to require it would forbid

@@ -1,12 +1,13 @@
 //! The shape of the tree, as lines in preorder.
 
-ghost use Rattle.std.specs.Prelude.{◌≡◌, ◌<◌, length, map, slice_get, IfOk, OnErr, OnOk, Some};
+ghost use Rattle.std.specs.Prelude.{◌≡◌, ◌<◌, map, slice_get, IfOk, OnErr, OnOk, Some};
 ghost use Rattle.std.specs.List.{All, flat_map};
 ghost use Rattle.branching.specs.Shape.{named_line, NamesNode, split_line, stands};
 ghost use Rattle.branching.specs.declared.shape.Line.TheVariants.{Leaf};
 
 use crate::node::Node;
 use bound_certificate::TreeLine;
+use slab::Slab;
 use std::alloc::{AllocError, Global};
 
 /// A line of the shape.
@@ -58,10 +59,10 @@ pub(crate) fn split_leaf(
 pub(crate) fn named_lines(
     alloc: Global,
     shape: &[Line],
-    nodes: &[Node],
+    nodes: &Slab<Node>,
 ) -> Result<Vec<TreeLine>, AllocError>
-    requires { All (NamesNode (length nodes.now)) shape.now }
-    ensures { IfOk result (λ lines. lines.items ≡ map (named_line nodes.now) shape.now) }
+    requires { All (NamesNode nodes.now.slots) shape.now }
+    ensures { IfOk result (λ lines. lines.items ≡ map (named_line nodes.now.slots) shape.now) }
 {
     let mut lines = Vec::new(alloc);
     for line in shape {
@@ -70,9 +71,9 @@ pub(crate) fn named_lines(
     Ok(lines)
 }
 
-fn named_line(line: Line, nodes: &[Node]) -> TreeLine
-    requires { NamesNode (length nodes.now) line }
-    ensures { result ≡ named_line nodes.now line }
+fn named_line(line: Line, nodes: &Slab<Node>) -> TreeLine
+    requires { NamesNode nodes.now.slots line }
+    ensures { result ≡ named_line nodes.now.slots line }
 {
     match line {
         Line::Split { i, j } => TreeLine::Split { i, j },

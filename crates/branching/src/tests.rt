@@ -30,6 +30,7 @@ fn split(
     key: usize,
     i: usize,
     j: usize,
+    section: usize,
     bound: u128,
 ) -> (usize, usize)
     requires taken { HasNode tree.old.nodes key IsTaken }
@@ -37,7 +38,7 @@ fn split(
 {
     let can_split = tree.can_split(key, i, j);
     assert!(rt; can_split);
-    tree.split(key, i, j, 5, bound).expect(rt, "memory")
+    tree.split(key, i, j, section, bound).expect(rt, "memory")
 }
 
 /// Closes the next node, which has to be this one.
@@ -55,6 +56,26 @@ fn close_next(
 }
 
 #[test]
+fn children_have_the_bound_and_the_section_of_their_split(rt: HostRuntime) {
+    let alloc = rt.alloc();
+    let mut tree = Tree::new(alloc, 2).expect(&rt, "memory");
+    take_next(&rt, &mut tree, 0, 0, 0);
+    let keys = split(&rt, &mut tree, 0, 1, 2, 0, 5);
+    assert_eq!(rt; keys, (0, 1));
+    assert_eq!(rt; tree.least_bound(), Some(5));
+    let lines = tree.lines(alloc).expect(&rt, "memory");
+    assert_eq!(rt;
+        lines.as_slice(),
+        [
+            TreeLine::Split { i: 1, j: 2 },
+            TreeLine::Leaf { section: 0 },
+            TreeLine::Leaf { section: 0 },
+        ]
+        .as_slice()
+    );
+}
+
+#[test]
 fn a_small_tree_is_searched_by_bounds(rt: HostRuntime) {
     let alloc = rt.alloc();
     let mut tree = Tree::new(alloc, 3).expect(&rt, "memory");
@@ -64,7 +85,7 @@ fn a_small_tree_is_searched_by_bounds(rt: HostRuntime) {
     assert!(rt; !tree.can_split(0, 2, 2));
     assert!(rt; !tree.can_split(0, 4, 1));
     assert!(rt; allows(&rt, tree.pairs(0), 1, 0));
-    let keys = split(&rt, &mut tree, 0, 1, 2, 40);
+    let keys = split(&rt, &mut tree, 0, 1, 2, 5, 40);
     assert_eq!(rt; keys, (0, 1));
     // of equal bounds the least key
     close_next(&rt, &mut tree, 0, 5, 40, 8);
@@ -72,7 +93,7 @@ fn a_small_tree_is_searched_by_bounds(rt: HostRuntime) {
     assert!(rt; !tree.can_split(1, 1, 2));
     assert!(rt; allows(&rt, tree.pairs(1), 1, 2));
     assert!(rt; !allows(&rt, tree.pairs(1), 1, 0));
-    let keys = split(&rt, &mut tree, 1, 2, 3, 50);
+    let keys = split(&rt, &mut tree, 1, 2, 3, 5, 50);
     assert_eq!(rt; keys, (1, 2));
     close_next(&rt, &mut tree, 1, 5, 50, 9);
     let lines = tree.lines(alloc).expect(&rt, "memory");

@@ -1,9 +1,9 @@
 //! The tree.
 
-ghost use Rattle.std.specs.Prelude.{◌≡◌, ◌↔◌, ◌<◌, ◌≤◌, ℕ, length, slice_get, IsNone, IsTrue, IfOk, IfSome, OnErr, OnOk, Some};
+ghost use Rattle.std.specs.Prelude.{◌≡◌, ◌↔◌, ◌<◌, ◌≤◌, ℕ, IsNone, IsTrue, IfOk, IfSome, OnErr, OnOk, Some};
 ghost use Rattle.customer_sets.specs.Pairs.{allows_of};
 ghost use Rattle.bound_certificate.specs.Meaning.{IsTreeOf};
-ghost use Rattle.branching.specs.Nodes.{HasNode, IsLeastBound, IsLive, IsNext, IsTaken, NoneIsLive, NoneIsOpen};
+ghost use Rattle.branching.specs.Nodes.{HasNode, IsLeastBound, IsLive, IsNext, IsTaken, node_at, NoneIsLive, NoneIsOpen};
 ghost use Rattle.branching.specs.SearchTree.{closed_with, IsBranchPair, IsRoot, IsSearchTree, IsSplitOf, sections_named, with_node};
 ghost use Rattle.branching.specs.Work.{work_left};
 ghost use Rattle.branching.specs.declared.node.Node.{Node};
@@ -13,17 +13,19 @@ use crate::node::{Node, NodeState, children, is_branch_pair, least_live, next_op
 use crate::shape::{Line, named_lines, split_leaf};
 use bound_certificate::TreeLine;
 use customer_sets::Pairs;
+use slab::Slab;
 use std::alloc::{AllocError, Global};
 use std::marker::Model;
 
 /// The branching tree of a search for the cheapest plan of a fleet.
 ///
-/// Contracts see among how many customers there are pairs, the nodes that are not split, by key,
-/// and the tree, whose leaves name these nodes by their keys.
+/// The nodes that are not split are kept in a slab, which gives each its key. Contracts see among
+/// how many customers there are pairs, these nodes by key, and the tree, whose leaves name them by
+/// their keys.
 #[derive(Drop)]
 pub struct Tree {
     customers: usize,
-    nodes: Vec<Node>,
+    nodes: Slab<Node>,
     shape: Vec<Line>,
 }
 
@@ -51,15 +53,16 @@ impl Tree {
         ensures root { IfOk result (IsRoot customers) }
         ensures tree { IfOk result IsSearchTree }
     {
-        let mut nodes = Vec::new(alloc);
-        nodes.push(Node {
+        let mut nodes = Slab::new(alloc);
+        nodes.reserve(1)?;
+        let key = nodes.insert_reserved(Node {
             state: NodeState::Open,
             pairs: Pairs::new(customers),
             section: 0,
             bound: 0,
-        })?;
+        });
         let mut shape = Vec::new(alloc);
-        shape.push(Line::Leaf { key: 0 })?;
+        shape.push(Line::Leaf { key })?;
         Ok(Tree {
             customers,
             nodes,
@@ -78,7 +81,7 @@ impl Tree {
         ensures unchanged { IsNone result → self.new ≡ self.old }
         ensures work { work_left self.new.nodes ≡ work_left self.old.nodes }
     {
-        let Some(key) = next_open(self.nodes.as_slice()) else {
+        let Some(key) = next_open(&self.nodes) else {
             return None;
         };
         self.nodes[key].state = NodeState::Taken;
@@ -88,7 +91,7 @@ impl Tree {
     /// The pairs that are forbidden on the way to an open or taken node. It takes no memory.
     pub fn pairs(&self, key: usize) -> &Pairs
         requires { HasNode self.now.nodes key IsLive }
-        ensures value { (node : Node) → slice_get self.now.nodes key ≡ Some node →
+        ensures value { (node : Node) → node_at self.now.nodes key ≡ Some node →
             result.now ≡ node.pairs }
         ensures customers { result.now.customers ≡ self.now.customers }
         ensures tree { IsSearchTree self.now }
@@ -99,7 +102,7 @@ impl Tree {
     /// The number of the section that the leaf of an open or taken node names. It takes no memory.
     pub fn section(&self, key: usize) -> usize
         requires { HasNode self.now.nodes key IsLive }
-        ensures { (node : Node) → slice_get self.now.nodes key ≡ Some node →
+        ensures { (node : Node) → node_at self.now.nodes key ≡ Some node →
             result ≡ node.section }
     {
         self.nodes[key].section
@@ -108,7 +111,7 @@ impl Tree {
     /// The bound of an open or taken node. It takes no memory.
     pub fn bound(&self, key: usize) -> u128
         requires { HasNode self.now.nodes key IsLive }
-        ensures { (node : Node) → slice_get self.now.nodes key ≡ Some node →
+        ensures { (node : Node) → node_at self.now.nodes key ≡ Some node →
             result ≡ node.bound }
     {
         self.nodes[key].bound
@@ -119,7 +122,7 @@ impl Tree {
     /// It takes no memory.
     pub fn can_split(&self, key: usize, i: usize, j: usize) -> bool
         requires { HasNode self.now.nodes key IsLive }
-        ensures { (node : Node) → slice_get self.now.nodes key ≡ Some node →
+        ensures { (node : Node) → node_at self.now.nodes key ≡ Some node →
             IsTrue result ↔ IsBranchPair self.now.customers (allows_of node.pairs) i j }
     {
         is_branch_pair(&self.nodes[key].pairs, i, j)
@@ -127,8 +130,8 @@ impl Tree {
 
     /// Splits a taken node on the customers' places `i` and `j`, and answers the keys of its
     /// children, which are open: in the first `j` may not follow `i`, in the second it has to. The
-    /// first takes the key of the node. Both have the section and the bound until they are given
-    /// others. After a refusal the tree is as before.
+    /// first takes the key of the node, and the second one that no node has. Both have the section
+    /// and the bound until they are given others. After a refusal the tree is as before.
     pub fn split(
         &mut self,
         key: usize,
@@ -138,26 +141,27 @@ impl Tree {
         bound: u128,
     ) -> Result<(usize, usize), AllocError>
         requires taken { HasNode self.old.nodes key IsTaken }
-        requires pair { (node : Node) → slice_get self.old.nodes key ≡ Some node →
+        requires pair { (node : Node) → node_at self.old.nodes key ≡ Some node →
             IsBranchPair self.old.customers (allows_of node.pairs) i j }
-        ensures keys { IfOk result (λ keys. (keys.0 ≡ key) × (keys.1 ≡ length self.old.nodes)) }
-        ensures ok { OnOk result (IsSplitOf self.old key i j section bound self.new) }
+        ensures first { IfOk result (λ keys. keys.0 ≡ key) }
+        ensures ok { IfOk result
+            (λ keys. IsSplitOf self.old key keys.1 i j section bound self.new) }
         ensures err { OnErr result (self.new ≡ self.old) }
         ensures work { OnOk result (work_left self.new.nodes < work_left self.old.nodes) }
     {
         self.nodes.reserve(1)?;
-        let second = self.nodes.len();
-        split_leaf(&mut self.shape, key, i, j, second)?;
         let (apart, together) = children(&self.nodes[key], i, j, section, bound);
+        let second = self.nodes.vacant_key();
+        split_leaf(&mut self.shape, key, i, j, second)?;
+        self.nodes.insert_reserved(together);
         self.nodes[key] = apart;
-        self.nodes.push(together)?;
         Ok((key, second))
     }
 
     /// Closes a taken node, whose leaf names the section from then on. It takes no memory.
     pub fn close(&mut self, key: usize, section: usize)
         requires { HasNode self.old.nodes key IsTaken }
-        ensures closed { (node : Node) → slice_get self.old.nodes key ≡ Some node →
+        ensures closed { (node : Node) → node_at self.old.nodes key ≡ Some node →
             self.new ≡ with_node self.old key (closed_with section node) }
         ensures work { work_left self.new.nodes < work_left self.old.nodes }
     {
@@ -173,7 +177,7 @@ impl Tree {
         ensures least { IfSome result (IsLeastBound self.now.nodes) }
         ensures tree { IsSearchTree self.now }
     {
-        least_live(self.nodes.as_slice())
+        least_live(&self.nodes)
     }
 
     /// The lines of the tree in preorder. The leaf of each node that is not split, of an open or
@@ -183,6 +187,6 @@ impl Tree {
             (λ lines. IsTreeOf lines.items (sections_named self.now.nodes self.now.tree)) }
         ensures tree { IsSearchTree self.now }
     {
-        named_lines(alloc, self.shape.as_slice(), self.nodes.as_slice())
+        named_lines(alloc, self.shape.as_slice(), &self.nodes)
     }
 }

@@ -38,10 +38,8 @@ module _ (g : Network) (order : List ℕ) (stops : List Stop) (is : IsColumn g o
   }
 
   -- a copy of the route where its order keeps the pairs
-  pub kept_alone : (p : ForbiddenPairs) (given : List ℕ) (copy : RoutePlan) → given ≡ order → KeepsPairs (allows_of p) (0 ∷ map (place_of g) given ++ 0 ∷ []) → copy.stops ≡ stops
-      → AreNodeRoutes g p (copy ∷ [])
-  kept_alone p given copy same keeps alike =
+  pub kept_alone : (p : ForbiddenPairs) (copy : RoutePlan) → KeepsPairs (allows_of p) (0 ∷ map (place_of g) order ++ 0 ∷ []) → copy.stops ≡ stops → AreNodeRoutes g p (copy ∷ [])
+  kept_alone p copy keeps alike =
       let P = λ (x : RoutePlan). IsNodeRoute g p x.stops in
-      let there = subst (λ (ns : List ℕ). KeepsPairs (allows_of p) (0 ∷ map (place_of g) ns ++ 0 ∷ [])) same keeps in
-      let here : P copy = subst (λ (s : List Stop). IsNodeRoute g p s) (sym alike) (column_keeps p there) in
+      let here : P copy = subst (λ (s : List Stop). IsNodeRoute g p s) (sym alike) (column_keeps p keeps) in
       All-cons P copy [] here (All-nil P)

@@ -1,5 +1,6 @@
 -- A pool of routes by the order of their customers.
-use Rattle.std.specs.Prelude.{◌≡◌, ◌≢◌, ℕ, ◌+◌, ◌<◌, ◌⊎◌, List, [], ◌∷◌, Option, Some, None, bytes_eq, nat_lt, if◌then◌else◌}
+use Rattle.std.specs.Prelude.{◌≡◌, ◌≢◌, ℕ, ◌<◌, ◌⊎◌, List, [], ◌∷◌, ◌++◌, map, is_some, Option, Some, None, Vec, bytes_eq, nat_lt, if◌then◌else◌}
+use Rattle.std.specs.Global.{Global}
 use Rattle.std.specs.List.{All}
 use Rattle.ev_model.specs.Fleet.{customers_of}
 use Rattle.ev_model.specs.Network.{Network}
@@ -7,6 +8,11 @@ use Rattle.ev_model.specs.Time.{time_of}
 use Rattle.ev_model.specs.declared.Stop.{Stop}
 use Rattle.fleet_model.specs.Cover.{IsFleetRoute}
 use Rattle.pricing.specs.declared.priced.PricedRoute.{PricedRoute}
+use Rattle.column_pool.specs.declared.pooled.Pooled.{Pooled}
+
+-- what the pool has for an order of customers' nodes, as a route
+abbrev pub route_of_entry : Vec ℕ Global × Pooled → PricedRoute
+route_of_entry e = record { plan = e.1.plan; order = e.0 }
 
 -- a feasible plan from full that serves the customers at these nodes in this order, each once, and no other
 pub record IsColumn (g : Network) (order : List ℕ) (stops : List Stop) : Type 0 where
@@ -27,6 +33,15 @@ held (r ∷ routes) order =
 abbrev pub AreApart : List PricedRoute → Type 0
 AreApart [] = Unit {0}
 AreApart (r ∷ routes) = (held routes r.order.items ≡ None) × AreApart routes
+
+-- the orders of the routes, in the order of these
+abbrev pub orders_of : List PricedRoute → List (List ℕ)
+orders_of routes = map (λ r. r.order.items) routes
+
+-- the orders once one was put in: it keeps its place, and a new one is last
+abbrev pub orders_after : List PricedRoute → List ℕ → List (List ℕ)
+orders_after routes order =
+    if is_some (held routes order) then orders_of routes else orders_of routes ++ order ∷ []
 
 -- the scaled time of a plan from full
 abbrev pub full_time : Network → List Stop → ℕ
@@ -50,9 +65,3 @@ IsGrown g old new =
     (order : List ℕ) (stops : List Stop) → held old order ≡ Some stops →
     (now : List Stop) × (held new order ≡ Some now) ×
     ((now ≡ stops) ⊎ (full_time g now < full_time g stops))
-
--- the place of the route of an order, where the first of the routes has the place i
-abbrev pub place_of : ℕ → List PricedRoute → List ℕ → Option ℕ
-place_of i [] order = None
-place_of i (r ∷ routes) order =
-    if bytes_eq r.order.items order then Some i else place_of (i + 1) routes order

@@ -6,12 +6,13 @@ ghost use Rattle.column_pool.specs.Pool.{IsColumn, IsPool};
 
 use crate::keeping::keeps_pairs;
 use crate::master::set_of;
+use crate::parts::{earning, kept_places};
 use crate::pool::{ColumnPool, full_time};
 use customer_sets::Pairs;
 use instance_reader::Instance;
 use master_simplex::{Lp, LpFault, solve};
 use master_table::{Caps, Table, TableFault};
-use pricing::PricedRoute;
+use route_plan::RoutePlan;
 use std::alloc::{AllocError, Global};
 
 /// What it costs at least to cover the customers by fractions of the pool's routes that keep the
@@ -37,34 +38,73 @@ pub fn estimate_node(
     let Ok(mut table) = Table::new(alloc, inst.customers().len(), caps) else {
         return Err(AllocError);
     };
-    for route in pool.routes() {
-        add_if_kept(inst, pairs, &mut table, route)?;
+    let places = kept_places(alloc, inst, pairs, pool)?;
+    add_at(inst, pairs, pool, &mut table, pool.recent())?;
+    for _ in &places {
+        let Some(lp) = optimum(alloc, &mut table)? else {
+            return Ok(None);
+        };
+        let further = earning(alloc, inst, pool, &places, &lp)?;
+        if !add_at(inst, pairs, pool, &mut table, &further)? {
+            return Ok(cost_of(&lp));
+        }
     }
-    match solve(alloc, &mut table) {
-        Ok(lp) => Ok(cost_of(&lp)),
+    let lp = optimum(alloc, &mut table)?;
+    Ok(lp.and_then(|lp| cost_of(&lp)))
+}
+
+/// The answer of the simplex method; `None` where the numbers grow too wide.
+fn optimum(alloc: Global, table: &mut Table) -> Result<Option<Lp>, AllocError> {
+    match solve(alloc, table) {
+        Ok(lp) => Ok(Some(lp)),
         Err(LpFault::Memory) => Err(AllocError),
         Err(LpFault::Wide { .. }) => Ok(None),
     }
 }
 
-/// Adds the route as a column where it keeps the pairs and its column isn't too wide.
+/// Adds the routes at the places as columns where they keep the pairs and their columns aren't too
+/// wide, and tells whether there was one.
+fn add_at(
+    inst: &Instance,
+    pairs: &Pairs,
+    pool: &ColumnPool,
+    table: &mut Table,
+    places: &[usize],
+) -> Result<bool, AllocError>
+    requires few { length (customer_nodes inst.now) ≤ 128 }
+    requires pairs { pairs.now.customers ≡ length (customer_nodes inst.now) }
+    requires pool { IsPool inst.now pool.now }
+{
+    let mut added = false;
+    for at in places {
+        if let Some((order, pooled)) = pool.route(*at) {
+            added |= add_if_kept(inst, pairs, table, order, &pooled.plan)?;
+        }
+    }
+    Ok(added)
+}
+
+/// Adds the route as a column where it keeps the pairs and its column isn't too wide, and tells
+/// whether it did.
 fn add_if_kept(
     inst: &Instance,
     pairs: &Pairs,
     table: &mut Table,
-    route: &PricedRoute,
-) -> Result<(), AllocError>
+    order: &[usize],
+    plan: &RoutePlan,
+) -> Result<bool, AllocError>
     requires few { length (customer_nodes inst.now) ≤ 128 }
     requires pairs { pairs.now.customers ≡ length (customer_nodes inst.now) }
-    requires column { IsColumn inst.now route.now.order.items route.now.plan.stops }
+    requires column { IsColumn inst.now order.now plan.now.stops }
 {
-    if !keeps_pairs(inst, pairs, &route.order) {
-        return Ok(());
+    if !keeps_pairs(inst, pairs, order) {
+        return Ok(false);
     }
-    let set = set_of(inst, &route.order);
-    match table.add_column(set, full_time(inst, &route.plan)) {
+    let set = set_of(inst, order);
+    match table.add_column(set, full_time(inst, plan)) {
+        Ok(_) => Ok(true),
         Err(TableFault::Memory) => Err(AllocError),
-        Ok(_) | Err(TableFault::Wide { .. }) => Ok(()),
+        Err(TableFault::Wide { .. }) => Ok(false),
     }
 }
 

@@ -1,34 +1,36 @@
 //! Routes by the order of their customers.
 
-ghost use Rattle.std.specs.Prelude.{◌≡◌, [], IfOk, is_some, OnErr, OnOk, Some};
+ghost use Rattle.std.specs.Prelude.{◌≡◌, ◌<◌, ◌↔◌, [], IfOk, IfSome, is_some, IsSome, length, OnErr, OnOk, Some};
 ghost use Rattle.ev_model.specs.Feasible.{IsFeasible};
-ghost use Rattle.column_pool.specs.Pool.{AreApart, full_time, IsColumn, IsPool, IsPut, kept, place_of};
+ghost use Rattle.ev_model.specs.Network.{Network};
+ghost use Rattle.column_pool.specs.Pool.{AreApart, full_time, held, IsColumn, IsPool, IsPut, kept, orders_after, orders_of};
 
+use crate::pooled::Pooled;
+use indexmap::IndexMap;
 use instance_reader::Instance;
-use pricing::PricedRoute;
 use route_plan::{RoutePlan, walk};
 use std::alloc::{AllocError, Global};
 use std::marker::Model;
 
-/// Routes by the order of their customers: for each order at most one, with a plan.
+/// Routes by the order of their customers: for each order at most one, with a plan. They stand in
+/// the order in which their orders were first seen.
 ///
 /// Contracts see the list of the routes.
 #[derive(Drop)]
 pub struct ColumnPool {
-    routes: Vec<PricedRoute>,
+    routes: IndexMap<Vec<usize>, Pooled>,
+    /// The places of the routes with which a table may begin. Nothing rests on them.
+    recent: Vec<usize>,
 }
 
 impl Model for ColumnPool {
-    ghost use Rattle.std.specs.Prelude.{List};
+    ghost use Rattle.std.specs.Prelude.{List, map};
     ghost use Rattle.pricing.specs.declared.priced.PricedRoute.{PricedRoute};
+    ghost use Rattle.column_pool.specs.Pool.{route_of_entry};
 
     ghost Value = { List PricedRoute };
 
-    ghost use Rattle.column_pool.specs.Pool.{AreApart};
-
-    ghost view = { λ p. p.routes.items };
-
-    ghost invariant = { λ p. AreApart p.routes.items };
+    ghost view = { λ p. map route_of_entry p.routes.entries };
 }
 
 impl ColumnPool {
@@ -37,7 +39,8 @@ impl ColumnPool {
         ensures { result ≡ [] }
     {
         ColumnPool {
-            routes: Vec::new(alloc),
+            routes: IndexMap::new(alloc),
+            recent: Vec::new(alloc),
         }
     }
 
@@ -58,43 +61,59 @@ impl ColumnPool {
         ensures put { OnOk result (IsPut inst.now order.now plan.stops self.old self.new) }
         ensures pool { IsPool inst.now self.new }
         ensures apart { AreApart self.new }
+        ensures first_seen { OnOk result (orders_of self.new ≡ orders_after self.old order.now) }
         ensures unchanged { OnErr result (self.new ≡ self.old) }
     {
-        let Some(at) = place_of(&self.routes, order) else {
-            let order = copy_of(alloc, order)?;
-            self.routes.push(PricedRoute { plan, order })?;
+        let time = full_time(inst, &plan);
+        if let Some(before) = self.routes.get_mut(order) {
+            keep_faster(inst, before, Pooled { plan, time });
             return Ok(());
-        };
-        keep_faster(inst, &mut self.routes[at], plan);
+        }
+        let order = copy_of(alloc, order)?;
+        self.routes.insert(order, Pooled { plan, time })?;
         Ok(())
     }
 
     /// Whether there is a route of the order. It takes no memory.
     pub(crate) fn has(&self, order: &[usize]) -> bool
-        ensures { result ≡ is_some (place_of 0 self.now order.now) }
+        ensures { result ≡ is_some (held self.now order.now) }
     {
-        place_of(&self.routes, order).is_some()
+        self.routes.contains_key(order)
     }
 
-    /// The routes. It takes no memory.
-    pub(crate) fn routes(&self) -> &[PricedRoute]
-        ensures value { result.now ≡ self.now }
-        ensures apart { AreApart self.now }
+    /// How many routes there are. It takes no memory.
+    pub(crate) fn len(&self) -> usize
+        ensures { result ≡ length self.now }
     {
-        &self.routes
+        self.routes.len()
     }
-}
 
-/// The place of the route of an order.
-fn place_of(routes: &[PricedRoute], order: &[usize]) -> Option<usize>
-    ensures { result ≡ place_of 0 routes.now order.now }
-{
-    for (at, route) in routes.iter().enumerate() {
-        if route.order.as_slice() == order {
-            return Some(at);
-        }
+    /// The order, and what there is for it, at a place. It takes no memory.
+    pub(crate) fn route(&self, at: usize) -> Option<(&Vec<usize>, &Pooled)>
+        ensures found { IsSome result ↔ (at < length self.now) }
+        ensures column { (g : Network) → IsPool g self.now →
+            IfSome result (λ r. IsColumn g r.0.now.items r.1.now.plan.stops) }
+    {
+        self.routes.get_index(at)
     }
-    None
+
+    /// The place of the route of an order. It takes no memory.
+    pub(crate) fn place(&self, order: &[usize]) -> Option<usize> {
+        self.routes.get_index_of(order)
+    }
+
+    /// The places of the routes that were in the basis of the optimum that was found last, as far
+    /// as they were noted. It takes no memory.
+    pub(crate) fn recent(&self) -> &[usize] {
+        &self.recent
+    }
+
+    /// Notes the places of the routes in a basis. It takes no memory.
+    pub(crate) fn note_recent(&mut self, recent: Vec<usize>)
+        ensures { self.new ≡ self.old }
+    {
+        self.recent = recent;
+    }
 }
 
 /// A vector of the nodes.
@@ -106,15 +125,14 @@ fn copy_of(alloc: Global, order: &[usize]) -> Result<Vec<usize>, AllocError>
     Ok(copy)
 }
 
-/// Puts the plan in place of the route's where it is faster.
-fn keep_faster(inst: &Instance, route: &mut PricedRoute, plan: RoutePlan)
-    requires before { IsFeasible inst.now 1 inst.now.capacity route.old.plan.stops }
-    requires plan { IsFeasible inst.now 1 inst.now.capacity plan.stops }
-    ensures order { route.new.order ≡ route.old.order }
-    ensures plan { route.new.plan.stops ≡ kept inst.now plan.stops (Some route.old.plan.stops) }
+/// Puts a plan in place of the one before where it is faster.
+fn keep_faster(inst: &Instance, before: &mut Pooled, other: Pooled)
+    requires before { IsFeasible inst.now 1 inst.now.capacity before.old.plan.stops }
+    requires other { IsFeasible inst.now 1 inst.now.capacity other.plan.stops }
+    ensures { before.new.plan.stops ≡ kept inst.now other.plan.stops (Some before.old.plan.stops) }
 {
-    if full_time(inst, &plan) < full_time(inst, &route.plan) {
-        route.plan = plan;
+    if full_time(inst, &other.plan) < full_time(inst, &before.plan) {
+        *before = other;
     }
 }
 

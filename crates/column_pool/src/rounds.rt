@@ -13,8 +13,9 @@ use crate::bound::NodeBound;
 use crate::exact::bound_of;
 use crate::fault::MasterFault;
 use crate::master::Master;
+use crate::parts::{basis_places, earning, kept_places};
 use crate::pool::ColumnPool;
-use crate::taking::{add_kept, take_all, take_in};
+use crate::taking::{add_at, take_all, take_in};
 use customer_sets::Pairs;
 use instance_reader::Instance;
 use master_simplex::{Lp, LpFault, solve};
@@ -100,8 +101,43 @@ fn round(
     }
 }
 
-/// Adds the pool's routes that keep the pairs as columns, and then those that pricing finds, until
-/// there is none.
+/// Adds the routes at the places of the pool that keep the pairs as columns, by parts: those that
+/// earn most at the optimum, or at the ray, of the columns so far, until none earns.
+fn fill(
+    alloc: Global,
+    inst: &Instance,
+    pairs: &Pairs,
+    pool: &ColumnPool,
+    master: &mut Master,
+    places: &[usize],
+) -> Result<(), MasterFault>
+    requires few { length (customer_nodes inst.now) ≤ 128 }
+    requires pairs { pairs.now.customers ≡ length (customer_nodes inst.now) }
+    requires pool { IsPool inst.now pool.now }
+    requires master { IsMaster inst.now master.old }
+    requires routes { AreNodeRoutes inst.now pairs.now master.old.plans.items }
+    ensures master { OnOk result (IsMaster inst.now master.new) }
+    ensures routes { AreNodeRoutes inst.now pairs.now master.new.plans.items }
+    ensures no_fewer { OnOk result
+        (length master.old.plans.items ≤ length master.new.plans.items) }
+    ensures caps { master.new.table.caps ≡ master.old.table.caps }
+    ensures fault { IfErr result
+        (IsMasterFault inst.now master.old.table.caps master.new.plans.items) }
+{
+    for _ in places {
+        let lp = solve_master(alloc, inst, master)?;
+        let further = earning(alloc, inst, pool, places, &lp)?;
+        if further.is_empty() {
+            return Ok(());
+        }
+        add_at(alloc, inst, pairs, pool, master, &further)?;
+    }
+    Ok(())
+}
+
+/// Adds the pool's routes that keep the pairs as columns, as far as they earn, and then those that
+/// pricing finds, until there is none. It begins with the routes that the pool has noted, and notes
+/// those of the basis at the end.
 pub(crate) fn price_out(
     alloc: Global,
     inst: &Instance,
@@ -122,9 +158,13 @@ pub(crate) fn price_out(
     ensures fault { IfErr result
         (IsMasterFault inst.now master.old.table.caps master.new.plans.items) }
 {
-    add_kept(alloc, inst, pairs, pool, master)?;
+    let places = kept_places(alloc, inst, pairs, pool)?;
+    add_at(alloc, inst, pairs, pool, master, pool.recent())?;
     loop {
+        fill(alloc, inst, pairs, pool, master, &places)?;
         if let Some(bound) = round(alloc, inst, pairs, pool, master)? {
+            let recent = basis_places(alloc, inst, pool, master)?;
+            pool.note_recent(recent);
             return Ok(bound);
         }
     }

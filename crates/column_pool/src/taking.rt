@@ -17,13 +17,14 @@ use pricing::PricedRoute;
 use route_plan::RoutePlan;
 use std::alloc::{AllocError, Global};
 
-/// Adds the pool's routes that keep the pairs as columns.
-pub(crate) fn add_kept(
+/// Adds the routes at the places of the pool that keep the pairs as columns.
+pub(crate) fn add_at(
     alloc: Global,
     inst: &Instance,
     pairs: &Pairs,
     pool: &ColumnPool,
     master: &mut Master,
+    places: &[usize],
 ) -> Result<(), MasterFault>
     requires few { length (customer_nodes inst.now) ≤ 128 }
     requires pairs { pairs.now.customers ≡ length (customer_nodes inst.now) }
@@ -32,12 +33,16 @@ pub(crate) fn add_kept(
     requires routes { AreNodeRoutes inst.now pairs.now master.old.plans.items }
     ensures master { OnOk result (IsMaster inst.now master.new) }
     ensures routes { AreNodeRoutes inst.now pairs.now master.new.plans.items }
+    ensures no_fewer { OnOk result
+        (length master.old.plans.items ≤ length master.new.plans.items) }
     ensures caps { master.new.table.caps ≡ master.old.table.caps }
     ensures fault { IfErr result
         (IsMasterFault inst.now master.old.table.caps master.new.plans.items) }
 {
-    for route in pool.routes() {
-        add_if_kept(alloc, inst, pairs, master, route)?;
+    for at in places {
+        if let Some((order, pooled)) = pool.route(*at) {
+            add_if_kept(alloc, inst, pairs, master, order, &pooled.plan)?;
+        }
     }
     Ok(())
 }
@@ -48,25 +53,27 @@ fn add_if_kept(
     inst: &Instance,
     pairs: &Pairs,
     master: &mut Master,
-    route: &PricedRoute,
+    order: &[usize],
+    plan: &RoutePlan,
 ) -> Result<(), MasterFault>
     requires few { length (customer_nodes inst.now) ≤ 128 }
     requires pairs { pairs.now.customers ≡ length (customer_nodes inst.now) }
-    requires column { IsColumn inst.now route.now.order.items route.now.plan.stops }
+    requires column { IsColumn inst.now order.now plan.now.stops }
     requires master { IsMaster inst.now master.old }
     requires routes { AreNodeRoutes inst.now pairs.now master.old.plans.items }
     ensures master { OnOk result (IsMaster inst.now master.new) }
     ensures routes { AreNodeRoutes inst.now pairs.now master.new.plans.items }
+    ensures no_fewer { OnOk result
+        (length master.old.plans.items ≤ length master.new.plans.items) }
     ensures caps { master.new.table.caps ≡ master.old.table.caps }
     ensures fault { IfErr result
         (IsMasterFault inst.now master.old.table.caps master.new.plans.items) }
 {
-    if !keeps_pairs(inst, pairs, &route.order) {
+    if !keeps_pairs(inst, pairs, order) {
         return Ok(());
     }
-    let plan = copy_of(alloc, &route.plan)?;
-    master.add(alloc, inst, &route.order, plan)?;
-    Ok(())
+    let copy = copy_of(alloc, plan)?;
+    master.add(alloc, inst, order, copy)
 }
 
 /// A plan with the same stops.

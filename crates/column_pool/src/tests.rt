@@ -76,11 +76,34 @@ fn summary_of(bound: NodeBound) -> Option<Told> {
     }
 }
 
-/// What the bound without a pair tells, by a table with the caps of a body equation.
-fn bounded(alloc: Global, text: &str, limit: u64, body: u64) -> Option<Told> {
-    if body == 0 || body > 1 << 40 {
+/// What the bound without a pair tells, where the pool has the route of the first customer.
+fn bounded(alloc: Global, text: &str, limit: u64) -> Option<Told> {
+    let inst = instance(alloc, text, limit)?;
+    let customers = inst.customers().len();
+    if customers > 128 {
         return None;
     }
+    let mut pool = first_route(alloc, &inst)?;
+    let bound = bound_node(alloc, &inst, &Pairs::new(customers), &mut pool).ok()?;
+    summary_of(bound)
+}
+
+#[test]
+fn bounds_without_pairs_are_linear_optima(rt: HostRuntime) {
+    let alloc = rt.alloc();
+    for (text, limit, answer) in [
+        (THREE_CUSTOMERS, 11u64, Told::Exact(33, 2, 2, 3)),
+        (TWO_CUSTOMERS, 7, Told::Empty),
+        (TWO_CUSTOMERS, 12, Told::Exact(16, 1, 1, 2)),
+        (TWO_CUSTOMERS, 13, Told::Exact(13, 1, 1, 1)),
+        (ONE_STATION, 43, Told::Exact(43, 1, 1, 1)),
+    ] {
+        assert_eq!(rt; bounded(alloc, text, limit), Some(answer));
+    }
+}
+
+/// What the bound without a pair tells, by a table whose body equations have no number but 1.
+fn bounded_by_ones(alloc: Global, text: &str, limit: u64) -> Option<Told> {
     let inst = instance(alloc, text, limit)?;
     let customers = inst.customers().len();
     if customers > 128 {
@@ -89,7 +112,7 @@ fn bounded(alloc: Global, text: &str, limit: u64, body: u64) -> Option<Told> {
     let pairs = Pairs::new(customers);
     let mut pool = first_route(alloc, &inst)?;
     let caps = Caps {
-        body,
+        body: 1,
         cost: 1 << 84,
     };
     match bound_by_table(alloc, &inst, &pairs, &mut pool, caps) {
@@ -103,18 +126,9 @@ fn bounded(alloc: Global, text: &str, limit: u64, body: u64) -> Option<Told> {
 }
 
 #[test]
-fn bounds_without_pairs_are_linear_optima(rt: HostRuntime) {
-    let alloc = rt.alloc();
-    for (text, limit, body, answer) in [
-        (THREE_CUSTOMERS, 11u64, 1u64 << 40, Told::Exact(33, 2, 2, 3)),
-        (THREE_CUSTOMERS, 11, 1, Told::Wide(3, 14)),
-        (TWO_CUSTOMERS, 7, 1 << 40, Told::Empty),
-        (TWO_CUSTOMERS, 12, 1 << 40, Told::Exact(16, 1, 1, 2)),
-        (TWO_CUSTOMERS, 13, 1 << 40, Told::Exact(13, 1, 1, 1)),
-        (ONE_STATION, 43, 1 << 40, Told::Exact(43, 1, 1, 1)),
-    ] {
-        assert_eq!(rt; bounded(alloc, text, limit, body), Some(answer));
-    }
+fn a_bound_beside_a_wide_basis_is_by_rising_prices(rt: HostRuntime) {
+    let told = bounded_by_ones(rt.alloc(), THREE_CUSTOMERS, 11);
+    assert_eq!(rt; told, Some(Told::Wide(3, 14)));
 }
 
 /// Whether the rising prices are these at that weight, under a pair that may be forbidden.

@@ -28,7 +28,7 @@ use Rattle.certificate_check.specs.Accepted.{IsAccepted, IsRootOf, IsSectionAt, 
 use Rattle.certificate_check.specs.Truth.{IsTrueBound}
 use Rattle.column_pool.specs.Bounds.{IsNodeBound}
 use Rattle.fleet_model.specs.Section.{Section as PricedSection}
-use Rattle.ev_fleet.specs.Answers.{answer_of}
+use Rattle.ev_fleet.specs.Answers.{answer_of, shares_in}
 use Rattle.ev_fleet.specs.Bounds.{IsAtMost, IsNotBelow}
 use Rattle.ev_fleet.specs.Held.{MayHold, cost_at}
 use Rattle.ev_fleet.specs.LeafNames.{IsLeastFrom, IsSummable, NameSections}
@@ -38,6 +38,7 @@ use Rattle.ev_fleet.specs.Searched.{branches_of, names_of}
 use Rattle.ev_fleet.specs.Searching.{IsDone, IsOwnCost, IsUsedUp, IsWithin, ShowsRoot, plan_at}
 use Rattle.ev_fleet.specs.Standing.{IsLeastOf}
 use Rattle.ev_fleet.specs.State.{IsFound, IsSearch, named}
+use Rattle.ev_fleet.specs.Whole.{IsNoDearer, TakesShares}
 use Rattle.ev_fleet.specs.declared.held.Held.{Held}
 use Rattle.ev_fleet.specs.declared.outcome.Outcome.{Outcome}
 use Rattle.ev_fleet.proofs.Closing.{cost_is_bound, gap_is_other, gap_left, true_bound}
@@ -118,7 +119,8 @@ used_up (Some most) nodes within used =
 module _ (g : Network) (tree : SearchTree) (c : Certificate) (held : Option Held) (few : customer_count g ≤ 128) (network : IsNetwork g) (true_ : Fits g c → IsAccepted g c → IsTrueBound g c.bound)
     (is : IsSearch g tree c.sections (cost_at held)) (may : MayHold g held) (own : IsOwnCost g (cost_at held)) (sound : IsSearchTree tree) (shows : ShowsRoot g c.sections c.root)
     (lines : IsTreeOf c.tree (sections_named tree.nodes tree.tree)) (walk : IsLeastFrom c.sections None c.tree c.bound)
-    (small : IfSome c.bound (λ b. b ≤ greatest_bound)) (many : length c.sections ≤ most_items) where
+    (small : IfSome c.bound (λ b. b ≤ greatest_bound)) (many : length c.sections ≤ most_items)
+    (whole : All (IsNoDearer g (cost_at held)) c.sections) (taken : TakesShares g (shares_in c.root) (cost_at held)) where
   least : IsLeastOf c.sections (names_of (named tree.nodes is.standing)) c.bound
   least =
       let same : c.tree ≡ lines_of (branches_of (named tree.nodes is.standing)) = lines ∙ ap lines_of (sym (named_lines g tree c.sections (cost_at held) is)) in
@@ -176,5 +178,7 @@ module _ (g : Network) (tree : SearchTree) (c : Certificate) (held : Option Held
       at_root = bound_at_root g tree c (cost_at held) is.floor is.standing sound is.customers is.is is.found lines least;
       plan = held_plan held may;
       own = own_plan g held may own;
+      at_shares = subst (λ x. TakesShares g (shares_in c.root) x) (sym (cost_of_held g held may)) taken;
+      whole = subst (λ x. All (IsNoDearer g x) c.sections) (sym (cost_of_held g held may)) whole;
       gap = subst (λ x. IsStoppedWell budget x c.bound answered) (sym (cost_of_held g held may)) stops;
     }

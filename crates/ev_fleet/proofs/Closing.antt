@@ -1,12 +1,13 @@
 -- A search that ends with no open node of a bound below the cost has a bound that is the cost.
 use Rattle.std.proofs.Common.{◌≡◌, ℕ, List, [], Option, Some, None, refl, ap, subst, arith}
-use Rattle.std.specs.Prelude.{◌≢◌, slice_get}
+use Rattle.std.specs.Prelude.{◌≢◌}
 use Rattle.std.proofs.lemmas.List.Elements.{All-contains}
 use Rattle.customer_sets.specs.Pairs.{any_pair}
 use Rattle.ev_model.specs.Fleet.{IsFleetPlan, cost_of}
 use Rattle.ev_model.specs.Network.{Network}
 use Rattle.ev_model.specs.declared.Stop.{Stop}
 use Rattle.bound_certificate.specs.declared.certificate.Section.{Section}
+use Rattle.branching.specs.Nodes.{node_at}
 use Rattle.branching.specs.SearchTree.{SearchTree}
 use Rattle.branching.specs.declared.node.Node.{Node}
 use Rattle.branching.specs.declared.node.NodeState.{NodeState}
@@ -46,7 +47,7 @@ costly_by_state sections cost floor above own name bound Closed done well = (wel
 
 module _ (n : ℕ) (tree : SearchTree) (sections : List Section) (cost bound : Option ℕ) (floor : ℕ) (t : SearchedTree)
     (is : IsSearchAt n tree sections cost floor t) (least : IsLeastOf sections (names_of (named tree.nodes t)) bound)
-    (done : (key : ℕ) (o : Node) → slice_get tree.nodes key ≡ Some o → o.state ≡ Open → IsAtMost cost (Some o.bound)) where
+    (done : (key : ℕ) (o : Node) → node_at tree.nodes key ≡ Some o → o.state ≡ Open → IsAtMost cost (Some o.bound)) where
   pub cost_below : IsAtMost cost bound
   cost_below =
       let all = names_each (IsNotBelow sections cost) tree.nodes sections cost floor

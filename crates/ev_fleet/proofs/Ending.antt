@@ -1,6 +1,5 @@
 -- What holds of the certificate of a search at its end.
 use Rattle.std.proofs.Common.{◌≡◌, ◌∙◌, ℕ, Bool, List, [], ◌∷◌, Option, Some, None, sym, ap, subst}
-use Rattle.std.specs.Prelude.{slice_get}
 use Rattle.std.specs.List.{All}
 use Rattle.std.proofs.lemmas.List.Elements.{All-append, All-cons, All-contains, All-nil}
 use Rattle.std.proofs.lemmas.Option.{same_Some}
@@ -8,6 +7,7 @@ use Rattle.customer_sets.specs.Pairs.{any_pair, forbid, require}
 use Rattle.bound_certificate.specs.Meaning.{IsTreeOf, priced_section}
 use Rattle.bound_certificate.specs.declared.certificate.Certificate.{Certificate}
 use Rattle.bound_certificate.specs.declared.certificate.Section.{Section}
+use Rattle.branching.specs.Nodes.{node_at}
 use Rattle.branching.specs.SearchTree.{IsSearchTree, IsTreeUnder, SearchTree, section_in, sections_named}
 use Rattle.branching.specs.declared.node.Node.{Node}
 use Rattle.branching.specs.declared.node.NodeState.{NodeState}
@@ -27,12 +27,12 @@ one_bound sections number b c first second =
     bound_is_one (priced_section first.section) b c first.is (subst (λ x. IsBoundOf (priced_section x) c) same second.is)
 
 -- what holds of each name of a leaf
-pub names_each : (P : ℕ → Type 0) (nodes : List Node) (sections : List Section) (cost : Option ℕ) (floor : ℕ)
-    → ((above : List ℕ) (own : Option ℕ) (key : ℕ) (node : Node) → slice_get nodes key ≡ Some node → IsNodeWell sections cost floor above own node → P node.section)
+pub names_each : (P : ℕ → Type 0) (nodes : List (Option Node)) (sections : List Section) (cost : Option ℕ) (floor : ℕ)
+    → ((above : List ℕ) (own : Option ℕ) (key : ℕ) (node : Node) → node_at nodes key ≡ Some node → IsNodeWell sections cost floor above own node → P node.section)
     → (allows : ℕ → ℕ → Bool) (above : List ℕ) (t : SearchedTree) → EachNode (λ a b x. IsLeafWell nodes sections cost floor b x) allows above t → All P (names_of (named nodes t))
 names_each P nodes sections cost floor f allows above (tip own key) each =
-    let names : section_in (slice_get nodes key) ≡ each.node.section = ap section_in each.here in
-    All-cons P (section_in (slice_get nodes key)) [] (subst P (sym names) (f above own key each.node each.here each.is)) (All-nil P)
+    let names : section_in (node_at nodes key) ≡ each.node.section = ap section_in each.here in
+    All-cons P (section_in (node_at nodes key)) [] (subst P (sym names) (f above own key each.node each.here each.is)) (All-nil P)
 names_each P nodes sections cost floor f allows above (fork own i j apart together) each =
     All-append P (names_of (named nodes apart)) (names_of (named nodes together))
     (names_each P nodes sections cost floor f (forbid i j allows) (own ∷ above) apart each.1.0)

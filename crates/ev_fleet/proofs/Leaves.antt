@@ -1,11 +1,10 @@
 -- The leaf of the node that was taken, and the other leaves.
 use Rattle.std.proofs.Common.{◌≡◌, ◌∙◌, ℕ, ◌≤◌, Bool, true, List, [], ◌∷◌, ◌++◌, Option, Some, refl, sym, subst}
-use Rattle.std.specs.Prelude.{slice_get}
 use Rattle.std.proofs.lemmas.Bool.{false≢true}
 use Rattle.std.proofs.lemmas.Option.{same_Some}
 use Rattle.customer_sets.specs.Pairs.{forbid, require}
 use Rattle.bound_certificate.specs.declared.certificate.Section.{Section}
-use Rattle.branching.specs.Nodes.{HasNode, IsOpen, awaits}
+use Rattle.branching.specs.Nodes.{node_at, HasNode, IsOpen, awaits}
 use Rattle.branching.specs.SearchTree.{HasPairs, IsTreeUnder}
 use Rattle.branching.specs.declared.node.Node.{Node}
 use Rattle.branching.specs.declared.node.NodeState.{NodeState}
@@ -18,11 +17,11 @@ use Rattle.ev_fleet.proofs.Bounds.{most_most}
 use Rattle.ev_fleet.proofs.Sections.{greatest-more}
 
 -- the pairs of the node that a leaf names are those of the leaf
-abbrev pub HasKeyPairs : ℕ → List Node → (ℕ → ℕ → Bool) → SearchedTree → Type 0
+abbrev pub HasKeyPairs : ℕ → List (Option Node) → (ℕ → ℕ → Bool) → SearchedTree → Type 0
 HasKeyPairs n nodes allows (tip own key) = HasNode nodes key (λ node. HasPairs n allows node.pairs)
 HasKeyPairs n nodes allows (fork own i j apart together) = Unit {0}
 
-pub under_each : (n : ℕ) (nodes : List Node) (allows : ℕ → ℕ → Bool) (above : List ℕ) (t : SearchedTree) → IsTreeUnder n nodes allows (branches_of t)
+pub under_each : (n : ℕ) (nodes : List (Option Node)) (allows : ℕ → ℕ → Bool) (above : List ℕ) (t : SearchedTree) → IsTreeUnder n nodes allows (branches_of t)
     → EachNode (λ a b s. HasKeyPairs n nodes a s) allows above t
 under_each n nodes allows above (tip own key) under = under
 under_each n nodes allows above (fork own i j apart together) under = (
@@ -33,7 +32,7 @@ under_each n nodes allows above (fork own i j apart together) under = (
   ),
 )
 
-pub splits_each : (n : ℕ) (nodes : List Node) (allows : ℕ → ℕ → Bool) (above : List ℕ) (t : SearchedTree) → IsTreeUnder n nodes allows (branches_of t)
+pub splits_each : (n : ℕ) (nodes : List (Option Node)) (allows : ℕ → ℕ → Bool) (above : List ℕ) (t : SearchedTree) → IsTreeUnder n nodes allows (branches_of t)
     → EachNode (λ a b s. IsSplitWell n a s) allows above t
 splits_each n nodes allows above (tip own key) under = tt
 splits_each n nodes allows above (fork own i j apart together) under = (
@@ -51,7 +50,7 @@ opened sections cost floor above own name bound Open waits well = well
 opened sections cost floor above own name bound Taken waits well = absurd well
 opened sections cost floor above own name bound Closed waits well = absurd (false≢true waits)
 
-module _ (nodes : List Node) (sections : List Section) (cost : Option ℕ) (floor : ℕ) (key : ℕ) (node : Node) (here : slice_get nodes key ≡ Some node) (waits : IsOpen node) where
+module _ (nodes : List (Option Node)) (sections : List Section) (cost : Option ℕ) (floor : ℕ) (key : ℕ) (node : Node) (here : node_at nodes key ≡ Some node) (waits : IsOpen node) where
   pub open_leaf : (above : List ℕ) (own : Option ℕ) → IsLeafWell nodes sections cost floor above (tip own key) → IsOpenWell sections floor above own node.section node.bound
   open_leaf above own well =
       let same : well.node ≡ node = same_Some well.node node (sym well.here ∙ here) in
@@ -75,7 +74,7 @@ module _ (sections : List Section) (s : Section) (cost lower : Option ℕ) (floo
     high = most_most (Some high) cost well.bound below well.costly;
   }
 
-  pub leaf-more : (nodes changed : List Node) (k : ℕ) → ((o : Node) → slice_get nodes k ≡ Some o → slice_get changed k ≡ Some o) → ((o : Node) → slice_get nodes k ≡ Some o → IsOpen o → high ≤ o.bound)
+  pub leaf-more : (nodes changed : List (Option Node)) (k : ℕ) → ((o : Node) → node_at nodes k ≡ Some o → node_at changed k ≡ Some o) → ((o : Node) → node_at nodes k ≡ Some o → IsOpen o → high ≤ o.bound)
       → (above : List ℕ) (own : Option ℕ) → IsLeafWell nodes sections cost floor above (tip own k) → IsLeafWell changed (sections ++ s ∷ []) lower high above (tip own k)
   leaf-more nodes changed k kept least above own well = record {
     node = well.node;

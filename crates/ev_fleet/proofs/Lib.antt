@@ -23,6 +23,8 @@ pub mod Advancing
 pub mod Beginning
 pub mod Assembling
 pub mod Promising
+pub mod AtBound
+pub mod Whole
 pub mod FirstCustomers
 pub mod Holding
 pub mod Permuted

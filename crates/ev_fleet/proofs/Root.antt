@@ -1,11 +1,11 @@
 -- The search once the section of the root was found.
 use Rattle.std.proofs.Common.{◌≡◌, ◌∙◌, ℕ, zero, suc, [], ◌∷◌, Option, Some, None, refl, sym, subst, arith, add-zero}
-use Rattle.std.specs.Prelude.{cond, nat_lt, slice_get}
+use Rattle.std.specs.Prelude.{cond, nat_lt}
 use Rattle.std.proofs.lemmas.List.Elements.{All-cons, All-nil, Contains-push}
 use Rattle.customer_sets.specs.Pairs.{any_pair}
 use Rattle.bound_certificate.specs.Meaning.{priced_section}
 use Rattle.bound_certificate.specs.declared.certificate.Section.{Section}
-use Rattle.branching.specs.Nodes.{HasNode}
+use Rattle.branching.specs.Nodes.{node_at, HasNode}
 use Rattle.branching.specs.SearchTree.{HasPairs, SearchTree}
 use Rattle.branching.specs.declared.node.Node.{Node}
 use Rattle.branching.specs.declared.node.NodeState.TheVariants.{Open, Closed}
@@ -38,7 +38,7 @@ module _ (n : ℕ) (s : Section) (own cost : Option ℕ) (bounds : IsBoundOf (pr
   has = record { section = s; here = refl; is = pairs }
 
   -- the root is closed
-  pub closed_root : (tree : SearchTree) (closed : Node) → tree.tree ≡ leaf 0 → slice_get tree.nodes 0 ≡ Some closed → closed.state ≡ Closed → closed.section ≡ 0 → IsAtMost cost own
+  pub closed_root : (tree : SearchTree) (closed : Node) → tree.tree ≡ leaf 0 → node_at tree.nodes 0 ≡ Some closed → closed.state ≡ Closed → closed.section ≡ 0 → IsAtMost cost own
       → IsSearchAt n tree (s ∷ []) cost 0 (tip (Some 0) 0)
   closed_root tree closed shape there state section costly = record {
     keys = sym shape;
@@ -56,7 +56,7 @@ module _ (n : ℕ) (s : Section) (own cost : Option ℕ) (bounds : IsBoundOf (pr
     };
   }
 
-  child : (tree : SearchTree) (key bound : ℕ) (node : Node) → own ≡ Some bound → slice_get tree.nodes key ≡ Some node → node.state ≡ Open → node.section ≡ 0 → node.bound ≡ bound
+  child : (tree : SearchTree) (key bound : ℕ) (node : Node) → own ≡ Some bound → node_at tree.nodes key ≡ Some node → node.state ≡ Open → node.section ≡ 0 → node.bound ≡ bound
       → HasNode tree.nodes key (IsNodeWell (s ∷ []) cost 0 (0 ∷ []) None)
   child tree key bound node is there state section bound_is = record {
     node = node;
@@ -70,11 +70,11 @@ module _ (n : ℕ) (s : Section) (own cost : Option ℕ) (bounds : IsBoundOf (pr
   }
 
   -- the root is split
-  pub split_root : (tree : SearchTree) (i j bound : ℕ) (one two : Node) → own ≡ Some bound → tree.tree ≡ split i j (leaf 0) (leaf 1)
-      → slice_get tree.nodes 0 ≡ Some one → slice_get tree.nodes 1 ≡ Some two
+  pub split_root : (tree : SearchTree) (i j other bound : ℕ) (one two : Node) → own ≡ Some bound → tree.tree ≡ split i j (leaf 0) (leaf other)
+      → node_at tree.nodes 0 ≡ Some one → node_at tree.nodes other ≡ Some two
       → (one.state ≡ Open) × (two.state ≡ Open) → (one.section ≡ 0) × (two.section ≡ 0) → (one.bound ≡ bound) × (two.bound ≡ bound)
-      → IsSearchAt n tree (s ∷ []) cost 0 (fork 0 i j (tip None 0) (tip None 1))
-  split_root tree i j bound one two is shape first second states sections_ bounds_ = record {
+      → IsSearchAt n tree (s ∷ []) cost 0 (fork 0 i j (tip None 0) (tip None other))
+  split_root tree i j other bound one two is shape first second states sections_ bounds_ = record {
     keys = sym shape;
     root = refl;
     once = λ number. add-zero (times_own number (Some 0)) ∙ stands_once number;
@@ -84,7 +84,7 @@ module _ (n : ℕ) (s : Section) (own cost : Option ℕ) (bounds : IsBoundOf (pr
       tt,
       (
         child tree 0 bound one is first states.0 sections_.0 bounds_.0,
-        child tree 1 bound two is second states.1 sections_.1 bounds_.1,
+        child tree other bound two is second states.1 sections_.1 bounds_.1,
       ),
     );
   }

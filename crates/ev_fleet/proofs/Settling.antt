@@ -1,12 +1,12 @@
 -- A node that was taken, and whose section was found, is closed or split: what holds of the search afterwards.
 use Rattle.std.proofs.Common.{◌≡◌, ◌∙◌, ℕ, ◌+◌, ◌*◌, ◌<◌, ◌≤◌, Bool, false, List, [], ◌∷◌, ◌++◌, Option, Some, None, inl, inr, refl, sym, ap, subst, arith, length, add-zero}
-use Rattle.std.specs.Prelude.{◌≢◌, cond, nat_eq, nat_lt, slice_get}
+use Rattle.std.specs.Prelude.{◌≢◌, cond, is_some, nat_eq, nat_lt}
 use Rattle.std.proofs.lemmas.Bool.{cases_lt, eqb-true, lt-ltb, ne_eqb}
-use Rattle.std.proofs.lemmas.Option.{same_Some, slice_get_within}
+use Rattle.std.proofs.lemmas.Option.{same_Some}
 use Rattle.customer_sets.specs.Pairs.{any_pair}
 use Rattle.bound_certificate.specs.Meaning.{priced_section}
 use Rattle.bound_certificate.specs.declared.certificate.Section.{Section}
-use Rattle.branching.specs.Nodes.{HasNode, IsOpen}
+use Rattle.branching.specs.Nodes.{node_at, HasNode, IsOpen}
 use Rattle.branching.specs.SearchTree.{HasPairs, IsSearchTree, IsTreeUnder, SearchTree, grown, leaves_with}
 use Rattle.branching.specs.declared.node.Node.{Node}
 use Rattle.branching.specs.declared.node.NodeState.TheVariants.{Open, Closed}
@@ -35,8 +35,8 @@ counted number n = elim (cases_lt number n) [
 -- the node of a key was open, and has the least bound of all open ones, which is not above the cost; and a section was found for it
 module _ (n : ℕ) (tree : SearchTree) (sections : List Section) (cost lower : Option ℕ) (floor : ℕ) (t : SearchedTree)
     (sound : IsSearchTree tree) (among : tree.customers ≡ n) (is : IsSearchAt n tree sections cost floor t)
-    (key : ℕ) (node : Node) (here : slice_get tree.nodes key ≡ Some node) (waits : IsOpen node)
-    (least : (k : ℕ) (o : Node) → slice_get tree.nodes k ≡ Some o → IsOpen o → node.bound ≤ o.bound)
+    (key : ℕ) (node : Node) (here : node_at tree.nodes key ≡ Some node) (waits : IsOpen node)
+    (least : (k : ℕ) (o : Node) → node_at tree.nodes k ≡ Some o → IsOpen o → node.bound ≤ o.bound)
     (cheaper : IsAtMost lower cost) (below : IsAtMost (Some node.bound) cost)
     (s : Section) (pairs : s.pairs ≡ node.pairs) (own : Option ℕ) (bounds : IsBoundOf (priced_section s) own) where
   abbrev pub more : List Section
@@ -59,9 +59,7 @@ module _ (n : ℕ) (tree : SearchTree) (sections : List Section) (cost lower : O
 
   one_leaf : leaves_with key (branches_of t) ≡ 1
   one_leaf =
-      let within : key < length tree.nodes = slice_get_within tree.nodes key node here in
-      let test = lt-ltb key (length tree.nodes) within in
-      ap (λ b. leaves_with key b) is.keys ∙ sound.leaves key ∙ ap (λ b. cond b 1 0) test
+      ap (λ b. leaves_with key b) is.keys ∙ sound.leaves key ∙ ap (λ o. cond (is_some o) 1 0) here
 
   key_pairs : EachNode (λ a b x. HasKeyPairs n tree.nodes a x) any_pair [] t
   key_pairs =
@@ -90,7 +88,7 @@ module _ (n : ℕ) (tree : SearchTree) (sections : List Section) (cost lower : O
       (fresh_reached : (allows : ℕ → ℕ → Bool) (above : List ℕ) → IsReached more (Some node.bound) above (Some number)
       → EachNode (λ a b x. IsReached more (Some node.bound) b (own_of x)) allows above new)
       (changed : SearchTree) (keys : branches_of (placed key new t) ≡ changed.tree)
-      (kept : (k : ℕ) (o : Node) → k ≢ key → slice_get tree.nodes k ≡ Some o → slice_get changed.nodes k ≡ Some o)
+      (kept : (k : ℕ) (o : Node) → k ≢ key → node_at tree.nodes k ≡ Some o → node_at changed.nodes k ≡ Some o)
       (fresh_leaves : (allows : ℕ → ℕ → Bool) (above : List ℕ) → IsOpenWell sections floor above None node.section node.bound
       → EachNode (λ a b x. IsLeafWell changed.nodes more lower node.bound b x) allows above new) where
     once_settled : (x : ℕ) → times_at x (placed key new t) ≡ cond (nat_lt x (length more)) 1 0
@@ -153,8 +151,8 @@ module _ (n : ℕ) (tree : SearchTree) (sections : List Section) (cost lower : O
   top = (greater_of number own node.section node.bound).1
 
   -- the leaf is closed: its bound is not below the cost
-  pub closed_search : (changed : SearchTree) (closed : Node) → changed.tree ≡ tree.tree → slice_get changed.nodes key ≡ Some closed → closed.state ≡ Closed → closed.section ≡ name → IsAtMost lower top
-      → ((k : ℕ) (o : Node) → k ≢ key → slice_get tree.nodes k ≡ Some o → slice_get changed.nodes k ≡ Some o)
+  pub closed_search : (changed : SearchTree) (closed : Node) → changed.tree ≡ tree.tree → node_at changed.nodes key ≡ Some closed → closed.state ≡ Closed → closed.section ≡ name → IsAtMost lower top
+      → ((k : ℕ) (o : Node) → k ≢ key → node_at tree.nodes k ≡ Some o → node_at changed.nodes k ≡ Some o)
       → IsSearchAt n changed more lower node.bound (placed key (tip (Some number) key) t)
   closed_search changed closed same_tree there state section costly kept =
       settled (tip (Some number) key) (λ x. refl) (λ allows above has. has) (λ allows above has. has) changed (branches-kept key number t ∙ is.keys ∙ sym same_tree) kept
@@ -172,7 +170,7 @@ module _ (n : ℕ) (tree : SearchTree) (sections : List Section) (cost lower : O
             subst (λ x. IsStateWell more lower node.bound above (Some number) closed.section closed.bound x) (sym state) at_name;
       })
 
-  open_child : (changed : SearchTree) (k : ℕ) (above : List ℕ) (child : Node) (bound : ℕ) → slice_get changed.nodes k ≡ Some child → child.state ≡ Open → child.section ≡ name → child.bound ≡ bound
+  open_child : (changed : SearchTree) (k : ℕ) (above : List ℕ) (child : Node) (bound : ℕ) → node_at changed.nodes k ≡ Some child → child.state ≡ Open → child.section ≡ name → child.bound ≡ bound
       → IsOpenWell more node.bound above None name bound → HasNode changed.nodes k (IsNodeWell more lower node.bound above None)
   open_child changed k above child bound there state section bound_is well = record {
     node = child;
@@ -185,9 +183,9 @@ module _ (n : ℕ) (tree : SearchTree) (sections : List Section) (cost lower : O
 
   -- the leaf is split, and both children are open and name the same section
   pub split_search : (changed : SearchTree) (i j other bound : ℕ) (one two : Node) → changed.tree ≡ grown key i j other tree.tree
-      → slice_get changed.nodes key ≡ Some one → slice_get changed.nodes other ≡ Some two
+      → node_at changed.nodes key ≡ Some one → node_at changed.nodes other ≡ Some two
       → (one.state ≡ Open) × (two.state ≡ Open) → (one.section ≡ name) × (two.section ≡ name) → (one.bound ≡ bound) × (two.bound ≡ bound) → top ≡ Some bound
-      → ((k : ℕ) (o : Node) → k ≢ key → slice_get tree.nodes k ≡ Some o → slice_get changed.nodes k ≡ Some o)
+      → ((k : ℕ) (o : Node) → k ≢ key → node_at tree.nodes k ≡ Some o → node_at changed.nodes k ≡ Some o)
       → IsSearchAt n changed more lower node.bound (placed key (fork number i j (tip None key) (tip None other)) t)
   split_search changed i j other bound one two grown_tree first second states named_ bounds_ is_top kept =
       settled (fork number i j (tip None key) (tip None other)) (λ x. add-zero (times_own x (Some number))) (λ allows above has. (has, (tt, tt))) (λ allows above has. (has, (tt, tt))) changed

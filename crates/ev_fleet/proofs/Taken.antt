@@ -1,11 +1,10 @@
 -- Between two nodes no node is taken.
 use Rattle.std.proofs.Common.{◌≡◌, ◌∙◌, ℕ, ◌<◌, true, List, [], Option, Some, refl, sym, ap, subst, arith}
-use Rattle.std.specs.Prelude.{cond, slice_get}
-use Rattle.std.proofs.lemmas.Bool.{lt-ltb}
-use Rattle.std.proofs.lemmas.Option.{same_Some, slice_get_within}
+use Rattle.std.specs.Prelude.{cond, is_some}
+use Rattle.std.proofs.lemmas.Option.{same_Some}
 use Rattle.customer_sets.specs.Pairs.{any_pair}
 use Rattle.bound_certificate.specs.declared.certificate.Section.{Section}
-use Rattle.branching.specs.Nodes.{IsLive, IsOpen, awaits, lives}
+use Rattle.branching.specs.Nodes.{node_at, IsLive, IsOpen, awaits, lives}
 use Rattle.branching.specs.SearchTree.{IsSearchTree, SearchTree, leaves_with}
 use Rattle.branching.specs.declared.node.Node.{Node}
 use Rattle.branching.specs.declared.node.NodeState.{NodeState}
@@ -21,11 +20,9 @@ open_by_state sections cost floor above own name bound Taken well lives_ = absur
 open_by_state sections cost floor above own name bound Closed well lives_ = lives_
 
 pub live_is_open : (n : ℕ) (tree : SearchTree) (sections : List Section) (cost : Option ℕ) (floor : ℕ) (t : SearchedTree) → IsSearchTree tree → IsSearchAt n tree sections cost floor t
-    → (key : ℕ) (node : Node) → slice_get tree.nodes key ≡ Some node → IsLive node → IsOpen node
+    → (key : ℕ) (node : Node) → node_at tree.nodes key ≡ Some node → IsLive node → IsOpen node
 live_is_open n tree sections cost floor t sound is key node here live =
-    let within = slice_get_within tree.nodes key node here in
-    let test = lt-ltb key _ within in
-    let one : leaves_with key (branches_of t) ≡ 1 = ap (λ b. leaves_with key b) is.keys ∙ sound.leaves key ∙ ap (λ b. cond b 1 0) test in
+    let one : leaves_with key (branches_of t) ≡ 1 = ap (λ b. leaves_with key b) is.keys ∙ sound.leaves key ∙ ap (λ o. cond (is_some o) 1 0) here in
     let some : 0 < leaves_with key (branches_of t) = omega (arith, one) in
     let found = leaf_of (λ a b x. IsLeafWell tree.nodes sections cost floor b x) key any_pair [] t some is.leaves in
     let leaf = found.3 in

@@ -2,6 +2,7 @@ pub mod Bounds
 pub mod Searched
 pub mod Standing
 pub mod Plans
+pub mod Whole
 pub mod Outcome
 pub mod State
 pub mod Held

@@ -10,10 +10,12 @@ use Rattle.bound_certificate.specs.declared.certificate.Root.{Root}
 use Rattle.bound_certificate.specs.declared.certificate.Root.TheVariants as root
 use Rattle.bound_certificate.specs.declared.certificate.Section.{Section}
 use Rattle.certificate_check.specs.Accepted.{IsAccepted}
+use Rattle.ev_fleet.specs.Answers.{shares_in}
 use Rattle.ev_fleet.specs.Bounds.{HasSection, IsNotAbove}
 use Rattle.ev_fleet.specs.Plans.{CostsNoMoreThanOwn, IsHeld, cost_held}
 use Rattle.ev_fleet.specs.Searched.{SearchedTree}
 use Rattle.ev_fleet.specs.Standing.{AreStanding}
+use Rattle.ev_fleet.specs.Whole.{IsNoDearer, TakesShares}
 use Rattle.ev_fleet.specs.declared.outcome.Outcome.{Outcome}
 
 -- where the root is wide, the first section has weight 1 and the rising prices
@@ -49,4 +51,7 @@ pub record IsOutcome (g : Network) (budget : Option ℕ) (o : Outcome) : Type 0 
   pub at_root : IsNotAbove o.certificate.sections o.certificate.bound 0
   pub plan : IfSome o.plan (IsHeld g)
   pub own : CostsNoMoreThanOwn g o.plan
+  -- it costs no more than the fleet plan that whole shares of the root are, or whole shares that showed the bound of any section
+  pub at_shares : TakesShares g (shares_in o.certificate.root) (cost_held g o.plan)
+  pub whole : All (IsNoDearer g (cost_held g o.plan)) o.certificate.sections
   pub gap : IsStoppedWell budget (cost_held g o.plan) o.certificate.bound o

@@ -1,7 +1,8 @@
 -- A search between two nodes, and what becomes of it with the next one.
-use Rattle.std.specs.Prelude.{◌≡◌, ◌⊎◌, ℕ, ◌*◌, ◌<◌, ◌≤◌, List, [], ◌∷◌, ◌++◌, Option, Some, IfSome, length, option_map, slice_get}
+use Rattle.std.specs.Prelude.{◌≡◌, ◌⊎◌, ℕ, ◌*◌, ◌<◌, ◌≤◌, List, [], ◌∷◌, ◌++◌, Option, Some, IfSome, length, option_map}
+use Rattle.std.specs.List.{All}
 use Rattle.customer_sets.specs.Pairs.{any_pair}
-use Rattle.ev_model.specs.Fleet.{IsFleetPlan, cost_of}
+use Rattle.ev_model.specs.Fleet.{cost_of}
 use Rattle.ev_model.specs.Network.{Network}
 use Rattle.ev_model.specs.declared.Stop.{Stop}
 use Rattle.instance_reader.specs.Instance.{customer_nodes}
@@ -10,19 +11,19 @@ use Rattle.bound_certificate.specs.Meaning.{priced_section}
 use Rattle.bound_certificate.specs.Ranges.{customer_count}
 use Rattle.bound_certificate.specs.declared.certificate.Root.{Root}
 use Rattle.bound_certificate.specs.declared.certificate.Section.{Section}
-use Rattle.bound_certificate.specs.declared.certificate.Share.{Share}
-use Rattle.branching.specs.Nodes.{IsLeastBound, IsNext, IsOpen}
+use Rattle.branching.specs.Nodes.{node_at, IsLeastBound, IsNext, IsOpen}
 use Rattle.branching.specs.SearchTree.{HasPairs, IsRoot, IsSearchTree, SearchTree, with_node}
 use Rattle.branching.specs.declared.node.Node.{Node}
-use Rattle.column_pool.specs.Bounds.{IsNodeBound, plans_of}
+use Rattle.column_pool.specs.Bounds.{IsNodeBound}
 use Rattle.column_pool.specs.Pool.{IsPool}
-use Rattle.ev_fleet.specs.Answers.{answer_of}
+use Rattle.ev_fleet.specs.Answers.{answer_of, shares_in}
 use Rattle.ev_fleet.specs.Bounds.{HasSection, IsAtMost, IsBoundOf}
 use Rattle.ev_fleet.specs.Held.{MayHold, cost_at}
-use Rattle.ev_fleet.specs.Outcome.{IsOutcome}
+use Rattle.ev_fleet.specs.Outcome.{IsOutcome, LeavesGap}
 use Rattle.ev_fleet.specs.Plans.{AreOwnRoutes}
 use Rattle.ev_fleet.specs.Splitting.{IsSettled, taken_of}
 use Rattle.ev_fleet.specs.State.{IsSearch, greater_of}
+use Rattle.ev_fleet.specs.Whole.{IsNoDearer, TakesShares}
 use Rattle.ev_fleet.specs.declared.held.Held.{Held}
 use Rattle.ev_fleet.specs.declared.outcome.Outcome.{Outcome}
 use Rattle.ev_fleet.specs.declared.state.Search.{Search}
@@ -37,15 +38,6 @@ abbrev pub IsOwnCost : Network → Option ℕ → Type 0
 IsOwnCost g cost =
     (k : ℕ) (owns : List (List Stop)) → AreOwnRoutes g k (customer_nodes g) owns →
     (c : ℕ) × (cost ≡ Some c) × (k * c ≤ cost_of g k owns)
-
--- where the plans of the shares are a fleet plan, the cost is not above its cost
-abbrev pub TakesShares : Network → List Share → Option ℕ → Type 0
-TakesShares g shares cost =
-    IsFleetPlan g 1 (plans_of shares) → IsAtMost cost (Some (cost_of g 1 (plans_of shares)))
-
--- the bound of the section is not below the cost
-abbrev pub ReachesCost : Option ℕ → Section → Type 0
-ReachesCost cost s = (own : Option ℕ) → IsBoundOf (priced_section s) own → IsAtMost cost own
 
 -- the open node of least bound was taken, and this is what it was
 pub record IsTakenNext (old : SearchTree) (t : TakenNode) (new : SearchTree) : Type 0 where
@@ -73,6 +65,7 @@ pub record IsAdvanced (g : Network) (old new : Search) (r : Root) : Type 0 where
   pub sections : new.sections.items ≡ old.sections.items ++ section ∷ []
   pub cheaper : IsAtMost (cost_at new.held) (cost_at old.held)
   pub held : MayHold g new.held
+  pub taken : TakesShares g (shares_in r) (cost_at new.held)
   pub pool : IsPool g new.pool
   pub settled : IsSettled (with_node old.tree key (taken_of node)) key
       (greater_at old.sections.items own node).0 (greater_at old.sections.items own node).1
@@ -81,6 +74,7 @@ pub record IsAdvanced (g : Network) (old new : Search) (r : Root) : Type 0 where
 -- between two nodes
 pub record IsSearching (g : Network) (s : Search) : Type 0 where
   pub search : IsSearch g s.tree s.sections.items (cost_at s.held)
+  pub whole : All (IsNoDearer g (cost_at s.held)) s.sections.items
   pub held : MayHold g s.held
   pub own : IsOwnCost g (cost_at s.held)
   pub pool : IsPool g s.pool
@@ -106,23 +100,24 @@ ShowsRoot g sections r = HasSection sections 0 (IsShownBy g r)
 pub record IsBegun (g : Network) (s : Search) (r : Root) : Type 0 where
   pub searching : IsSearching g s
   pub root : ShowsRoot g s.sections.items r
+  pub taken : TakesShares g (shares_in r) (cost_at s.held)
   pub one : length s.sections.items ≡ 1
 
 -- one section more
 abbrev pub HasOneMore : List Section → List Section → Type 0
 HasOneMore old new = (s : Section) × (new ≡ old ++ s ∷ [])
 
--- a live node has a bound that isn't above the cost
+-- some live node has a bound below the cost, or no plan is held
 pub record IsPromising (tree : SearchTree) (cost : Option ℕ) : Type 0 where
   pub sound : IsSearchTree tree
   pub bound : ℕ
   pub least : IsLeastBound tree.nodes bound
-  pub below : IsAtMost (Some bound) cost
+  pub below : LeavesGap cost (Some bound)
 
 -- no open node has a bound below the cost
-abbrev pub IsDone : List Node → Option ℕ → Type 0
+abbrev pub IsDone : List (Option Node) → Option ℕ → Type 0
 IsDone nodes cost =
-    (key : ℕ) (node : Node) → slice_get nodes key ≡ Some node → IsOpen node →
+    (key : ℕ) (node : Node) → node_at nodes key ≡ Some node → IsOpen node →
     IsAtMost cost (Some node.bound)
 
 -- so many nodes are within the budget

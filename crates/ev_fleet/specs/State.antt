@@ -1,5 +1,5 @@
 -- The state of a search between two nodes: its tree, whose leaves name nodes by their keys, and the sections that were found.
-use Rattle.std.specs.Prelude.{◌≡◌, ℕ, ◌≤◌, List, [], Option, Some, None, cond, length, nat_eq, nat_lt, slice_get, if◌then◌else◌}
+use Rattle.std.specs.Prelude.{◌≡◌, ℕ, ◌≤◌, List, [], Option, Some, None, cond, length, nat_eq, nat_lt, if◌then◌else◌}
 use Rattle.std.specs.List.{All, Contains}
 use Rattle.customer_sets.specs.Pairs.{any_pair}
 use Rattle.ev_model.specs.Network.{Network}
@@ -8,7 +8,7 @@ use Rattle.fleet_model.specs.Strong.{IsStrong}
 use Rattle.bound_certificate.specs.Meaning.{priced_section}
 use Rattle.bound_certificate.specs.Ranges.{SectionFits, customer_count}
 use Rattle.bound_certificate.specs.declared.certificate.Section.{Section}
-use Rattle.branching.specs.Nodes.{HasNode}
+use Rattle.branching.specs.Nodes.{node_at, HasNode}
 use Rattle.branching.specs.SearchTree.{SearchTree, section_in}
 use Rattle.branching.specs.declared.node.Node.{Node}
 use Rattle.branching.specs.declared.node.NodeState.{NodeState}
@@ -57,7 +57,7 @@ abbrev pub IsNodeWell : List Section → Option ℕ → ℕ → List ℕ → Opt
 IsNodeWell sections cost floor above own node =
     IsStateWell sections cost floor above own node.section node.bound node.state
 
-abbrev pub IsLeafWell : List Node → List Section → Option ℕ → ℕ → List ℕ → SearchedTree → Type 0
+abbrev pub IsLeafWell : List (Option Node) → List Section → Option ℕ → ℕ → List ℕ → SearchedTree → Type 0
 IsLeafWell nodes sections cost floor above (tip own key) =
     HasNode nodes key (IsNodeWell sections cost floor above own)
 IsLeafWell nodes sections cost floor above (fork own i j apart together) = Unit {0}
@@ -98,6 +98,6 @@ placed key new (fork own i j apart together) =
     fork own i j (placed key new apart) (placed key new together)
 
 -- the tree whose leaves name the sections of their nodes
-abbrev pub named : List Node → SearchedTree → SearchedTree
-named nodes (tip own key) = tip own (section_in (slice_get nodes key))
+abbrev pub named : List (Option Node) → SearchedTree → SearchedTree
+named nodes (tip own key) = tip own (section_in (node_at nodes key))
 named nodes (fork own i j apart together) = fork own i j (named nodes apart) (named nodes together)

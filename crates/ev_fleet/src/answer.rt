@@ -4,8 +4,11 @@ ghost use Rattle.std.specs.Prelude.{◌≡◌, ◌≢◌, ◌<◌, ◌≤◌, le
 ghost use Rattle.std.specs.List.{All};
 ghost use Rattle.bound_certificate.specs.Limits.{greatest_bound};
 ghost use Rattle.instance_reader.specs.Instance.{customer_nodes};
+ghost use Rattle.ev_fleet.specs.Answers.{shares_in};
+ghost use Rattle.ev_fleet.specs.Held.{cost_at};
 ghost use Rattle.ev_fleet.specs.LeafNames.{IsLeastFrom, IsLesserAt, IsSummable, NameSections, leaf_names, lesser};
 ghost use Rattle.ev_fleet.specs.Searching.{IsOutcomeOf, IsSearching, ShowsRoot, plan_at};
+ghost use Rattle.ev_fleet.specs.Whole.{TakesShares};
 
 use crate::held::Held;
 use crate::outcome::Outcome;
@@ -29,6 +32,7 @@ pub(crate) fn outcome_of(
     requires few { length (customer_nodes inst.now) ≤ 128 }
     requires searching { IsSearching inst.now search }
     requires root { ShowsRoot inst.now search.sections.items root }
+    requires taken { TakesShares inst.now (shares_in root) (cost_at search.held) }
     ensures { IfOk result (IsOutcomeOf inst.now search) }
 {
     let _ = inst.nodes();

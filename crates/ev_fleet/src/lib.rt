@@ -17,6 +17,3 @@ mod taking;
 
 pub use outcome::Outcome;
 pub use search::plan_fleet;
-
-#[cfg(test)]
-mod tests;

@@ -90,12 +90,13 @@ fn held_of(inst: &Instance, plan: Option<FleetPlan>) -> Option<Held>
 }
 
 /// Takes the open node of least bound, finds its section, and closes or splits it. Some open node
-/// has a bound that isn't above the cost of the plan that is held.
+/// has a bound below the cost of the plan that is held, or none is held.
 pub(crate) fn step(alloc: Global, inst: &Instance, search: &mut Search) -> Result<(), AllocError>
     requires few { length (customer_nodes inst.now) ≤ 128 }
     requires searching { IsSearching inst.now search.old }
     requires promising { IsPromising search.old.tree (cost_at search.old.held) }
     ensures searching { OnOk result (IsSearching inst.now search.new) }
+    ensures kept { OnOk result (IsAtMost (cost_at search.new.held) (cost_at search.old.held)) }
     ensures one { OnOk result (HasOneMore search.old.sections.items search.new.sections.items) }
     ensures work { OnOk result
         (work_left search.new.tree.nodes < work_left search.old.tree.nodes) }

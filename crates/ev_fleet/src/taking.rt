@@ -12,8 +12,9 @@ ghost use Rattle.ev_fleet.specs.Answers.{answer_of, shares_in};
 ghost use Rattle.ev_fleet.specs.Bounds.{IsAtMost};
 ghost use Rattle.ev_fleet.specs.Greedy.{TakesGreedy, routes_at};
 ghost use Rattle.ev_fleet.specs.Held.{MayHold, cost_at};
-ghost use Rattle.ev_fleet.specs.Searching.{IsTakenNext, ReachesCost, TakesShares};
+ghost use Rattle.ev_fleet.specs.Searching.{IsTakenNext};
 ghost use Rattle.ev_fleet.specs.Splitting.{CannotSplit, IsSettled};
+ghost use Rattle.ev_fleet.specs.Whole.{ReachesCost, TakesShares};
 
 use crate::greedy::{greedy_routes, routes_at};
 use crate::held::{Held, offer};
@@ -74,6 +75,8 @@ pub(crate) fn bound_pairs(
     ensures kept { IsAtMost (cost_at held.new) (cost_at held.old) }
     ensures bound { IfOk result
         (λ found. IsNodeBound inst.now pairs.now (answer_of found.0 found.1)) }
+    ensures taken { IfOk result
+        (λ found. TakesShares inst.now (shares_in found.1) (cost_at held.new)) }
     ensures decided { IsDecided pairs.now →
         IfOk result (λ found. ReachesCost (cost_at held.new) found.0) }
 {

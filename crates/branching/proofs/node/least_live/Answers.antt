@@ -1,17 +1,11 @@
-use Rattle.std.proofs.Common.{◌+◌, length, refl, sym, subst}
-use Rattle.std.proofs.lemmas.Option.{slice_get_read}
-use Rattle.branching.proofs.Least.{IsLeastSoFar, least-is, least-step, least-told}
+use Rattle.std.proofs.Common.{true, subst, sym}
+use Rattle.std.proofs.lemmas.Bool.{false≢true}
+use Rattle.branching.specs.Walk.{IsFirst}
+use Rattle.branching.proofs.Walk.{some_is_live}
 use Rattle.branching.proofs.node.least_live.Goals as goal
 
-pub loop-node-preserved : goal.loop-node-preserved
-loop-node-preserved c =
-    let nodes = c.args.nodes.now in
-    let i = c.loop-node.node-index in
-    let here = slice_get_read nodes (length nodes) i c.node-item.result refl c.loop-node-test.true c.node-item.is in
-    subst (IsLeastSoFar nodes (i + 1)) (sym c.least_of-least.ensures) (least-step nodes i c.node-item.result here c.loop-node.least c.loop-node.invariant)
-
-pub returns-clause-none : goal.returns-clause-none
-returns-clause-none c = least-told c.args.nodes.now c.loop-node.node-index c.loop-node.least c.loop-node-test.false c.loop-node.invariant
-
-pub returns-clause-least : goal.returns-clause-least
-returns-clause-least c = least-is c.args.nodes.now c.loop-node.node-index c.loop-node.least c.loop-node-test.false c.loop-node.invariant
+pub returns-in-Some-clause-none : goal.returns-in-Some-clause-none
+returns-in-Some-clause-none c =
+    let nodes = c.args.nodes.now.slots in
+    let first = subst (IsFirst nodes true) c.in-Some.is c.first_node.ensures in
+    (λ e. absurd (false≢true (sym e)), λ none. absurd (some_is_live nodes (c.in-Some.field-0-0, c.in-Some.bound) first none))

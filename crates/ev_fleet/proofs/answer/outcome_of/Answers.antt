@@ -9,6 +9,7 @@ use Rattle.ev_fleet.specs.LeafNames.{IsLeastFrom, IsSummable, NameSections}
 use Rattle.ev_fleet.specs.Outcome.{IsOutcome}
 use Rattle.ev_fleet.specs.Searching.{IsDone, IsUsedUp, IsWithin, ShowsRoot, plan_at}
 use Rattle.ev_fleet.specs.State.{IsSearch}
+use Rattle.ev_fleet.specs.Whole.{IsNoDearer}
 use Rattle.ev_fleet.proofs.Assembling.{is_outcome, names, sums}
 use Rattle.ev_fleet.proofs.answer.outcome_of.Goals as goal
 
@@ -23,6 +24,7 @@ returns c = λ budget within ended.
     let same : s.sections.items ≡ certificate.sections = sym c.from_vec.ensures in
     let is : IsSearch g s.tree certificate.sections cost = subst (λ xs. IsSearch g s.tree xs cost) same c.requires.searching.search in
     let shows : ShowsRoot g certificate.sections c.args.root = subst (λ xs. ShowsRoot g xs c.args.root) same c.requires.root in
+    let whole : All (IsNoDearer g cost) certificate.sections = subst (λ xs. All (IsNoDearer g cost) xs) same c.requires.searching.whole in
     let lines : IsTreeOf certificate.tree (sections_named s.tree.nodes s.tree.tree) = c.from_vec-2.ensures ∙ c.in_ok-lines.ensures.lines in
     let of_lines : IsLeastFrom c.as_slice.result.now None certificate.tree bound =
     subst (λ ls. IsLeastFrom c.as_slice.result.now None ls bound) (c.as_slice-2.ensures.value ∙ sym c.from_vec-2.ensures) c.least_bound-bound.ensures.least in
@@ -37,7 +39,7 @@ returns c = λ budget within ended.
     let at_end : IsUsedUp budget (length certificate.sections) ⊎ IsDone s.tree.nodes cost = subst (λ xs. IsUsedUp budget (length xs) ⊎ IsDone s.tree.nodes cost) same ended in
     let outcome =
     is_outcome g s.tree certificate s.held c.requires.few c.nodes-nodes.ensures.network (c.accepted_bounds_are_true.ensures g certificate c.nodes-nodes.ensures.network)
-    is c.requires.searching.held c.requires.searching.own c.in_ok-lines.ensures.tree shows lines walk c.least_bound-bound.ensures.small many
+    is c.requires.searching.held c.requires.searching.own c.in_ok-lines.ensures.tree shows lines walk c.least_bound-bound.ensures.small many whole c.requires.taken
     budget stopped other equal inside at_end in
     let counted : IsOutcome g budget (record { plan = plan_at s.held; certificate = certificate; nodes = c.len-nodes.result; stopped = stopped }) =
     subst (λ n. IsOutcome g budget (record { plan = plan_at s.held; certificate = certificate; nodes = n; stopped = stopped })) (sym nodes) outcome in

@@ -1,7 +1,9 @@
 use Rattle.std.proofs.lemmas.Result.{IfOk-weaker}
+use Rattle.ev_fleet.specs.Held.{cost_at}
 use Rattle.ev_fleet.specs.Outcome.{IsOutcome}
 use Rattle.ev_fleet.specs.Searching.{IsOutcomeOf}
 use Rattle.ev_fleet.proofs.Advancing.{root_more, within_more}
+use Rattle.ev_fleet.proofs.Whole.{takes_lower}
 use Rattle.ev_fleet.proofs.search.plan_fleet.Goals as goal
 
 pub loop-budget-preserved : goal.loop-budget-preserved
@@ -12,6 +14,7 @@ loop-budget-preserved c =
     record {
       searching = c.in_ok-step.ensures.searching;
       root = root_more c.args.inst.now old.sections.items new.sections.items _ one c.loop-budget.invariant.root;
+      taken = takes_lower c.args.inst.now _ (cost_at old.held) (cost_at new.held) c.in_ok-step.ensures.kept c.loop-budget.invariant.taken;
       within = within_more c.args.budget old.sections.items new.sections.items one (c.goes_on.ensures.within c.loop-budget-test.true);
     }
 

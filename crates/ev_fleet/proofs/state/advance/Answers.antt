@@ -43,4 +43,4 @@ returns-clause-advanced c =
     let settled : IsSettled c.take_next-taken.new.tree t.key greater.0 greater.1 (cost_at new.held) new.tree =
     subst (λ x. IsSettled c.take_next-taken.new.tree t.key greater.0 greater.1 x new.tree) c.cost_of-cost.ensures c.in_ok-settle.ensures.settled in
     advanced_by c.args.inst.now old new c.take_next-taken.new.tree t c.in_ok-section.root c.in_ok-section.section own greater c.take_next-taken.ensures.next c.in_ok-section.ensures.bound
-    c.bound_of-own.ensures.bound c.in_ok-push.ensures.items c.bound_pairs.ensures.kept c.bound_pairs.ensures.held c.bound_pairs.ensures.pool is_greater settled
+    c.bound_of-own.ensures.bound c.in_ok-push.ensures.items c.bound_pairs.ensures.kept c.bound_pairs.ensures.held c.in_ok-section.ensures.taken c.bound_pairs.ensures.pool is_greater settled

@@ -2,9 +2,14 @@ use Rattle.std.proofs.Common.{subst}
 use Rattle.column_pool.specs.Bounds.{IsBoundOfDecided, IsNodeBound}
 use Rattle.ev_fleet.specs.Answers.{answer_of, shares_in}
 use Rattle.ev_fleet.specs.Held.{cost_at}
-use Rattle.ev_fleet.specs.Searching.{TakesShares}
+use Rattle.ev_fleet.specs.Whole.{TakesShares}
 use Rattle.ev_fleet.proofs.Decided.{reaches_cost}
 use Rattle.ev_fleet.proofs.taking.bound_pairs.Goals as goal
+
+pub returns-clause-taken : goal.returns-clause-taken
+returns-clause-taken c =
+    let cost = cost_at c.offer_shares.new.held in
+    subst (λ x. TakesShares c.args.inst.now x cost) c.shares_in.ensures c.in_ok-offer_shares.ensures.taken
 
 pub returns-clause-decided : goal.returns-clause-decided
 returns-clause-decided c = λ decided.

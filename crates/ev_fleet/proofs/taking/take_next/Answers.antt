@@ -1,8 +1,9 @@
 use Rattle.std.proofs.Common.{◌≡◌, ◌∙◌, refl, sym, ap, subst, Some}
-use Rattle.std.specs.Prelude.{IsNone, slice_get}
+use Rattle.std.specs.Prelude.{IsNone}
+use Rattle.branching.specs.Nodes.{node_at}
 use Rattle.branching.specs.SearchTree.{SearchTree}
 use Rattle.ev_fleet.specs.Splitting.{taken_of}
-use Rattle.ev_fleet.proofs.Steps.{set_here}
+use Rattle.branching.proofs.Elements.{node_set}
 use Rattle.ev_fleet.proofs.taking.take_next.Goals as goal
 
 pub unreachable-requires : goal.unreachable-requires
@@ -12,8 +13,8 @@ pub returns-clause-next : goal.returns-clause-next
 returns-clause-next c =
     let next = c.in-Some.ensures.next in
     let taken = taken_of next.0 in
-    let there = set_here c.args.tree.now.nodes c.in-Some.key taken next.0 next.1.here in
-    let here : slice_get c.take.new.self.nodes c.in-Some.key ≡ Some taken = ap (λ (x : SearchTree). slice_get x.nodes c.in-Some.key) next.2 ∙ there in
+    let there = node_set c.args.tree.now.nodes c.in-Some.key next.0 taken next.1.here in
+    let here : node_at c.take.new.self.nodes c.in-Some.key ≡ Some taken = ap (λ (x : SearchTree). node_at x.nodes c.in-Some.key) next.2 ∙ there in
     record {
       node = next.0;
       next = next.1;
