@@ -4,21 +4,10 @@ use Rattle.certificate_check.specs.declared.verdict.Verdict.{Verdict}
 use Rattle.certificate_check.specs.declared.verdict.Verdict.TheVariants as verdict
 use Rattle.plan_check.specs.declared.fault.PlanFault.{PlanFault}
 use Rattle.plan_check.specs.declared.fault.PlanFault.TheVariants as plan
-use Rattle.route_plan.specs.declared.walks.WalkFault.{WalkFault}
-use Rattle.route_plan.specs.declared.walks.WalkFault.TheVariants as walk
-use Rattle.plan_writer.specs.ScaledText.{IsBoundOf, bounds_text}
+use Rattle.report_lines.specs.Lines.{IsBoundOf, bounds_text}
+use Rattle.report_lines.specs.Walks.{walk_text}
 use Rattle.plan_writer.specs.declared.check.Judgement.{Judgement}
 use Rattle.plan_writer.specs.declared.check.Judgement.TheVariants.{Accepted, Certificate, Plan}
-
--- the number of the rule that a walk breaks, and the position of the stop that breaks it
-abbrev pub walk_text : WalkFault → List ℕ
-walk_text walk.Ends = codes "1"
-walk_text (walk.Unknown at) = codes "2 at " ++ decimal at
-walk_text (walk.Again at) = codes "3 at " ++ decimal at
-walk_text (walk.Empty at) = codes "4 at " ++ decimal at
-walk_text (walk.NotStation at) = codes "5 at " ++ decimal at
-walk_text (walk.Full at) = codes "6 at " ++ decimal at
-walk_text (walk.Late at) = codes "7 at " ++ decimal at
 
 -- the number of the rule that a plan breaks, and the route, the customer or the stop that breaks it
 abbrev pub rule_text : PlanFault → List ℕ

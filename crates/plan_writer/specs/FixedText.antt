@@ -1,10 +1,7 @@
 -- What `fixed` puts: the charged route, a line a stop, or that there is none.
 use Rattle.std.specs.Prelude.{ℕ, ◌++◌, ◌∷◌, [], List, Option, None, Some, nat_lt, decimal, codes, if◌then◌else◌}
 use Rattle.ev_model.specs.declared.Stop.{Stop}
-
--- a number of scaled units over the denominator, never reduced
-abbrev pub over : ℕ → ℕ → List ℕ
-over denominator scaled = decimal scaled ++ codes "/" ++ decimal denominator
+use Rattle.report_lines.specs.Lines.{infeasible_line, time_text}
 
 abbrev pub amount_text : ℕ → List ℕ
 amount_text added = if nat_lt 0 added then codes " charge " ++ decimal added else []
@@ -21,6 +18,6 @@ stop_lines (s ∷ ss) = stop_line s ++ stop_lines ss
 
 -- a plan with its scaled time, or none
 abbrev pub fixed_text : ℕ → Option (List Stop × ℕ) → List ℕ
-fixed_text denominator None = codes "infeasible" ++ 10 ∷ []
+fixed_text denominator None = infeasible_line
 fixed_text denominator (Some plan) =
-    codes "time " ++ over denominator plan.1 ++ 10 ∷ [] ++ stop_lines plan.0
+    time_text denominator plan.1 ++ stop_lines plan.0

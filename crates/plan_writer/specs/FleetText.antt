@@ -1,30 +1,21 @@
 -- What `fleet` puts: cost, bound and gap, what the root shows, and where a budget ended the search, how many nodes it
 -- looked at; or that there is no fleet plan.
-use Rattle.std.specs.Prelude.{◌≡◌, ◌≢◌, ℕ, ℤ, pos, ◌*◌, ◌*ℤ◌, ◌≤◌, ◌++◌, ◌∷◌, [], List, Option, None, Some, decimal, codes, unsigned_abs}
-use Rattle.std.specs.Fmt.{signed_decimal}
-use Rattle.std.specs.Int.{IsGcd}
-use Rattle.plan_writer.specs.MakeText.{number_line}
-use Rattle.plan_writer.specs.ScaledText.{IsBoundOf, bounds_text}
+use Rattle.std.specs.Prelude.{◌≢◌, ℕ, ℤ, ◌++◌, ◌∷◌, [], List, Option, None, Some, codes}
+use Rattle.report_lines.specs.Fractions.{IsLowest, IsReduced, fraction_text}
+use Rattle.report_lines.specs.Lines.{IsBoundOf, bounds_text, infeasible_line, number_line}
 use Rattle.plan_writer.specs.declared.fleet.Outcomes.{Outcomes}
 use Rattle.plan_writer.specs.declared.fleet.RootLine.{RootLine}
 use Rattle.plan_writer.specs.declared.fleet.RootLine.TheVariants.{Empty, Exact, Wide}
-
--- the fraction of a whole number and a positive one, of which both are divided by their greatest common divisor
-pub record IsReduced (whole : ℤ) (part : ℕ) (p : ℤ) (q : ℕ) : Type 0 where
-  pub divisor : ℕ
-  pub greatest : IsGcd (unsigned_abs whole) part divisor
-  pub above : whole ≡ p *ℤ pos divisor
-  pub below : part ≡ q * divisor
 
 -- the line of an exact root whose price sum is this whole number, over the product of weight and denominator
 abbrev pub IsExactLine : ℤ → ℕ → RootLine → Type 0
 IsExactLine sum product (Exact p q) = IsReduced sum product p q
 IsExactLine sum product other = ⊥
 
--- a fraction is in lowest terms
-abbrev pub IsLowest : RootLine → Type 0
-IsLowest (Exact p q) = (1 ≤ q) × IsGcd (unsigned_abs p) q 1
-IsLowest other = Unit {0}
+-- the fraction of an exact root is in lowest terms
+abbrev pub IsLowestLine : RootLine → Type 0
+IsLowestLine (Exact p q) = IsLowest p q
+IsLowestLine other = Unit {0}
 
 -- where the first stands, the second does too
 abbrev pub StandsBeside : Option ℕ → Option ℕ → Type 0
@@ -42,13 +33,13 @@ pub record AreOutcomes (o : Outcomes) : Type 0 where
   pub bound : IsBoundOf o.cost o.bound
   pub beside : StandsBeside o.cost o.bound
   pub root : StandsBesideRoot o.bound o.root
-  pub lowest : IsLowest o.root
+  pub lowest : IsLowestLine o.root
 
 -- no line where nothing is shown, as where there is no fleet plan
 abbrev pub root_line : RootLine → List ℕ
 root_line Empty = []
 root_line (Exact p q) =
-    codes "root exact " ++ signed_decimal p ++ codes "/" ++ decimal q ++ 10 ∷ []
+    codes "root exact " ++ fraction_text p q ++ 10 ∷ []
 root_line Wide = codes "root wide" ++ 10 ∷ []
 
 -- how many nodes were looked at where the budget ended the search
@@ -58,7 +49,7 @@ nodes_line (Some nodes) = number_line (codes "nodes ") nodes
 
 -- the report with this bound; where there is none, no fleet plan is feasible
 abbrev pub report_text : ℕ → Outcomes → Option ℕ → List ℕ
-report_text denominator o None = codes "infeasible" ++ 10 ∷ []
+report_text denominator o None = infeasible_line
 report_text denominator o (Some bound) =
     bounds_text denominator o.cost (Some bound) ++ root_line o.root ++ nodes_line o.stopped
 

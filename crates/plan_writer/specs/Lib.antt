@@ -3,4 +3,3 @@ pub mod FixedText
 pub mod FleetText
 pub mod RefusalText
 pub mod MakeText
-pub mod ScaledText

@@ -4,13 +4,12 @@ ghost use Rattle.std.specs.Prelude.{◌≡◌, ◌≢◌, ◌++◌, OnErr, OnOk}
 ghost use Rattle.certificate_check.specs.declared.verdict.Verdict.TheVariants as verdict;
 ghost use Rattle.ev_text.specs.Scans.{IsPrefixOf};
 ghost use Rattle.plan_check.specs.declared.fault.PlanFault.TheVariants as plan;
-ghost use Rattle.plan_writer.specs.CheckText.{IsJudged, check_text, rule_text, verdict_text, walk_text};
+ghost use Rattle.plan_writer.specs.CheckText.{IsJudged, check_text, rule_text, verdict_text};
 
-use crate::scaled::push_bounds;
-use crate::words::{push_numbered, push_word};
 use certificate_check::Verdict;
 use instance_reader::Instance;
 use plan_check::PlanFault;
+use report_lines::{push_bounds, push_numbered, push_walk_rule, push_word};
 use route_plan::WalkFault;
 use std::alloc::{AllocError, Global};
 
@@ -103,22 +102,6 @@ fn push_walk(
     push_numbered(alloc, out, b"1 route ", route as u128)?;
     out.extend_from_slice(b" walk ")?;
     push_walk_rule(alloc, out, fault)
-}
-
-/// Appends the number of the rule that a walk breaks, and the position of the stop that breaks it.
-fn push_walk_rule(alloc: Global, out: &mut Vec<u8>, fault: &WalkFault) -> Result<(), AllocError>
-    ensures ok { OnOk result (out.new.items ≡ out.old.items ++ walk_text fault.now) }
-    ensures err { OnErr result (IsPrefixOf out.old.items out.new.items) }
-{
-    match fault {
-        WalkFault::Ends => push_word(out, b"1"),
-        WalkFault::Unknown { at } => push_numbered(alloc, out, b"2 at ", *at as u128),
-        WalkFault::Again { at } => push_numbered(alloc, out, b"3 at ", *at as u128),
-        WalkFault::Empty { at } => push_numbered(alloc, out, b"4 at ", *at as u128),
-        WalkFault::NotStation { at } => push_numbered(alloc, out, b"5 at ", *at as u128),
-        WalkFault::Full { at } => push_numbered(alloc, out, b"6 at ", *at as u128),
-        WalkFault::Late { at } => push_numbered(alloc, out, b"7 at ", *at as u128),
-    }
 }
 
 /// Appends the rule on stray stops, the route, and the position of the stop.

@@ -1,11 +1,12 @@
 //! The text of `fixed`.
 
-ghost use Rattle.std.specs.Prelude.{◌≡◌, ◌++◌, ◌∷◌, [], Some, None, OnOk, OnErr, codes, decimal, option_map};
+ghost use Rattle.std.specs.Prelude.{◌≡◌, ◌++◌, Some, OnOk, OnErr, option_map};
 ghost use Rattle.ev_text.specs.Scans.{IsPrefixOf};
-ghost use Rattle.plan_writer.specs.FixedText.{amount_text, fixed_text, over, stop_line, stop_lines};
+ghost use Rattle.plan_writer.specs.FixedText.{amount_text, fixed_text, stop_line, stop_lines};
 
 use ev_model::Stop;
 use instance_reader::Instance;
+use report_lines::{push_infeasible, push_time};
 use route_plan::RoutePlan;
 use std::alloc::{AllocError, Global};
 
@@ -35,14 +36,6 @@ pub fn push_fixed(
     }
 }
 
-/// Appends `infeasible`.
-pub(crate) fn push_infeasible(out: &mut Vec<u8>) -> Result<(), AllocError>
-    ensures ok { OnOk result (out.new.items ≡ out.old.items ++ (codes "infeasible" ++ 10 ∷ [])) }
-    ensures err { OnErr result (IsPrefixOf out.old.items out.new.items) }
-{
-    out.extend_from_slice(b"infeasible\n")
-}
-
 /// Appends a charged route and its scaled time.
 fn push_charged(
     alloc: Global,
@@ -57,21 +50,6 @@ fn push_charged(
 {
     push_time(alloc, out, time, denominator)?;
     push_stops(alloc, out, stops)
-}
-
-/// Appends the line of a scaled time.
-pub(crate) fn push_time(
-    alloc: Global,
-    out: &mut Vec<u8>,
-    time: u64,
-    denominator: u64,
-) -> Result<(), AllocError>
-    ensures ok { OnOk result
-        (out.new.items ≡ out.old.items ++ (codes "time " ++ over denominator time ++ 10 ∷ [])) }
-    ensures err { OnErr result (out.new.items ≡ out.old.items) }
-{
-    let line = format!(in alloc; "time {time}/{denominator}\n")?;
-    out.extend_from_slice(line.as_bytes())
 }
 
 /// Appends a line for each stop.

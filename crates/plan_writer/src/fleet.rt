@@ -1,17 +1,14 @@
 //! The text of `fleet`.
 
-ghost use Rattle.std.specs.Prelude.{◌≡◌, ◌≢◌, ◌*◌, ◌^◌, ◌<◌, ◌≤◌, ◌<ℤ◌, ◌++◌, OnErr, OnOk, int_div, pos, unsigned_abs};
-ghost use Rattle.std.specs.Int.{IsGcd};
+ghost use Rattle.std.specs.Prelude.{◌≡◌, ◌≢◌, ◌*◌, ◌^◌, ◌≤◌, ◌++◌, OnErr, OnOk};
 ghost use Rattle.ev_text.specs.Scans.{IsPrefixOf};
-ghost use Rattle.plan_writer.specs.FleetText.{AreOutcomes, IsExactLine, IsLowest, fleet_text, nodes_line, root_line};
+ghost use Rattle.plan_writer.specs.FleetText.{AreOutcomes, IsExactLine, IsLowestLine, fleet_text, nodes_line, root_line};
 
-use crate::fixed::push_infeasible;
-use crate::make::push_number_line;
-use crate::scaled::push_bounds;
-use crate::words::{push_numbered, push_word};
-use ev_text::push_signed;
-use ev_units::gcd;
 use instance_reader::Instance;
+use report_lines::{
+    Fraction, lowest_terms, push_bounds, push_fraction, push_infeasible, push_number_line,
+    push_word,
+};
 use std::alloc::{AllocError, Global};
 
 /// What the root of a search shows, as a line tells it.
@@ -33,47 +30,13 @@ impl RootLine {
         requires some { 1 ≤ weight }
         requires small { weight ≤ 2 ^ 40 }
         ensures value { IsExactLine price_sum (weight * inst.now.denominator) result }
-        ensures lowest { IsLowest result }
+        ensures lowest { IsLowestLine result }
         ensures shown { result ≢ RootLine.Empty }
     {
         let product = u128::from(weight) * u128::from(inst.denominator());
-        let divisor = common_divisor(price_sum.unsigned_abs(), product);
-        divided(price_sum, product, divisor)
+        let Fraction { p, q } = lowest_terms(price_sum, product);
+        RootLine::Exact { p, q }
     }
-}
-
-/// The fraction of a number and a positive one, both divided by their greatest common divisor.
-fn divided(whole: i128, part: u128, divisor: u128) -> RootLine
-    requires greatest { IsGcd (unsigned_abs whole) part divisor }
-    requires some { 1 ≤ part }
-    requires small { divisor < 2 ^ 127 }
-    requires divisor { 1 ≤ divisor }
-    ensures value { IsExactLine whole part result }
-    ensures lowest { IsLowest result }
-    ensures shown { result ≢ RootLine.Empty }
-{
-    RootLine::Exact {
-        p: quotient(whole, divisor as i128),
-        q: part / divisor,
-    }
-}
-
-/// The quotient by a number above 0, rounded toward zero.
-fn quotient(whole: i128, divisor: i128) -> i128
-    requires { pos 0 <ℤ divisor }
-    ensures { result ≡ int_div whole divisor }
-{
-    whole / divisor
-}
-
-/// The greatest common divisor of a number and of a positive one, which is no greater than this.
-fn common_divisor(size: u128, product: u128) -> u128
-    requires { 1 ≤ product }
-    ensures greatest { IsGcd size product result }
-    ensures some { 1 ≤ result }
-    ensures within { result ≤ product }
-{
-    gcd(size, product)
 }
 
 /// What a search for the cheapest fleet plan ends with.
@@ -134,8 +97,7 @@ fn push_exact(alloc: Global, out: &mut Vec<u8>, p: i128, q: u128) -> Result<(), 
     ensures err { OnErr result (IsPrefixOf out.old.items out.new.items) }
 {
     out.extend_from_slice(b"root exact ")?;
-    push_signed(alloc, out, p)?;
-    push_numbered(alloc, out, b"/", q)?;
+    push_fraction(alloc, out, Fraction { p, q })?;
     out.extend_from_slice(b"\n")
 }
 

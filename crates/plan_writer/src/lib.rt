@@ -6,8 +6,6 @@ mod fixed;
 mod fleet;
 mod make;
 mod refusal;
-mod scaled;
-mod words;
 
 pub use check::{Judgement, push_check_report};
 pub use fixed::push_fixed;

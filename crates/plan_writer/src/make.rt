@@ -1,13 +1,12 @@
 //! The text of `make`.
 
-ghost use Rattle.std.specs.Prelude.{◌≡◌, ◌++◌, OnErr, OnOk, codes};
+ghost use Rattle.std.specs.Prelude.{◌≡◌, ◌++◌, OnErr, OnOk};
 ghost use Rattle.ev_model.specs.Network.{node_count};
 ghost use Rattle.ev_text.specs.Scans.{IsPrefixOf};
-ghost use Rattle.plan_writer.specs.MakeText.{make_text, number_line, time_line};
+ghost use Rattle.plan_writer.specs.MakeText.{make_text};
 
-use crate::fixed::{push_infeasible, push_time};
-use crate::words::push_numbered;
 use instance_reader::Instance;
+use report_lines::{push_number_line, push_time_line};
 use std::alloc::{AllocError, Global};
 
 /// Appends what `make` puts: the number of nodes of the instance, its denominator, and the scaled
@@ -41,34 +40,4 @@ fn push_lines(
     push_number_line(alloc, out, b"nodes ", nodes as u128)?;
     push_number_line(alloc, out, b"denominator ", denominator as u128)?;
     push_time_line(alloc, out, time, denominator)
-}
-
-/// Appends a line of a word and a number.
-pub(crate) fn push_number_line(
-    alloc: Global,
-    out: &mut Vec<u8>,
-    word: &[u8],
-    number: u128,
-) -> Result<(), AllocError>
-    ensures ok { OnOk result (out.new.items ≡ out.old.items ++ number_line word.now number) }
-    ensures err { OnErr result (IsPrefixOf out.old.items out.new.items) }
-{
-    push_numbered(alloc, out, word, number)?;
-    out.extend_from_slice(b"\n")
-}
-
-/// Appends the line of a scaled time, or that there is none.
-fn push_time_line(
-    alloc: Global,
-    out: &mut Vec<u8>,
-    time: Option<u64>,
-    denominator: u64,
-) -> Result<(), AllocError>
-    ensures ok { OnOk result (out.new.items ≡ out.old.items ++ time_line denominator time) }
-    ensures err { OnErr result (IsPrefixOf out.old.items out.new.items) }
-{
-    match time {
-        Some(time) => push_time(alloc, out, time, denominator),
-        None => push_infeasible(out),
-    }
 }

@@ -4,12 +4,12 @@ ghost use Rattle.std.specs.Prelude.{◌≡◌, ◌≢◌, ◌++◌, OnErr, OnOk,
 ghost use Rattle.ev_text.specs.Scans.{IsPrefixOf};
 ghost use Rattle.plan_writer.specs.RefusalText.{IsInstanceRule, IsRule, cause_text, certificate_fault_text, curve_fault_text, curve_text, fault_text, instance_text, literal_text, place_text, plan_fault_text, refusal_text, route_text, slash_index, slash_part};
 
-use crate::words::{push_numbered, push_word};
 use bound_certificate::CertText;
 use charge_curve::CurveFault;
 use decimal_import::ImportFault;
 use ev_text::TextFault;
 use instance_reader::{Part, Place, ReadFault};
+use report_lines::{push_numbered, push_word};
 use route_plan::{PlanText, RouteFault};
 use std::alloc::{AllocError, Global};
 

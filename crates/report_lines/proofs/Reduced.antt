@@ -1,13 +1,12 @@
 -- A number and a positive one, both divided by their greatest common divisor.
-use Rattle.std.proofs.Common.{◌≡◌, ◌∙◌, ℕ, zero, suc, ◌*◌, ◌/◌, ◌^◌, ◌<◌, ◌≤◌, ap, arith, subst, sym}
+use Rattle.std.proofs.Common.{◌≡◌, ◌∙◌, ℕ, zero, suc, ◌*◌, ◌/◌, ◌<◌, ◌≤◌, ap, arith, subst, sym}
 use Rattle.std.specs.Prelude.{ℤ, pos, negsuc, ◌*ℤ◌, int_div, neg_ℤ, unsigned_abs}
 use Rattle.std.specs.Int.{IsGcd, ◌∣◌}
 use Rattle.std.proofs.Math.IntN.{negsuc-*ℤ-pos, pos-*ℤ-pos, zero-*ℤ}
-use Rattle.std.proofs.Math.Nat.{div-mul_cancel, dvd_of_mul-dvd-mul_right, eq-zero_of_zero-dvd, mul-dvd-mul_right, mul-le-mul, mul-pos, one-dvd, one-mul}
+use Rattle.std.proofs.Math.Nat.{div-mul_cancel, dvd_of_mul-dvd-mul_right, eq-zero_of_zero-dvd, mul-dvd-mul_right, one-dvd, one-mul}
 use Rattle.std.proofs.lemmas.Int.{unsigned_abs-mul}
 use Rattle.std.proofs.lemmas.Nat.Gcd.{le_of_dvd}
-use Rattle.plan_writer.specs.FleetText.{IsExactLine, IsLowest, IsReduced}
-use Rattle.plan_writer.specs.declared.fleet.RootLine.TheVariants.{Exact}
+use Rattle.report_lines.specs.Fractions.{IsLowest, IsReduced}
 
 negated : (m d : ℕ) → neg_ℤ (pos m) *ℤ pos d ≡ neg_ℤ (pos (m * d))
 negated zero d =
@@ -40,7 +39,7 @@ lowest a b x y g some above below gcd = (one-dvd x, one-dvd y, least)
         dvd_of_mul-dvd-mul_right d some both
 
 pub is_lowest : (sum : ℤ) (product : ℕ) (p : ℤ) (q : ℕ) → 1 ≤ product → (reduced : IsReduced sum product p q) → 1 ≤ reduced.divisor
-    → (1 ≤ q) × IsGcd (unsigned_abs p) q 1
+    → IsLowest p q
 is_lowest sum product p q some reduced divisor =
     let sizes : unsigned_abs sum ≡ unsigned_abs p * reduced.divisor =
     ap unsigned_abs reduced.above ∙ unsigned_abs-mul p (pos reduced.divisor) in (
@@ -60,20 +59,13 @@ pub some_divisor : (a b g : ℕ) → 1 ≤ b → IsGcd a b g → 1 ≤ g
 some_divisor a b zero some gcd = let none : b ≡ 0 = eq-zero_of_zero-dvd gcd.1 in absurd (omega (arith, some, none))
 some_divisor a b (suc g) some gcd = omega arith
 
--- the line of the two quotients
-pub divided_line : (whole : ℤ) (part divisor : ℕ) (p : ℤ) → p ≡ int_div whole (pos divisor) → IsGcd (unsigned_abs whole) part divisor → 1 ≤ part → 1 ≤ divisor
-    → IsExactLine whole part (Exact p (part / divisor)) × IsLowest (Exact p (part / divisor))
-divided_line whole part divisor p is gcd some positive =
+-- the fraction of the two quotients
+pub divided_fraction : (whole : ℤ) (part divisor : ℕ) (p : ℤ) → p ≡ int_div whole (pos divisor) → IsGcd (unsigned_abs whole) part divisor → 1 ≤ part → 1 ≤ divisor
+    → IsReduced whole part p (part / divisor) × IsLowest p (part / divisor)
+divided_fraction whole part divisor p is gcd some positive =
     let reduced : IsReduced whole part p (part / divisor) =
     subst (λ (z : ℤ). IsReduced whole part z (part / divisor)) (sym is) (is_reduced whole part divisor gcd) in
     (reduced, is_lowest whole part p (part / divisor) some reduced (divisor_is whole part p (part / divisor) some reduced))
   where
     divisor_is : (whole : ℤ) (part : ℕ) (p : ℤ) (q : ℕ) → 1 ≤ part → (reduced : IsReduced whole part p q) → 1 ≤ reduced.divisor
     divisor_is whole part p q some reduced = some_divisor (unsigned_abs whole) part reduced.divisor some reduced.greatest
-
--- the product of a weight and a denominator
-pub product_fits : (weight denominator : ℕ) → weight ≤ 2 ^ 40 → denominator ≤ 10 ^ 9 → weight * denominator ≤ 2 ^ 40 * 10 ^ 9
-product_fits weight denominator small few = mul-le-mul small few
-
-pub some_product : (weight denominator : ℕ) → 1 ≤ weight → 1 ≤ denominator → 1 ≤ weight * denominator
-some_product weight denominator some other = mul-pos some other

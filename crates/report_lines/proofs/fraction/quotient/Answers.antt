@@ -1,7 +1,7 @@
 use Rattle.std.proofs.Common.{FitsSigned, int_div}
 use Rattle.std.specs.Int.{w128}
 use Rattle.std.proofs.lemmas.Int.{quot_fits, quot_is}
-use Rattle.plan_writer.proofs.fleet.quotient.Goals as goal
+use Rattle.report_lines.proofs.fraction.quotient.Goals as goal
 
 pub returns : goal.returns
 returns c =

@@ -1,8 +1,8 @@
 use Rattle.std.proofs.Common.{◌≡◌, ◌∙◌, FitsSigned, ap, arith, int_div, of_z, pos, rules, to_z}
 use Rattle.std.specs.Int.{w128}
 use Rattle.std.proofs.lemmas.Int.{ints, to_z-of_z}
-use Rattle.plan_writer.proofs.Reduced.{divided_line}
-use Rattle.plan_writer.proofs.fleet.divided.Goals as goal
+use Rattle.report_lines.proofs.Reduced.{divided_fraction}
+use Rattle.report_lines.proofs.fraction.divided.Goals as goal
 
 pub returns : goal.returns
 returns c =
@@ -13,5 +13,5 @@ returns c =
     let whole : FitsSigned w128 c.args.whole = c.ranges.whole in
     let told : c.quotient.result ≡ int_div c.args.whole (to_z w128 c.args.divisor) = simp to_z-of_z at c.quotient.ensures in
     let is = back ∙ told ∙ ap (int_div c.args.whole) divisor in
-    let both = divided_line c.args.whole c.args.part c.args.divisor (to_z w128 (of_z w128 c.quotient.result)) is c.requires.greatest c.requires.some c.requires.divisor in
-    record { value = both.0; lowest = both.1; shown = λ same. cc }
+    let both = divided_fraction c.args.whole c.args.part c.args.divisor (to_z w128 (of_z w128 c.quotient.result)) is c.requires.greatest c.requires.some c.requires.divisor in
+    record { value = both.0; lowest = both.1 }

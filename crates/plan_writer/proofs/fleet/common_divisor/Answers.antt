@@ -1,9 +1,0 @@
-use Rattle.plan_writer.proofs.Reduced.{divisor_fits, some_divisor}
-use Rattle.plan_writer.proofs.fleet.common_divisor.Goals as goal
-
-pub returns : goal.returns
-returns c = record {
-  greatest = c.gcd.ensures.greatest;
-  some = some_divisor c.args.size c.args.product c.gcd.result c.requires c.gcd.ensures.greatest;
-  within = divisor_fits c.args.size c.args.product c.gcd.result c.requires c.gcd.ensures.greatest;
-}
