@@ -1,0 +1,12 @@
+pub mod Prices
+pub mod Changed
+pub mod Moving
+pub mod Made
+pub mod OrderRoutes
+pub mod Looking
+pub mod Arranging
+pub mod Settled
+pub mod Finishing
+pub mod Beginning
+pub mod Answered
+pub mod Owning

@@ -1,0 +1,28 @@
+use Rattle.std.proofs.Common.{List, subst}
+use Rattle.ev_model.specs.Network.{Network}
+use Rattle.route_plan.specs.declared.plan.FleetPlan.{FleetPlan}
+use Rattle.route_improve.specs.Arranged.{AreSettled, are_served}
+use Rattle.route_improve.specs.Finished.{ArePlansOf}
+use Rattle.route_improve.specs.declared.route.Route.{Route}
+use Rattle.route_improve.proofs.Answered.{plan_costs, plan_is_improved}
+use Rattle.route_improve.proofs.Made.{kept_by}
+use Rattle.route_improve.proofs.improving.settled_plan.Goals as goal
+use Rattle.route_improve.proofs.improving.settled_plan.Goals.{In_ok-settled}
+
+-- the routes that no move makes cheaper
+settled_are : (c : In_ok-settled) → AreSettled c.args.inst.now c.args.routes.items c.in_ok-settled.settled.items
+settled_are c = subst (λ (g : Network). AreSettled g c.args.routes.items c.in_ok-settled.settled.items) c.requires.network c.in_ok-settled.ensures.settled
+
+pub returns-clause-improved : goal.returns-clause-improved
+returns-clause-improved c =
+    kept_by c.plan_of.result _ _ (λ (plan : FleetPlan) plans.
+    plan_is_improved c.args.inst.now c.args.routes.items (settled_are (goal.at.returns-clause-improved c).In_ok-settled).arranged.0 c.in_ok-settled.settled.items plan.routes (settled_are (goal.at.returns-clause-improved c).In_ok-settled)
+    (settled_are (goal.at.returns-clause-improved c).In_ok-settled).arranged.1 (subst (λ (rs : List Route). ArePlansOf c.args.inst.now (are_served rs) plan.routes) c.deref.ensures.value plans))
+    c.plan_of.ensures
+
+pub returns-clause-no_more : goal.returns-clause-no_more
+returns-clause-no_more c =
+    kept_by c.plan_of.result _ _ (λ (plan : FleetPlan) plans.
+    plan_costs c.args.inst.now c.args.routes.items (settled_are (goal.at.returns-clause-no_more c).In_ok-settled).arranged.0 c.in_ok-settled.settled.items plan.routes (settled_are (goal.at.returns-clause-no_more c).In_ok-settled)
+    (settled_are (goal.at.returns-clause-no_more c).In_ok-settled).arranged.1 (subst (λ (rs : List Route). ArePlansOf c.args.inst.now (are_served rs) plan.routes) c.deref.ensures.value plans))
+    c.plan_of.ensures

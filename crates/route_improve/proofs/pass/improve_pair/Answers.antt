@@ -1,0 +1,14 @@
+use Rattle.std.proofs.Common.{◌∙◌, ℕ, List, below_more}
+use Rattle.ev_model.specs.Network.{Network}
+use Rattle.route_improve.specs.Routes.{IsSettledTo}
+use Rattle.route_improve.specs.declared.route.Route.{Route}
+use Rattle.route_improve.proofs.Looking.{at_same}
+use Rattle.route_improve.proofs.pass.improve_pair.Goals as goal
+
+pub loop-i-preserved : goal.loop-i-preserved
+loop-i-preserved c = record {
+  network = c.improve_customer.ensures.network ∙ c.loop-i.invariant.network;
+  same = c.in_ok-improve_customer.ensures.same c.if-branch.false ∙ c.loop-i.invariant.same;
+  settled = below_more (λ (n : ℕ). IsSettledTo c.args.pricer.now c.args.routes.now.items c.args.a n c.args.b) c.loop-i.i c.loop-i.invariant.settled
+      (at_same (λ (g : Network) (rs : List Route). IsSettledTo g rs c.args.a c.loop-i.i c.args.b) c.args.pricer.now c.loop-i.pricer c.args.routes.now.items c.loop-i.routes.items c.loop-i.invariant.network c.loop-i.invariant.same (c.in_ok-improve_customer.ensures.settled c.if-branch.false));
+}

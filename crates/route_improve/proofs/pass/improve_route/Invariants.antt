@@ -1,0 +1,11 @@
+use Rattle.std.proofs.Common.{◌≡◌, false}
+use Rattle.route_improve.specs.Going.{IsGoing}
+use Rattle.route_improve.specs.Routes.{IsSettledList}
+use Rattle.route_improve.proofs.pass.improve_route.Given as goal
+
+abbrev pub invariant-loop-b : goal.invariant-loop-b
+invariant-loop-b l = record {
+  network : l.pricer ≡ l.initial.pricer;
+  going : IsGoing l.initial.pricer l.initial.routes.items l.routes.items l.made;
+  settled : l.made ≡ false → IsSettledList l.initial.pricer l.initial.routes.items l.b l.a;
+}

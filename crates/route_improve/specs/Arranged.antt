@@ -1,0 +1,36 @@
+-- Routes in order, and routes that no move makes cheaper.
+use Rattle.std.specs.Prelude.{◌≡◌, ℕ, ◌≤◌, List, [], ◌∷◌, ◌++◌, filter, length}
+use Rattle.std.specs.List.Sorted.{IsNonDecreasingBy, IsPermutation}
+use Rattle.ev_model.specs.Network.{Network}
+use Rattle.route_improve.specs.Moves.{has_customer}
+use Rattle.route_improve.specs.Routes.{AreRoutes, AreSettledTo, cost_of_routes}
+use Rattle.route_improve.specs.declared.route.Route.{Route}
+
+abbrev pub first_or_depot : List ℕ → ℕ
+first_or_depot [] = 0
+first_or_depot (node ∷ nodes) = node
+
+-- the node of the first customer, 0 where there is none
+abbrev pub first_node : Route → ℕ
+first_node r = first_or_depot r.order.items
+
+-- the routes with customers
+abbrev pub are_served : List Route → List Route
+are_served routes = filter (λ r. has_customer r.order.items) routes
+
+-- the routes with customers, by their first ones, and a route without customers behind them
+pub record AreArranged (routes arranged : List Route) : Type 0 where
+  pub front : List Route
+  pub empty : Route
+  pub is : arranged ≡ front ++ empty ∷ []
+  pub none : empty.order.items ≡ []
+  pub no_time : empty.time ≡ 0
+  pub same : IsPermutation (are_served routes) front
+  pub order : IsNonDecreasingBy first_node front
+
+-- routes made of others that no move makes cheaper; they don't cost more
+pub record AreSettled (g : Network) (routes settled : List Route) : Type 0 where
+  pub routes_are : AreRoutes g settled
+  pub no_more : cost_of_routes settled ≤ cost_of_routes routes
+  pub arranged : (before : List Route) × AreArranged before settled
+  pub settled_are : AreSettledTo g settled (length settled)

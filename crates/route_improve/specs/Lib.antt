@@ -1,0 +1,13 @@
+pub mod Orders
+pub mod Moves
+pub mod Pricing
+pub mod Routes
+pub mod Taking
+pub mod Arranged
+pub mod Going
+pub mod Begun
+pub mod Finished
+pub mod Improved
+pub mod Own
+pub mod ImprovedText
+pub mod PricerView

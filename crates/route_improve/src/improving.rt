@@ -1,0 +1,90 @@
+//! Fleet plans that are made cheaper.
+
+ghost use Rattle.std.specs.Prelude.{◌≡◌, ◌≤◌, None, IfOk, IfSome, option_map};
+ghost use Rattle.ev_model.specs.Fleet.{IsFleetPlan, cost_of};
+ghost use Rattle.plan_check.specs.FleetRules.{stops_of};
+ghost use Rattle.route_improve.specs.Improved.{IsAnswer, IsImproved};
+ghost use Rattle.route_improve.specs.Routes.{AreRoutes, cost_of_routes};
+
+use crate::begin::routes_of;
+use crate::finish::plan_of;
+use crate::own::{OwnFault, own_routes};
+use crate::pricer::Pricer;
+use crate::route::Route;
+use crate::settling::settle;
+use instance_reader::Instance;
+use route_plan::FleetPlan;
+use std::alloc::{AllocError, Global};
+
+/// What becomes of a fleet plan, or of none.
+#[derive(Drop)]
+pub enum Improved {
+    /// A plan that no relocation and no exchange of customers makes cheaper.
+    Plan(FleetPlan),
+    /// The least node of a customer whom no route of his own reaches; there was no plan.
+    Alone(usize),
+}
+
+/// Makes a fleet plan cheaper until no relocation and no exchange of customers helps; without one
+/// it begins with a route for each customer alone.
+///
+/// The plan is a fleet plan that costs no more than `from`, and without `from` no more than routes
+/// for the customers alone. Each of its routes is fastest for the order of its customers, and they
+/// stand in rising order of their first customers. [`Improved::Alone`] comes exactly where there is
+/// no `from` and some customer has no feasible route of his own. The only `Err` is want of memory.
+pub fn improve(
+    alloc: Global,
+    inst: &Instance,
+    from: Option<&FleetPlan>,
+) -> Result<Improved, AllocError>
+    requires { IfSome from (λ plan. IsFleetPlan inst.now 1 (stops_of plan.now.routes)) }
+    ensures { IfOk result (IsAnswer inst.now (option_map (λ plan. plan.now.routes) from.entry)) }
+{
+    match from {
+        Some(plan) => Ok(Improved::Plan(improve_plan(alloc, inst, plan)?)),
+        None => improve_none(alloc, inst),
+    }
+}
+
+/// Makes a fleet plan cheaper.
+fn improve_plan(alloc: Global, inst: &Instance, plan: &FleetPlan) -> Result<FleetPlan, AllocError>
+    requires { IsFleetPlan inst.now 1 (stops_of plan.now.routes) }
+    ensures improved { IfOk result (λ better. IsImproved inst.now better.routes) }
+    ensures no_more { IfOk result (λ better. cost_of inst.now 1 (stops_of better.routes)
+        ≤ cost_of inst.now 1 (stops_of plan.now.routes)) }
+{
+    let mut pricer = Pricer::new(alloc, inst)?;
+    let routes = routes_of(alloc, inst, &mut pricer, plan)?;
+    settled_plan(alloc, inst, &mut pricer, routes)
+}
+
+/// Makes routes for the customers alone cheaper.
+fn improve_none(alloc: Global, inst: &Instance) -> Result<Improved, AllocError>
+    ensures { IfOk result (IsAnswer inst.now None) }
+{
+    let routes = match own_routes(alloc, inst) {
+        Ok(routes) => routes,
+        Err(OwnFault::Alone(node)) => return Ok(Improved::Alone(node)),
+        Err(OwnFault::Memory) => return Err(AllocError),
+    };
+    let mut pricer = Pricer::new(alloc, inst)?;
+    let plan = settled_plan(alloc, inst, &mut pricer, routes)?;
+    Ok(Improved::Plan(plan))
+}
+
+/// Makes routes cheaper until no relocation and no exchange helps.
+fn settled_plan(
+    alloc: Global,
+    inst: &Instance,
+    pricer: &mut Pricer,
+    routes: Vec<Route>,
+) -> Result<FleetPlan, AllocError>
+    requires network { pricer.old ≡ inst.now }
+    requires routes { AreRoutes inst.now routes.items }
+    ensures improved { IfOk result (λ plan. IsImproved inst.now plan.routes) }
+    ensures no_more { IfOk result (λ plan.
+        cost_of inst.now 1 (stops_of plan.routes) ≤ cost_of_routes routes.items) }
+{
+    let settled = settle(alloc, pricer, routes)?;
+    plan_of(alloc, inst, &settled)
+}

@@ -1,0 +1,76 @@
+//! Passes until none makes a move, over routes in order.
+
+ghost use Rattle.std.specs.Prelude.{◌≡◌, ◌≤◌, length, IfOk, OnOk};
+ghost use Rattle.std.specs.List.Sorted.{IsNonDecreasingBy, IsPermutation};
+ghost use Rattle.route_improve.specs.Arranged.{AreArranged, AreSettled, are_served, first_node};
+ghost use Rattle.route_improve.specs.Routes.{AreRoutes, AreSettledTo, cost_of_routes};
+
+use crate::pass::pass;
+use crate::pricer::Pricer;
+use crate::route::Route;
+use std::alloc::{AllocError, Global};
+
+/// Makes moves until none makes the routes cheaper. In the end the routes with customers stand in
+/// rising order of their first ones, and one without customers follows.
+pub(crate) fn settle(
+    alloc: Global,
+    pricer: &mut Pricer,
+    mut routes: Vec<Route>,
+) -> Result<Vec<Route>, AllocError>
+    requires { AreRoutes pricer.old routes.items }
+    ensures network { pricer.new ≡ pricer.old }
+    ensures settled { IfOk result (λ settled.
+        AreSettled pricer.old routes.items settled.items) }
+{
+    loop {
+        routes = arranged(alloc, routes)?;
+        if !pass(alloc, pricer, &mut routes)? {
+            return Ok(routes);
+        }
+    }
+}
+
+/// The routes with customers in rising order of their first ones, and one without customers behind
+/// them.
+fn arranged(alloc: Global, routes: Vec<Route>) -> Result<Vec<Route>, AllocError>
+    ensures { IfOk result (λ arranged. AreArranged routes.items arranged.items) }
+{
+    let mut served = served(alloc, routes)?;
+    sort_by_first(&mut served);
+    served.push(Route {
+        order: Vec::new(alloc),
+        time: 0,
+    })?;
+    Ok(served)
+}
+
+/// The routes with customers.
+fn served(alloc: Global, routes: Vec<Route>) -> Result<Vec<Route>, AllocError>
+    ensures { IfOk result (λ served. served.items ≡ are_served routes.items) }
+{
+    let mut served = Vec::new(alloc);
+    for route in routes {
+        if !route.order.is_empty() {
+            served.push(route)?;
+        }
+    }
+    Ok(served)
+}
+
+/// Sorts the routes by their first customers.
+fn sort_by_first(routes: &mut Vec<Route>)
+    ensures same { IsPermutation routes.old.items routes.new.items }
+    ensures order { IsNonDecreasingBy first_node routes.new.items }
+{
+    routes.sort_unstable_by_key(|route| first_node(route));
+}
+
+/// The node of the first customer, 0 where there is none.
+fn first_node(route: &Route) -> usize
+    ensures { result ≡ first_node route.now }
+{
+    match route.order.first() {
+        Some(node) => *node,
+        None => 0,
+    }
+}
