@@ -1,6 +1,7 @@
 -- The command takes words that are no options, and their job is that of the first and of the others.
-use Rattle.std.proofs.Common.{◌≡◌, ◌∙◌, ◌-◌, ◌^◌, ◌<◌, ◌∷◌, ◌++◌, ◌&&◌, ℕ, [], List, Bool, true, false, length, codes, arith, ap, refl}
+use Rattle.std.proofs.Common.{◌≡◌, ◌∙◌, ◌-◌, ◌^◌, ◌<◌, ◌∷◌, ◌++◌, ◌&&◌, ℕ, [], List, None, Bool, Global, String, true, false, length, map, string_bytes, codes, arith, ap, refl, sym}
 use Rattle.std.specs.Prelude.{fold, if◌then◌else◌, is_some}
+use Rattle.std.specs.Bool.{◌==◌}
 use Rattle.std.specs.List.{list_all}
 use Rattle.std.specs.Option.{option_map_or}
 use Rattle.std.proofs.lemmas.Bool.Decides.{nat_tests}
@@ -188,3 +189,12 @@ dashes_job command words small =
     job_by_the_walk (codes "--" ∷ command ∷ words) true command words small
     (dashes_fault (command ∷ words) ∙ no_fault_from_start true command words tt (all_behind words))
     (dashes_walk (command ∷ words) ∙ from_the_start true command words tt (all_behind words))
+
+-- no words name no job: the word of the command is wanted
+empty_job : job_of [] ≡ None
+unfolding evroute clap_on_literals
+empty_job = refl
+
+pub empty_words : (words : List (String Global)) (test : Bool) → test ≡ true → test ≡ (length words == 0) → None ≡ job_of (map string_bytes words)
+empty_words [] test is tests = sym empty_job
+empty_words (word ∷ words) test is tests = absurd (grind (arith, nat_tests, is, tests))

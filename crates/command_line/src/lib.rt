@@ -1,7 +1,7 @@
 //! The words of the command line, and the job that they name.
 #![tactic(auto)]
 
-ghost use Rattle.std.specs.Prelude.{◌≡◌, IfOk, IfSome, map, option_map, string_bytes};
+ghost use Rattle.std.specs.Prelude.{◌≡◌, [], None, Ok, IfOk, IfSome, map, option_map, string_bytes};
 ghost use Rattle.command_line.specs.JobValue.{IsJob, job_value};
 ghost use Rattle.command_line.specs.Usage.{usage_text};
 ghost use Rattle.command_line.specs.Words.{job_of};
@@ -106,12 +106,16 @@ pub enum Job {
 /// follows a `=`. A name that begins with `-` and has more behind it is given after `--`. Numbers
 /// are written without leading zeros: at most 10^18 for a limit, a charge or nodes, 10^9 for
 /// digits, 2^64 - 1 for a seed, 2^32 - 1 for counts. The nodes are at least 1. The names of files
-/// are different texts.
+/// are different texts. No words at all are no job, and take no memory.
 pub fn job_words(alloc: Global, words: &[String]) -> Result<Option<Job>, AllocError>
     ensures job { IfOk result
         (λ job. option_map job_value job ≡ job_of (map string_bytes words.now)) }
     ensures is { IfOk result (λ job. IfSome job IsJob) }
+    ensures no_words { words.now ≡ [] → result ≡ Ok None }
 {
+    if words.is_empty() {
+        return Ok(None);
+    }
     let named = named(alloc, words)?;
     match matches_of(alloc, named.as_slice()) {
         Ok(Some(matches)) => job_in(alloc, &matches),

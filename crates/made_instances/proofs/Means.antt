@@ -7,16 +7,17 @@ use Rattle.std.specs.Prelude.{IsUtf8}
 use Rattle.serde_json.specs.Read.{read}
 use Rattle.instance_maker.specs.declared.MakerFault.{MakerFault}
 use Rattle.instance_maker.specs.declared.MakerFault.TheVariants.{Range}
-use Rattle.instance_reader.proofs.LawsLemmas.{one_network}
+use Rattle.instance_reader.proofs.LawsLemmas.{never_both, one_network}
 use Rattle.ev_model.specs.Network.{Network, node_count}
 use Rattle.instance_maker.proofs.MadeLemmas.{length-tabulate}
 use Rattle.instance_maker.specs.Locations.{distance_between, location_of, locations_of}
 use Rattle.instance_maker.specs.MadeInstance.{IsOutOfRange, made_value}
 use Rattle.instance_reader.specs.Contents.{Contents, contents_of}
-use Rattle.instance_reader.specs.Faults.{IsInstanceOf, Means, early_fault, late_fault, longest, value_fault}
+use Rattle.instance_reader.specs.Faults.{IsFirstFault, IsInstanceOf, Means, early_fault, late_fault, longest, value_fault}
 use Rattle.instance_reader.specs.Limits.{IsDenominatorOf}
 use Rattle.instance_reader.specs.Meaning.{network_of}
 use Rattle.instance_reader.specs.Values.{IsValueOf}
+use Rattle.instance_reader.specs.declared.faults.ReadFault.{ReadFault}
 use Rattle.instance_reader.specs.declared.faults.ReadFault.TheVariants as fault
 use Rattle.made_instances.proofs.Along.{none_then}
 use Rattle.made_instances.proofs.Contents.{contents_made}
@@ -84,12 +85,27 @@ some_customer seed customers stations within = elim (cases_lt 0 customers) [
 ok_is_no_error : {A E : Type 0} {a : A} {e : E} → ◌≡◌ {A = Result A E} (Ok a) (Err e) → ⊥
 ok_is_no_error same = cc
 
--- what is read of a made text is the network
+-- a made text is an instance
+made_is : {A : Type 0} {made : A} (seed customers stations : ℕ) (text : List ℕ) →
+    (◌≡◌ {A = Result A MakerFault} (Ok made) (Err Range)) ↔ IsOutOfRange seed customers stations → length text < 2 ^ 22 → IsUtf8 text
+    → read text ≡ Some (made_value seed customers stations) → IsInstanceOf text (made_network seed customers stations)
+made_is seed customers stations text range short utf8 reads =
+    let within : IsOutOfRange seed customers stations → ⊥ = λ out. ok_is_no_error (range.1 out) in
+    let few : length text ≤ longest = omega (arith, short) in
+    is_instance seed customers stations text within few (utf8, reads)
+
+-- what is read of it is the network
 pub network_is : {A : Type 0} {made : A} (seed customers stations : ℕ) (text given : List ℕ) (g : Network) →
     (◌≡◌ {A = Result A MakerFault} (Ok made) (Err Range)) ↔ IsOutOfRange seed customers stations → given ≡ text → length text < 2 ^ 22 → IsUtf8 text
     → read text ≡ Some (made_value seed customers stations) → IsInstanceOf given g → g ≡ made_network seed customers stations
 network_is seed customers stations text given g range same short utf8 reads means =
-    let within : IsOutOfRange seed customers stations → ⊥ = λ out. ok_is_no_error (range.1 out) in
-    let few : length text ≤ longest = omega (arith, short) in
     one_network text g (made_network seed customers stations) (subst (λ (bs : List ℕ). IsInstanceOf bs g) same means)
-    (is_instance seed customers stations text within few (utf8, reads))
+    (made_is seed customers stations text range short utf8 reads)
+
+-- it breaks no rule
+pub breaks_no_rule : {A : Type 0} {made : A} (seed customers stations : ℕ) (text given : List ℕ) (e : ReadFault) →
+    (◌≡◌ {A = Result A MakerFault} (Ok made) (Err Range)) ↔ IsOutOfRange seed customers stations → given ≡ text → length text < 2 ^ 22 → IsUtf8 text
+    → read text ≡ Some (made_value seed customers stations) → IsFirstFault given e → ⊥
+breaks_no_rule seed customers stations text given e range same short utf8 reads broken =
+    never_both text (made_network seed customers stations) e (made_is seed customers stations text range short utf8 reads)
+    (subst (λ (bs : List ℕ). IsFirstFault bs e) same broken)

@@ -10,7 +10,7 @@ ghost use Rattle.made_instances.specs.MadeContents.{made_network};
 mod laws;
 
 use instance_maker::{MakerFault, make_instance};
-use instance_reader::{Instance, read_instance};
+use instance_reader::{Instance, ReadFault, read_instance};
 pub use laws::made_texts_are_instances;
 use std::alloc::Global;
 
@@ -45,8 +45,11 @@ pub fn made_instance(
     };
     match read_instance(alloc, text.as_slice()) {
         Ok(instance) => Ok(MadeInstance { text, instance }),
-        // A made text is an instance, so that this is want of memory.
-        Err(_) => Err(MakerFault::Memory),
+        Err(fault) => match fault {
+            ReadFault::Memory => Err(MakerFault::Memory),
+            // A made text is an instance, so that it breaks no rule.
+            _ => unreachable!(),
+        },
     }
 }
 

@@ -1,6 +1,7 @@
 use Rattle.std.proofs.Common.{◌∙◌, ap, map, string_bytes}
 use Rattle.clap.specs.Walk.{texts}
 use Rattle.command_line.proofs.Jobs.{no_job}
+use Rattle.command_line.proofs.PlainFaults.{empty_words}
 use Rattle.command_line.proofs.Promises.{are_jobs}
 use Rattle.command_line.specs.Matches.{rows_in}
 use Rattle.command_line.proofs.job_words.Goals as goal
@@ -12,3 +13,6 @@ returns-in-Ok-None-clause-job c =
 
 pub returns-in-Ok-Some-clause-is : goal.returns-in-Ok-Some-clause-is
 returns-in-Ok-Some-clause-is c = are_jobs (rows_in c.in-Ok-Some.matches) c.job_in.result c.job_in.ensures
+
+pub returns-then-is_empty-clause-job : goal.returns-then-is_empty-clause-job
+returns-then-is_empty-clause-job c = empty_words c.args.words.now c.is_empty.result c.if-is_empty.true c.is_empty.ensures
