@@ -1,68 +1,26 @@
 //! `evroute`: a certified planner for electric delivery fleets.
 #![tactic(auto)]
 
-mod answer;
-mod check;
-mod command;
-mod convert;
-mod fixed;
-mod fleet;
-mod instance;
-mod judging;
-mod make;
-mod message;
-mod planning;
-mod status;
-mod steps;
-mod usage;
-
-pub use command::{exit_code, run};
-use ev_outside::{FileShelf, OutSink, SystemFiles, SystemOutput};
-use message::Message;
-pub use status::Status;
-use std::env;
-use std::io::{Eprint, Error, ErrorKind};
+use ev_outside::{FileShelf, OutSink};
+use evroute_run::{SystemDiagnostics, run_to_end};
+pub use evroute_run::{Status, exit_code, run};
+use std::alloc::{AllocError, Global};
 use std::process::ExitCode;
-
-/// The exit status where the system gives no words, which no [`Status`] has.
-const NO_WORDS: u8 = 7;
+use std::{env, io};
 
 fn main(rt: HostRuntime) -> ExitCode {
     let alloc = rt.alloc();
-    let all = match env::args(&rt) {
-        Ok(all) => all,
-        Err(error) => return without_words(&rt, error),
-    };
-    let Ok(words) = all.skip(1).collect::<Vec<String>>(alloc) else {
-        return end(&rt, Status::Memory.code(), Some(Message::Memory));
-    };
-    let mut shelf = FileShelf::new(SystemFiles::new(alloc, &rt));
-    let mut out = OutSink::new(SystemOutput::new(&rt));
-    let code = exit_code(alloc, words.as_slice(), &mut shelf, &mut out);
-    let failure = out
-        .stream()
-        .last_failure()
-        .or(shelf.storage().last_failure());
-    end(&rt, code, Message::at(code, failure))
+    let mut shelf = FileShelf::new(alloc, &rt);
+    let mut out = OutSink::new(&rt);
+    let mut people = SystemDiagnostics::new(&rt);
+    run_to_end(alloc, words_of(&rt), &mut shelf, &mut out, &mut people)
 }
 
-/// The end where the words can't be had.
-fn without_words<R: Eprint>(rt: &R, error: Error) -> ExitCode {
-    if error.kind() == ErrorKind::OutOfMemory {
-        end(rt, Status::Memory.code(), Some(Message::Memory))
-    } else {
-        end(rt, NO_WORDS, Some(Message::Words(error)))
+/// The words behind the program's name.
+fn words_of(rt: &HostRuntime) -> io::Result<Vec<String>> {
+    let alloc = rt.alloc();
+    match env::args(rt)?.skip(1).collect::<Vec<String>>(alloc) {
+        Ok(words) => Ok(words),
+        Err(AllocError) => Err(io::Error::from(AllocError)),
     }
 }
-
-/// The end with an exit status, and the message on standard error. Nothing is done where that
-/// fails.
-fn end<R: Eprint>(rt: &R, code: u8, message: Option<Message<'_>>) -> ExitCode {
-    if let Some(message) = message {
-        let _ = rt.eprintln(message);
-    }
-    ExitCode::from(code)
-}
-
-#[cfg(test)]
-mod tests;

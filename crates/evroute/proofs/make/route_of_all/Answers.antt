@@ -1,6 +1,0 @@
-use Rattle.evroute.proofs.Making.{one_more}
-use Rattle.evroute.proofs.make.route_of_all.Goals as goal
-
-pub loop-customer-preserved : goal.loop-customer-preserved
-loop-customer-preserved c =
-    one_more c.loop-customer.customer c.loop-customer.nodes.items c.push-in-loop-customer.new.self.items c.in_ok-push-2.ensures.items c.loop-customer.invariant

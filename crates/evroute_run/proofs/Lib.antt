@@ -1,0 +1,16 @@
+pub mod Task
+pub mod Instances
+pub mod OneCertificate
+pub mod Accepting
+pub mod OneStatus
+pub mod Refused
+pub mod Reported
+pub mod Finding
+pub mod Making
+pub mod Performed
+pub mod FleetFinds
+pub mod SearchStatus
+pub mod SearchReports
+pub mod OneSearch
+pub mod ReadRules
+pub mod NeverFails

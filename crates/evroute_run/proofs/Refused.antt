@@ -1,0 +1,20 @@
+-- The line of a refusal as an answer of `check`.
+use Rattle.std.proofs.Common.{◌≡◌, ℕ, List, Option, Result, Ok, Err, IfOk, subst, sym}
+use Rattle.evroute_run.specs.CheckAnswer.{CheckAnswers, IsCheckRefused}
+use Rattle.evroute_run.specs.Ended.{IsCheckEnded}
+use Rattle.evroute_run.specs.declared.answer.Answer.{Answer}
+use Rattle.evroute_run.specs.declared.answer.Ended.{Ended}
+use Rattle.evroute_run.specs.declared.answer.Ended.TheVariants.{Refused}
+use Rattle.evroute_run.specs.declared.status.Status.{Status}
+use Rattle.evroute_run.specs.declared.status.Status.TheVariants as status
+use Rattle.plan_writer.specs.RefusalText.{IsRule, refusal_text}
+use Rattle.plan_writer.specs.declared.refusal.Refusal.{Refusal}
+
+pub refused_answers : {E : Type 0} (limit : Option ℕ) (file plan_bytes cert_bytes : List ℕ) (ended : Ended) (refusal : Refusal) (made : Result Answer E) →
+    ended ≡ Refused refusal → IsCheckEnded limit file plan_bytes cert_bytes ended
+    → IfOk made (λ a. a.status ≡ status.Refused) → IfOk made (λ a. a.text.items ≡ refusal_text refusal)
+    → IfOk made (λ a. CheckAnswers limit file plan_bytes cert_bytes a.status a.text.items)
+refused_answers limit file plan_bytes cert_bytes ended refusal (Err none) is refused answered text = tt
+refused_answers limit file plan_bytes cert_bytes ended refusal (Ok a) is refused answered text =
+    let first : IsRule refusal × IsCheckRefused limit file plan_bytes cert_bytes refusal = subst (λ (e : Ended). IsCheckEnded limit file plan_bytes cert_bytes e) is refused in
+    subst (λ (s : Status). CheckAnswers limit file plan_bytes cert_bytes s a.text.items) (sym answered) (record { refusal = refusal; rule = first.0; refused = first.1; text_is = text })

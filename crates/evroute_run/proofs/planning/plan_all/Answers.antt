@@ -1,0 +1,19 @@
+use Rattle.std.proofs.Common.{◌∙◌, Option, ap}
+use Rattle.std.specs.Option.{option_map}
+use Rattle.bound_certificate.specs.CertificateTexts.{certificate_text}
+use Rattle.bound_certificate.specs.Written.{written}
+use Rattle.evroute_run.proofs.SearchReports.{appended, is_found}
+use Rattle.route_plan.specs.PlanTexts.{fleet_plan_text}
+use Rattle.route_plan.specs.declared.plan.FleetPlan.{FleetPlan}
+use Rattle.evroute_run.proofs.planning.plan_all.Goals as goal
+
+pub returns : goal.returns
+returns c =
+    let g = c.args.inst.now in
+    let o = c.in_ok-outcome.outcome in
+    let given = option_map (λ p. p.now) c.as_ref.result in
+    let plan = appended c.new-plan.result.items c.push_fleet_plan.new.out.items (fleet_plan_text given) c.in_ok-push_fleet_plan.ensures.ok c.new-plan.ensures.items
+    ∙ ap (λ (held : Option FleetPlan). fleet_plan_text held) c.as_ref.ensures.value in
+    let cert = appended c.new-cert.result.items c.push_certificate.new.out.items (certificate_text g (written g o.certificate)) c.in_ok-push_certificate.ensures.ok c.new-cert.ensures.items in
+    is_found g c.args.nodes o c.push_fleet_plan.new.out.items c.push_certificate.new.out.items c.in_ok-answer.answer.text.items c.in_ok-answer.answer.status
+    c.nodes-nodes.ensures.network c.in_ok-outcome.ensures plan cert c.in_ok-answer.ensures.status c.in_ok-answer.ensures.text

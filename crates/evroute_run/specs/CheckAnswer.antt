@@ -1,0 +1,135 @@
+-- What `check` answers to the bytes of its instance, of its plan file and of its certificate.
+use Rattle.std.specs.Prelude.{◌≡◌, ◌≢◌, ℕ, ◌<◌, ◌≤◌, List, Option, None, Some, Ok, Err, length}
+use Rattle.std.specs.List.{All}
+use Rattle.bound_certificate.specs.CertificateIn.{certificate_in}
+use Rattle.bound_certificate.specs.Kept.{IsKept}
+use Rattle.bound_certificate.specs.Ranges.{Fits}
+use Rattle.bound_certificate.specs.Written.{written}
+use Rattle.bound_certificate.specs.declared.certificate.Certificate.{Certificate}
+use Rattle.certificate_check.specs.Accepted.{IsAccepted}
+use Rattle.certificate_check.specs.Truth.{IsTrueCertificate}
+use Rattle.certificate_check.specs.Verdicts.{IsVerdict}
+use Rattle.certificate_check.specs.declared.verdict.Verdict.TheVariants as verdict
+use Rattle.ev_model.specs.Fleet.{cost_of, IsFleetPlan}
+use Rattle.ev_model.specs.Network.{Network}
+use Rattle.instance_reader.specs.Faults.{IsFirstFault}
+use Rattle.instance_reader.specs.Instance.{customer_nodes}
+use Rattle.plan_check.specs.FleetRules.{IsFirstBroken, stops_of}
+use Rattle.plan_check.specs.declared.fault.PlanFault.{PlanFault}
+use Rattle.plan_writer.specs.CheckText.{check_text}
+use Rattle.plan_writer.specs.RefusalText.{IsRule, refusal_text}
+use Rattle.plan_writer.specs.declared.check.Judgement.{Judgement}
+use Rattle.plan_writer.specs.declared.check.Judgement.TheVariants as judgement
+use Rattle.plan_writer.specs.declared.refusal.Refusal.{Refusal}
+use Rattle.plan_writer.specs.declared.refusal.Refusal.TheVariants as refusal
+use Rattle.route_plan.specs.PlanReading.{fleet_plan_in}
+use Rattle.route_plan.specs.PlanTexts.{SpellsFleetPlan}
+use Rattle.route_plan.specs.declared.plan.FleetPlan.{FleetPlan}
+use Rattle.evroute_run.specs.LimitedNetwork.{HasNetwork, IsPastLimit}
+use Rattle.evroute_run.specs.declared.status.Status.{Status}
+use Rattle.evroute_run.specs.declared.status.Status.TheVariants as status
+
+-- the most customers of a fleet
+abbrev pub most_customers : ℕ
+most_customers = 128
+
+abbrev pub customer_count : Network → ℕ
+customer_count g = length (customer_nodes g)
+
+-- the bytes are an instance without too many customers, and g is its network with the limit of the words
+pub record HasFleetNetwork (limit : Option ℕ) (bytes : List ℕ) (g : Network) : Type 0 where
+  pub network : HasNetwork limit bytes g
+  pub few : customer_count g ≤ most_customers
+
+-- the bytes of the instance and of the plan file break no rule: g is the network, and the file holds the plan or says
+-- that there is none
+pub record HasFleet (limit : Option ℕ) (bytes plan_bytes : List ℕ)
+    (g : Network) (plan : Option FleetPlan) : Type 0 where
+  pub network : HasFleetNetwork limit bytes g
+  pub spelled : SpellsFleetPlan plan_bytes plan
+
+-- the bytes are the text of the certificate, which is in the ranges of the network
+pub record IsCertificateOf (g : Network) (bytes : List ℕ) (c : Certificate) : Type 0 where
+  pub read : certificate_in g bytes ≡ Ok (written g c)
+  pub fits : Fits g c
+  pub kept : All IsKept c.sections
+
+-- the first broken rule: of the instance, the limit, the count of customers, the plan's text, the certificate's
+abbrev pub IsCheckRefused : Option ℕ → List ℕ → List ℕ → List ℕ → Refusal → Type 0
+IsCheckRefused limit bytes plan_bytes cert_bytes (refusal.Instance fault) = IsFirstFault bytes fault
+IsCheckRefused limit bytes plan_bytes cert_bytes (refusal.Limit given) =
+    IsPastLimit limit bytes given
+IsCheckRefused limit bytes plan_bytes cert_bytes (refusal.Customers count) =
+    (g : Network) × HasNetwork limit bytes g × (count ≡ customer_count g) × (most_customers < count)
+IsCheckRefused limit bytes plan_bytes cert_bytes (refusal.Plan fault) =
+    (g : Network) × HasFleetNetwork limit bytes g × (fleet_plan_in plan_bytes ≡ Err fault)
+IsCheckRefused limit bytes plan_bytes cert_bytes (refusal.Certificate fault) =
+    (g : Network) × (plan : Option FleetPlan) × HasFleet limit bytes plan_bytes g plan
+    × (certificate_in g cert_bytes ≡ Err fault)
+IsCheckRefused limit bytes plan_bytes cert_bytes other = ⊥
+
+-- the plan file holds a fleet plan of this cost, or says that there is none
+abbrev pub IsValid : Network → Option FleetPlan → Option ℕ → Type 0
+IsValid g None cost = cost ≡ None
+IsValid g (Some plan) cost =
+    IsFleetPlan g 1 (stops_of plan.routes) × (cost ≡ Some (cost_of g 1 (stops_of plan.routes)))
+
+-- the plan file holds plans, and this is the first rule that they break
+abbrev pub BreaksFirst : Network → Option FleetPlan → PlanFault → Type 0
+BreaksFirst g None fault = ⊥
+BreaksFirst g (Some plan) fault = IsFirstBroken g plan.routes fault
+
+-- the first broken rule of plan and certificate, the plan's before the certificate's
+abbrev pub IsRejection : Network → Option FleetPlan → Certificate → Judgement → Type 0
+IsRejection g plan c (judgement.Accepted cost bound) = ⊥
+IsRejection g plan c (judgement.Plan fault) = BreaksFirst g plan fault
+IsRejection g plan c (judgement.Certificate found) =
+    ((cost : Option ℕ) × IsValid g plan cost)
+    × ((found ≢ verdict.Accepted) × IsVerdict g c found)
+
+-- no rule of a text is broken: what the three files hold
+pub record Holds (limit : Option ℕ) (bytes plan_bytes cert_bytes : List ℕ) : Type 0 where
+  pub network : Network
+  pub plan : Option FleetPlan
+  pub fleet : HasFleet limit bytes plan_bytes network plan
+  pub certificate : Certificate
+  pub certificate_is : IsCertificateOf network cert_bytes certificate
+
+-- The plan is valid and the certificate accepted, and cost, bound and gap are put. The certificate tells the truth, whoever
+-- wrote it: no fleet plan costs less than its bound, in any fraction of a unit, and where it has none there is no fleet plan;
+-- and by its root of all fractional covers.
+pub record PutsAccepted (limit : Option ℕ)
+    (bytes plan_bytes cert_bytes text : List ℕ) : Type 0 where
+  pub files : Holds limit bytes plan_bytes cert_bytes
+  pub cost : Option ℕ
+  pub valid : IsValid files.network files.plan cost
+  pub accepted : IsAccepted files.network files.certificate
+  pub shows : IsTrueCertificate files.network files.certificate
+  pub text_is : text
+      ≡ check_text files.network.denominator (judgement.Accepted cost files.certificate.bound)
+
+-- the first broken rule of plan and certificate is put
+pub record PutsRejected (limit : Option ℕ)
+    (bytes plan_bytes cert_bytes text : List ℕ) : Type 0 where
+  pub files : Holds limit bytes plan_bytes cert_bytes
+  pub found : Judgement
+  pub rejected : IsRejection files.network files.plan files.certificate found
+  pub text_is : text ≡ check_text files.network.denominator found
+
+-- the first broken rule of the instance, the words, the plan's text or the certificate's is put
+pub record PutsCheckRefusal (limit : Option ℕ)
+    (bytes plan_bytes cert_bytes text : List ℕ) : Type 0 where
+  pub refusal : Refusal
+  pub rule : IsRule refusal
+  pub refused : IsCheckRefused limit bytes plan_bytes cert_bytes refusal
+  pub text_is : text ≡ refusal_text refusal
+
+-- the text that belongs to a status
+abbrev pub CheckAnswers : Option ℕ → List ℕ → List ℕ → List ℕ → Status → List ℕ → Type 0
+CheckAnswers limit bytes plan_bytes cert_bytes status.Done text =
+    PutsAccepted limit bytes plan_bytes cert_bytes text
+CheckAnswers limit bytes plan_bytes cert_bytes status.Negative text =
+    PutsRejected limit bytes plan_bytes cert_bytes text
+CheckAnswers limit bytes plan_bytes cert_bytes status.Refused text =
+    PutsCheckRefusal limit bytes plan_bytes cert_bytes text
+CheckAnswers limit bytes plan_bytes cert_bytes other text = ⊥

@@ -1,0 +1,41 @@
+-- What `convert` makes of the bytes of its file.
+use Rattle.std.specs.Prelude.{◌≡◌, ℕ, List, [], Ok, Err}
+use Rattle.command_line.specs.Words.{ConvertJob}
+use Rattle.decimal_import.specs.Conversion.{conversion_of}
+use Rattle.decimal_import.specs.Converted.{IsConverted}
+use Rattle.plan_writer.specs.RefusalText.{IsRule, refusal_text}
+use Rattle.plan_writer.specs.declared.refusal.Refusal.{Refusal}
+use Rattle.plan_writer.specs.declared.refusal.Refusal.TheVariants as refusal
+use Rattle.evroute_run.specs.declared.status.Status.{Status}
+use Rattle.evroute_run.specs.declared.status.Status.TheVariants as status
+
+-- the bytes become this text: none of the rules of conversion is broken, each number under a key with a unit is the
+-- least whole number with the digits of the words, and every other byte stays
+pub record BecomesWhole (job : ConvertJob) (bytes whole : List ℕ) : Type 0 where
+  pub unbroken : conversion_of bytes job.time_digits job.energy_digits ≡ Ok whole
+  pub converted : IsConverted job.time_digits job.energy_digits bytes whole
+
+-- the first broken rule: of the length of the bytes, the digits of the words, the first broken byte
+abbrev pub IsConvertRefused : ConvertJob → List ℕ → Refusal → Type 0
+IsConvertRefused job bytes (refusal.Literal fault) =
+    conversion_of bytes job.time_digits job.energy_digits ≡ Err fault
+IsConvertRefused job bytes other = ⊥
+
+-- the bytes become some text, and nothing is put
+pub record PutsNothing (job : ConvertJob) (bytes text : List ℕ) : Type 0 where
+  pub whole : List ℕ
+  pub becomes : BecomesWhole job bytes whole
+  pub text_is : text ≡ []
+
+-- the first broken rule
+pub record PutsConvertRefusal (job : ConvertJob) (bytes text : List ℕ) : Type 0 where
+  pub refusal : Refusal
+  pub rule : IsRule refusal
+  pub refused : IsConvertRefused job bytes refusal
+  pub text_is : text ≡ refusal_text refusal
+
+-- the text that belongs to a status
+abbrev pub ConvertAnswers : ConvertJob → List ℕ → Status → List ℕ → Type 0
+ConvertAnswers job bytes status.Done text = PutsNothing job bytes text
+ConvertAnswers job bytes status.Refused text = PutsConvertRefusal job bytes text
+ConvertAnswers job bytes other text = ⊥

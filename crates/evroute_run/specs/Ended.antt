@@ -1,0 +1,36 @@
+-- Why a step of a job is the last: the first rule is broken, or memory was refused.
+use Rattle.std.specs.Prelude.{List, Option, ℕ}
+use Rattle.command_line.specs.declared.Options.{Options}
+use Rattle.evroute_run.specs.CheckAnswer.{IsCheckRefused}
+use Rattle.evroute_run.specs.FixedAnswer.{IsRefused}
+use Rattle.evroute_run.specs.FleetAnswer.{IsFleetRefused}
+use Rattle.evroute_run.specs.LimitedNetwork.{IsNetworkRefused}
+use Rattle.plan_writer.specs.RefusalText.{IsRule}
+use Rattle.evroute_run.specs.declared.answer.Ended.{Ended}
+use Rattle.evroute_run.specs.declared.answer.Ended.TheVariants.{Refused, Memory}
+
+-- a step that is the last by a refusal names a rule
+abbrev pub IsRuleOrMemory : Ended → Type 0
+IsRuleOrMemory (Refused refusal) = IsRule refusal
+IsRuleOrMemory Memory = Unit {0}
+
+-- of the steps that each job has
+abbrev pub IsNetworkEnded : Option ℕ → List ℕ → Ended → Type 0
+IsNetworkEnded limit bytes (Refused refusal) = IsRule refusal × IsNetworkRefused limit bytes refusal
+IsNetworkEnded limit bytes Memory = Unit {0}
+
+-- of `fixed`
+abbrev pub IsEnded : Options → List ℕ → List ℕ → Ended → Type 0
+IsEnded options word bytes (Refused refusal) = IsRule refusal × IsRefused options word bytes refusal
+IsEnded options word bytes Memory = Unit {0}
+
+-- of `check`
+abbrev pub IsCheckEnded : Option ℕ → List ℕ → List ℕ → List ℕ → Ended → Type 0
+IsCheckEnded limit bytes plan_bytes cert_bytes (Refused refusal) =
+    IsRule refusal × IsCheckRefused limit bytes plan_bytes cert_bytes refusal
+IsCheckEnded limit bytes plan_bytes cert_bytes Memory = Unit {0}
+
+-- of `fleet`
+abbrev pub IsFleetEnded : Option ℕ → List ℕ → Ended → Type 0
+IsFleetEnded limit bytes (Refused refusal) = IsRule refusal × IsFleetRefused limit bytes refusal
+IsFleetEnded limit bytes Memory = Unit {0}

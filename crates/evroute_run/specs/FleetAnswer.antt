@@ -1,0 +1,130 @@
+-- What `fleet` writes and puts on the bytes of its instance.
+use Rattle.std.specs.Prelude.{◌≡◌, ◌↔◌, ℕ, ◌*◌, ◌<◌, Bool, true, false, List, Option, None, Some, length, if◌then◌else◌}
+use Rattle.bound_certificate.specs.CertificateTexts.{certificate_text}
+use Rattle.bound_certificate.specs.Written.{written}
+use Rattle.bound_certificate.specs.declared.certificate.Certificate.{Certificate}
+use Rattle.bound_certificate.specs.declared.certificate.Root.{Root}
+use Rattle.bound_certificate.specs.declared.certificate.Root.TheVariants as root
+use Rattle.certificate_check.specs.Accepted.{IsSectionAt}
+use Rattle.certificate_check.specs.Truth.{IsLeastCost, IsTrueBound}
+use Rattle.command_line.specs.Words.{FleetJob}
+use Rattle.ev_fleet.specs.Outcome.{IsOutcome, LeavesGap}
+use Rattle.ev_fleet.specs.Plans.{cost_held}
+use Rattle.ev_fleet.specs.declared.outcome.Outcome.{Outcome}
+use Rattle.ev_model.specs.Network.{IsNetwork, Network}
+use Rattle.ev_outside.specs.Shelf.{Files, HoldsUnder}
+use Rattle.fleet_model.specs.Prices.{sum_of}
+use Rattle.fleet_model.specs.Section.{Section}
+use Rattle.instance_reader.specs.Faults.{IsFirstFault}
+use Rattle.plan_writer.specs.FleetText.{IsExactLine, fleet_text}
+use Rattle.plan_writer.specs.RefusalText.{IsRule, refusal_text}
+use Rattle.plan_writer.specs.declared.fleet.Outcomes.{Outcomes}
+use Rattle.plan_writer.specs.declared.fleet.RootLine.{RootLine}
+use Rattle.plan_writer.specs.declared.fleet.RootLine.TheVariants as line
+use Rattle.plan_writer.specs.declared.refusal.Refusal.{Refusal}
+use Rattle.plan_writer.specs.declared.refusal.Refusal.TheVariants as refusal
+use Rattle.route_plan.specs.PlanTexts.{fleet_plan_text}
+use Rattle.evroute_run.specs.CheckAnswer.{HasFleetNetwork, customer_count, most_customers}
+use Rattle.evroute_run.specs.LimitedNetwork.{HasNetwork, IsPastLimit}
+use Rattle.evroute_run.specs.declared.status.Status.{Status}
+use Rattle.evroute_run.specs.declared.status.Status.TheVariants as status
+
+-- the first broken rule: of the instance, the limit, the count of customers
+abbrev pub IsFleetRefused : Option ℕ → List ℕ → Refusal → Type 0
+IsFleetRefused limit bytes (refusal.Instance fault) = IsFirstFault bytes fault
+IsFleetRefused limit bytes (refusal.Limit given) = IsPastLimit limit bytes given
+IsFleetRefused limit bytes (refusal.Customers count) =
+    (g : Network) × HasNetwork limit bytes g × (count ≡ customer_count g) × (most_customers < count)
+IsFleetRefused limit bytes other = ⊥
+
+-- what the line of a certificate's root tells: nothing where there is no fractional cover; of an exact root the price sum of
+-- section 0 over its weight, which no fractional cover costs less than, in units of time and in lowest terms; or that the
+-- root is wide
+abbrev pub TellsKind : Network → Certificate → Root → RootLine → Type 0
+TellsKind g c root.None told = told ≡ line.Empty
+TellsKind g c (root.Exact over shares) told =
+    (s : Section) × IsSectionAt c 0 s × IsLeastCost g s
+    × IsExactLine (sum_of s.prices) (s.weight * g.denominator) told
+TellsKind g c (root.Wide columns basis) told = told ≡ line.Wide
+
+abbrev pub TellsRootOf : Network → Certificate → RootLine → Type 0
+TellsRootOf g c told = TellsKind g c c.root told
+
+-- the status of a search with this bound: there is no fleet plan; or the budget ended it; or it came to its end
+abbrev pub search_status : Option ℕ → Bool → Status
+search_status None stopped = status.Negative
+search_status (Some bound) true = status.Stopped
+search_status (Some bound) false = status.Done
+
+-- the cost and the bound are the same number
+abbrev pub IsClosed : Option ℕ → Option ℕ → Type 0
+IsClosed cost bound = (n : ℕ) × (cost ≡ Some n) × (bound ≡ Some n)
+
+-- a budget is given, the certificate has as many sections, and the cost is above the bound, or no plan is held though the
+-- bound is a number
+abbrev pub IsUsedUp : Network → Option ℕ → Outcome → Type 0
+IsUsedUp g budget o =
+    (budget ≡ Some (length o.certificate.sections))
+    × LeavesGap (cost_held g o.plan) o.certificate.bound
+
+-- what the status of a search with this budget tells of its answer
+pub record StatusTells (g : Network) (budget : Option ℕ) (o : Outcome) (ended : Status) : Type 0 where
+  pub done : (ended ≡ status.Done) ↔ IsClosed (cost_held g o.plan) o.certificate.bound
+  pub stopped : (ended ≡ status.Stopped) ↔ IsUsedUp g budget o
+  pub negative : (ended ≡ status.Negative) ↔ (o.certificate.bound ≡ None)
+  -- there is no fleet plan where it is negative, in any fraction of a unit
+  pub infeasible : ended ≡ status.Negative → IsTrueBound g None
+  -- and without a budget it is negative wherever there is none
+  pub complete : budget ≡ None → IsTrueBound g None → ended ≡ status.Negative
+
+-- what is reported of a search
+abbrev pub outcomes_of : Network → Outcome → RootLine → Outcomes
+outcomes_of g o told = record {
+  cost = cost_held g o.plan;
+  bound = o.certificate.bound;
+  root = told;
+  stopped = if o.stopped then Some o.nodes else None;
+}
+
+-- A search with this budget found a plan, or holds none, and a certificate, and these are the text of the plan file, the text
+-- of the certificate, the status and the report. The bound is true: no fleet plan costs less, in any fraction of a unit;
+-- where there is none, there is no fleet plan, in any fraction.
+pub record IsFound (g : Network) (budget : Option ℕ)
+    (plan_bytes cert_bytes : List ℕ) (ended : Status) (text : List ℕ) : Type 0 where
+  pub is_network : IsNetwork g
+  pub outcome : Outcome
+  pub is : IsOutcome g budget outcome
+  pub true_bound : IsTrueBound g outcome.certificate.bound
+  pub plan_is : plan_bytes ≡ fleet_plan_text outcome.plan
+  pub cert_is : cert_bytes ≡ certificate_text g (written g outcome.certificate)
+  pub root : RootLine
+  pub root_is : TellsRootOf g outcome.certificate root
+  pub status_is : ended ≡ search_status outcome.certificate.bound outcome.stopped
+  pub tells : StatusTells g budget outcome ended
+  pub text_is : text ≡ fleet_text g.denominator (outcomes_of g outcome root)
+
+-- what was found on the instance of the bytes is put, and stands in the two written files
+pub record PutsFound (job : FleetJob) (bytes : List ℕ) (new : Option Files)
+    (ended : Status) (text : List ℕ) : Type 0 where
+  pub network : Network
+  pub fleet : HasFleetNetwork job.limit bytes network
+  pub plan_bytes : List ℕ
+  pub cert_bytes : List ℕ
+  pub found : IsFound network job.nodes plan_bytes cert_bytes ended text
+  pub plan : HoldsUnder new job.plan plan_bytes
+  pub cert : HoldsUnder new job.cert cert_bytes
+
+-- the line of the first broken rule is put
+pub record PutsFleetRefusal (job : FleetJob) (bytes text : List ℕ) : Type 0 where
+  pub refusal : Refusal
+  pub rule : IsRule refusal
+  pub refused : IsFleetRefused job.limit bytes refusal
+  pub text_is : text ≡ refusal_text refusal
+
+-- the text that belongs to a status, where these files were left
+abbrev pub FleetAnswers : FleetJob → List ℕ → Option Files → Status → List ℕ → Type 0
+FleetAnswers job bytes new status.Done text = PutsFound job bytes new status.Done text
+FleetAnswers job bytes new status.Negative text = PutsFound job bytes new status.Negative text
+FleetAnswers job bytes new status.Stopped text = PutsFound job bytes new status.Stopped text
+FleetAnswers job bytes new status.Refused text = PutsFleetRefusal job bytes text
+FleetAnswers job bytes new other text = ⊥

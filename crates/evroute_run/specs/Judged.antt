@@ -1,0 +1,23 @@
+-- What the judges of a plan and of a certificate find.
+use Rattle.std.specs.Prelude.{◌≡◌, Option}
+use Rattle.bound_certificate.specs.declared.certificate.Certificate.{Certificate}
+use Rattle.certificate_check.specs.Accepted.{IsAccepted}
+use Rattle.certificate_check.specs.Truth.{IsTrueCertificate}
+use Rattle.ev_model.specs.Network.{Network}
+use Rattle.plan_writer.specs.declared.check.Judgement.{Judgement}
+use Rattle.plan_writer.specs.declared.check.Judgement.TheVariants as judgement
+use Rattle.route_plan.specs.declared.plan.FleetPlan.{FleetPlan}
+use Rattle.evroute_run.specs.CheckAnswer.{IsRejection, IsValid}
+use Rattle.evroute_run.specs.declared.status.Status.{Status}
+use Rattle.evroute_run.specs.declared.status.Status.TheVariants as status
+
+-- both are accepted, or the first broken rule is found
+abbrev pub IsJudgementOf : Network → Option FleetPlan → Certificate → Judgement → Type 0
+IsJudgementOf g plan c (judgement.Accepted cost bound) =
+    IsValid g plan cost × IsAccepted g c × IsTrueCertificate g c × (bound ≡ c.bound)
+IsJudgementOf g plan c found = IsRejection g plan c found
+
+-- the status of what is found
+abbrev pub judged_status : Judgement → Status
+judged_status (judgement.Accepted cost bound) = status.Done
+judged_status found = status.Negative

@@ -1,0 +1,12 @@
+pub mod Codes
+pub mod LimitedNetwork
+pub mod FixedAnswer
+pub mod CheckAnswer
+pub mod FleetAnswer
+pub mod Judged
+pub mod ConvertAnswer
+pub mod MakeAnswer
+pub mod Ended
+pub mod Run
+pub mod Found
+pub mod Ending

@@ -1,0 +1,162 @@
+//! The program over any files and any output.
+
+ghost use Rattle.std.specs.Prelude.{◌≡◌, ◌≢◌, ◌⊎◌, [], false, IfSome, IsNone};
+ghost use Rattle.command_line.specs.JobValue.{IsJob, job_value};
+ghost use Rattle.ev_outside.specs.Shelf.{CountsNeverFall};
+ghost use Rattle.evroute_run.specs.Codes.{code_of};
+ghost use Rattle.evroute_run.specs.Ending.{Runs};
+ghost use Rattle.evroute_run.specs.Found.{Finds};
+ghost use Rattle.evroute_run.specs.Run.{NothingFailed, Performs, TellsUsage, job_named};
+ghost use Rattle.evroute_run.specs.declared.status.Status.{Status};
+
+use crate::answer::Answer;
+use crate::check::check;
+use crate::convert::convert;
+use crate::fixed::fixed;
+use crate::fleet::fleet;
+use crate::make::make;
+use crate::status::Status;
+use crate::steps::put_answer;
+use crate::usage::put_usage;
+use command_line::{Job, job_words};
+use ev_outside::{Shelf, ShelfFault, Sink};
+use std::alloc::{AllocError, Global};
+
+/// The program: its words after its name, the files and the output.
+///
+/// `fixed FILE ROUTE [--limit N] [--charge N]` reads FILE as an instance and puts a fastest plan of
+/// the route ([`Status::Done`]), or that none is feasible ([`Status::Negative`]).
+///
+/// `fleet FILE PLAN CERT [--limit N] [--nodes N]` reads FILE as an instance, writes a fleet plan,
+/// or that none is held, into PLAN, and a certificate of what no fleet plan costs less than into
+/// CERT, and puts cost, bound and gap. Cost and bound are equal ([`Status::Done`]), or there is no
+/// fleet plan ([`Status::Negative`]), or the search looked at N nodes before that was shown
+/// ([`Status::Stopped`]).
+///
+/// `check FILE PLAN CERT [--limit N]` reads PLAN as a fleet plan and CERT as a certificate on the
+/// instance of FILE, and puts that they are accepted, with cost, bound and gap ([`Status::Done`]),
+/// or the first rule that is broken, the plan's before the certificate's ([`Status::Negative`]).
+///
+/// `convert FILE OUTFILE --time-digits N --energy-digits N` reads FILE, writes it into OUTFILE with
+/// the numbers under the keys of times and energies as whole ones, each rounded up, and puts
+/// nothing ([`Status::Done`]).
+///
+/// `make SEED CUSTOMERS STATIONS OUTFILE` makes an instance from SEED, writes it into OUTFILE, and
+/// puts how many nodes it has, its denominator and the time of a fastest plan of the route over all
+/// customers ([`Status::Done`]), or that none is feasible ([`Status::Negative`]).
+///
+/// All put the line of the first broken rule of their files and words ([`Status::Refused`]). Other
+/// words put the usage text ([`Status::Words`]). After [`Status::Fault`] and [`Status::Memory`] a
+/// part of such a text may have been put. No file but OUTFILE, PLAN and CERT is written: by
+/// `convert` and `fleet` only where no rule is broken, by `make` wherever an instance is made. What
+/// it holds after a failed write isn't known.
+pub fn run<S: Shelf, K: Sink>(alloc: Global, words: &[String], shelf: &mut S, out: &mut K) -> Status
+    ensures words { result ≡ Status.Words → IsNone (job_named words.now) }
+    ensures usage { IsNone (job_named words.now)
+        → TellsUsage (S.state shelf.old) (S.state shelf.new)
+        (K.state out.old) (K.state out.new) result }
+    ensures job { IfSome (job_named words.now) (λ job.
+        Performs job (S.state shelf.old) (S.state shelf.new)
+        (K.state out.old) (K.state out.new) result) }
+    ensures stays { result ≢ Status.Fault
+        → NothingFailed (S.state shelf.old) (S.state shelf.new)
+        (K.state out.old) (K.state out.new) }
+    ensures falls { CountsNeverFall (S.state shelf.old) (S.state shelf.new) }
+
+    // With an output that takes no memory, nothing was put where memory was refused, and none is
+    // refused where there are no words.
+    ensures memory { K.takes_memory ≡ false → result ≡ Status.Memory
+        → K.state out.new ≡ K.state out.old }
+    ensures no_words { K.takes_memory ≡ false → words.now ≡ []
+        → (result ≡ Status.Words) ⊎ (result ≡ Status.Fault) }
+{
+    match job_words(alloc, words) {
+        Ok(Some(job)) => perform(alloc, &job, shelf, out),
+        Ok(None) => put_usage(out),
+        Err(AllocError) => Status::Memory,
+    }
+}
+
+/// The program as the system sees it: [`run`], and the exit status of its status. It ends and does
+/// what `run` says.
+pub fn exit_code<S: Shelf, K: Sink>(
+    alloc: Global,
+    words: &[String],
+    shelf: &mut S,
+    out: &mut K,
+) -> u8
+    ensures { (ended : Status) × (result ≡ code_of ended)
+        × Runs words.now K.takes_memory (S.state shelf.old) (S.state shelf.new)
+        (K.state out.old) (K.state out.new) ended }
+{
+    run(alloc, words, shelf, out).code()
+}
+
+/// A job: its answer is found and put.
+fn perform<S: Shelf, K: Sink>(alloc: Global, job: &Job, shelf: &mut S, out: &mut K) -> Status
+    requires { IsJob job.now }
+    ensures words { result ≢ Status.Words }
+    ensures job { Performs (job_value job.now) (S.state shelf.old) (S.state shelf.new)
+        (K.state out.old) (K.state out.new) result }
+    ensures stays { result ≢ Status.Fault
+        → NothingFailed (S.state shelf.old) (S.state shelf.new)
+        (K.state out.old) (K.state out.new) }
+    ensures falls { CountsNeverFall (S.state shelf.old) (S.state shelf.new) }
+    ensures memory { K.takes_memory ≡ false → result ≡ Status.Memory
+        → K.state out.new ≡ K.state out.old }
+{
+    match find_answer(alloc, job, shelf) {
+        Ok(answer) => put_answer(&answer, out),
+        Err(ShelfFault::Failed) => Status::Fault,
+        Err(ShelfFault::Memory) => Status::Memory,
+    }
+}
+
+/// The answer to a job, or why there is none.
+fn find_answer<S: Shelf>(alloc: Global, job: &Job, shelf: &mut S) -> Result<Answer, ShelfFault>
+    requires { IsJob job.now }
+    ensures { Finds (job_value job.now) (S.state shelf.old) (S.state shelf.new) result }
+{
+    match job {
+        Job::Fixed(job) => fixed(
+            alloc,
+            job.file.as_str(),
+            job.route.as_str(),
+            job.options,
+            shelf,
+        ),
+        Job::Fleet(job) => fleet(
+            alloc,
+            job.file.as_str(),
+            job.plan.as_str(),
+            job.cert.as_str(),
+            job.limit,
+            job.nodes,
+            shelf,
+        ),
+        Job::Check(job) => check(
+            alloc,
+            job.file.as_str(),
+            job.plan.as_str(),
+            job.cert.as_str(),
+            job.limit,
+            shelf,
+        ),
+        Job::Convert(job) => convert(
+            alloc,
+            job.file.as_str(),
+            job.outfile.as_str(),
+            job.time_digits,
+            job.energy_digits,
+            shelf,
+        ),
+        Job::Make(job) => make(
+            alloc,
+            job.seed,
+            job.customers,
+            job.stations,
+            job.outfile.as_str(),
+            shelf,
+        ),
+    }
+}

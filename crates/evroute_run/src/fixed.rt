@@ -1,0 +1,198 @@
+//! The answer of `fixed`: one route of an instance is charged.
+
+ghost use Rattle.std.specs.Prelude.{◌≡◌, ◌≤◌, IfErr, IfOk, List, None, Some, length, ℕ};
+ghost use Rattle.command_line.specs.Words.{FixedRoute, job_with};
+ghost use Rattle.command_line.specs.declared.Options.{Options};
+ghost use Rattle.ev_model.specs.Feasible.{IsFeasible};
+ghost use Rattle.ev_model.specs.Route.{IsRoute};
+ghost use Rattle.ev_model.specs.Time.{time_of};
+ghost use Rattle.evroute_run.specs.Ended.{IsEnded};
+ghost use Rattle.evroute_run.specs.FixedAnswer.{FixedAnswers, HasStart, IsTask, start_of};
+ghost use Rattle.evroute_run.specs.Found.{Finds};
+ghost use Rattle.evroute_run.specs.LimitedNetwork.{HasNetwork};
+ghost use Rattle.evroute_run.specs.Run.{IsAnswered};
+ghost use Rattle.plan_writer.specs.FixedText.{fixed_text};
+ghost use Rattle.route_plan.specs.Limits.{most_route_nodes};
+ghost use Rattle.route_plan.specs.RouteWords.{SpellsRoute};
+
+use crate::answer::{Answer, Ended, refuse};
+use crate::instance::limited_instance;
+use crate::status::Status;
+use crate::steps::{MOST_BYTES, read_file};
+use command_line::Options;
+use ev_outside::{Shelf, ShelfFault};
+use frvcp_labels::solve_route;
+use instance_reader::Instance;
+use plan_writer::{Refusal, push_fixed};
+use route_plan::{RouteFault, RoutePlan, read_route, walk};
+use std::alloc::{AllocError, Global};
+
+/// The answer of `fixed`: the file is read as an instance, and its route is charged.
+pub fn fixed<S: Shelf>(
+    alloc: Global,
+    file: &str,
+    route: &str,
+    options: Options,
+    shelf: &mut S,
+) -> Result<Answer, ShelfFault>
+    ensures { Finds (FixedRoute (job_with file.now route.now options))
+        (S.state shelf.old) (S.state shelf.new) result }
+{
+    let bytes = match read_file(alloc, file, MOST_BYTES, shelf) {
+        Ok(bytes) => bytes,
+        Err(fault) => return Err(fault),
+    };
+    match answer_to(alloc, bytes.as_slice(), route, options) {
+        Ok(answer) => Ok(answer),
+        Err(AllocError) => Err(ShelfFault::Memory),
+    }
+}
+
+/// The answer to the bytes of a file and the word of a route.
+fn answer_to(
+    alloc: Global,
+    bytes: &[u8],
+    word: &str,
+    options: Options,
+) -> Result<Answer, AllocError>
+    ensures answered { IfOk result (λ a. IsAnswered a.status) }
+    ensures answers { IfOk result
+        (λ a. FixedAnswers options word.now bytes.now a.status a.text.items) }
+{
+    match charge_file(alloc, bytes, word, options) {
+        Ok(answer) => Ok(answer),
+        Err(Ended::Refused(refusal)) => refuse(alloc, refusal),
+        Err(Ended::Memory) => Err(AllocError),
+    }
+}
+
+/// The charged route, or why there is none.
+fn charge_file(alloc: Global, bytes: &[u8], word: &str, options: Options) -> Result<Answer, Ended>
+    ensures ok { IfOk result (λ a. FixedAnswers options word.now bytes.now a.status a.text.items) }
+    ensures answered { IfOk result (λ a. IsAnswered a.status) }
+    ensures ended { IfErr result (IsEnded options word.now bytes.now) }
+{
+    match limited_instance(alloc, bytes, options.limit) {
+        Ok(inst) => charge_on(alloc, &inst, word, options),
+        Err(ended) => Err(ended),
+    }
+}
+
+/// The charged route of an instance whose limit is that of the words.
+fn charge_on(alloc: Global, inst: &Instance, word: &str, options: Options) -> Result<Answer, Ended>
+    ensures ok { (bytes : List ℕ) → HasNetwork options.limit bytes inst.now
+        → IfOk result (λ a. FixedAnswers options word.now bytes a.status a.text.items) }
+    ensures ended { (bytes : List ℕ) → HasNetwork options.limit bytes inst.now
+        → IfErr result (IsEnded options word.now bytes) }
+    ensures answered { IfOk result (λ a. IsAnswered a.status) }
+{
+    match start(inst, options) {
+        Ok(start) => match route(alloc, word, inst) {
+            Ok(route) => charge_from(alloc, inst, route.as_slice(), start),
+            Err(ended) => Err(ended),
+        },
+        Err(ended) => Err(ended),
+    }
+}
+
+/// The level at which the vehicle starts.
+fn start(inst: &Instance, options: Options) -> Result<u64, Ended>
+    ensures ok { IfOk result (λ level. (level ≡ start_of inst.now options.charge)) }
+    ensures within { IfOk result (λ level. level ≤ inst.now.capacity) }
+    ensures ended { (word bytes : List ℕ) → HasNetwork options.limit bytes inst.now
+        → IfErr result (IsEnded options word bytes) }
+{
+    let full = inst.max_q();
+    match options.charge {
+        Some(level) => {
+            if level <= full {
+                Ok(level)
+            } else {
+                Err(Ended::Refused(Refusal::Charge(level)))
+            }
+        }
+        None => Ok(full),
+    }
+}
+
+/// The route of the word.
+fn route(alloc: Global, word: &str, inst: &Instance) -> Result<Vec<usize>, Ended>
+    ensures spelled { IfOk result (λ nodes. SpellsRoute word.now nodes.items) }
+    ensures is_route { IfOk result (λ nodes. IsRoute inst.now nodes.items) }
+    ensures short { IfOk result (λ nodes. length nodes.items ≤ most_route_nodes) }
+    ensures ended { (options : Options) (bytes : List ℕ) → HasStart options bytes inst.now
+        → IfErr result (IsEnded options word.now bytes) }
+{
+    match read_route(alloc, word, inst) {
+        Ok(nodes) => Ok(nodes),
+        Err(RouteFault::Memory) => Err(Ended::Memory),
+        Err(fault) => Err(Ended::Refused(Refusal::Route(fault))),
+    }
+}
+
+/// The text of a fastest plan of the route, or that there is none.
+fn charge_from(alloc: Global, inst: &Instance, route: &[usize], start: u64) -> Result<Answer, Ended>
+    requires route { IsRoute inst.now route.now }
+    requires start { start ≤ inst.now.capacity }
+    ensures ok { (options : Options) (word bytes : List ℕ)
+        → IsTask options word bytes inst.now route.now
+        → start ≡ start_of inst.now options.charge
+        → IfOk result (λ a. FixedAnswers options word bytes a.status a.text.items) }
+    ensures ended { (options : Options) (word bytes : List ℕ)
+        → IsTask options word bytes inst.now route.now
+        → IfErr result (IsEnded options word bytes) }
+    ensures answered { IfOk result (λ a. IsAnswered a.status) }
+{
+    let Ok(plan) = solve_route(alloc, inst, route, start) else {
+        return Err(Ended::Memory);
+    };
+    match plan {
+        Some(plan) => report_plan(alloc, inst, start, &plan),
+        None => infeasible(alloc, inst),
+    }
+}
+
+/// The text of a feasible plan.
+fn report_plan(
+    alloc: Global,
+    inst: &Instance,
+    start: u64,
+    plan: &RoutePlan,
+) -> Result<Answer, Ended>
+    requires start { start ≤ inst.now.capacity }
+    requires feasible { IsFeasible inst.now 1 start plan.now.stops }
+    ensures status { IfOk result (λ a. a.status ≡ Status.Done) }
+    ensures text { IfOk result (λ a. a.text.items
+        ≡ fixed_text inst.now.denominator
+        (Some (plan.now.stops, time_of inst.now 1 start plan.now.stops))) }
+    ensures memory { IfErr result (λ e. e ≡ Ended.Memory) }
+{
+    let Ok(walk) = walk(inst, start, plan.stops.as_slice()) else {
+        // A feasible plan is walked to its end.
+        unreachable!()
+    };
+    let mut text = Vec::new(alloc);
+    match push_fixed(alloc, &mut text, inst, Some((plan, walk.time))) {
+        Ok(()) => Ok(Answer {
+            status: Status::Done,
+            text,
+        }),
+        Err(_) => Err(Ended::Memory),
+    }
+}
+
+/// The text of a route without a feasible plan.
+fn infeasible(alloc: Global, inst: &Instance) -> Result<Answer, Ended>
+    ensures status { IfOk result (λ a. a.status ≡ Status.Negative) }
+    ensures text { IfOk result (λ a. a.text.items ≡ fixed_text inst.now.denominator None) }
+    ensures memory { IfErr result (λ e. e ≡ Ended.Memory) }
+{
+    let mut text = Vec::new(alloc);
+    match push_fixed(alloc, &mut text, inst, None) {
+        Ok(()) => Ok(Answer {
+            status: Status::Negative,
+            text,
+        }),
+        Err(_) => Err(Ended::Memory),
+    }
+}

@@ -1,0 +1,27 @@
+//! What `evroute` does: its words become a job, which is done over any files and any output.
+#![tactic(auto)]
+
+mod answer;
+mod check;
+mod command;
+mod convert;
+mod diagnostics;
+mod ending;
+mod fixed;
+mod fleet;
+mod instance;
+mod judging;
+mod make;
+mod message;
+mod planning;
+mod status;
+mod steps;
+mod sure;
+mod usage;
+
+pub use command::{exit_code, run};
+pub use diagnostics::{Diagnostics, SystemDiagnostics};
+pub use ending::{LastFailure, run_to_end};
+pub use message::Message;
+pub use status::Status;
+pub use sure::run_surely;

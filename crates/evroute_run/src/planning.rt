@@ -1,0 +1,140 @@
+//! What `fleet` writes and puts of a search.
+
+ghost use Rattle.std.specs.Prelude.{◌≡◌, ◌*◌, ◌≤◌, IfOk, IfSome, None, Option, Some, if◌then◌else◌, ℕ};
+ghost use Rattle.bound_certificate.specs.Ranges.{Fits, SectionFits};
+ghost use Rattle.certificate_check.specs.Accepted.{IsAccepted};
+ghost use Rattle.ev_fleet.specs.Outcome.{IsOutcome};
+ghost use Rattle.ev_model.specs.Network.{IsNetwork};
+ghost use Rattle.evroute_run.specs.CheckAnswer.{customer_count, most_customers};
+ghost use Rattle.evroute_run.specs.FleetAnswer.{IsFound, TellsRootOf, outcomes_of, search_status};
+ghost use Rattle.fleet_model.specs.Prices.{sum_of};
+ghost use Rattle.plan_writer.specs.FleetText.{IsExactLine, IsLowestLine, fleet_text};
+
+use crate::answer::Answer;
+use crate::judging::cost_of;
+use crate::status::Status;
+use bound_certificate::{Certificate, Root, Section, push_certificate};
+use certificate_check::price_total;
+use ev_fleet::{Outcome, plan_fleet};
+use instance_reader::Instance;
+use plan_writer::{Outcomes, RootLine, push_fleet_report};
+use route_plan::push_fleet_plan;
+use std::alloc::{AllocError, Global};
+
+/// What is written and put of a search.
+#[derive(Drop)]
+pub struct Planned {
+    /// The text of the plan file.
+    pub plan: Vec<u8>,
+    /// The text of the certificate.
+    pub cert: Vec<u8>,
+    /// The report, and the status that goes with it.
+    pub answer: Answer,
+}
+
+/// The texts of a fleet plan and of a certificate on an instance without too many customers, and
+/// the report on both; with a budget, which is the greatest number of nodes that are looked at, of
+/// what is found by then.
+pub fn plan_all(alloc: Global, inst: &Instance, nodes: Option<u64>) -> Result<Planned, AllocError>
+    requires few { customer_count inst.now ≤ most_customers }
+    requires nodes { IfSome nodes (λ most. 1 ≤ most) }
+    ensures { IfOk result (λ p. IsFound inst.now nodes p.plan.items p.cert.items
+        p.answer.status p.answer.text.items) }
+{
+    // That the instance's network is one is told by its calls; on it rests that the bound is true.
+    let _nodes = inst.nodes();
+    let outcome = plan_fleet(alloc, inst, nodes)?;
+    let mut plan = Vec::new(alloc);
+    push_fleet_plan(alloc, &mut plan, outcome.plan.as_ref())?;
+    let mut cert = Vec::new(alloc);
+    push_certificate(alloc, &mut cert, inst, &outcome.certificate)?;
+    let answer = report(alloc, inst, &outcome)?;
+    Ok(Planned { plan, cert, answer })
+}
+
+/// The report on a search, and its status.
+fn report(alloc: Global, inst: &Instance, outcome: &Outcome) -> Result<Answer, AllocError>
+    requires few { customer_count inst.now ≤ most_customers }
+    requires network { IsNetwork inst.now }
+    requires outcome { (budget : Option ℕ) × IsOutcome inst.now budget outcome.now }
+    ensures status { IfOk result (λ a. a.status
+        ≡ search_status outcome.now.certificate.bound outcome.now.stopped) }
+    ensures text { IfOk result (λ a. (told : RootLine)
+        × TellsRootOf inst.now outcome.now.certificate told
+        × (a.text.items ≡ fleet_text inst.now.denominator
+        (outcomes_of inst.now outcome.now told))) }
+{
+    let Ok(cost) = cost_of(inst, outcome.plan.as_ref()) else {
+        // A plan that is held breaks no rule.
+        unreachable!()
+    };
+    let outcomes = Outcomes {
+        cost,
+        bound: outcome.certificate.bound,
+        root: root_line(inst, &outcome.certificate),
+        stopped: looked_at(outcome),
+    };
+    let mut text = Vec::new(alloc);
+    push_fleet_report(alloc, &mut text, inst, &outcomes)?;
+    Ok(Answer {
+        status: search_status(outcomes.bound, outcome.stopped),
+        text,
+    })
+}
+
+/// How many nodes were looked at, where the budget ended the search.
+fn looked_at(outcome: &Outcome) -> Option<u64>
+    ensures { result ≡ (if outcome.now.stopped then Some outcome.now.nodes else None) }
+{
+    if outcome.stopped {
+        Some(outcome.nodes)
+    } else {
+        None
+    }
+}
+
+/// The status of a search with this bound.
+fn search_status(bound: Option<u128>, stopped: bool) -> Status
+    ensures { result ≡ search_status bound stopped }
+{
+    match bound {
+        None => Status::Negative,
+        Some(_) => {
+            if stopped {
+                Status::Stopped
+            } else {
+                Status::Done
+            }
+        }
+    }
+}
+
+/// The line of the root of an accepted certificate.
+fn root_line(inst: &Instance, cert: &Certificate) -> RootLine
+    requires few { customer_count inst.now ≤ most_customers }
+    requires network { IsNetwork inst.now }
+    requires fits { Fits inst.now cert.now }
+    requires accepted { IsAccepted inst.now cert.now }
+    ensures told { TellsRootOf inst.now cert.now result }
+    ensures lowest { IsLowestLine result }
+{
+    let sections = cert.sections.as_slice();
+    match &cert.root {
+        Root::None => RootLine::Empty,
+        Root::Exact { .. } => exact_line(inst, &sections[0]),
+        Root::Wide { .. } => RootLine::Wide,
+    }
+}
+
+/// The line of an exact root with this section.
+fn exact_line(inst: &Instance, section: &Section) -> RootLine
+    requires few { customer_count inst.now ≤ most_customers }
+    requires fits { SectionFits inst.now section.now }
+    requires weight { 1 ≤ section.now.weight }
+    ensures value { IsExactLine (sum_of section.now.prices)
+        (section.now.weight * inst.now.denominator) result }
+    ensures lowest { IsLowestLine result }
+{
+    let sum = price_total(section.prices.as_slice());
+    RootLine::exact(sum, section.weight, inst)
+}

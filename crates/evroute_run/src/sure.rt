@@ -1,0 +1,24 @@
+//! The program over files and an output that never fail.
+
+ghost use Rattle.std.specs.Prelude.{◌≡◌, ◌≢◌, true};
+ghost use Rattle.ev_outside.specs.Sure.{sure_output, sure_state};
+ghost use Rattle.evroute_run.specs.Ending.{Runs};
+
+use crate::command::run;
+use crate::status::Status;
+use ev_outside::{SureShelf, SureSink};
+use std::alloc::Global;
+
+/// [`run`] over files and an output that never fail. It never ends with [`Status::Fault`].
+pub fn run_surely(
+    alloc: Global,
+    words: &[String],
+    shelf: &mut SureShelf,
+    out: &mut SureSink,
+) -> Status
+    ensures runs { Runs words.now true (sure_state shelf.old) (sure_state shelf.new)
+        (sure_output out.old) (sure_output out.new) result }
+    ensures sure { result ≢ Status.Fault }
+{
+    run(alloc, words, shelf, out)
+}
