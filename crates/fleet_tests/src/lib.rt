@@ -1,0 +1,18 @@
+//! Tests of the search for the cheapest plan of a fleet: worked instances, drawn ones beside a
+//! plain enumeration of all plans, one that takes several nodes, and as many customers as may be.
+#![tactic(auto)]
+
+#[cfg(test)]
+mod crowd;
+#[cfg(test)]
+mod drawn;
+#[cfg(test)]
+mod enumerated;
+#[cfg(test)]
+mod random;
+#[cfg(test)]
+mod several_nodes;
+#[cfg(test)]
+mod told;
+#[cfg(test)]
+mod worked;

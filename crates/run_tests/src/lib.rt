@@ -1,0 +1,22 @@
+//! Tests of the program over files and outputs in memory, and over those of the system. They stand
+//! here so that the program isn't proved once more with them.
+#![tactic(auto)]
+
+#[cfg(test)]
+mod certificates;
+#[cfg(test)]
+mod commands;
+#[cfg(test)]
+mod failing;
+#[cfg(test)]
+mod files;
+#[cfg(test)]
+mod fleets;
+#[cfg(test)]
+mod long_files;
+#[cfg(test)]
+mod many_customers;
+#[cfg(test)]
+mod sure;
+#[cfg(test)]
+mod system;
