@@ -1,7 +1,7 @@
 //! The lines that each command puts: reports and refusals.
 
 ghost use Rattle.std.specs.Prelude.{◌≢◌};
-ghost use Rattle.plan_writer.specs.FleetText.{IsLowest};
+ghost use Rattle.plan_writer.specs.FleetText.{IsLowestLine};
 
 use bound_certificate::CertText;
 use certificate_check::Verdict;
@@ -245,7 +245,7 @@ fn accepted_certificates_have_their_lines(rt: HostRuntime) {
 /// wide.
 fn root_of(inst: &Instance, price_sum: i128, weight: u64) -> RootLine
     ensures some { result ≢ RootLine.Empty }
-    ensures lowest { IsLowest result }
+    ensures lowest { IsLowestLine result }
 {
     if weight == 0 || weight > 1 << 40 {
         return RootLine::Wide;
@@ -329,7 +329,7 @@ fn a_search_has_its_report(rt: HostRuntime) {
 
 /// The report on a search that shows that there is no fleet plan.
 fn no_plan_lines(alloc: Global, inst: &Instance, root: RootLine) -> Option<Vec<u8>>
-    requires { IsLowest root }
+    requires { IsLowestLine root }
 {
     let outcomes = Outcomes {
         cost: None,
