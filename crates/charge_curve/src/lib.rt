@@ -13,6 +13,3 @@ pub use denominator::common_denominator;
 pub use fault::CurveFault;
 pub use laws::{curves_have_one_denominator, denominator_is_that_of_the_breakpoints};
 pub use scaled::Scaled;
-
-#[cfg(test)]
-mod tests;

@@ -87,22 +87,3 @@ impl CustSet {
         self.bits == 0
     }
 }
-
-#[cfg(test)]
-mod tests {
-    use super::CustSet;
-
-    #[test]
-    fn a_set_has_the_customers_put_in(rt: HostRuntime) {
-        let set = CustSet::empty().with(127).with(0).with(127);
-        assert!(rt; set.has(0));
-        assert!(rt; set.has(127));
-        assert!(rt; !set.has(64));
-        assert_eq!(rt; set.len(), 2);
-        assert!(rt; !set.is_empty());
-        assert!(rt; CustSet::empty().is_empty());
-        assert!(rt; CustSet::empty().with(0).is_subset(set));
-        assert!(rt; !set.is_subset(CustSet::empty().with(0)));
-        assert_eq!(rt; set, CustSet::empty().with(0).with(127));
-    }
-}

@@ -178,29 +178,3 @@ impl Pairs {
         false
     }
 }
-
-#[cfg(test)]
-mod tests {
-    use super::Pairs;
-
-    #[test]
-    fn forbidden_and_required_pairs_are_told(rt: HostRuntime) {
-        let mut pairs = Pairs::new(2);
-        let all = pairs;
-        assert_eq!(rt; pairs.customers(), 2);
-        assert!(rt; pairs.allows(0, 0));
-        pairs.require(1, 2);
-        assert!(rt; !pairs.allows(1, 0));
-        assert!(rt; !pairs.allows(0, 2));
-        assert!(rt; pairs.allows(1, 2));
-        assert!(rt; pairs.allows(2, 1));
-        assert!(rt; !pairs.decided());
-        pairs.forbid(2, 1);
-        assert!(rt; !pairs.allows(2, 1));
-        assert!(rt; pairs.decided());
-        assert!(rt; all.within(&pairs));
-        assert!(rt; !pairs.within(&all));
-        assert!(rt; pairs != all);
-        assert!(rt; Pairs::new(128).allows(128, 0));
-    }
-}

@@ -14,6 +14,3 @@ mod token;
 pub use conversion::convert;
 pub use fault::ImportFault;
 pub use laws::{tokens_are_the_longest, wholes_are_the_least};
-
-#[cfg(test)]
-mod tests;

@@ -7,6 +7,3 @@ mod value;
 
 pub use row::Row;
 pub use value::{Covers, LabelValue};
-
-#[cfg(test)]
-mod tests;

@@ -34,6 +34,3 @@ pub use storage::{CallFailed, Storage, Stream};
 pub use sure_shelf::SureShelf;
 pub use sure_sink::SureSink;
 pub use system::{SystemFiles, SystemOutput};
-
-#[cfg(test)]
-mod tests;

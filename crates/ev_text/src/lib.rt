@@ -32,6 +32,3 @@ pub enum TextFault {
     #[error("the text ends too early at byte {at}")]
     End { at: usize },
 }
-
-#[cfg(test)]
-mod tests;

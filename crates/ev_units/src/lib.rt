@@ -60,6 +60,3 @@ pub fn ceil_div(a: i128, b: u64) -> i128
         floor + 1
     }
 }
-
-#[cfg(test)]
-mod tests;

@@ -9,6 +9,3 @@ mod rings;
 
 pub use heap::IndexHeap;
 pub use rings::Rings;
-
-#[cfg(test)]
-mod tests;

@@ -70,6 +70,3 @@ fn instance_text(
 {
     instance_value(alloc, seed, customers, stations)?.to_vec(alloc)
 }
-
-#[cfg(test)]
-mod tests;

@@ -10,6 +10,3 @@ mod pool;
 
 pub use label::Label;
 pub use pool::Pool;
-
-#[cfg(test)]
-mod tests;

@@ -52,6 +52,3 @@ pub fn made_instance(
         },
     }
 }
-
-#[cfg(test)]
-mod tests;

@@ -18,8 +18,3 @@ pub use laws::{an_optimum_is_the_least_cover, beside_a_ray_there_is_no_cover};
 pub use method::solve;
 pub use over::share_weight;
 pub use prices::Lp;
-
-#[cfg(test)]
-mod enumeration;
-#[cfg(test)]
-mod tests;

@@ -9,6 +9,3 @@ mod table;
 
 pub use caps::{Caps, TableFault};
 pub use table::Table;
-
-#[cfg(test)]
-mod tests;

@@ -11,6 +11,3 @@ mod reach;
 
 pub use label::Label;
 pub use piece_fn::PieceFn;
-
-#[cfg(test)]
-mod tests;

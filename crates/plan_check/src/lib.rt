@@ -9,6 +9,3 @@ mod tally;
 pub use fault::{LargeFault, PlanFault};
 pub use judge::{check_fleet, check_large};
 pub use laws::fleet_plans_break_no_rule;
-
-#[cfg(test)]
-mod tests;

@@ -17,6 +17,3 @@ pub use laws::{
     rounded_times_add_up, whole_levels_add_up, whole_plans_suffice,
 };
 pub use rounding::rounded;
-
-#[cfg(test)]
-mod tests;

@@ -21,6 +21,3 @@ pub use text::{
 };
 pub use walking::walk;
 pub use walks::{Walk, WalkFault};
-
-#[cfg(test)]
-mod tests;

@@ -9,6 +9,3 @@ mod wide;
 
 pub use listed::ListedRoute;
 pub use wide::is_too_wide;
-
-#[cfg(test)]
-mod tests;
