@@ -1,4 +1,5 @@
 mod Putting
+mod Placing
 mod Growing
 mod Alone
 mod Known

@@ -1,4 +1,5 @@
 pub mod Pool
+pub mod Placed
 pub mod Columns
 pub mod Faults
 pub mod Bounds

@@ -3,6 +3,7 @@
 ghost use Rattle.std.specs.Prelude.{◌≡◌, ◌<◌, ◌↔◌, [], IfOk, IfSome, is_some, IsSome, length, OnErr, OnOk, Some};
 ghost use Rattle.ev_model.specs.Feasible.{IsFeasible};
 ghost use Rattle.ev_model.specs.Network.{Network};
+ghost use Rattle.column_pool.specs.Placed.{IsRouteAt};
 ghost use Rattle.column_pool.specs.Pool.{AreApart, full_time, held, IsColumn, IsPool, IsPut, kept, orders_after, orders_of};
 
 use crate::pooled::Pooled;
@@ -82,15 +83,30 @@ impl ColumnPool {
     }
 
     /// How many routes there are. It takes no memory.
-    pub(crate) fn len(&self) -> usize
+    pub fn len(&self) -> usize
         ensures { result ≡ length self.now }
     {
         self.routes.len()
     }
 
+    /// The nodes of the customers of the route at a place, in order, and its plan. It takes no
+    /// memory.
+    pub fn route_at(&self, at: usize) -> Option<(&[usize], &RoutePlan)>
+        ensures found { IsSome result ↔ (at < length self.now) }
+        ensures placed { IfSome result (λ r. IsRouteAt self.now at r.0.now r.1.now) }
+        ensures column { (g : Network) → IsPool g self.now →
+            IfSome result (λ r. IsColumn g r.0.now r.1.now.stops) }
+    {
+        match self.route(at) {
+            Some((order, pooled)) => Some((order.as_slice(), &pooled.plan)),
+            None => None,
+        }
+    }
+
     /// The order, and what there is for it, at a place. It takes no memory.
     pub(crate) fn route(&self, at: usize) -> Option<(&Vec<usize>, &Pooled)>
         ensures found { IsSome result ↔ (at < length self.now) }
+        ensures placed { IfSome result (λ r. IsRouteAt self.now at r.0.now.items r.1.now.plan) }
         ensures column { (g : Network) → IsPool g self.now →
             IfSome result (λ r. IsColumn g r.0.now.items r.1.now.plan.stops) }
     {
