@@ -66,3 +66,6 @@ pub whole_more : (g : Network) (sections : List Section) (s : Section) (cost low
 whole_more g sections s cost lower most all is =
     All-push (IsNoDearer g lower) sections s
     (All-weaker (IsNoDearer g cost) (IsNoDearer g lower) (λ x old. no_dearer g lower x old.root old.shown (takes_lower g (shares_in old.root) cost lower most old.taken)) sections all) is
+
+pub reaches_lower : (s : Section) (cost lower : Option ℕ) → IsAtMost lower cost → ReachesCost cost s → ReachesCost lower s
+reaches_lower s cost lower most reaches own bounds = most_most lower cost own most (reaches own bounds)

@@ -3,11 +3,13 @@
 #![tactic(auto)]
 
 mod answer;
+mod candidates;
 mod greedy;
 mod held;
 mod outcome;
 mod own;
 mod pair;
+mod partition;
 mod search;
 mod section_bound;
 mod shares;

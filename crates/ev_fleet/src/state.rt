@@ -21,6 +21,12 @@ use instance_reader::Instance;
 use route_plan::FleetPlan;
 use std::alloc::{AllocError, Global};
 
+/// How many routes may be looked at for a plan at the root.
+const ROOT_LOOKS: u64 = 20_000_000;
+
+/// How many at every twentieth node.
+const NODE_LOOKS: u64 = 4_000_000;
+
 /// A search between two nodes.
 #[derive(Drop)]
 pub(crate) struct Search {
@@ -124,6 +130,7 @@ fn advance(alloc: Global, inst: &Instance, search: &mut Search) -> Result<Root, 
         &mut search.pool,
         &mut search.held,
         &taken.pairs,
+        looks_at(search.sections.len()),
     )?;
     let own = bound_of(&section);
     let number = search.sections.len();
@@ -142,4 +149,15 @@ fn advance(alloc: Global, inst: &Instance, search: &mut Search) -> Result<Root, 
         &root,
     )?;
     Ok(root)
+}
+
+/// How many routes may be looked at for a plan of the pool's routes, behind so many nodes.
+fn looks_at(nodes: usize) -> u64 {
+    if nodes == 0 {
+        ROOT_LOOKS
+    } else if nodes % 20 == 0 {
+        NODE_LOOKS
+    } else {
+        0
+    }
 }

@@ -19,6 +19,7 @@ ghost use Rattle.ev_fleet.specs.Whole.{ReachesCost, TakesShares};
 use crate::greedy::{greedy_routes, routes_at};
 use crate::held::{Held, offer};
 use crate::pair::choose_pair;
+use crate::partition::plan_of_pool;
 use crate::shares::{plan_of_routes, plan_of_shares};
 use bound_certificate::{Root, Section, Share};
 use branching::Tree;
@@ -58,8 +59,39 @@ pub(crate) fn take_next(tree: &mut Tree) -> TakenNode
 }
 
 /// The section of the node with these forbidden pairs, and what shows its bound. The plans of its
-/// shares are offered as the plan that is held.
+/// shares are offered as the plan that is held, and then one of the pool's routes, for which so many
+/// of them may be looked at.
+#[tactic(auto, using(crate::proofs::Bounds::most_most))]
 pub(crate) fn bound_pairs(
+    alloc: Global,
+    inst: &Instance,
+    pool: &mut ColumnPool,
+    held: &mut Option<Held>,
+    pairs: &Pairs,
+    looks: u64,
+) -> Result<(Section, Root), AllocError>
+    requires few { length (customer_nodes inst.now) ≤ 128 }
+    requires pairs { pairs.now.customers ≡ length (customer_nodes inst.now) }
+    requires pool { IsPool inst.now pool.old }
+    requires held { MayHold inst.now held.old }
+    ensures pool { IsPool inst.now pool.new }
+    ensures held { MayHold inst.now held.new }
+    ensures kept { IsAtMost (cost_at held.new) (cost_at held.old) }
+    ensures bound { IfOk result
+        (λ found. IsNodeBound inst.now pairs.now (answer_of found.0 found.1)) }
+    ensures taken { IfOk result
+        (λ found. TakesShares inst.now (shares_in found.1) (cost_at held.new)) }
+    ensures decided { IsDecided pairs.now →
+        IfOk result (λ found. ReachesCost (cost_at held.new) found.0) }
+{
+    let (section, root) = bound_shares(alloc, inst, pool, held, pairs)?;
+    offer_pool(alloc, inst, held, pool, &section, looks)?;
+    Ok((section, root))
+}
+
+/// The section of the node with these forbidden pairs, and what shows its bound. The plans of its
+/// shares are offered as the plan that is held.
+fn bound_shares(
     alloc: Global,
     inst: &Instance,
     pool: &mut ColumnPool,
@@ -84,6 +116,27 @@ pub(crate) fn bound_pairs(
     let (_, shares) = shares_in(&root);
     offer_shares(alloc, inst, held, shares)?;
     Ok((section, root))
+}
+
+/// Offers a plan of the pool's routes as the plan that is held, if a cheaper one is found before so
+/// many routes were looked at.
+fn offer_pool(
+    alloc: Global,
+    inst: &Instance,
+    held: &mut Option<Held>,
+    pool: &ColumnPool,
+    section: &Section,
+    looks: u64,
+) -> Result<(), AllocError>
+    requires few { length (customer_nodes inst.now) ≤ 128 }
+    requires held { MayHold inst.now held.old }
+    ensures held { MayHold inst.now held.new }
+    ensures kept { IsAtMost (cost_at held.new) (cost_at held.old) }
+{
+    if let Some(plan) = plan_of_pool(alloc, inst, pool, section, cost_of(held), looks)? {
+        offer(inst, held, plan);
+    }
+    Ok(())
 }
 
 /// Offers the plans of the shares as the plan that is held; where they are no fleet plan, a plan of
