@@ -16,6 +16,8 @@ mod shares;
 mod state;
 mod strong;
 mod taking;
+mod watcher;
 
 pub use outcome::Outcome;
-pub use search::plan_fleet;
+pub use search::{plan_fleet, plan_fleet_watched};
+pub use watcher::{Progress, Watcher};

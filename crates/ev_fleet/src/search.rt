@@ -9,6 +9,8 @@ ghost use Rattle.ev_fleet.specs.Searching.{IsDone, IsFurtherWithin, IsPromising,
 use crate::answer::outcome_of;
 use crate::outcome::Outcome;
 use crate::state::{Search, begin, step};
+use crate::taking::cost_of;
+use crate::watcher::{Nobody, Progress, Watcher};
 use instance_reader::Instance;
 use std::alloc::{AllocError, Global};
 
@@ -29,11 +31,40 @@ pub fn plan_fleet(
     requires budget { IfSome budget (λ most. 1 ≤ most) }
     ensures { IfOk result (IsOutcome inst.now budget) }
 {
+    plan_fleet_watched(alloc, inst, budget, &mut Nobody {})
+}
+
+/// The same as `plan_fleet`, where a watcher is told behind each node how far the search is.
+pub fn plan_fleet_watched<W: Watcher>(
+    alloc: Global,
+    inst: &Instance,
+    budget: Option<u64>,
+    watcher: &mut W,
+) -> Result<Outcome, AllocError>
+    requires few { length (customer_nodes inst.now) ≤ 128 }
+    requires budget { IfSome budget (λ most. 1 ≤ most) }
+    ensures { IfOk result (IsOutcome inst.now budget) }
+{
     let (mut search, root) = begin(alloc, inst)?;
+    watcher.watch(progress_of(&search));
     while goes_on(&search, budget) {
         step(alloc, inst, &mut search)?;
+        watcher.watch(progress_of(&search));
     }
     outcome_of(alloc, inst, search, root)
+}
+
+/// How far the search is.
+fn progress_of(search: &Search) -> Progress
+    ensures nodes { result.nodes ≡ length search.now.sections.items }
+    ensures cost { result.cost ≡ cost_at search.now.held }
+{
+    Progress {
+        nodes: search.sections.len() as u64,
+        open_nodes: search.open_nodes,
+        bound: search.tree.least_bound(),
+        cost: cost_of(&search.held),
+    }
 }
 
 /// Whether an open node may lead to a cheaper plan, and another node is within the budget.

@@ -37,6 +37,8 @@ pub(crate) struct Search {
     pub(crate) pool: ColumnPool,
     /// The cheapest plan that was found.
     pub(crate) held: Option<Held>,
+    /// How many nodes are open. It is told to who watches, and nothing rests on it.
+    pub(crate) open_nodes: u64,
 }
 
 /// A search of which the bound of the root was found, and what shows it.
@@ -61,6 +63,7 @@ fn first_search(alloc: Global, inst: &Instance) -> Result<Search, AllocError>
         sections: Vec::new(alloc),
         pool,
         held,
+        open_nodes: 1,
     })
 }
 
@@ -137,7 +140,7 @@ fn advance(alloc: Global, inst: &Instance, search: &mut Search) -> Result<Root, 
     let (name, bound) = greater_of(number, own, taken.section, taken.bound);
     search.sections.push(section)?;
     let cost = cost_of(&search.held);
-    settle(
+    let is_split = settle(
         alloc,
         inst,
         &search.pool,
@@ -148,7 +151,17 @@ fn advance(alloc: Global, inst: &Instance, search: &mut Search) -> Result<Root, 
         cost,
         &root,
     )?;
+    search.open_nodes = open_behind(search.open_nodes, is_split);
     Ok(root)
+}
+
+/// How many nodes are open once one of them was split or closed.
+fn open_behind(before: u64, is_split: bool) -> u64 {
+    if is_split {
+        before.saturating_add(1)
+    } else {
+        before.saturating_sub(1)
+    }
 }
 
 /// How many routes may be looked at for a plan of the pool's routes, behind so many nodes.

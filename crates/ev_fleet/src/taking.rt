@@ -167,7 +167,8 @@ fn offer_shares(
     Ok(())
 }
 
-/// Closes a taken node whose bound reaches the cost of the plan that is held, and else splits it.
+/// Closes a taken node whose bound reaches the cost of the plan that is held, and else splits it;
+/// whether it was split.
 pub(crate) fn settle(
     alloc: Global,
     inst: &Instance,
@@ -178,7 +179,7 @@ pub(crate) fn settle(
     bound: Option<u128>,
     cost: Option<u128>,
     root: &Root,
-) -> Result<(), AllocError>
+) -> Result<bool, AllocError>
     requires few { length (customer_nodes inst.now) ≤ 128 }
     requires customers { tree.old.customers ≡ length (customer_nodes inst.now) }
     requires pool { IsPool inst.now pool.now }
@@ -191,11 +192,11 @@ pub(crate) fn settle(
         let (over, shares) = shares_in(root);
         if let Some((i, j)) = choose_pair(alloc, inst, tree, key, pool, shares, over)? {
             tree.split(key, i, j, name, bound)?;
-            return Ok(());
+            return Ok(true);
         }
     }
     tree.close(key, name);
-    Ok(())
+    Ok(false)
 }
 
 /// The bound where it is a number below the cost.

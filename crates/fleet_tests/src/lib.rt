@@ -15,4 +15,6 @@ mod several_nodes;
 #[cfg(test)]
 mod told;
 #[cfg(test)]
+mod watched;
+#[cfg(test)]
 mod worked;

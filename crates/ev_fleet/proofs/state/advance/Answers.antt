@@ -33,7 +33,7 @@ settle-requires-clause-decided c = λ cannot.
 pub returns-clause-advanced : goal.returns-clause-advanced
 returns-clause-advanced c =
     let old = c.args.search.now in
-    let new : Search = record { tree = c.settle.new.tree; sections = c.push.new.self; pool = c.bound_pairs.new.pool; held = c.bound_pairs.new.held } in
+    let new : Search = record { tree = c.settle.new.tree; sections = c.push.new.self; pool = c.bound_pairs.new.pool; held = c.bound_pairs.new.held; open_nodes = c.open_behind-search.result } in
     let t = c.take_next-taken.result in
     let own = c.bound_of-own.result in
     let greater = c.greater_of-name.result in
@@ -41,6 +41,6 @@ returns-clause-advanced c =
     let count : c.len-number.result ≡ length old.sections.items = omega (arith, len) in
     let is_greater : greater ≡ greater_of (length old.sections.items) own t.section t.bound = c.greater_of-name.ensures ∙ ap (λ n. greater_of n own t.section t.bound) count in
     let settled : IsSettled c.take_next-taken.new.tree t.key greater.0 greater.1 (cost_at new.held) new.tree =
-    subst (λ x. IsSettled c.take_next-taken.new.tree t.key greater.0 greater.1 x new.tree) c.cost_of-cost.ensures c.in_ok-settle.ensures.settled in
+    subst (λ x. IsSettled c.take_next-taken.new.tree t.key greater.0 greater.1 x new.tree) c.cost_of-cost.ensures c.in_ok-is_split.ensures.settled in
     advanced_by c.args.inst.now old new c.take_next-taken.new.tree t c.in_ok-section.root c.in_ok-section.section own greater c.take_next-taken.ensures.next c.in_ok-section.ensures.bound
     c.bound_of-own.ensures.bound c.in_ok-push.ensures.items c.bound_pairs.ensures.kept c.bound_pairs.ensures.held c.in_ok-section.ensures.taken c.bound_pairs.ensures.pool is_greater settled

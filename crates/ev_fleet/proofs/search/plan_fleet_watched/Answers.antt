@@ -4,10 +4,10 @@ use Rattle.ev_fleet.specs.Outcome.{IsOutcome}
 use Rattle.ev_fleet.specs.Searching.{IsOutcomeOf}
 use Rattle.ev_fleet.proofs.Advancing.{root_more, within_more}
 use Rattle.ev_fleet.proofs.Whole.{takes_lower}
-use Rattle.ev_fleet.proofs.search.plan_fleet.Goals as goal
+use Rattle.ev_fleet.proofs.search.plan_fleet_watched.Goals as goal
 
 pub loop-budget-preserved : goal.loop-budget-preserved
-loop-budget-preserved c =
+loop-budget-preserved g c =
     let old = c.loop-budget.search in
     let new = c.step.new.search in
     let one = c.in_ok-step.ensures.one in
@@ -19,6 +19,6 @@ loop-budget-preserved c =
     }
 
 pub returns : goal.returns
-returns c =
+returns g c =
     IfOk-weaker c.outcome_of.result (IsOutcomeOf c.args.inst.now c.loop-budget.search) (IsOutcome c.args.inst.now c.args.budget)
     (λ o is. is c.args.budget c.loop-budget.invariant.within (c.goes_on.ensures.ended c.loop-budget-test.false)) c.outcome_of.ensures
