@@ -7,7 +7,7 @@ ghost use Rattle.branching.specs.Nodes.{HasNode, IsLive};
 ghost use Rattle.column_pool.specs.Pool.{IsPool};
 ghost use Rattle.ev_fleet.specs.Splitting.{CanSplit, CannotSplit, CannotSplitTo, IsChoice, MayChoose};
 
-use crate::strong::strongest;
+use crate::strong::{Gap, strongest};
 use bound_certificate::Share;
 use branching::Tree;
 use column_pool::ColumnPool;
@@ -25,12 +25,12 @@ pub(crate) struct Choice {
 }
 
 /// The children of how many pairs are looked at.
-const CANDIDATES: usize = 5;
+const CANDIDATES: usize = 10;
 
 /// A pair on which the node can be split. `None` says that there is none.
 ///
 /// Of the few pairs that the shares use partly and that are nearest to one half it is the one whose
-/// children have the greatest bounds, as far as the routes of the pool tell. Where the shares use
+/// children's bounds rise most, as far as the routes of the pool tell. Where the shares use
 /// none partly, it is the one nearest to one half of those that they use, and else the first.
 pub(crate) fn choose_pair(
     alloc: Global,
@@ -38,6 +38,7 @@ pub(crate) fn choose_pair(
     tree: &Tree,
     key: usize,
     pool: &ColumnPool,
+    gap: Gap,
     shares: &[Share],
     over: u64,
 ) -> Result<Option<(usize, usize)>, AllocError>
@@ -51,7 +52,7 @@ pub(crate) fn choose_pair(
 {
     let candidates = partly_used(alloc, inst, tree, key, shares, over)?;
     if let Some((first, others)) = candidates.split_first() {
-        let choice = strongest(alloc, inst, tree, key, pool, *first, others)?;
+        let choice = strongest(alloc, inst, tree, key, pool, gap, *first, others)?;
         return Ok(Some((choice.i, choice.j)));
     }
     match nearest(inst, tree, key, shares, over, &[]) {

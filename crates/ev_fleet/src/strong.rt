@@ -1,5 +1,5 @@
-//! Of a few pairs the one whose children have the greatest bounds (strong branching: Applegate,
-//! Bixby, Chvátal, Cook 1995).
+//! Of a few pairs the one whose children's bounds rise most (strong branching: Applegate, Bixby,
+//! Chvátal, Cook 1995).
 
 ghost use Rattle.std.specs.Prelude.{◌≡◌, ◌≤◌, IfOk, length};
 ghost use Rattle.std.specs.List.{All};
@@ -15,14 +15,38 @@ use customer_sets::Pairs;
 use instance_reader::Instance;
 use std::alloc::{AllocError, Global};
 
-/// The choice of which the lesser of both children's estimates is greatest: the first one or one of
-/// the others, of equal ones the first.
+/// The bound of a node that is to be split, and the cost of the plan that is held.
+#[derive(Clone, Copy)]
+pub(crate) struct Gap {
+    pub(crate) bound: u128,
+    pub(crate) cost: Option<u128>,
+}
+
+impl Gap {
+    /// By how much a child's bound may be above the node's and be of use: up to the cost, and where
+    /// no plan is held by a thirtieth.
+    fn width(self) -> u128 {
+        match self.cost {
+            Some(cost) => cost.saturating_sub(self.bound).max(1),
+            None => (self.bound / 30).max(1),
+        }
+    }
+
+    /// By how much an estimate is above the bound, at least by 1, and no more than is of use.
+    fn gain(self, estimate: u128) -> u128 {
+        estimate.saturating_sub(self.bound).max(1).min(self.width())
+    }
+}
+
+/// The choice of which the product of both children's gains is greatest (Achterberg 2007): the
+/// first one or one of the others, of equal ones the first.
 pub(crate) fn strongest(
     alloc: Global,
     inst: &Instance,
     tree: &Tree,
     key: usize,
     pool: &ColumnPool,
+    gap: Gap,
     first: Choice,
     others: &[Choice],
 ) -> Result<Choice, AllocError>
@@ -38,25 +62,26 @@ pub(crate) fn strongest(
         return Ok(first);
     }
     let mut best = first;
-    let mut most = lesser_child(alloc, inst, tree, key, pool, first, 0)?;
+    let mut most = gains(alloc, inst, tree, key, pool, gap, first, 0)?;
     for choice in others {
-        let lesser = lesser_child(alloc, inst, tree, key, pool, *choice, most)?;
-        if lesser > most {
+        let product = gains(alloc, inst, tree, key, pool, gap, *choice, most)?;
+        if product > most {
             best = *choice;
-            most = lesser;
+            most = product;
         }
     }
     Ok(best)
 }
 
-/// The lesser of the estimates of the children where the node is split on the choice. Where it
-/// isn't above `most`, that of the first child may stand for it.
-fn lesser_child(
+/// The product of the gains of the children where the node is split on the choice. Where it can't be
+/// above `most`, a number that isn't may stand for it.
+fn gains(
     alloc: Global,
     inst: &Instance,
     tree: &Tree,
     key: usize,
     pool: &ColumnPool,
+    gap: Gap,
     choice: Choice,
     most: u128,
 ) -> Result<u128, AllocError>
@@ -67,12 +92,12 @@ fn lesser_child(
     requires choice { IsChoice tree.now key choice }
 {
     let (apart, together) = child_pairs(tree.pairs(key), choice.i, choice.j);
-    let first = estimate(alloc, inst, &apart, pool)?;
-    if first <= most {
-        return Ok(first);
+    let first = gap.gain(estimate(alloc, inst, &apart, pool)?);
+    if first.saturating_mul(gap.width()) <= most {
+        return Ok(0);
     }
-    let second = estimate(alloc, inst, &together, pool)?;
-    Ok(first.min(second))
+    let second = gap.gain(estimate(alloc, inst, &together, pool)?);
+    Ok(first.saturating_mul(second))
 }
 
 /// What the bound of a node with these pairs may come to; the greatest number where the pool's

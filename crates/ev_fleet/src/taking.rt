@@ -21,6 +21,7 @@ use crate::held::{Held, offer};
 use crate::pair::choose_pair;
 use crate::partition::plan_of_pool;
 use crate::shares::{plan_of_routes, plan_of_shares};
+use crate::strong::Gap;
 use bound_certificate::{Root, Section, Share};
 use branching::Tree;
 use column_pool::{ColumnPool, NodeBound, bound_node};
@@ -190,7 +191,8 @@ pub(crate) fn settle(
 {
     if let Some(bound) = below(bound, cost) {
         let (over, shares) = shares_in(root);
-        if let Some((i, j)) = choose_pair(alloc, inst, tree, key, pool, shares, over)? {
+        let gap = Gap { bound, cost };
+        if let Some((i, j)) = choose_pair(alloc, inst, tree, key, pool, gap, shares, over)? {
             tree.split(key, i, j, name, bound)?;
             return Ok(true);
         }

@@ -1,5 +1,5 @@
 use Rattle.std.proofs.Common.{arith}
-use Rattle.ev_fleet.proofs.strong.lesser_child.Goals as goal
+use Rattle.ev_fleet.proofs.strong.gains.Goals as goal
 
 pub child_pairs-apart-requires-clause-first : goal.child_pairs-apart-requires-clause-first
 child_pairs-apart-requires-clause-first c =
