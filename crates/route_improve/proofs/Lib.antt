@@ -10,3 +10,5 @@ pub mod Finishing
 pub mod Beginning
 pub mod Answered
 pub mod Owning
+pub mod Remembered
+pub mod Joined

@@ -1,9 +1,9 @@
 -- The orders that the code makes for a move are those that the move gives.
-use Rattle.std.proofs.Common.{◌≡◌, ◌∙◌, ℕ, zero, suc, ◌<◌, List, [], ◌∷◌, Result, Ok, Err, length, get_or, set, sym, ap, subst, arith}
+use Rattle.std.proofs.Common.{◌≡◌, ◌∙◌, ℕ, zero, suc, ◌<◌, List, [], ◌∷◌, ◌++◌, Result, Ok, Err, length, get_or, set, sym, ap, subst, arith}
 use Rattle.std.specs.Prelude.{IfOk, insert, remove, slice_index}
 use Rattle.std.specs.List.{All}
 use Rattle.std.proofs.lemmas.List.{length-map}
-use Rattle.std.proofs.lemmas.List.Elements.{All-get_or, All-set}
+use Rattle.std.proofs.lemmas.List.Elements.{All-append, All-get_or, All-nil, All-set}
 use Rattle.ev_model.specs.Network.{Network}
 use Rattle.index_links.specs.Lists.{list_at}
 use Rattle.plan_check.specs.FleetRules.{IsCustomer}
@@ -12,7 +12,7 @@ use Rattle.route_improve.specs.Routes.{AreRoutes, lists_of}
 use Rattle.route_improve.specs.Taking.{AreOfPair, AreOfRoute}
 use Rattle.route_improve.specs.declared.route.Route.{Route}
 use Rattle.route_improve.proofs.Changed.{list_is}
-use Rattle.route_improve.proofs.Moving.{All-insert, All-remove, moved_between, moved_within, swapped_between, swapped_within}
+use Rattle.route_improve.proofs.Moving.{All-insert, All-remove, moved_between, moved_within, swapped_between, swapped_within, times_append}
 
 -- what holds of an answer holds of it by another name
 pub kept_by : {T E : Type 0} (r : Result T E) (P Q : T → Type 0) → ((made : T) → P made → Q made) → IfOk r P → IfOk r Q
@@ -76,4 +76,11 @@ module _ (g : Network) (routes : List Route) (are : AreRoutes g routes) where
     first_customers = All-set (IsCustomer g) (list_at (lists_of routes) a) i (slice_index (list_at (lists_of routes) b) j) (customer_is b j other) (customers_at a i one);
     second_customers = All-set (IsCustomer g) (list_at (lists_of routes) b) j (slice_index (list_at (lists_of routes) a) i) (customer_is a i one) (customers_at b j other);
     same = λ node. swapped_between (list_at (lists_of routes) a) (list_at (lists_of routes) b) i j node one.place other.place;
+  }
+
+  pub two_joined : (a b : ℕ) → a < length routes → b < length routes → AreOfPair g routes a b (list_at (lists_of routes) a ++ list_at (lists_of routes) b) []
+  two_joined a b one other = record {
+    first_customers = All-append (IsCustomer g) (list_at (lists_of routes) a) (list_at (lists_of routes) b) (of_route g routes are.customers a one) (of_route g routes are.customers b other);
+    second_customers = All-nil (IsCustomer g);
+    same = λ node. omega (arith, times_append (list_at (lists_of routes) a) (list_at (lists_of routes) b) node);
   }

@@ -1,12 +1,12 @@
 -- The orders that single moves make: their customers, and the lists that the routes then have.
-use Rattle.std.proofs.Common.{◌≡◌, ◌≢◌, ◌∙◌, ℕ, suc, ◌+◌, ◌<◌, List, [], ◌∷◌, length, set, take, drop, refl, sym, ap, arith, inl, inr, sum_by, set-set}
+use Rattle.std.proofs.Common.{◌≡◌, ◌≢◌, ◌∙◌, ℕ, suc, ◌+◌, ◌<◌, List, [], ◌∷◌, ◌++◌, length, set, take, drop, refl, sym, ap, arith, inl, inr, sum_by, set-set}
 use Rattle.std.specs.Prelude.{insert, nat_eq, remove, slice_index, if◌then◌else◌}
 use Rattle.std.specs.List.{All}
 use Rattle.std.proofs.lemmas.Bool.{cases_eq}
 use Rattle.std.proofs.lemmas.Grind.{get_or-set_at}
 use Rattle.std.proofs.lemmas.List.{get_or-set_other, get_or-set_same, length-set}
 use Rattle.std.proofs.lemmas.List.Elements.{All-append, All-cons, All-drop, All-take}
-use Rattle.std.proofs.lemmas.List.Sums.{sum_by-cons, sum_by-insert, sum_by-remove, sum_by-set}
+use Rattle.std.proofs.lemmas.List.Sums.{sum_by-append, sum_by-cons, sum_by-insert, sum_by-remove, sum_by-set}
 use Rattle.ev_model.specs.Fleet.{times_in}
 use Rattle.index_links.specs.Lists.{list_at}
 use Rattle.route_improve.specs.Moves.{exchanged, relocated, taken_out}
@@ -34,6 +34,9 @@ times_insert xs j x node = omega (arith, times_summed xs node, times_summed (ins
 
 pub times_set : (xs : List ℕ) (i x node : ℕ) → i < length xs → times_in (set xs i x) node + one_if node (slice_index xs i) ≡ times_in xs node + one_if node x
 times_set xs i x node within = omega (arith, times_summed xs node, times_summed (set xs i x) node, sum_by-set (one_if node) xs i x 0 within)
+
+pub times_append : (xs ys : List ℕ) (node : ℕ) → times_in (xs ++ ys) node ≡ times_in xs node + times_in ys node
+times_append xs ys node = omega (arith, times_summed xs node, times_summed ys node, times_summed (xs ++ ys) node, sum_by-append (one_if node) xs ys)
 
 pub moved_within : (xs : List ℕ) (i j node : ℕ) → i < length xs → times_in (insert (remove xs i) j (slice_index xs i)) node ≡ times_in xs node
 moved_within xs i j node within = omega (arith, times_remove xs i node within, times_insert (remove xs i) j (slice_index xs i) node)

@@ -6,7 +6,7 @@ use Rattle.std.proofs.lemmas.List.Elements.{All-append, All-cons, All-head, All-
 use Rattle.ev_model.specs.Fastest.{IsFastest}
 use Rattle.ev_model.specs.Feasible.{IsFeasible}
 use Rattle.ev_model.specs.Fleet.{times_in}
-use Rattle.ev_model.specs.Network.{IsNetwork, Network, is_customer, node_count}
+use Rattle.ev_model.specs.Network.{IsNetwork, Network, is_customer, node_count, scaled_limit}
 use Rattle.ev_model.specs.Route.{FollowsRoute, IsRoute, Moves}
 use Rattle.ev_model.specs.Time.{time_of}
 use Rattle.ev_model.specs.declared.Stop.{Stop}
@@ -71,6 +71,12 @@ pub below_least : (g : Network) (order : List ℕ) (bound : ℕ) → order ≢ [
     → (time : ℕ) → IsLeastTime g order time → bound ≤ time
 below_least g [] bound some below time least = absurd (some refl)
 below_least g (x ∷ xs) bound some below time least = omega (arith, below least.0 least.1.feasible least.1.follows, least.2)
+
+-- an order whose bound is past the limit has no least time
+pub past_limit : (g : Network) (order : List ℕ) (bound other : ℕ) → order ≢ [] → ((stops : List Stop) → IsFeasible g 1 g.capacity stops → FollowsRoute (0 ∷ order ++ 0 ∷ []) stops → bound ≤ time_of g 1 g.capacity stops)
+    → scaled_limit g < bound → (time : ℕ) → IsLeastTime g order time → other ≤ time
+past_limit g [] bound other some below past time least = absurd (some refl)
+past_limit g (x ∷ xs) bound other some below past time least = absurd (omega (arith, below least.0 least.1.feasible least.1.follows, least.1.feasible.in_time, past))
 
 -- a plan that serves customers in an order takes no less than the least time
 pub no_faster : (g : Network) (order : List ℕ) (time : ℕ) (stops : List Stop) → IsLeastTime g order time → IsFeasible g 1 g.capacity stops → FollowsRoute (route_over order) stops → time ≤ time_of g 1 g.capacity stops

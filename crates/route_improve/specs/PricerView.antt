@@ -1,10 +1,9 @@
 -- What a `Pricer` is, by its fields.
 use Rattle.std.specs.Prelude.{◌≡◌}
-use Rattle.std.specs.List.{All}
-use Rattle.route_improve.specs.Pricing.{IsKnown}
+use Rattle.route_improve.specs.Pricing.{AreKnown}
 use Rattle.route_improve.specs.declared.pricer.Pricer.TheInside.{Inside}
 
 -- its bounds are those of its instance, and what it remembers is true
 pub record IsPricer (p : Inside) : Type 0 where
   pub bounds : p.bounds ≡ p.inst.now
-  pub known : All (IsKnown p.inst.now) p.known.items
+  pub known : AreKnown p.inst.now p.known.entries

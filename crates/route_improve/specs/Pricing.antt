@@ -1,9 +1,10 @@
 -- What is asked of the least times of orders.
-use Rattle.std.specs.Prelude.{◌≢◌, ℕ, ◌+◌, ◌<◌, ◌≤◌, List, [], Option, None, Some}
+use Rattle.std.specs.Prelude.{◌≢◌, ℕ, ◌+◌, ◌<◌, ◌≤◌, List, [], Option, None, Some, Vec}
+use Rattle.std.specs.Global.{Global}
+use Rattle.std.specs.List.{All}
 use Rattle.ev_model.specs.Fastest.{HasNoPlan}
 use Rattle.ev_model.specs.Network.{Network}
 use Rattle.route_improve.specs.Orders.{IsLeastTime, route_over}
-use Rattle.route_improve.specs.declared.pricer.Known.{Known}
 
 -- no plan, from full, serves the customers in this order, of whom there are some
 pub record HasNoTime (g : Network) (order : List ℕ) : Type 0 where
@@ -25,6 +26,6 @@ abbrev pub IsTimeOf : Network → List ℕ → Option ℕ → Type 0
 IsTimeOf g order None = HasNoTime g order
 IsTimeOf g order (Some time) = IsLeastTime g order time
 
--- the least time is known of an order
-abbrev pub IsKnown : Network → Known → Type 0
-IsKnown g k = IsTimeOf g k.order.items k.time
+-- orders, each with its least time, or with that it has none
+abbrev pub AreKnown : Network → List (Vec ℕ Global × Option ℕ) → Type 0
+AreKnown g entries = All (λ e. IsTimeOf g e.0.items e.1) entries

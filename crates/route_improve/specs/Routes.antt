@@ -37,6 +37,11 @@ pub record AreCheaper (g : Network) (old new : List Route) : Type 0 where
   pub count : length new ≡ length old
   pub less : cost_of_routes new < cost_of_routes old
 
+-- routes for the same customers, which don't cost more
+pub record AreNoDearer (g : Network) (old new : List Route) : Type 0 where
+  pub routes : AreRoutes g new
+  pub no_more : cost_of_routes new ≤ cost_of_routes old
+
 -- where the cost of the lists is defined, the routes don't cost more
 abbrev pub AreNoCheaper : Network → List Route → List (List ℕ) → Type 0
 AreNoCheaper g routes lists = (cost : ℕ) → HaveCost g lists cost → cost_of_routes routes ≤ cost

@@ -11,6 +11,7 @@ use crate::finish::plan_of;
 use crate::own::{OwnFault, own_routes};
 use crate::pricer::Pricer;
 use crate::route::Route;
+use crate::savings::join_routes;
 use crate::settling::settle;
 use instance_reader::Instance;
 use route_plan::FleetPlan;
@@ -72,12 +73,12 @@ fn improve_none(alloc: Global, inst: &Instance) -> Result<Improved, AllocError>
     Ok(Improved::Plan(plan))
 }
 
-/// Makes routes cheaper until no relocation and no exchange helps.
+/// Joins routes, and then makes them cheaper until no relocation and no exchange helps.
 fn settled_plan(
     alloc: Global,
     inst: &Instance,
     pricer: &mut Pricer,
-    routes: Vec<Route>,
+    mut routes: Vec<Route>,
 ) -> Result<FleetPlan, AllocError>
     requires network { pricer.old ≡ inst.now }
     requires routes { AreRoutes inst.now routes.items }
@@ -85,6 +86,7 @@ fn settled_plan(
     ensures no_more { IfOk result (λ plan.
         cost_of inst.now 1 (stops_of plan.routes) ≤ cost_of_routes routes.items) }
 {
+    join_routes(alloc, inst, pricer, &mut routes)?;
     let settled = settle(alloc, pricer, routes)?;
     plan_of(alloc, inst, &settled)
 }

@@ -10,6 +10,7 @@ mod pass;
 mod pricer;
 mod report;
 mod route;
+mod savings;
 mod settling;
 
 pub use improving::{Improved, improve};

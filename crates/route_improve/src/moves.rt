@@ -247,7 +247,7 @@ fn take_one(
 
 /// Takes orders in place of those of the routes `a` and `b` where they take less time together;
 /// whether they do. They have the same customers.
-fn take_pair(
+pub(crate) fn take_pair(
     alloc: Global,
     pricer: &mut Pricer,
     routes: &mut Vec<Route>,

@@ -1,16 +1,17 @@
 //! What orders cost: the least times of routes.
 
 ghost use Rattle.std.specs.Prelude.{◌≡◌, ◌+◌, ◌<◌, ◌≤◌, ◌≢◌, [], ℕ, IfOk, IfSome, MatchOption};
-ghost use Rattle.std.specs.List.{All};
 ghost use Rattle.ev_model.specs.Fastest.{HasNoPlan, IsFastest};
 ghost use Rattle.ev_model.specs.Feasible.{IsFeasible};
+ghost use Rattle.ev_model.specs.Network.{scaled_limit};
 ghost use Rattle.ev_model.specs.Time.{time_of};
 ghost use Rattle.route_improve.specs.Orders.{IsLeastTime, route_over};
-ghost use Rattle.route_improve.specs.Pricing.{AreLess, AreNoLess, IsKnown, IsTimeOf};
+ghost use Rattle.route_improve.specs.Pricing.{AreKnown, AreLess, AreNoLess, IsTimeOf};
 ghost use Rattle.route_improve.specs.Routes.{IsOrder};
 
 use crate::moves::copy_of;
 use frvcp_labels::{RouteBounds, solve_route};
+use indexmap::IndexMap;
 use instance_reader::Instance;
 use route_plan::{RoutePlan, walk};
 use std::alloc::{AllocError, Global};
@@ -21,7 +22,8 @@ use std::marker::Model;
 pub(crate) struct Pricer<'a> {
     inst: &'a Instance,
     bounds: RouteBounds<'a>,
-    known: Vec<Known>,
+    /// What was charged, by the order of the customers: the least time, or that there is none.
+    known: IndexMap<Vec<usize>, Option<u64>>,
 }
 
 impl<'a> Model for Pricer<'a> {
@@ -42,7 +44,7 @@ impl<'a> Pricer<'a> {
         ensures { IfOk result (λ pricer. pricer ≡ inst.now) }
     {
         let bounds = RouteBounds::new(alloc, inst)?;
-        let known = Vec::new(alloc);
+        let known = IndexMap::new(alloc);
         Ok(Pricer {
             inst,
             bounds,
@@ -84,7 +86,8 @@ impl<'a> Pricer<'a> {
         Ok(Some((first_time, second_time)))
     }
 
-    /// A time than which the least time of an order is no less.
+    /// A time than which the least time of an order is no less: the greatest number where the bound
+    /// is past the limit, since then there is no such time.
     fn lower(&self, order: &[usize]) -> u128
         requires { IsOrder self.now order.now }
         ensures { (time : ℕ) → IsLeastTime self.now order.now time → result ≤ time }
@@ -92,7 +95,11 @@ impl<'a> Pricer<'a> {
         if order.is_empty() {
             return 0;
         }
-        self.bounds.bound(order)
+        let bound = self.bounds.bound(order);
+        if u128::from(scaled_limit(self.inst)) < bound {
+            return u128::MAX;
+        }
+        bound
     }
 
     /// The least time of an order; `None` exactly where it has none. What was charged is
@@ -113,10 +120,7 @@ impl<'a> Pricer<'a> {
             return Ok(time);
         }
         let time = charge(alloc, self.inst, order)?;
-        if self.known.len() < MOST_KNOWN {
-            let order = copy_of(alloc, order)?;
-            self.known.push(Known { order, time })?;
-        }
+        remember(alloc, self.inst, &mut self.known, order, time)?;
         Ok(time)
     }
 }
@@ -124,24 +128,44 @@ impl<'a> Pricer<'a> {
 /// How many orders are remembered at most.
 const MOST_KNOWN: usize = 1 << 16;
 
-/// The least time of an order that was charged.
-#[derive(Drop)]
-pub(crate) struct Known {
-    pub(crate) order: Vec<usize>,
-    pub(crate) time: Option<u64>,
-}
-
 /// What is known of an order.
-fn recall(inst: &Instance, known: &[Known], order: &[usize]) -> Option<Option<u64>>
-    requires { All (IsKnown inst.now) known.now }
+fn recall(
+    inst: &Instance,
+    known: &IndexMap<Vec<usize>, Option<u64>>,
+    order: &[usize],
+) -> Option<Option<u64>>
+    requires { AreKnown inst.now known.now.entries }
     ensures { IfSome result (IsTimeOf inst.now order.now) }
 {
-    for one in known {
-        if one.order.as_slice() == order {
-            return Some(one.time);
-        }
+    match known.get(order) {
+        Some(time) => Some(*time),
+        None => None,
     }
-    None
+}
+
+/// Remembers the least time of an order, or that it has none, while there is room.
+fn remember(
+    alloc: Global,
+    inst: &Instance,
+    known: &mut IndexMap<Vec<usize>, Option<u64>>,
+    order: &[usize],
+    time: Option<u64>,
+) -> Result<(), AllocError>
+    requires known { AreKnown inst.now known.old.entries }
+    requires time { IsTimeOf inst.now order.now time }
+    ensures { AreKnown inst.now known.new.entries }
+{
+    if known.len() < MOST_KNOWN {
+        known.insert(copy_of(alloc, order)?, time)?;
+    }
+    Ok(())
+}
+
+/// The scaled limit on the time of a route.
+fn scaled_limit(inst: &Instance) -> u64
+    ensures { result ≡ scaled_limit inst.now }
+{
+    inst.denominator() * inst.limit()
 }
 
 /// The least time of an order, found by a search.

@@ -1,17 +1,28 @@
-use Rattle.std.proofs.Common.{List, subst}
+use Rattle.std.proofs.Common.{◌∙◌, List, subst, sym}
 use Rattle.ev_model.specs.Network.{Network}
 use Rattle.route_plan.specs.declared.plan.FleetPlan.{FleetPlan}
 use Rattle.route_improve.specs.Arranged.{AreSettled, are_served}
 use Rattle.route_improve.specs.Finished.{ArePlansOf}
+use Rattle.route_improve.specs.Routes.{AreNoDearer, AreRoutes}
 use Rattle.route_improve.specs.declared.route.Route.{Route}
 use Rattle.route_improve.proofs.Answered.{plan_costs, plan_is_improved}
+use Rattle.route_improve.proofs.Joined.{settled_of}
 use Rattle.route_improve.proofs.Made.{kept_by}
 use Rattle.route_improve.proofs.improving.settled_plan.Goals as goal
 use Rattle.route_improve.proofs.improving.settled_plan.Goals.{In_ok-settled}
 
 -- the routes that no move makes cheaper
 settled_are : (c : In_ok-settled) → AreSettled c.args.inst.now c.args.routes.items c.in_ok-settled.settled.items
-settled_are c = subst (λ (g : Network). AreSettled g c.args.routes.items c.in_ok-settled.settled.items) c.requires.network c.in_ok-settled.ensures.settled
+settled_are c =
+    let joined = subst (λ (g : Network). AreNoDearer g c.args.routes.items c.join_routes.new.routes.items) c.requires.network c.in_ok-join_routes.ensures.joined in
+    let settled = subst (λ (g : Network). AreSettled g c.join_routes.new.routes.items c.in_ok-settled.settled.items) (c.join_routes.ensures.network ∙ c.requires.network) c.in_ok-settled.ensures.settled in
+    settled_of c.args.inst.now c.args.routes.items c.join_routes.new.routes.items c.in_ok-settled.settled.items joined settled
+
+pub join_routes-requires : goal.join_routes-requires
+join_routes-requires c = subst (λ (g : Network). AreRoutes g c.args.routes.items) (sym c.requires.network) c.requires.routes
+
+pub settle-requires : goal.settle-requires
+settle-requires c = subst (λ (g : Network). AreRoutes g c.join_routes.new.routes.items) (sym c.join_routes.ensures.network) c.in_ok-join_routes.ensures.joined.routes
 
 pub returns-clause-improved : goal.returns-clause-improved
 returns-clause-improved c =
