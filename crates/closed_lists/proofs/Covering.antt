@@ -22,7 +22,9 @@ use Rattle.closed_lists.specs.Looking.{Misses}
 use Rattle.closed_lists.specs.declared.links.Entry.{Entry}
 use Rattle.closed_lists.specs.Questions.{Question, section}
 use Rattle.closed_lists.specs.Sections.{IsLabelOf, paid_label}
-use Rattle.closed_lists.specs.Targets.{IsCoveredTo, state_of}
+use Rattle.label_steps.specs.Covering.{IsCoveredTo}
+use Rattle.closed_lists.specs.Asking.{covers}
+use Rattle.closed_lists.specs.Targets.{state_of}
 use Rattle.closed_lists.proofs.Linking.{some_of}
 use Rattle.closed_lists.specs.declared.coverage.Target.{Target}
 
@@ -51,7 +53,7 @@ module _ (q : Question) (t : Target) (value : List (ℕ × ℕ)) (l : Label) (le
       none by.reaches
 
   -- nor where no margin is small enough
-  pub pays_not : ((other : ℕ) → t.paid ≤ℤ (price_sum q.prices l.set +ℤ pos (other * q.weight)) → 2 ^ 64 ≤ other) → time_at (level_times value) level ≤ 10 ^ 18 → Covers q.weight (paid_label q.prices l) (state_of t value level) → ⊥
+  pub pays_not : ((other : ℕ) → t.paid ≤ℤ (price_sum q.prices l.set +ℤ pos (other * q.weight)) → 2 ^ 64 ≤ other) → time_at (level_times value) level < 2 ^ 64 → Covers q.weight (paid_label q.prices l) (state_of t value level) → ⊥
   pays_not none small covers =
       let own = slice_index (level_times l.value).times (covers.0 - (level_times l.value).first) in
       let time = time_at (level_times value) level in
@@ -61,7 +63,7 @@ module _ (q : Question) (t : Target) (value : List (ℕ × ℕ)) (l : Label) (le
 
 -- the states of the value up to a level are covered by a label that reaches so far
 pub reach_covers : (q : Question) (t : Target) (value : List (ℕ × ℕ)) (l : Label) (extra level to : ℕ) → Contains (section q).labels (paid_label q.prices l) → l.last ≡ t.last → l.node ≡ t.node → IsWithin l.set t.set
-    → IsMargin q.weight (price_sum q.prices l.set) t.paid extra → IsReach (level_times l.value) (level_times value) extra level to → IsCoveredTo (section q) t value level to
+    → IsMargin q.weight (price_sum q.prices l.set) t.paid extra → IsReach (level_times l.value) (level_times value) extra level to → IsCoveredTo (covers (record { question = q; target = t })) (level_times value) level to
 reach_covers q t value l extra level to inside last node within margin reach = record {
   up = reach.up;
   ends = reach.ends;

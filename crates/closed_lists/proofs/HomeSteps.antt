@@ -13,7 +13,7 @@ use Rattle.fleet_model.specs.Prices.{price_sum}
 use Rattle.fleet_model.specs.Steps.{IsHomeStep, time_at}
 use Rattle.piece_fn.specs.PieceFn.{level_times}
 use Rattle.piece_fn.specs.declared.label.Label.{Label}
-use Rattle.closed_lists.specs.Arrivals.{arc_time, IsArrival, NoArrival}
+use Rattle.label_steps.specs.Arrivals.{drive_time, IsArrival, NoArrival}
 use Rattle.closed_lists.specs.Questions.{Question, section}
 use Rattle.closed_lists.specs.Sections.{paid_label}
 use Rattle.closed_lists.specs.Tellings.{TellsHome}
@@ -22,7 +22,7 @@ module _ (q : Question) (l : Label) where
   pub Earns : Type 0
   Earns = EarnsAtHome q.network (section q) (paid_label q.prices l)
 
-  module _ (w : List (ℕ × ℕ)) (t : ℕ) (arrival : IsArrival (energy q.network l.node 0) (arc_time q.network l.node 0 + 0) (scaled_limit q.network) (max q.network.reserve q.network.home_level) (level_times l.value) (level_times w))
+  module _ (w : List (ℕ × ℕ)) (t : ℕ) (arrival : IsArrival (energy q.network l.node 0) (drive_time q.network l.node 0) (scaled_limit q.network) (max q.network.reserve q.network.home_level) (level_times l.value) (level_times w))
       (valid : IsValue (level_times w)) (is : t ≡ value_time (level_times w) (level_times w).first) where
     earning : 0 < node_count q.network → 0 ≢ l.node → l.last ≢ 0 → (section q).allows (place_of q.network l.last) 0 ≡ true → pos (q.weight * t) <ℤ price_sum q.prices l.set → Earns
     unfolding Earns
@@ -50,9 +50,9 @@ module _ (q : Question) (l : Label) where
         let y = earns.0 in
         let step = earns.2 in
         let back : y - e + e ≡ y = omega (arith, step.step.reaches) in
-        let there : IsLevel v (y - e + e) × (value_time v (y - e + e) + (arc_time q.network l.node 0 + 0) ≤ scaled_limit q.network) = rw back (earns.1, omega (arith, step.in_time)) in
+        let there : IsLevel v (y - e + e) × (value_time v (y - e + e) + (drive_time q.network l.node 0) ≤ scaled_limit q.network) = rw back (earns.1, omega (arith, step.in_time)) in
         let level = (arrival.left (y - e)).1 (there.0, omega (arith, step.step.reaches, step.home), there.1) in
-        let time : value_time (level_times w) (y - e) ≡ value_time v y + (arc_time q.network l.node 0 + 0) = arrival.later (y - e) level ∙ ap (λ k. value_time v k + (arc_time q.network l.node 0 + 0)) back in
+        let time : value_time (level_times w) (y - e) ≡ value_time v y + (drive_time q.network l.node 0) = arrival.later (y - e) level ∙ ap (λ k. value_time v k + (drive_time q.network l.node 0)) back in
         let rises = valid.rising ((level_times w).first - (level_times w).first) (y - e - (level_times w).first) 0 (omega arith) (omega (arith, level.0, level.1)) in
         let later : t ≤ time_at q.network (label_state (paid_label q.prices l) y) 0 = omega (arith, is, rises, time) in
         let scaled : q.weight * t ≤ q.weight * time_at q.network (label_state (paid_label q.prices l) y) 0 = mul-le-mul_left q.weight later in
@@ -64,7 +64,7 @@ module _ (q : Question) (l : Label) where
     home_told false known moves some allowed tells = not_earning (λ less. false≢true (tells.1 less))
 
   -- where there is no step home
-  pub nothing_home : NoArrival (energy q.network l.node 0) (arc_time q.network l.node 0 + 0) (scaled_limit q.network) (max q.network.reserve q.network.home_level) (level_times l.value) → EarnsAtHome q.network (section q) (paid_label q.prices l) → ⊥
+  pub nothing_home : NoArrival (energy q.network l.node 0) (drive_time q.network l.node 0) (scaled_limit q.network) (max q.network.reserve q.network.home_level) (level_times l.value) → EarnsAtHome q.network (section q) (paid_label q.prices l) → ⊥
   nothing_home none earns =
       let past = none earns.0 earns.1 (omega (arith, earns.2.step.reaches, earns.2.home)) in
       omega (arith, past, earns.2.in_time)

@@ -16,7 +16,7 @@ use Rattle.fleet_model.specs.Steps.{at_customer, at_station, IsCustomerStep, IsS
 use Rattle.fleet_model.proofs.Steps.{covered_by_good}
 use Rattle.piece_fn.specs.PieceFn.{level_times}
 use Rattle.piece_fn.specs.declared.label.Label.{Label}
-use Rattle.closed_lists.specs.Arrivals.{arc_time, IsArrival, NoArrival}
+use Rattle.label_steps.specs.Arrivals.{drive_time, IsArrival, NoArrival}
 use Rattle.closed_lists.specs.Questions.{Question, section}
 use Rattle.closed_lists.specs.Sections.{paid_label}
 use Rattle.closed_lists.specs.Targets.{IsCoveredAll, IsMissed, state_of}
@@ -96,7 +96,7 @@ pub record IsCustomerTarget (q : Question) (l : Label) (x n : ℕ) (t : Target) 
   pub paid : t.paid ≡ price_of q.prices n +ℤ price_sum q.prices l.set
 
 module _ (q : Question) (l : Label) (x n : ℕ) (t : Target) (w : List (ℕ × ℕ)) (is : IsCustomerTarget q l x n t)
-    (arrival : IsArrival (energy q.network l.node x) (arc_time q.network l.node x + 0) (scaled_limit q.network) q.network.reserve (level_times l.value) (level_times w)) where
+    (arrival : IsArrival (energy q.network l.node x) (drive_time q.network l.node x) (scaled_limit q.network) q.network.reserve (level_times l.value) (level_times w)) where
   to_target : (y : ℕ) → value_time (level_times w) (y - energy q.network l.node x) ≡ time_at q.network (label_state (paid_label q.prices l) y) x → IsAsGood q.weight (state_of t w (y - energy q.network l.node x)) (at_customer q.network (section q) (label_state (paid_label q.prices l) y) x)
   to_target y time =
       later (section q) (state_of t w (y - energy q.network l.node x)) (at_customer q.network (section q) (label_state (paid_label q.prices l) y) x) is.last is.node
@@ -114,10 +114,10 @@ module _ (q : Question) (l : Label) (x n : ℕ) (t : Target) (w : List (ℕ × �
       let e = energy q.network l.node x in
       let v = level_times l.value in
       let back : y - e + e ≡ y = omega (arith, step.step.reaches) in
-      let within : value_time v y + (arc_time q.network l.node x + 0) ≤ scaled_limit q.network = omega (arith, step.in_time) in
-      let there : IsLevel v (y - e + e) × (value_time v (y - e + e) + (arc_time q.network l.node x + 0) ≤ scaled_limit q.network) = rw back (level, within) in
+      let within : value_time v y + (drive_time q.network l.node x) ≤ scaled_limit q.network = omega (arith, step.in_time) in
+      let there : IsLevel v (y - e + e) × (value_time v (y - e + e) + (drive_time q.network l.node x) ≤ scaled_limit q.network) = rw back (level, within) in
       let at = (arrival.left (y - e)).1 (there.0, omega (arith, step.step.reaches), there.1) in
-      let time : value_time (level_times w) (y - e) ≡ value_time v y + (arc_time q.network l.node x + 0) = arrival.later (y - e) at ∙ ap (λ z. value_time v z + (arc_time q.network l.node x + 0)) back in
+      let time : value_time (level_times w) (y - e) ≡ value_time v y + (drive_time q.network l.node x) = arrival.later (y - e) at ∙ ap (λ z. value_time v z + (drive_time q.network l.node x)) back in
       covered_by_good (section q) (state_of t w (y - e)) (at_customer q.network (section q) (label_state (paid_label q.prices l) y) x) (covered (y - e) at) (to_target y (omega (arith, time))))
 
   pub customer_missed : x < node_count q.network → x ≢ l.node → has l.set n ≡ false → (section q).allows (place_of q.network l.last) (place_of q.network x) ≡ true → IsMissed (section q) t w → IsUncovered q l x
@@ -138,7 +138,7 @@ module _ (q : Question) (l : Label) (x n : ℕ) (t : Target) (w : List (ℕ × �
       (a + e, at.0, inl (step, λ covered. missed.2 (subst (λ z. IsCovered (section q) (state_of t w z)) gone (covered_by_good (section q) (at_customer q.network (section q) (label_state (paid_label q.prices l) (a + e)) x) (state_of t w (a + e - e)) covered (from_target (a + e) same)))))
 
 -- where nothing arrives, no step is made
-pub nobody_arrives : (q : Question) (l : Label) (x : ℕ) → NoArrival (energy q.network l.node x) (arc_time q.network l.node x + 0) (scaled_limit q.network) q.network.reserve (level_times l.value) → IsUncovered q l x → ⊥
+pub nobody_arrives : (q : Question) (l : Label) (x : ℕ) → NoArrival (energy q.network l.node x) (drive_time q.network l.node x) (scaled_limit q.network) q.network.reserve (level_times l.value) → IsUncovered q l x → ⊥
 nobody_arrives q l x none missed = elim missed.2 [
   | inl customer ↦
       let past = none missed.0 missed.1 customer.0.step.reaches in

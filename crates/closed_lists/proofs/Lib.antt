@@ -2,9 +2,7 @@ pub mod Options
 pub mod Margins
 pub mod Linking
 pub mod Covering
-pub mod Arriving
 pub mod LabelSteps
-pub mod Charging
 pub mod StationSteps
 pub mod HomeSteps
 pub mod Faults

@@ -1,28 +1,40 @@
--- What passing through and charging say of the steps from a label to a station.
-use Rattle.std.proofs.Common.{◌≡◌, ◌≢◌, ◌∙◌, ℕ, ◌+◌, ◌-◌, ◌*◌, ◌<◌, ◌≤◌, true, false, List, Option, Some, refl, sym, ap, subst, arith, inl, inr, nat_lt}
-use Rattle.std.specs.Prelude.{IsSome}
-use Rattle.std.proofs.lemmas.Bool.{cases_eq, lt-ltb, le-ltb}
-use Rattle.charge_curve.specs.Points.{time_on}
+-- What the values on leaving a station say of the steps to it from a label.
+use Rattle.std.proofs.Common.{◌≡◌, ◌≢◌, ◌∙◌, ℕ, zero, suc, ◌+◌, ◌-◌, ◌<◌, ◌≤◌, Bool, true, false, List, Option, None, Some, length, refl, sym, ap, subst, arith, inl, inr}
+use Rattle.std.specs.Prelude.{IsSome, slice_get, slice_index_or}
+use Rattle.std.proofs.lemmas.Bool.{cases_eq}
+use Rattle.std.proofs.lemmas.Option.{same_Some, slice_get_read}
 use Rattle.dominance.specs.LevelTimes.{IsLevel, time_at as value_time}
-use Rattle.dominance.specs.Steps.{IsCharge}
-use Rattle.ev_model.specs.Network.{curve_at, energy, Network, node_count, plug_time, scaled_limit}
-use Rattle.ev_model.specs.Time.{charging_time}
-use Rattle.ev_model.proofs.ChargeTime.{charge_time_in-one}
+use Rattle.ev_model.specs.Network.{curve_at, energy, node_count, scaled_limit}
 use Rattle.fleet_model.specs.Coverage.{IsCovered}
 use Rattle.fleet_model.specs.Labels.{state_at as label_state}
 use Rattle.fleet_model.specs.Prices.{price_sum}
+use Rattle.fleet_model.specs.Section.{Section}
 use Rattle.fleet_model.specs.Steps.{at_station, IsStationStep, level_at}
 use Rattle.fleet_model.proofs.Steps.{covered_by_good}
-use Rattle.instance_reader.specs.Instance.{TellsChargeTime}
 use Rattle.piece_fn.specs.PieceFn.{level_times}
 use Rattle.piece_fn.specs.declared.label.Label.{Label}
-use Rattle.closed_lists.specs.Arrivals.{arc_time, IsArrival, NoArrival}
+use Rattle.label_steps.specs.Arrivals.{ArrivesAs, drive_time, IsWithin}
+use Rattle.label_steps.specs.Leaves.{AreLeft, charge_time_at, CoverCharges}
+use Rattle.label_steps.proofs.Arrivals.{arrives_at}
+use Rattle.label_steps.proofs.Stops.{charge_between, passing_time}
+use Rattle.label_steps.proofs.Vehicles.{covers_vehicle}
 use Rattle.closed_lists.specs.Questions.{Question, section}
 use Rattle.closed_lists.specs.Sections.{paid_label}
-use Rattle.closed_lists.specs.Targets.{IsCoveredAll, IsMissed, state_at}
-use Rattle.closed_lists.specs.Tellings.{IsUncovered}
+use Rattle.closed_lists.specs.Targets.{IsCoveredAll, IsMissed, state_at, state_of, TellsEach}
+use Rattle.closed_lists.specs.Tellings.{IsUncovered, TellsStep}
 use Rattle.closed_lists.specs.declared.coverage.Target.{Target}
 use Rattle.closed_lists.proofs.LabelSteps.{later, station_alone}
+
+-- a further value is covered
+pub covered_more : (s : Section) (t : Target) (xs : List (List (ℕ × ℕ))) (n : ℕ) (x : List (ℕ × ℕ)) → n < length xs → x ≡ slice_index_or xs n x → ((k : ℕ) (w : List (ℕ × ℕ)) → k < n → slice_get xs k ≡ Some w → IsCoveredAll s t w) → IsCoveredAll s t x
+    → (k : ℕ) (w : List (ℕ × ℕ)) → k < n + 1 → slice_get xs k ≡ Some w → IsCoveredAll s t w
+covered_more s t xs n x less is before here k w high there = elim (cases_eq k n) [
+  | inl same ↦
+      let own : slice_get xs n ≡ Some x = slice_get_read xs (length xs) n x refl less is in
+      let value : x ≡ w = same_Some x w (sym own ∙ subst (λ j. slice_get xs j ≡ Some w) same there) in
+      subst (IsCoveredAll s t) value here
+  | inr other ↦ before k w (omega (arith, high, other)) there
+]
 
 -- what a station's target has to be
 pub record IsStationTarget (q : Question) (l : Label) (x : ℕ) (t : Target) : Type 0 where
@@ -31,152 +43,81 @@ pub record IsStationTarget (q : Question) (l : Label) (x : ℕ) (t : Target) : T
   pub set : t.set ≡ l.set
   pub paid : t.paid ≡ price_sum q.prices l.set
 
--- a station with its scaled curve
-pub record IsStation (g : Network) (x : ℕ) (points scaled : List (ℕ × ℕ)) : Type 0 where
-  pub curve : curve_at g x ≡ Some points
-  pub tells : TellsChargeTime g.capacity g.denominator points scaled
+read_at : (values : List (List (ℕ × ℕ))) (k : ℕ) (v : List (ℕ × ℕ)) → k < length values → slice_index_or values k v ≡ v → slice_get values k ≡ Some v
+read_at values k v less is = slice_get_read values (length values) k v refl less (sym is)
 
-module _ (q : Question) (l : Label) (x : ℕ) (t : Target) (points scaled : List (ℕ × ℕ)) (is : IsStationTarget q l x t) (station : IsStation q.network x points scaled) where
-  -- the time of charging on the scaled curve
-  charging : (a z : ℕ) → a ≤ z → z ≤ q.network.capacity → charging_time 1 q.network.denominator (curve_at q.network x) a z ≡ time_on scaled z - time_on scaled a
-  charging a z low high =
-      let one = charge_time_in-one q.network.denominator points a ∙ sym (station.tells.times a (omega (arith, low, high))) in
-      let two = charge_time_in-one q.network.denominator points z ∙ sym (station.tells.times z high) in
-      ap (λ c. charging_time 1 q.network.denominator c a z) station.curve ∙ rw (one, two) refl
+some_points : (o : Option (List (ℕ × ℕ))) → IsSome o → (points : List (ℕ × ℕ)) × (o ≡ Some points)
+some_points None some = absurd (grind (arith, some))
+some_points (Some points) some = (points, refl)
 
-  -- the state after a charge as one of the target
-  as_target : (y z time : ℕ) → (at_station q.network (label_state (paid_label q.prices l) y) x z).time ≡ time → IsCovered (section q) (at_station q.network (label_state (paid_label q.prices l) y) x z) → IsCovered (section q) (state_at t z time)
-  as_target y z time same covered =
-      covered_by_good (section q) (at_station q.network (label_state (paid_label q.prices l) y) x z) (state_at t z time) covered
-      (later (section q) (at_station q.network (label_state (paid_label q.prices l) y) x z) (state_at t z time) (sym is.last) (sym is.node) (rw (is.set) (λ c h. h)) (omega arith) (omega (arith, same)) (sym is.paid))
+module _ (q : Question) (l : Label) (x : ℕ) (t : Target) (is : IsStationTarget q l x t) (station : IsSome (curve_at q.network x)) where
+  -- the time of a step, by that of the arc and that of the charge
+  step_time : (y z : ℕ) → level_at q.network (label_state (paid_label q.prices l) y) x ≤ z →
+      (at_station q.network (label_state (paid_label q.prices l) y) x z).time ≡ value_time (level_times l.value) y + drive_time q.network l.node x + charge_time_at q.network x (y - energy q.network l.node x) (z - (y - energy q.network l.node x))
+  step_time y z low =
+      let parts = charge_between q.network x (y - energy q.network l.node x) z low in
+      omega (arith, parts)
 
-  from_target : (y z time : ℕ) → (at_station q.network (label_state (paid_label q.prices l) y) x z).time ≡ time → IsCovered (section q) (state_at t z time) → IsCovered (section q) (at_station q.network (label_state (paid_label q.prices l) y) x z)
-  from_target y z time same covered =
-      covered_by_good (section q) (state_at t z time) (at_station q.network (label_state (paid_label q.prices l) y) x z) covered
-      (later (section q) (state_at t z time) (at_station q.network (label_state (paid_label q.prices l) y) x z) is.last is.node (rw (is.set) (λ c h. h)) (omega arith) (omega (arith, same)) is.paid)
-
-  -- where nothing is charged, no time passes
-  pass_time : (y : ℕ) → level_at q.network (label_state (paid_label q.prices l) y) x ≤ q.network.capacity →
-      (at_station q.network (label_state (paid_label q.prices l) y) x (y - energy q.network l.node x)).time ≡ value_time (level_times l.value) y + (arc_time q.network l.node x + 0)
-  pass_time y high =
-      let a = y - energy q.network l.node x in
-      let unplugged : nat_lt a a ≡ false = le-ltb a a (omega arith) in
-      let none = charging a a (omega arith) high in
-      rw unplugged (omega (arith, none))
-
-  charge_time_is : (y z : ℕ) → level_at q.network (label_state (paid_label q.prices l) y) x < z → z ≤ q.network.capacity →
-      (at_station q.network (label_state (paid_label q.prices l) y) x z).time ≡ value_time (level_times l.value) y + (arc_time q.network l.node x + q.network.denominator * plug_time q.network x) + (time_on scaled z - time_on scaled (y - energy q.network l.node x))
-  charge_time_is y z low high =
-      let plugged : nat_lt (y - energy q.network l.node x) z ≡ true = lt-ltb (y - energy q.network l.node x) z low in
-      let time = charging (y - energy q.network l.node x) z (omega (arith, low)) high in
-      rw plugged (omega (arith, time))
-
-  -- all charges of something that are made in time lead to covered states
-  abbrev pub ChargesCovered : Type 0
-  ChargesCovered =
-      (y z : ℕ) → IsLevel (level_times l.value) y → energy q.network l.node x + q.network.reserve ≤ y → y - energy q.network l.node x < z → z ≤ q.network.capacity
-      → value_time (level_times l.value) y + (arc_time q.network l.node x + q.network.denominator * plug_time q.network x) + (time_on scaled z - time_on scaled (y - energy q.network l.node x)) ≤ scaled_limit q.network
-      → IsCovered (section q) (state_at t z (value_time (level_times l.value) y + (arc_time q.network l.node x + q.network.denominator * plug_time q.network x) + (time_on scaled z - time_on scaled (y - energy q.network l.node x))))
-
-  module _ (w : List (ℕ × ℕ)) (passing : IsArrival (energy q.network l.node x) (arc_time q.network l.node x + 0) (scaled_limit q.network) q.network.reserve (level_times l.value) (level_times w)) where
-    -- a level of the passing value
-    pub passed : (y : ℕ) → IsLevel (level_times l.value) y → energy q.network l.node x + q.network.reserve ≤ y → value_time (level_times l.value) y + (arc_time q.network l.node x + 0) ≤ scaled_limit q.network
-        → IsLevel (level_times w) (y - energy q.network l.node x) × (value_time (level_times w) (y - energy q.network l.node x) ≡ value_time (level_times l.value) y + (arc_time q.network l.node x + 0))
-    passed y level high time =
-        let e = energy q.network l.node x in
+  module _ (w : List (ℕ × ℕ)) (arrival : ArrivesAs q.network l.value l.node x q.network.reserve (Some w)) (values : List (List (ℕ × ℕ))) where
+    -- where each value on leaving is covered, so is each step
+    pub station_covered : CoverCharges q.network x w values → ((k : ℕ) (v : List (ℕ × ℕ)) → slice_get values k ≡ Some v → IsCoveredAll (section q) t v) → IsUncovered q l x → ⊥
+    station_covered covers all = let points = some_points (curve_at q.network x) station in station_alone q l x points.0 points.1 (λ y z level step.
         let v = level_times l.value in
-        let back : y - e + e ≡ y = omega (arith, high) in
-        let there : IsLevel v (y - e + e) × (value_time v (y - e + e) + (arc_time q.network l.node x + 0) ≤ scaled_limit q.network) = rw back (level, time) in
-        let at = (passing.left (y - e)).1 (there.0, omega (arith, high), there.1) in
-        (at, passing.later (y - e) at ∙ ap (λ z. value_time v z + (arc_time q.network l.node x + 0)) back)
+        let a = y - energy q.network l.node x in
+        let drive = drive_time q.network l.node x in
+        let parts = step_time y z step.charges in
+        let up : y - energy q.network l.node x + (z - (y - energy q.network l.node x)) ≡ z = omega (arith, step.charges) in
+        let at = arrives_at q.network l.value l.node x q.network.reserve w arrival y level step.step.reaches (omega (arith, parts, step.in_time)) in
+        let vehicle = covers_vehicle (level_times w) a (value_time v y + drive) (a, at.0, (omega arith, omega (arith, at.1))) in
+        let found = covers a (value_time v y + drive) (z - a) vehicle (λ more. station) (omega (arith, up, step.full)) (omega (arith, parts, step.in_time)) in
+        let reach = found.4 in
+        let here = all found.0 found.1 (read_at values found.0 found.1 found.2 found.3) in
+        covered_by_good (section q) (state_of t found.1 reach.0) (at_station q.network (label_state (paid_label q.prices l) y) x z) (here reach.0 reach.1)
+        (later (section q) (state_of t found.1 reach.0) (at_station q.network (label_state (paid_label q.prices l) y) x z) is.last is.node (rw (is.set) (λ c h. h)) (omega (arith, reach.2.0, up)) (omega (arith, reach.2.1, parts)) is.paid))
 
-    pub station_covered : IsCoveredAll (section q) t w → ChargesCovered → IsUncovered q l x → ⊥
-    station_covered all charges = station_alone q l x points station.curve (λ y z level step. elim (cases_eq z (y - energy q.network l.node x)) [
-      | inl same ↦
-          let a = y - energy q.network l.node x in
-          let step_at : IsStationStep q.network (label_state (paid_label q.prices l) y) x (y - energy q.network l.node x) = subst (λ k. IsStationStep q.network (label_state (paid_label q.prices l) y) x k) same step in
-          let time = pass_time y step_at.full in
-          let at = passed y level step.step.reaches (omega (arith, time, step_at.in_time)) in
-          subst (λ k. IsCovered (section q) (at_station q.network (label_state (paid_label q.prices l) y) x k)) (sym same)
-          (from_target y a (value_time (level_times w) a) (time ∙ sym at.1) (all a at.0))
-      | inr more ↦
-          let low : y - energy q.network l.node x < z = omega (arith, step.charges, more) in
-          let time = charge_time_is y z low step.full in
-          from_target y z (value_time (level_times l.value) y + (arc_time q.network l.node x + q.network.denominator * plug_time q.network x) + (time_on scaled z - time_on scaled (y - energy q.network l.node x))) time
-          (charges y z level step.step.reaches low step.full (omega (arith, time, step.in_time)))
-    ])
+    module _ (known : x < node_count q.network) (moves : x ≢ l.node) where
+      -- a charge, or none, that leads to a state that is not covered
+      step_missed : (a z time : ℕ) → IsLevel (level_times w) a → a ≤ z → z ≤ q.network.capacity → value_time (level_times w) a + charge_time_at q.network x a (z - a) ≤ time → time ≤ scaled_limit q.network
+          → (IsCovered (section q) (state_at t z time) → ⊥) → IsUncovered q l x
+      step_missed a z time level low full no_later in_time missed =
+          let e = energy q.network l.node x in
+          let at = (arrival.left a).0 level in
+          let gone : a + energy q.network l.node x - energy q.network l.node x ≡ a = omega arith in
+          let from : a + energy q.network l.node x - energy q.network l.node x ≤ z = omega (arith, low) in
+          let parts = step_time (a + energy q.network l.node x) z from in
+          let charge : charge_time_at q.network x (a + energy q.network l.node x - energy q.network l.node x) (z - (a + energy q.network l.node x - energy q.network l.node x)) ≡ charge_time_at q.network x a (z - a) = ap (λ k. charge_time_at q.network x k (z - k)) gone in
+          let value = arrival.later a level in
+          let step : IsStationStep q.network (label_state (paid_label q.prices l) (a + energy q.network l.node x)) x z = record {
+            step = record { known = known; moves = moves; reaches = omega (arith, at.1) };
+            station = station;
+            charges = from;
+            full = full;
+            in_time = omega (arith, parts, charge, value, no_later, in_time);
+          } in (
+            a + e,
+            at.0,
+            inr (
+              z,
+              step,
+              λ covered. missed
+                  (covered_by_good (section q) (at_station q.network (label_state (paid_label q.prices l) (a + energy q.network l.node x)) x z) (state_at t z time) covered
+                  (later (section q) (at_station q.network (label_state (paid_label q.prices l) (a + energy q.network l.node x)) x z) (state_at t z time) (sym is.last) (sym is.node) (rw (is.set) (λ c h. h)) (omega arith) (omega (arith, parts, charge, value, no_later)) (sym is.paid))),
+            ),
+          )
 
-  module _ (known : x < node_count q.network) (moves : x ≢ l.node) where
-    some_curve : (o : Option (List (ℕ × ℕ))) → o ≡ Some points → IsSome o
-    some_curve o same = rw same refl
+      -- so is a step where some value on leaving is not covered
+      pub station_missed : AreLeft q.network x w values → IsWithin q.network w → (k : ℕ) (v : List (ℕ × ℕ)) → slice_get values k ≡ Some v → IsMissed (section q) t v → IsUncovered q l x
+      station_missed left within zero v here missed =
+          let same : v ≡ w = left.passing v here in
+          let own : IsMissed (section q) t w = subst (IsMissed (section q) t) same missed in
+          let nothing : own.0 - own.0 ≡ 0 = omega arith in
+          let none : charge_time_at q.network x own.0 (own.0 - own.0) ≡ 0 = ap (λ k. charge_time_at q.network x own.0 k) nothing ∙ passing_time q.network x own.0 in
+          step_missed own.0 own.0 (value_time (level_times w) own.0) own.1 (omega arith) (within.levels own.0 own.1) (omega (arith, none)) (within.times own.0 own.1) own.2
+      station_missed left within (suc k) v here missed =
+          let plugged = left.plugged (suc k) v here (omega arith) in
+          let from = plugged.from missed.0 missed.1 in
+          step_missed (level_times v).first missed.0 (value_time (level_times v) missed.0) from.0 from.1 from.2 (plugged.no_later missed.0 missed.1) (plugged.in_time missed.0 missed.1) missed.2
 
-    -- a charge, or none, that leads to a state that is not covered
-    pub step_missed : (y z time : ℕ) → IsLevel (level_times l.value) y → energy q.network l.node x + q.network.reserve ≤ y → y - energy q.network l.node x ≤ z → z ≤ q.network.capacity → (at_station q.network (label_state (paid_label q.prices l) y) x z).time ≡ time → time ≤ scaled_limit q.network
-        → (IsCovered (section q) (state_at t z time) → ⊥) → IsUncovered q l x
-    step_missed y z time level high low full same within missed =
-        let step : IsStationStep q.network (label_state (paid_label q.prices l) y) x z = record {
-          step = record { known = known; moves = moves; reaches = high };
-          station = some_curve (curve_at q.network x) station.curve;
-          charges = low;
-          full = full;
-          in_time = omega (arith, same, within);
-        } in
-        (y, level, inr (z, step, λ covered. missed (as_target y z time same covered)))
-
-    pub passing_missed : (w : List (ℕ × ℕ)) → IsArrival (energy q.network l.node x) (arc_time q.network l.node x + 0) (scaled_limit q.network) q.network.reserve (level_times l.value) (level_times w) → ((y : ℕ) → IsLevel (level_times w) y → y ≤ q.network.capacity) → IsMissed (section q) t w → IsUncovered q l x
-    passing_missed w passing low missed =
-        let e = energy q.network l.node x in
-        let a = missed.0 in
-        let at = (passing.left a).0 missed.1 in
-        let gone : a + e - e ≡ a = omega arith in
-        let fits : a + e - e ≤ q.network.capacity = omega (arith, low a missed.1) in
-        let time : (at_station q.network (label_state (paid_label q.prices l) (a + e)) x a).time ≡ value_time (level_times w) a = subst (λ k. (at_station q.network (label_state (paid_label q.prices l) (a + e)) x k).time ≡ value_time (level_times l.value) (a + e) + (arc_time q.network l.node x + 0)) gone (pass_time (a + e) fits) ∙ sym (passing.later a missed.1) in
-        step_missed (a + e) a (value_time (level_times w) a) at.0 (omega (arith, at.1)) (omega arith) (omega (arith, low a missed.1)) time (omega (arith, passing.later a missed.1, at.2)) missed.2
-
-  -- charges from a plugged value
-  module _ (w : List (ℕ × ℕ)) (plugged : IsArrival (energy q.network l.node x) (arc_time q.network l.node x + q.network.denominator * plug_time q.network x) (scaled_limit q.network) q.network.reserve (level_times l.value) (level_times w)) where
-    pub charges_covered : ((level time : ℕ) → IsCharge (level_times w) scaled (scaled_limit q.network) level time → IsCovered (section q) (state_at t level time)) → ChargesCovered
-    charges_covered all y z level high low full within =
-        let e = energy q.network l.node x in
-        let v = level_times l.value in
-        let time = arc_time q.network l.node x + q.network.denominator * plug_time q.network x in
-        let back : y - e + e ≡ y = omega (arith, high) in
-        let there : IsLevel v (y - e + e) × (value_time v (y - e + e) + time ≤ scaled_limit q.network) = rw back (level, omega (arith, within)) in
-        let at = (plugged.left (y - e)).1 (there.0, omega (arith, high), there.1) in
-        let after : value_time (level_times w) (y - e) ≡ value_time v y + time = plugged.later (y - e) at ∙ ap (λ k. value_time v k + time) back in
-        all z (value_time v y + time + (time_on scaled z - time_on scaled (y - e))) (record {
-          from = y - e;
-          starts = at;
-          rises = omega (arith, low);
-          fits = omega (arith, full, station.tells.full);
-          takes = ap (λ k. k + (time_on scaled z - time_on scaled (y - e))) (sym after);
-          in_time = within;
-        })
-
-    pub charge_missed : x < node_count q.network → x ≢ l.node → (level time : ℕ) → IsCharge (level_times w) scaled (scaled_limit q.network) level time → (IsCovered (section q) (state_at t level time) → ⊥) → IsUncovered q l x
-    charge_missed known moves level time charge missed =
-        let e = energy q.network l.node x in
-        let a = charge.from in
-        let at = (plugged.left a).0 charge.starts in
-        let gone : a + e - e ≡ a = omega arith in
-        let value = plugged.later a charge.starts in
-        let full : level ≤ q.network.capacity = omega (arith, charge.fits, station.tells.full) in
-        elim (cases_eq level a) [
-          | inl same ↦
-              let fits : a + e - e ≤ q.network.capacity = omega (arith, full, same) in
-              let passes : (at_station q.network (label_state (paid_label q.prices l) (a + e)) x level).time ≡ value_time (level_times l.value) (a + e) + (arc_time q.network l.node x + 0) = subst (λ k. (at_station q.network (label_state (paid_label q.prices l) (a + e)) x k).time ≡ value_time (level_times l.value) (a + e) + (arc_time q.network l.node x + 0)) (gone ∙ sym same) (pass_time (a + e) fits) in
-              let pass = value_time (level_times l.value) (a + e) + (arc_time q.network l.node x + 0) in
-              let earlier : pass ≤ time = omega (arith, value, charge.takes) in
-              step_missed known moves (a + e) level pass at.0 (omega (arith, at.1)) (omega (arith, same)) full passes (omega (arith, at.2)) (λ covered. missed
-              (covered_by_good (section q) (state_at t level pass) (state_at t level time) covered (later (section q) (state_at t level pass) (state_at t level time) refl refl (λ c h. h) (omega arith) earlier refl)))
-          | inr other ↦
-              let low : a + e - e < level = omega (arith, other, charge.rises) in
-              let at_time = charge_time_is (a + e) level low full in
-              let moved : time_on scaled level - time_on scaled (a + e - e) ≡ time_on scaled level - time_on scaled a = ap (λ k. time_on scaled level - time_on scaled k) gone in
-              step_missed known moves (a + e) level time at.0 (omega (arith, at.1)) (omega (arith, low)) full (omega (arith, at_time, moved, value, charge.takes)) charge.in_time missed
-        ]
-
-  pub nothing_plugged : NoArrival (energy q.network l.node x) (arc_time q.network l.node x + q.network.denominator * plug_time q.network x) (scaled_limit q.network) q.network.reserve (level_times l.value) → ChargesCovered
-  nothing_plugged none y z level high low full within =
-      let past = none y level high in
-      absurd (omega (arith, past, within))
+    pub station_told : x < node_count q.network → x ≢ l.node → AreLeft q.network x w values → CoverCharges q.network x w values → IsWithin q.network w → (covered : Bool) → TellsEach (section q) t values covered → TellsStep q l x covered
+    station_told known moves left covers within true all = station_covered covers all
+    station_told known moves left covers within false some = station_missed known moves left within some.0 some.1 some.2 some.3

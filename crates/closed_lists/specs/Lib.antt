@@ -3,7 +3,8 @@ pub mod Questions
 pub mod Links
 pub mod Looking
 pub mod Inside
-pub mod Arrivals
 pub mod Targets
+pub mod Asking
+pub mod AskedInside
 pub mod Tellings
 pub mod Verdicts

@@ -1,7 +1,6 @@
 -- States of a partial route at the levels of a value, and whether they are covered.
-use Rattle.std.specs.Prelude.{ℕ, ◌≤◌, Bool, List, MatchBool}
+use Rattle.std.specs.Prelude.{◌≡◌, ℕ, Bool, List, MatchBool, Some, slice_get}
 use Rattle.dominance.specs.LevelTimes.{IsLevel, time_at}
-use Rattle.dominance.specs.Steps.{IsCharge}
 use Rattle.fleet_model.specs.Coverage.{IsCovered}
 use Rattle.fleet_model.specs.Labels.{State}
 use Rattle.fleet_model.specs.Section.{Section}
@@ -23,13 +22,6 @@ state_at t level time = record {
 abbrev pub state_of : Target → List (ℕ × ℕ) → ℕ → State
 state_of t value level = state_at t level (time_at (level_times value) level)
 
--- each state from one level of the value to another is covered
-pub record IsCoveredTo (s : Section) (t : Target) (value : List (ℕ × ℕ)) (from to : ℕ) :
-    Type 0 where
-  pub up : from ≤ to
-  pub ends : IsLevel (level_times value) to
-  pub covered : (level : ℕ) → from ≤ level → level ≤ to → IsCovered s (state_of t value level)
-
 -- each state of the value is covered
 abbrev pub IsCoveredAll : Section → Target → List (ℕ × ℕ) → Type 0
 IsCoveredAll s t value =
@@ -40,10 +32,8 @@ abbrev pub IsMissed : Section → Target → List (ℕ × ℕ) → Type 0
 IsMissed s t value =
     (level : ℕ) × IsLevel (level_times value) level × (IsCovered s (state_of t value level) → ⊥)
 
--- whether each charge from a level of the value, within the limit, leads to a covered state
-abbrev pub TellsCharges : Section → Target → List (ℕ × ℕ) → List (ℕ × ℕ) → ℕ → Bool → Type 0
-TellsCharges s t value curve limit covered = MatchBool covered
-    ((level time : ℕ) → IsCharge (level_times value) curve limit level time →
-    IsCovered s (state_at t level time))
-    ((level : ℕ) × (time : ℕ) × IsCharge (level_times value) curve limit level time ×
-    (IsCovered s (state_at t level time) → ⊥))
+-- whether each state of each of the values is covered
+abbrev pub TellsEach : Section → Target → List (List (ℕ × ℕ)) → Bool → Type 0
+TellsEach s t values covered = MatchBool covered
+    ((k : ℕ) (w : List (ℕ × ℕ)) → slice_get values k ≡ Some w → IsCoveredAll s t w)
+    ((k : ℕ) × (w : List (ℕ × ℕ)) × (slice_get values k ≡ Some w) × IsMissed s t w)

@@ -14,6 +14,7 @@ use crate::fault::ClosedFault;
 use crate::section::Section;
 use customer_sets::{CustSet, Pairs};
 use instance_reader::Instance;
+use label_steps::covers_all;
 use piece_fn::{Label, PieceFn};
 use std::alloc::Global;
 
@@ -57,7 +58,7 @@ pub fn check_closed(
     if !section.covers_start(alloc) {
         return Err(ClosedFault::Start);
     }
-    match section.check_steps() {
+    match section.check_steps(alloc) {
         Ok(()) => section.check_ends(),
         Err(fault) => Err(fault),
     }
@@ -77,18 +78,18 @@ impl Section<'_> {
             paid: 0,
         };
         let full = PieceFn::point(alloc, self.inst.max_q(), 0);
-        self.covers_all(&target, &full)
+        covers_all(&self.asked(&target), &full)
     }
 
     /// The first step to a customer or a station that leads to a state that is not covered, if
     /// there is one.
-    fn check_steps(&self) -> Result<(), ClosedFault>
+    fn check_steps(&self, alloc: Global) -> Result<(), ClosedFault>
         ensures good { IfOk result (λ _. HasNoBadStep self.now.network (section self.now)) }
         ensures bad { IfErr result (IsFirstStep self.now.network (section self.now)) }
     {
         for number in 0..self.labels.len() {
             let (label, paid) = (self.label(number), self.paid(number));
-            if let Some(node) = self.uncovered_node(label, paid)? {
+            if let Some(node) = self.uncovered_node(alloc, label, paid)? {
                 return Err(ClosedFault::Step {
                     label: number,
                     node,

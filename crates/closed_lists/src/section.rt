@@ -16,6 +16,7 @@ use crate::paid::price_sum;
 use crate::places::Places;
 use customer_sets::Pairs;
 use instance_reader::Instance;
+use label_steps::scaled_limit;
 use piece_fn::Label;
 use std::alloc::{AllocError, Global};
 use std::marker::Model;
@@ -112,7 +113,7 @@ impl<'a> Section<'a> {
         ensures value { result ≡ scaled_limit self.now.network }
         ensures small { result ≤ 10 ^ 18 }
     {
-        self.inst.denominator() * self.inst.limit()
+        scaled_limit(self.inst)
     }
 
     /// The label with a number.
@@ -137,10 +138,16 @@ impl<'a> Section<'a> {
 
     /// The entries of the labels.
     pub(crate) fn entries(&self) -> &[Entry]
-        ensures { AreEntries (node_count self.now.network) self.now.prices self.now.labels
+        ensures are { AreEntries (node_count self.now.network) self.now.prices self.now.labels
             result.now }
+        ensures labels { All (IsLabelOf self.now.network) self.now.labels }
     {
         self.entries.as_slice()
+    }
+
+    /// Which entries are looked at first.
+    pub(crate) fn places(&self) -> &Places {
+        &self.places
     }
 
     /// The reserve. It takes no memory.

@@ -1,59 +1,29 @@
 -- Values on leaving a node, after an arc: what they cover, and from what they come.
-use Rattle.std.proofs.Common.{◌≡◌, ℕ, zero, suc, ◌+◌, ◌-◌, ◌*◌, ◌<◌, ◌≤◌, inl, inr, List, [], ◌∷◌, length, refl, sym, ◌∙◌, ap, subst, arith, Option, Some, None, true, false}
-use Rattle.std.specs.Prelude.{◌≢◌, nat_eq, nat_lt, if◌then◌else◌, slice_get, slice_index}
+use Rattle.std.proofs.Common.{◌≡◌, ℕ, zero, suc, ◌+◌, ◌-◌, ◌<◌, ◌≤◌, inl, inr, List, [], ◌∷◌, length, refl, sym, ◌∙◌, ap, subst, arith, true, false}
+use Rattle.std.specs.Prelude.{◌≢◌, nat_eq, nat_lt, slice_get, slice_index}
 use Rattle.std.specs.Option.{IsSome}
 use Rattle.std.proofs.lemmas.Option.{same_Some, none-some}
 use Rattle.std.proofs.lemmas.Bool.{cases_eq, eq-eqb, eqb-true, false≢true, le-leb}
 use Rattle.std.proofs.lemmas.Bool.Decides.{eqb_tells}
 use Rattle.std.proofs.Math.Nat.{le-max_left, le-max_right, max-le}
-use Rattle.ev_model.specs.Network.{Network, curve_at, energy, plug_time, process_time, scaled_limit, travel_time}
+use Rattle.ev_model.specs.Network.{Network, curve_at, energy, scaled_limit}
 use Rattle.ev_model.specs.Levels.{leaving_level}
-use Rattle.ev_model.specs.Time.{charging_time, stop_time}
+use Rattle.ev_model.specs.Time.{stop_time}
 use Rattle.ev_model.specs.declared.Stop.{Stop}
-use Rattle.dominance.specs.Coverage.{Reaches, SomeReaches}
+use Rattle.dominance.specs.Coverage.{SomeReaches}
 use Rattle.dominance.specs.LevelTimes.{IsLevel, LevelTimes, time_at}
 use Rattle.piece_fn.specs.PieceFn.{level_times}
-use Rattle.frvcp_labels.specs.Arrivals.{CoversVehicle, IsArrival}
-use Rattle.frvcp_labels.specs.Leaves.{AreLeft, CoverCharges, IsPlugged, charge_time_at}
+use Rattle.label_steps.specs.Arrivals.{CoversVehicle, drive_time, IsArrival}
+use Rattle.label_steps.specs.Leaves.{AreLeft, CoverCharges, IsPlugged, charge_time_at}
+use Rattle.label_steps.proofs.Stops.{passing_time, stop_parts}
+use Rattle.label_steps.proofs.Vehicles.{covers_vehicle, reaches_vehicle}
 use Rattle.frvcp_labels.specs.Search.{AreSteps, CoverStops, Holds, IsSoundState, IsSoundStep, MayGo, added_at, level_before, stop_at, state_at}
-use Rattle.frvcp_labels.specs.Trips.{Journey, drive_time, least_level}
+use Rattle.frvcp_labels.specs.Trips.{Journey, least_level}
 use Rattle.frvcp_labels.specs.Ways.{Leaving, MayStop, leaving_after, passed_after}
 use Rattle.frvcp_labels.specs.declared.state.State.{State}
-use Rattle.frvcp_labels.proofs.OneLevel.{has_level, its_level, its_time, time_there}
 
 not_equal : (a b : ℕ) → (a ≡ b → ⊥) → nat_eq a b ≡ false
 not_equal a b apart = elim (eqb_tells a b) [ inl same ↦ absurd (apart same.1) | inr other ↦ other.0 ]
-
--- what holds a vehicle covers it, and the other way round
-pub covers_vehicle : (v : LevelTimes) (level time : ℕ) → Reaches v 0 level time → CoversVehicle v level time
-covers_vehicle v level time r x is =
-    let same = its_level level time x is in
-    let at = time_there level time x is in
-    (r.0, r.1, (omega (arith, same, r.2.0), omega (arith, at, r.2.1)))
-
-pub reaches_vehicle : (v : LevelTimes) (level time : ℕ) → CoversVehicle v level time → Reaches v 0 level time
-reaches_vehicle v level time covers =
-    let r = covers level (has_level level time) in
-    let at = its_time level time in
-    (r.0, r.1, (r.2.0, omega (arith, at, r.2.1)))
-
-charging-none : (d : ℕ) (o : Option (List (ℕ × ℕ))) (level : ℕ) → charging_time 1 d o level (level + 0) ≡ 0
-charging-none d None level = refl
-charging-none d (Some points) level = let same : level + 0 ≡ level = omega arith in rw same (omega arith)
-
--- passing through takes no time to charge
-pub passing_time : (g : Network) (node level : ℕ) → charge_time_at g node level 0 ≡ 0
-passing_time g node level = let none = charging-none g.denominator (curve_at g node) level in omega (arith, none)
-
--- the time of a stop is that of the arc and that of the charge
-pub stop_parts : (g : Network) (from level : ℕ) (s : Stop) → stop_time g 1 from level s ≡ drive_time g from s.node + charge_time_at g s.node (level - energy g from s.node) s.added
-stop_parts g from level s =
-    let plug = if nat_lt 0 s.added then plug_time g s.node else 0 in
-    let split : g.denominator * (travel_time g from s.node + process_time g s.node + plug) ≡ g.denominator * (travel_time g from s.node + process_time g s.node) + g.denominator * plug = omega arith in
-    let one : 1 * energy g from s.node ≡ energy g from s.node = omega arith in
-    let charge : charging_time 1 g.denominator (curve_at g s.node) (level - 1 * energy g from s.node) (level - 1 * energy g from s.node + s.added) ≡ charging_time 1 g.denominator (curve_at g s.node) (level - energy g from s.node) (level - energy g from s.node + s.added) =
-    ap (λ e. charging_time 1 g.denominator (curve_at g s.node) (level - e) (level - e + s.added)) one in
-    omega (arith, split, charge)
 
 reserve_within : (g : Network) (route : List ℕ) (passed : ℕ) → g.reserve ≤ least_level g route passed
 reserve_within g route passed = elim (cases_eq passed (length route - 1)) [
@@ -137,7 +107,7 @@ pub record IsComing (t : Journey) (passed to : ℕ) (arrived : LevelTimes) (leve
   pub in_time : time ≤ scaled_limit t.network
 
 module _ (t : Journey) (from : State) (passed to : ℕ) (go : MayGo t from.passed passed to) (other : to ≢ from.node) (sound : IsSoundState t from) (arrived : LevelTimes)
-    (arrival : IsArrival (energy t.network from.node to) (drive_time t.network from.node to) (least_level t.network t.route passed) (scaled_limit t.network) (level_times from.value) arrived)
+    (arrival : IsArrival (energy t.network from.node to) (drive_time t.network from.node to) (scaled_limit t.network) (least_level t.network t.route passed) (level_times from.value) arrived)
     (k : ℕ) (w : List (ℕ × ℕ)) (coming : (level : ℕ) → IsLevel (level_times w) level → IsComing t passed to arrived level (added_at (state_at passed to k w) level) (time_at (level_times w) level)) where
   abbrev s : State
   s = state_at passed to k w
@@ -168,7 +138,7 @@ module _ (t : Journey) (from : State) (passed to : ℕ) (go : MayGo t from.passe
   may_is : (level : ℕ) → IsLevel (level_times w) level → MayStop t.network t.route (record { passed = from.passed; node = from.node; level = level_before t.network from s level; time = time_at (level_times from.value) (level_before t.network from s level) }) (stop_at from s level)
   may_is level is =
       let comes = coming level is in
-      let enough = arrival.enough (level - added_at s level) comes.there in
+      let enough = ((arrival.left (level - added_at s level)).0 comes.there).1 in
       let reserve = reserve_within t.network t.route passed in
       let leaves = leaves_is level is in
       let later = no_later_is level is in
@@ -211,7 +181,7 @@ module _ (t : Journey) (from : State) (passed to : ℕ) (go : MayGo t from.passe
     };
     step = record {
       passed = via_passed;
-      comes = λ level is. arrival.from (level - added_at s level) (coming level is).there;
+      comes = λ level is. ((arrival.left (level - added_at s level)).0 (coming level is).there).0;
       may = may_is;
       leaves = leaves_is;
       no_later = no_later_is;
@@ -219,9 +189,9 @@ module _ (t : Journey) (from : State) (passed to : ℕ) (go : MayGo t from.passe
   }
 
 module _ (t : Journey) (from : State) (passed to : ℕ) (go : MayGo t from.passed passed to) (other : to ≢ from.node) (sound : IsSoundState t from) (arrived : List (ℕ × ℕ))
-    (arrival : IsArrival (energy t.network from.node to) (drive_time t.network from.node to) (least_level t.network t.route passed) (scaled_limit t.network) (level_times from.value) (level_times arrived)) where
+    (arrival : IsArrival (energy t.network from.node to) (drive_time t.network from.node to) (scaled_limit t.network) (least_level t.network t.route passed) (level_times from.value) (level_times arrived)) where
   pub arrived_low : (level : ℕ) → IsLevel (level_times arrived) level → level ≤ t.network.capacity
-  arrived_low level is = let low = sound.levels (level + energy t.network from.node to) (arrival.from level is) in omega (arith, low)
+  arrived_low level is = let low = sound.levels (level + energy t.network from.node to) ((arrival.left level).0 is).0 in omega (arith, low)
 
   passing : IsSoundStep t from (state_at passed to 0 arrived)
   passing = is_step t from passed to go other sound (level_times arrived) arrival 0 arrived (λ level is.
@@ -234,7 +204,7 @@ module _ (t : Journey) (from : State) (passed to : ℕ) (go : MayGo t from.passe
         end = λ e. refl;
         within = arrived_low level is;
         no_later = subst (λ l. time_at (level_times arrived) l + charge_time_at t.network to l 0 ≤ time_at (level_times arrived) level) back (omega (arith, none));
-        in_time = arrival.in_time level is;
+        in_time = omega (arith, arrival.later level is, ((arrival.left level).0 is).2);
       })
 
   charged : (k : ℕ) (w : List (ℕ × ℕ)) → 0 < k → passed < length t.route - 1 → IsPlugged t.network to (level_times arrived) (level_times w) → IsSoundStep t from (state_at passed to k w)

@@ -1,7 +1,5 @@
 pub mod Rests
 pub mod Plans
-pub mod OneLevel
-pub mod Arriving
 pub mod StationList
 pub mod Growing
 pub mod Searching
@@ -12,9 +10,6 @@ mod Turning
 mod Solving
 pub mod Points
 pub mod Leaving
-pub mod Charging
-pub mod Pays
-pub mod Plugging
 pub mod Tracing
 mod RestRate
 mod RestLaw

@@ -1,6 +1,5 @@
 -- No plan of a route takes less than the ways between its nodes cost.
-use Rattle.std.proofs.Common.{◌≡◌, ◌∙◌, ℕ, ◌+◌, ◌-◌, ◌*◌, ◌<◌, ◌≤◌, true, false, inl, inr, List, [], ◌∷◌, ◌++◌, ap, arith, subst, sym}
-use Rattle.std.specs.Prelude.{slice_index}
+use Rattle.std.proofs.Common.{◌≡◌, ◌∙◌, ℕ, ◌+◌, ◌*◌, ◌<◌, ◌≤◌, true, false, inl, inr, List, [], ◌∷◌, ◌++◌, ap, arith, subst}
 use Rattle.std.specs.List.{All}
 use Rattle.std.proofs.lemmas.Bool.{cases_Bool}
 use Rattle.std.proofs.lemmas.List.Elements.{All-append, All-cons, All-head, All-nil, All-tail}
@@ -12,7 +11,7 @@ use Rattle.ev_model.specs.Plan.{AreStopsFrom, IsStop}
 use Rattle.ev_model.specs.Route.{FollowsRoute, route_of}
 use Rattle.ev_model.specs.Time.{charging_time, plugging_time, time_from, time_of}
 use Rattle.ev_model.specs.declared.Stop.{Stop}
-use Rattle.frvcp_labels.specs.Bounds.{AreWayCosts, IsLayer, way_cost, way_sum}
+use Rattle.frvcp_labels.specs.Bounds.{AreWayCosts, way_cost, way_sum}
 use Rattle.frvcp_labels.specs.Rest.{IsRate, step_cost}
 use Rattle.frvcp_labels.specs.Ways.{depot_stop}
 use Rattle.frvcp_labels.proofs.RestLaw.{charged, step_sum}

@@ -1,6 +1,5 @@
 -- What ways over stations cost at least, and their sum along a route.
-use Rattle.std.specs.Prelude.{◌≡◌, ℕ, ◌+◌, ◌<◌, List, [], ◌∷◌, get_or, length, map, slice_index, vec_items}
-use Rattle.std.specs.List.{All}
+use Rattle.std.specs.Prelude.{◌≡◌, ℕ, ◌+◌, ◌<◌, List, [], ◌∷◌, get_or, length, map, slice_index}
 use Rattle.std.specs.Global.{Vec}
 use Rattle.ev_model.specs.Network.{Network, node_count}
 use Rattle.frvcp_labels.specs.Rest.{IsDirect, IsSteady}

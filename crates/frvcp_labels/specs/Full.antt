@@ -5,7 +5,8 @@ use Rattle.dominance.specs.LevelTimes.{time_at}
 use Rattle.label_pool.specs.declared.label.Label.{Label}
 use Rattle.piece_fn.specs.PieceFn.{level_times}
 use Rattle.frvcp_labels.specs.Search.{Reached}
-use Rattle.frvcp_labels.specs.Trips.{Journey, drive_time}
+use Rattle.label_steps.specs.Arrivals.{drive_time}
+use Rattle.frvcp_labels.specs.Trips.{Journey}
 use Rattle.frvcp_labels.specs.Ways.{Leaving}
 use Rattle.frvcp_labels.specs.declared.state.State.{State}
 

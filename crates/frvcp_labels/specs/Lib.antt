@@ -1,12 +1,8 @@
 pub mod Ways
-pub mod OneLevel
-pub mod Arrivals
 pub mod Trips
 pub mod Stations
 pub mod Rest
 pub mod TripView
-pub mod Leaves
-pub mod Paying
 pub mod Search
 pub mod Full
 pub mod Answers

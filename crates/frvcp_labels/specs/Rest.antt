@@ -5,7 +5,7 @@ use Rattle.std.specs.List.{All}
 use Rattle.std.specs.Option.{IsSome}
 use Rattle.ev_model.specs.Network.{Network, curve_at, energy, node_count}
 use Rattle.ev_model.specs.Time.{charging_time}
-use Rattle.frvcp_labels.specs.Trips.{drive_time}
+use Rattle.label_steps.specs.Arrivals.{drive_time}
 
 -- at a node a unit of charge takes at least so much scaled time
 abbrev pub IsRateAt : Network → ℕ → ℕ → Type 0

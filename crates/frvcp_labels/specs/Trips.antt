@@ -1,6 +1,6 @@
 -- A route of a network that is to be driven.
-use Rattle.std.specs.Prelude.{ℕ, ◌+◌, ◌-◌, ◌*◌, ◌≤◌, List, length, max, nat_eq, if◌then◌else◌}
-use Rattle.ev_model.specs.Network.{IsNetwork, Network, process_time, travel_time}
+use Rattle.std.specs.Prelude.{ℕ, ◌-◌, ◌≤◌, List, length, max, nat_eq, if◌then◌else◌}
+use Rattle.ev_model.specs.Network.{IsNetwork, Network}
 use Rattle.ev_model.specs.Route.{IsRoute}
 
 pub record Journey : Type 0 where
@@ -18,7 +18,3 @@ pub record IsTrip (g : Network) (route : List ℕ) : Type 0 where
 abbrev pub least_level : Network → List ℕ → ℕ → ℕ
 least_level g route passed =
     if nat_eq passed (length route - 1) then max g.reserve g.home_level else g.reserve
-
--- the scaled time of an arc and of the visit at its end, without plugging in and charging
-abbrev pub drive_time : Network → ℕ → ℕ → ℕ
-drive_time g from to = g.denominator * (travel_time g from to + process_time g to)

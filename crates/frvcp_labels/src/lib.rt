@@ -12,7 +12,6 @@
 mod arrival;
 mod bounds;
 mod full;
-mod paying;
 mod rest;
 mod search;
 mod solve;

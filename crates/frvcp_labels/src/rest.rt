@@ -11,9 +11,8 @@ ghost use Rattle.ev_model.specs.Route.{IsRoute};
 ghost use Rattle.frvcp_labels.specs.Rest.{IsBelowPoints, IsBelowSteps, IsDirect, AreLayers, IsLowered, IsRate, IsRateAt, IsRestBound, IsSteady, step_cost};
 ghost use Rattle.frvcp_labels.specs.Stations.{stations as stations_of};
 
-use crate::paying::{full_level, unit_time};
-use crate::trip::drive_time;
 use instance_reader::Instance;
+use label_steps::{drive_time, full_level, unit_time};
 use std::alloc::{AllocError, Global};
 
 /// The bound of a route.

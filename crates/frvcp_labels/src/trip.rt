@@ -1,10 +1,12 @@
 //! A route to be driven.
 ghost use Rattle.std.specs.Prelude.{◌≡◌, ◌+◌, ◌-◌, ◌*◌, ◌^◌, ◌<◌, ◌≤◌, length, slice_index, IfSome};
-ghost use Rattle.ev_model.specs.Network.{energy, node_count, plug_time, scaled_limit};
-ghost use Rattle.frvcp_labels.specs.Trips.{IsTrip, drive_time, least_level};
+ghost use Rattle.ev_model.specs.Network.{energy, node_count, scaled_limit};
+ghost use Rattle.label_steps.specs.Arrivals.{drive_time};
+ghost use Rattle.frvcp_labels.specs.Trips.{IsTrip, least_level};
 
 use crate::rest::Rest;
 use instance_reader::Instance;
+use label_steps::{drive_time, scaled_limit};
 use std::marker::Model;
 
 /// A route on an instance, with the nodes that have a curve, the charge that the vehicle starts
@@ -36,7 +38,7 @@ impl<'a> Trip<'a> {
         ensures value { result ≡ scaled_limit self.now.network }
         ensures small { result ≤ 10 ^ 18 }
     {
-        self.inst.denominator() * self.inst.limit()
+        scaled_limit(self.inst)
     }
 
     /// The index in the route of its end.
@@ -82,15 +84,6 @@ impl<'a> Trip<'a> {
         self.inst.energy(from, to)
     }
 
-    /// The scaled time of plugging in at a node.
-    pub(crate) fn plugging_time(&self, node: usize) -> u64
-        requires { node < node_count self.now.network }
-        ensures value { result ≡ self.now.network.denominator * plug_time self.now.network node }
-        ensures small { result ≤ 10 ^ 18 }
-    {
-        self.inst.denominator() * self.inst.plug_at(node)
-    }
-
     /// The least level on arriving somewhere once so much of the route was passed.
     pub(crate) fn least_level(&self, passed: usize) -> u64
         ensures value { result ≡ least_level self.now.network self.now.route passed }
@@ -120,14 +113,4 @@ impl<'a> Trip<'a> {
     {
         passed * self.inst.nodes() + node
     }
-}
-
-/// The scaled time of an arc and of the visit at its end, without plugging in and charging.
-pub(crate) fn drive_time(inst: &Instance, from: usize, to: usize) -> u64
-    requires left { from < node_count inst.now }
-    requires reached { to < node_count inst.now }
-    ensures value { result ≡ drive_time inst.now from to }
-    ensures small { result ≤ 2 * 10 ^ 18 }
-{
-    inst.denominator() * (inst.time(from, to) + inst.service(to))
 }

@@ -1,5 +1,5 @@
 -- The ways home from a label, and the plan that a way home from the start makes.
-use Rattle.std.proofs.Common.{◌≡◌, ◌≢◌, ◌∙◌, ℕ, ◌+◌, ◌-◌, ◌*◌, ◌<◌, ◌≤◌, Bool, true, false, refl, sym, ap, subst, List, [], ◌∷◌, ◌++◌, map, arith, inl, inr, Option, Some, None}
+use Rattle.std.proofs.Common.{◌≡◌, ◌≢◌, ◌∙◌, ℕ, ◌+◌, ◌-◌, ◌*◌, ◌<◌, ◌≤◌, Bool, true, false, refl, sym, ap, subst, List, [], ◌∷◌, ◌++◌, map, arith, inl, inr}
 use Rattle.std.specs.Prelude.{filter, IsSome, IsTrue, pos, ◌+ℤ◌, ◌<ℤ◌, ◌⊎◌}
 use Rattle.std.proofs.Math.Nat.{mul-le-mul_left}
 use Rattle.std.proofs.lemmas.Bool.{false≢true}
@@ -14,7 +14,7 @@ use Rattle.ev_model.specs.Levels.{KeepsBatteryFrom, leaving_level, level_after}
 use Rattle.ev_model.specs.Network.{curve_at, energy, is_customer, IsNetwork, Network, process_time, scaled_limit, travel_time}
 use Rattle.ev_model.specs.Plan.{AreStopsFrom, EndsAtDepot}
 use Rattle.ev_model.specs.Route.{route_of}
-use Rattle.ev_model.specs.Time.{charging_time, stop_time, time_from}
+use Rattle.ev_model.specs.Time.{stop_time, time_from}
 use Rattle.ev_model.specs.declared.Stop.{Stop}
 use Rattle.fleet_model.specs.Labels.{state_at as label_state}
 use Rattle.fleet_model.specs.Pairs.{KeepsPairs}
@@ -24,6 +24,7 @@ use Rattle.fleet_model.specs.Steps.{IsHomeStep, time_at as time_when}
 use Rattle.fleet_model.proofs.Counts.{AreCustomers, AreNew}
 use Rattle.fleet_model.proofs.Sound.{home_stop}
 use Rattle.frvcp_labels.proofs.Points.{start_level}
+use Rattle.label_steps.proofs.Stops.{nothing_charged}
 use Rattle.piece_fn.specs.PieceFn.{level_times}
 use Rattle.piece_fn.specs.declared.label.Label.{Label}
 use Rattle.closed_lists.specs.Questions.{Question, section}
@@ -48,10 +49,6 @@ pub record IsWayHome (q : Question) (l : Label) (level : ℕ) (stops : List Stop
   pub new : AreNew l.set (map (customer_number q.network) order)
   pub earns : pos (q.weight * (time_at (level_times l.value) level + time_from q.network 1 l.node level stops)) <ℤ (price_sum q.prices l.set +ℤ price_sum q.prices (map (customer_number q.network) order))
   pub some : l.last ≡ 0 → order ≢ []
-
-pub nothing_charged : (d : ℕ) (o : Option (List (ℕ × ℕ))) (level : ℕ) → charging_time 1 d o level (level + 0) ≡ 0
-nothing_charged d None level = refl
-nothing_charged d (Some points) level = let same : level + 0 ≡ level = omega arith in rw same (omega arith)
 
 home_time : (g : Network) (from level : ℕ) → time_from g 1 from level (home_stop ∷ []) ≡ g.denominator * (travel_time g from 0 + process_time g 0)
 home_time g from level =

@@ -1,16 +1,14 @@
 //! The steps from a label.
 
-ghost use Rattle.std.specs.Prelude.{◌≡◌, ◌<◌, ◌∷◌, [], ℕ, All, IfNone, IfOk, IfSome, List, length};
+ghost use Rattle.std.specs.Prelude.{◌≡◌, ◌<◌, ℕ, All, IfNone, IfOk, IfSome, List, length};
 ghost use Rattle.ev_model.specs.Network.{node_count};
-ghost use Rattle.instance_reader.specs.Instance.{IsCurveAt};
 ghost use Rattle.closed_lists.specs.Sections.{IsLabelOf};
 ghost use Rattle.closed_lists.specs.Tellings.{IsUncovered};
 ghost use Rattle.pricing.specs.Steps.{IsLeft, label_of, Leads};
 
-use charge_curve::Scaled;
 use closed_lists::Section;
 use customer_sets::CustSet;
-use dominance::LabelValue;
+use label_steps::{arrival, departures};
 use piece_fn::{Label, PieceFn};
 use std::alloc::{AllocError, Global};
 
@@ -84,47 +82,9 @@ pub(crate) fn values_at(
     ensures some { IfOk result (λ values. IsUncovered terms.now from.now node →
         0 < length values.items) }
 {
-    let Some(arrived) = terms.arrival(from, node, 0, terms.reserve())? else {
+    let inst = terms.instance();
+    let Some(arrived) = arrival(inst, &from.value, from.node, node, inst.min_q())? else {
         return Ok(Vec::new(alloc));
     };
-    match terms.instance().curve_at(node) {
-        Some(curve) => charged(alloc, terms, from, node, arrived, curve),
-        None => single(alloc, arrived),
-    }
-}
-
-/// The same at a station, by the value on arriving.
-fn charged(
-    alloc: Global,
-    terms: &Section<'_>,
-    from: &Label,
-    node: usize,
-    arrived: PieceFn,
-    curve: &Scaled,
-) -> Result<Vec<PieceFn>, AllocError>
-    requires label { IsLabelOf terms.now.network from.now }
-    requires node { node < node_count terms.now.network }
-    requires arrived { IsLeft terms.now.network from.now node arrived }
-    requires curve { IsCurveAt terms.now.network node curve.now }
-    ensures left { IfOk result (λ values.
-        All (IsLeft terms.now.network from.now node) values.items) }
-    ensures some { IfOk result (λ values. 0 < length values.items) }
-{
-    let inst = terms.instance();
-    let plugging = inst.denominator() * inst.plug_at(node);
-    let Some(plugged) = terms.arrival(from, node, plugging, terms.reserve())? else {
-        return single(alloc, arrived);
-    };
-    let mut values = plugged.charge(curve, terms.limit())?;
-    values[0] = arrived;
-    Ok(values)
-}
-
-/// One value.
-fn single(alloc: Global, value: PieceFn) -> Result<Vec<PieceFn>, AllocError>
-    ensures { IfOk result (λ values. values.items ≡ value ∷ []) }
-{
-    let mut values = Vec::new(alloc);
-    values.push(value)?;
-    Ok(values)
+    departures(alloc, inst, arrived, node)
 }

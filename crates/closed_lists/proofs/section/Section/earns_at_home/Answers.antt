@@ -1,11 +1,11 @@
-use Rattle.std.proofs.Common.{◌≡◌, ◌∙◌, ◌+◌, ◌*◌, ◌<◌, ℕ, List, Option, Some, max, ap, sym, subst, arith, pos, ◌<ℤ◌, ◌↔◌, FitsSigned}
+use Rattle.std.proofs.Common.{◌≡◌, ◌∙◌, ◌*◌, ◌<◌, ℕ, List, Option, Some, max, ap, sym, subst, arith, pos, ◌<ℤ◌, ◌↔◌, FitsSigned}
 use Rattle.std.specs.Int.{w128}
 use Rattle.std.specs.Prelude.{IsTrue}
 use Rattle.std.proofs.lemmas.Int.{to_z-of_z}
 use Rattle.dominance.specs.LevelTimes.{time_at}
 use Rattle.ev_model.specs.Network.{energy, node_count, scaled_limit}
 use Rattle.piece_fn.specs.PieceFn.{level_times}
-use Rattle.closed_lists.specs.Arrivals.{arc_time, ArrivesAs, IsArrival}
+use Rattle.label_steps.specs.Arrivals.{drive_time, ArrivesAs, IsArrival}
 use Rattle.closed_lists.specs.Questions.{Question}
 use Rattle.closed_lists.proofs.HomeSteps.{home_told}
 use Rattle.closed_lists.proofs.section.Section.earns_at_home.Goals as goal
@@ -14,13 +14,13 @@ pub returns-in-Some : goal.returns-in-Some
 returns-in-Some c =
     let q = c.args.self.now in
     let l = c.args.label.now in
-    let named : ArrivesAs c.args.self.now.network c.args.label.now 0 0 c.max-least.result (Some c.in-Some.value) = subst (λ (o : Option (List (ℕ × ℕ))). ArrivesAs c.args.self.now.network c.args.label.now 0 0 c.max-least.result o) c.in-Some.is c.in_ok-value.ensures.left in
+    let named : ArrivesAs c.args.self.now.network c.args.label.now.value c.args.label.now.node 0 c.max-least.result (Some c.in-Some.value) = subst (λ (o : Option (List (ℕ × ℕ))). ArrivesAs c.args.self.now.network c.args.label.now.value c.args.label.now.node 0 c.max-least.result o) c.in-Some.is c.in_ok-value.ensures.left in
     let least : c.max-least.result ≡ max c.args.self.now.network.reserve c.args.self.now.network.home_level =
     let reserve : c.min_q.result ≡ c.args.self.now.network.reserve = c.min_q.ensures.value ∙ ap (λ (p : Question). p.network.reserve) c.self.view_is in
     let home : c.home_q.result ≡ c.args.self.now.network.home_level = c.home_q.ensures.value ∙ ap (λ (p : Question). p.network.home_level) c.self.view_is in
     omega (arith, reserve, home, c.max-least.ensures)
     in
-    let arrival = subst (λ r. IsArrival (energy c.args.self.now.network c.args.label.now.node 0) (arc_time c.args.self.now.network c.args.label.now.node 0 + 0) (scaled_limit c.args.self.now.network) r (level_times c.args.label.now.value) (level_times c.in-Some.value)) least named in
+    let arrival = subst (λ r. IsArrival (energy c.args.self.now.network c.args.label.now.node 0) (drive_time c.args.self.now.network c.args.label.now.node 0) (scaled_limit c.args.self.now.network) r (level_times c.args.label.now.value) (level_times c.in-Some.value)) least named in
     let known : 0 < node_count c.args.self.now.network = omega (arith, c.self.invariant.network.depot, ap (λ (p : Question). node_count p.network) c.self.view_is) in
     let paid_fits : FitsSigned w128 c.args.paid = c.ranges.paid in
     let told : IsTrue c.earns.result ↔ (pos (c.self.inside.weight * c.least.result.1) <ℤ c.args.paid) = simp to_z-of_z at c.earns.ensures in

@@ -1,4 +1,4 @@
-use Rattle.std.proofs.Common.{◌≡◌, ◌+◌, ◌<◌, ◌++◌, [], ◌∷◌, ℕ, get_or, subst, sym, rules}
+use Rattle.std.proofs.Common.{[], get_or, subst, sym, rules}
 use Rattle.frvcp_labels.specs.Bounds.{IsLayer, lists_in}
 use Rattle.frvcp_labels.proofs.WayTables.{layer_more}
 use Rattle.frvcp_labels.proofs.bounds.WayCosts.new.Goals as goal

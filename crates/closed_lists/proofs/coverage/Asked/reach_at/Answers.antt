@@ -1,0 +1,29 @@
+use Rattle.std.proofs.Common.{◌≡◌, ◌+◌, ◌*◌, ◌<◌, subst, true}
+use Rattle.std.specs.List.{All}
+use Rattle.ev_model.specs.Network.{node_count}
+use Rattle.closed_lists.specs.Asking.{Asking}
+use Rattle.closed_lists.specs.Links.{AreEntries, TellsTime}
+use Rattle.closed_lists.specs.Sections.{IsLabelOf}
+use Rattle.closed_lists.proofs.Covering.{IsCandidate, candidate}
+use Rattle.closed_lists.proofs.coverage.Asked.reach_at.Goals as goal
+
+the_candidate : (c : goal.After-index-entries-at) → IsCandidate c.args.self.now.question c.args.self.now.target.last c.args.self.now.target.node c.index-entries-at.result
+the_candidate c =
+    let all = subst (λ (a : Asking). All (IsLabelOf a.question.network) a.question.labels) c.self.view_is c.entries-entries.ensures.labels in
+    let are = subst (λ (a : Asking). AreEntries (node_count a.question.network) a.question.prices a.question.labels c.entries-entries.result.now) c.self.view_is c.entries-entries.ensures.are in
+    let key = subst (λ (a : Asking). c.self.inside.key ≡ a.target.last * node_count a.question.network + a.target.node) c.self.view_is c.self.invariant.key in
+    let node = subst (λ (a : Asking). a.target.node < node_count a.question.network) c.self.view_is c.self.invariant.node in
+    let tells : TellsTime c.entries-entries.result.now c.args.at c.self.inside.key c.args.time true = subst (λ b. TellsTime c.entries-entries.result.now c.args.at c.self.inside.key c.args.time b) c.if-not-is_in_time.false c.is_in_time.ensures in
+    candidate c.args.self.now.question c.args.self.now.target.last c.args.self.now.target.node c.self.inside.key c.args.at c.args.time c.entries-entries.result.now c.index-entries-at.result all are key node tells c.index-entries-at.is
+
+pub reach_of-requires-clause-entry : goal.reach_of-requires-clause-entry
+reach_of-requires-clause-entry c = (the_candidate c).known
+
+pub reach_of-requires-clause-last : goal.reach_of-requires-clause-last
+reach_of-requires-clause-last c d = ((the_candidate c).at d).0
+
+pub reach_of-requires-clause-node : goal.reach_of-requires-clause-node
+reach_of-requires-clause-node c d = ((the_candidate c).at d).1
+
+pub reach_of-requires-clause-own : goal.reach_of-requires-clause-own
+reach_of-requires-clause-own c = (the_candidate c).small

@@ -1,6 +1,0 @@
-use Rattle.std.proofs.Common.{take}
-use Rattle.frvcp_labels.specs.Paying.{AreCharged}
-use Rattle.frvcp_labels.proofs.paying.charged_where_it_pays.Given as goal
-
-abbrev pub invariant-loop-start : goal.invariant-loop-start
-invariant-loop-start l = AreCharged l.fn.value l.curve l.limit (take l.start-index l.start-items) l.values.items
