@@ -8,34 +8,29 @@ use Rattle.ev_text.specs.Scans.{rest_of, whole_at}
 use Rattle.ev_text.specs.Texts.{IsLonger, IsNoEnd, StandsUnlessLonger, fault_place}
 use Rattle.ev_text.specs.declared.TextFault.{TextFault}
 use Rattle.ev_text.specs.declared.TextFault.TheVariants.{NotWhole, TooLarge, Word, End}
-use Rattle.ev_text.proofs.ReadingLaws.{Reads, reads-behind, reads-then}
+use Rattle.ev_text.proofs.ReadingLaws.{Reads}
 use Rattle.ev_text.proofs.Results.{Ok-injective}
 use Rattle.ev_text.proofs.WholeReads.{ranged-cut, ranged-first, ranged-spells, ranged-wrong}
+use Rattle.text_records.specs.Numbers.{UpTo}
+use Rattle.text_records.proofs.Numbers.{Anything, upto}
+use Rattle.text_records.proofs.Records.{parts-behind, parts-none, parts-then, reads-record}
 use Rattle.bound_certificate.specs.CertificateIn.{BeginsLoosely, BeginsOtherVersion, SpellsWritten, certificate_in, greatest_version, has_other_version, is_another, or_refused, own_version, version_at, version_line}
 use Rattle.bound_certificate.specs.CertificateTexts.{body_text, certificate_text, head_lines, is_first_version}
 use Rattle.bound_certificate.specs.Limits.{most_bytes}
 use Rattle.bound_certificate.specs.Reading.{certificate_at}
 use Rattle.bound_certificate.specs.Written.{Written}
-use Rattle.bound_certificate.specs.WrittenRanges.{UpTo, WrittenIs, WrittenLoose}
+use Rattle.bound_certificate.specs.WrittenRanges.{WrittenIs, WrittenLoose}
 use Rattle.bound_certificate.specs.declared.text.cert_text.CertText.{CertText}
 use Rattle.bound_certificate.specs.declared.text.cert_text.CertText.TheVariants.{Range, Text, TooLong, Version}
 use Rattle.bound_certificate.proofs.HeadReading.{reads-certificate}
-use Rattle.bound_certificate.proofs.Parts.{Anything, NoDigit, reads-made}
-use Rattle.bound_certificate.proofs.SectionLines.{upto}
 
 -- the first line of a version
 
 reads-version : Reads StandsUnlessLonger version_at version_line (UpTo greatest_version) (UpTo greatest_version) Anything
 reads-version =
-    reads-behind StandsUnlessLonger 101 (codes "vroute certificate ") (then_reads (whole_at greatest_version) (λ n. behind_word (10 ∷ []) (answer n))) (λ n. decimal n ++ 10 ∷ []) (UpTo greatest_version) (UpTo greatest_version) Anything
-    (reads-then StandsUnlessLonger (whole_at greatest_version) (λ n. behind_word (10 ∷ []) (answer n)) (λ n. decimal n) (λ n m. 10 ∷ []) (UpTo greatest_version) (UpTo greatest_version) (UpTo greatest_version) (UpTo greatest_version) NoDigit Anything (λ m. m)
-    (upto greatest_version (omega arith))
-    (λ n small. reads-behind StandsUnlessLonger 10 [] (answer n) (λ m. []) (λ m. UpTo greatest_version m × (m ≡ n)) (λ m. UpTo greatest_version m × (m ≡ n)) Anything
-    (reads-made n (λ m. UpTo greatest_version m × (m ≡ n)) (λ m. UpTo greatest_version m × (m ≡ n)) (small, refl) (small, refl) (λ m is. is.1)))
-    (λ m small. small)
-    (λ m small. small)
-    (λ n small. (n, (small, refl)))
-    (λ m rest small any. refl))
+    reads-record
+    (parts-behind 101 (codes "vroute certificate ") (parts-then (upto greatest_version (omega arith)) (λ n. parts-behind 10 [] (parts-none n)) (λ n none rest small fits any. refl)))
+    (record { parts = λ n small. ((n, tt), (small, tt), refl, λ rest any. tt); fits = λ p is. is.0; loose = λ p is. is.0; texts = λ p is. refl })
 
 another : (own n : ℕ) → n ≢ own → not (nat_eq n own) ≡ true
 another own n other = ap not (ne_eqb n own other)

@@ -8,14 +8,16 @@ use Rattle.ev_text.specs.Texts.{IsNoEnd, IsTextOf, StandsUnlessLonger, fault_pla
 use Rattle.ev_text.specs.declared.TextFault.{TextFault}
 use Rattle.ev_text.specs.declared.TextFault.TheVariants.{TooLarge}
 use Rattle.ev_text.proofs.Mended.{IsMended, mended-here, mended-whole}
-use Rattle.ev_text.proofs.ReadingLaws.{Reads, reads-as, reads-behind, reads-then}
+use Rattle.ev_text.proofs.ReadingLaws.{Reads}
 use Rattle.ev_text.proofs.Results.{Err-ne-Ok}
+use Rattle.text_records.proofs.Numbers.{Anything, NoDigit, ranged}
+use Rattle.text_records.proofs.Records.{parts-behind, parts-own, parts-then, reads-record}
 use Rattle.route_plan.specs.Limits.{greatest_number}
 use Rattle.bound_certificate.specs.CertificateTexts.{body_text, certificate_text, head_lines, is_first_version}
 use Rattle.bound_certificate.specs.Reading.{behind_head, body_at, certificate_at, node_where}
+use Rattle.bound_certificate.specs.Written.{Written}
 use Rattle.bound_certificate.specs.WrittenRanges.{WrittenIs, WrittenLoose}
 use Rattle.bound_certificate.proofs.CertificateReading.{reads-body}
-use Rattle.bound_certificate.proofs.Parts.{Anything, NoDigit, ranged}
 
 -- a number that has to be a given one
 module _ (own : ℕ) (small : own ≤ greatest_number) where
@@ -53,32 +55,26 @@ module _ (own : ℕ) (small : own ≤ greatest_number) where
         mended = λ s fault within is. own_mended s fault is;
       }
 
-  -- in front of a value that has nothing of it
-  reads-own : {A : Type 0} (read : Reader A) (text : A → List ℕ) (Fits Loose : A → Type 0) (b : ℕ) (bs : List ℕ) → ((rest : List ℕ) → NoDigit own ((b ∷ bs) ++ rest)) → Reads StandsUnlessLonger read text Fits Loose Anything
-      → Reads StandsUnlessLonger (then_reads (node_where is_own) (λ n. behind_word (b ∷ bs) read)) (λ a. decimal own ++ ((b ∷ bs) ++ text a)) Fits Loose Anything
-  reads-own {A} read text Fits Loose b bs no_digit reader =
-      reads-then StandsUnlessLonger (node_where is_own) (λ n. behind_word (b ∷ bs) read) (λ n. decimal n) (λ n a. (b ∷ bs) ++ text a) (λ n. n ≡ own) (λ n. n ≡ own) Fits Loose NoDigit Anything (λ a. own) own_number
-      (λ n is. reads-behind StandsUnlessLonger b bs read text (λ a. Fits a × (own ≡ n)) (λ a. Loose a × (own ≡ n)) Anything
-      (reads-as StandsUnlessLonger read text text Fits (λ a. Fits a × (own ≡ n)) Loose (λ a. Loose a × (own ≡ n)) Anything Anything
-      (record { texts = λ a loose. refl; to = λ a fits. (fits, sym is); from = λ a fits. fits.0; to_loose = λ a loose. (loose, sym is); before = λ a rest fits any. tt }) reader))
-      (λ a fits. refl)
-      reader.loose
-      (λ n is. (reader.example.0, (reader.example.1, sym is)))
-      (λ a rest fits any. subst (λ (xs : List ℕ). NoDigit own xs) (sym (append_assoc (b ∷ bs) (text a) rest)) (no_digit (text a ++ rest)))
-
 module _ (g : Network) (small_capacity : g.capacity < 10 ^ 64) (small_limit : scaled_limit g < 10 ^ 64) (small_reserve : g.reserve ≤ greatest_number) (small_home : g.home_level ≤ greatest_number) where
+  second_lines : (reserve home : ℕ) (w : Written) → reserve ≡ g.reserve → home ≡ g.home_level
+      → (codes "evroute certificate 2" ++ 10 ∷ []) ++ (codes "levels " ++ (decimal reserve ++ (codes " " ++ (decimal home ++ (10 ∷ body_text w))))) ≡ head_lines false g.reserve g.home_level ++ body_text w
+  second_lines reserve home w first second = rw (first, second) (simp append_assoc)
+
   first_lines : (first : Bool) → Reads StandsUnlessLonger (behind_head first g.reserve g.home_level (body_at g)) (λ w. head_lines first g.reserve g.home_level ++ body_text w) (WrittenIs g) (WrittenLoose g) Anything
   first_lines true =
-      reads-behind StandsUnlessLonger 101 (codes "vroute certificate 1" ++ 10 ∷ []) (body_at g) body_text (WrittenIs g) (WrittenLoose g) Anything (reads-body g small_capacity small_limit)
+      reads-record (parts-behind 101 (codes "vroute certificate 1" ++ 10 ∷ []) (parts-own (reads-body g small_capacity small_limit)))
+      (record { parts = λ w is. (w, is, refl, λ rest any. tt); fits = λ w is. is; loose = λ w is. is; texts = λ w is. refl })
   first_lines false =
-      reads-as StandsUnlessLonger (behind_head false g.reserve g.home_level (body_at g))
-      (λ w. (codes "evroute certificate 2" ++ 10 ∷ []) ++ (codes "levels " ++ (decimal g.reserve ++ (codes " " ++ (decimal g.home_level ++ (10 ∷ body_text w)))))) (λ w. head_lines false g.reserve g.home_level ++ body_text w)
-      (WrittenIs g) (WrittenIs g) (WrittenLoose g) (WrittenLoose g) Anything Anything
-      (record { texts = λ w loose. simp append_assoc; to = λ w is. is; from = λ w is. is; to_loose = λ w is. is; before = λ w rest is any. tt })
-      (reads-behind StandsUnlessLonger 101 (codes "vroute certificate 2" ++ 10 ∷ []) (behind_word (codes "levels ") (then_reads (node_where (λ n. nat_eq n g.reserve)) (λ first. behind_word (codes " ") (then_reads (node_where (λ n. nat_eq n g.home_level)) (λ second. behind_word (10 ∷ []) (body_at g)))))) (λ w. codes "levels " ++ (decimal g.reserve ++ (codes " " ++ (decimal g.home_level ++ (10 ∷ body_text w))))) (WrittenIs g) (WrittenLoose g) Anything
-      (reads-behind StandsUnlessLonger 108 (codes "evels ") (then_reads (node_where (λ n. nat_eq n g.reserve)) (λ first. behind_word (codes " ") (then_reads (node_where (λ n. nat_eq n g.home_level)) (λ second. behind_word (10 ∷ []) (body_at g))))) (λ w. decimal g.reserve ++ (codes " " ++ (decimal g.home_level ++ (10 ∷ body_text w)))) (WrittenIs g) (WrittenLoose g) Anything
-      (reads-own g.reserve small_reserve (then_reads (node_where (λ n. nat_eq n g.home_level)) (λ second. behind_word (10 ∷ []) (body_at g))) (λ w. decimal g.home_level ++ (10 ∷ body_text w)) (WrittenIs g) (WrittenLoose g) 32 [] (λ rest. refl)
-      (reads-own g.home_level small_home (body_at g) body_text (WrittenIs g) (WrittenLoose g) 10 [] (λ rest. refl) (reads-body g small_capacity small_limit)))))
+      reads-record
+      (parts-behind 101 (codes "vroute certificate 2" ++ 10 ∷ []) (parts-behind 108 (codes "evels ") (parts-then (own_number g.reserve small_reserve)
+      (λ reserve. parts-behind 32 [] (parts-then (own_number g.home_level small_home) (λ home. parts-behind 10 [] (parts-own (reads-body g small_capacity small_limit))) (λ home w rest is fits any. refl)))
+      (λ reserve more rest is fits any. refl))))
+      (record {
+        parts = λ w is. ((g.reserve, (g.home_level, w)), (refl, (refl, is)), refl, λ rest any. tt);
+        fits = λ p is. is.1.1;
+        loose = λ p is. is.1.1;
+        texts = λ p is. second_lines p.0 p.1.0 p.1.1 is.0 is.1.0;
+      })
 
   pub reads-certificate : Reads StandsUnlessLonger (certificate_at g) (certificate_text g) (WrittenIs g) (WrittenLoose g) Anything
   reads-certificate = first_lines (is_first_version g)

@@ -7,7 +7,6 @@ pub mod Meanings
 pub mod Parts
 pub mod LabelParts
 pub mod LabelLines
-pub mod ItemLines
 pub mod SectionLines
 pub mod TreeParts
 pub mod TreeReading

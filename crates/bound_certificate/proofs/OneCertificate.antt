@@ -32,7 +32,7 @@ use Rattle.bound_certificate.specs.Reading.{certificate_at}
 use Rattle.bound_certificate.specs.WrittenRanges.{WrittenIs, WrittenLoose}
 use Rattle.bound_certificate.proofs.CertificateLaws.{certificate_is_spelled, reads}
 use Rattle.bound_certificate.proofs.Chosen.{chosen, same_chosen, same_set, split_same}
-use Rattle.bound_certificate.proofs.Parts.{Anything}
+use Rattle.text_records.proofs.Numbers.{Anything}
 use Rattle.bound_certificate.proofs.WrittenWhole.{written_is}
 
 -- where what is made of two things in one way is the same, so is what is made of them in another

@@ -22,7 +22,7 @@ use Rattle.bound_certificate.specs.declared.certificate.BasisEntry.{BasisEntry}
 use Rattle.bound_certificate.specs.declared.certificate.BasisEntry.TheVariants.{Helper, Column}
 use Rattle.bound_certificate.specs.declared.text.cert_text.CertText.{CertText}
 use Rattle.bound_certificate.proofs.CertificateLoops.{refused_since}
-use Rattle.bound_certificate.proofs.ItemLines.{reads-line}
+use Rattle.text_records.proofs.Lines.{reads-line}
 use Rattle.bound_certificate.proofs.PointReading.{both_true}
 use Rattle.bound_certificate.proofs.RootLines.{reads-basis}
 

@@ -9,12 +9,13 @@ use Rattle.ev_text.specs.Texts.{AllFrom}
 use Rattle.instance_reader.specs.Instance.{customer_nodes}
 use Rattle.instance_reader.proofs.InstanceLemmas.{All-filter-true, customers_known}
 use Rattle.route_plan.specs.Limits.{greatest_number}
+use Rattle.text_records.specs.Numbers.{Keeping}
 use Rattle.bound_certificate.specs.Limits.{greatest_weight, most_items}
 use Rattle.bound_certificate.specs.Ranges.{IsLast, IsWeight, LineFits, PointFits, ShareFits, customer_count}
 use Rattle.bound_certificate.specs.Reading.{is_customer_node, is_place}
 use Rattle.bound_certificate.specs.Trees.{Closes}
 use Rattle.bound_certificate.specs.Written.{customer_node, place_node, written_line}
-use Rattle.bound_certificate.specs.WrittenRanges.{Keeping, LineIs, PointIs, PointsAre, ShareIs, next_point}
+use Rattle.bound_certificate.specs.WrittenRanges.{LineIs, PointIs, PointsAre, ShareIs, next_point}
 use Rattle.bound_certificate.specs.declared.certificate.Share.{Share}
 use Rattle.bound_certificate.specs.declared.certificate.TreeLine.{TreeLine}
 use Rattle.bound_certificate.specs.declared.certificate.TreeLine.TheVariants.{Split, Leaf}

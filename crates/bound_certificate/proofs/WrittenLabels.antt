@@ -13,11 +13,12 @@ use Rattle.instance_reader.specs.Instance.{customer_nodes}
 use Rattle.instance_reader.proofs.InstanceLemmas.{customers_rise}
 use Rattle.piece_fn.specs.declared.label.Label.{Label}
 use Rattle.route_plan.specs.Limits.{greatest_number}
+use Rattle.text_records.specs.Numbers.{Keeping}
 use Rattle.bound_certificate.specs.Limits.{most_pairs}
 use Rattle.bound_certificate.specs.Ranges.{LabelFits, customer_count}
 use Rattle.bound_certificate.specs.Reading.{is_above, is_customer_node, is_place, rises_from}
 use Rattle.bound_certificate.specs.Written.{if_forbidden, nodes_in, pairs_after, pairs_from, place_node, written_label, written_pairs}
-use Rattle.bound_certificate.specs.WrittenRanges.{Keeping, LabelIs, MemberIs, PairFits, SetIs, next_member, next_pair}
+use Rattle.bound_certificate.specs.WrittenRanges.{LabelIs, MemberIs, PairFits, SetIs, next_member, next_pair}
 use Rattle.bound_certificate.proofs.PlaceOrder.{places_in_order, same_by_node}
 use Rattle.bound_certificate.proofs.WrittenFits.{customer_is, last_is, node_is, or_true, place_is, points_are}
 

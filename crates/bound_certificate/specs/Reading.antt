@@ -5,6 +5,7 @@ use Rattle.ev_model.specs.Network.{Network, is_customer, node_count, scaled_limi
 use Rattle.ev_text.specs.Readers.{Reader, answer, behind_word, choice_at, each_from, exactly_from, list_at, many_from, number_where, optional_at, signed_at, so_many, then_reads}
 use Rattle.ev_text.specs.Scans.{whole_at}
 use Rattle.ev_text.specs.declared.TextFault.TheVariants.{End}
+use Rattle.text_records.specs.Lines.{line_of}
 use Rattle.route_plan.specs.Limits.{greatest_number}
 use Rattle.route_plan.specs.PlanReading.{stop_at}
 use Rattle.route_plan.specs.declared.plan.RoutePlan.{RoutePlan}
@@ -36,15 +37,6 @@ node_where keeps = number_where greatest_number keeps
 -- a weight of shares, or a share
 abbrev pub weight_at : Reader ℕ
 weight_at = number_where greatest_weight (λ n. nat_le 1 n)
-
--- a line that begins with a word, with so many items, each behind a space; the word takes the first space with it
-abbrev pub line_of : {A S : Type 0} → List ℕ → (S → Reader A) → (S → A → S) → ℕ → S
-    → Reader (List A)
-line_of word read next zero state = behind_word (word ++ 10 ∷ []) (answer [])
-line_of word read next (suc count) state =
-    behind_word (word ++ codes " ") (then_reads (read state) (λ first.
-    then_reads (exactly_from (codes " ") (10 ∷ []) read next count (next state first)) (λ others.
-    answer (first ∷ others))))
 
 -- the bound, or none
 abbrev pub bound_behind : Bool → Reader (Option ℕ)

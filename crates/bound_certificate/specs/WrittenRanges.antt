@@ -4,6 +4,7 @@ use Rattle.std.specs.Prelude.{◌≡◌, ℕ, ◌≤◌, Bool, true, ◌&&◌, n
 use Rattle.std.specs.List.{All, list_any}
 use Rattle.ev_model.specs.Network.{Network, node_count, scaled_limit}
 use Rattle.ev_text.specs.Texts.{AllFrom, AreLooseRun, AreRun, ConsFrom, ConsLoose}
+use Rattle.text_records.specs.Numbers.{Keeping, UpTo}
 use Rattle.route_plan.specs.Limits.{greatest_number}
 use Rattle.bound_certificate.specs.Limits.{greatest_bound, greatest_weight, most_items, most_pairs}
 use Rattle.bound_certificate.specs.Ranges.{ColumnFits, IsPrice, customer_count, same_entry}
@@ -17,13 +18,6 @@ use Rattle.bound_certificate.specs.declared.certificate.Root.TheVariants as root
 use Rattle.bound_certificate.specs.declared.certificate.Share.{Share}
 use Rattle.bound_certificate.specs.declared.certificate.TreeLine.{TreeLine}
 use Rattle.bound_certificate.specs.declared.certificate.TreeLine.TheVariants.{Split, Leaf}
-
-abbrev pub UpTo : ℕ → ℕ → Type 0
-UpTo limit n = n ≤ limit
-
--- a number up to a limit that keeps a rule
-abbrev pub Keeping : ℕ → (ℕ → Bool) → ℕ → Type 0
-Keeping limit keeps n = (n ≤ limit) × (keeps n ≡ true)
 
 -- a forbidden pair of two different places, above the pair before it
 abbrev pub may_follow : Network → Option (ℕ × ℕ) → ℕ → ℕ → Bool

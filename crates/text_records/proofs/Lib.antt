@@ -1,0 +1,4 @@
+pub mod Records
+pub mod Choices
+pub mod Numbers
+pub mod Lines
