@@ -1,26 +1,28 @@
 -- Reading the text of a certificate as a whole.
-use Rattle.std.proofs.Common.{◌≡◌, ◌≢◌, ◌∙◌, ℕ, zero, suc, ◌≤◌, false, List, [], ◌∷◌, Option, None, Some, IfSome, length, map, Result, Ok, Err, refl, sym, ap}
+use Rattle.std.proofs.Common.{◌≡◌, ◌≢◌, ◌∙◌, ℕ, zero, suc, ◌≤◌, false, List, [], ◌∷◌, Option, None, Some, IfSome, length, map, Result, Ok, Err, refl, sym, ap, codes}
 use Rattle.ev_model.specs.Network.{Network}
 use Rattle.ev_text.specs.Readers.{whole_text}
 use Rattle.ev_text.specs.Scans.{and_then, rest_of}
 use Rattle.ev_text.specs.declared.TextFault.{TextFault}
 use Rattle.ev_text.specs.declared.TextFault.TheVariants.{Word}
 use Rattle.ev_text.proofs.WholeLaws.{whole_text-end, whole_text-more}
-use Rattle.bound_certificate.specs.CertificateIn.{as_refusal, certificate_in, has_other_version, or_refused}
-use Rattle.bound_certificate.specs.Limits.{greatest_bound, most_bytes}
-use Rattle.bound_certificate.specs.Reading.{body_at, bound_at, certificate_at, line_at, root_at, sections_at, tree_at}
+use Rattle.certificate_parts.specs.Refusals.{as_refusal, or_refused}
+use Rattle.bound_certificate.specs.CertificateIn.{certificate_in, has_other_version, own_version}
+use Rattle.certificate_parts.specs.Limits.{greatest_bound, most_bytes}
+use Rattle.certificate_parts.specs.Reading.{bound_at}
+use Rattle.bound_certificate.specs.Reading.{body_at, certificate_at, line_at, root_at, sections_at, tree_at}
 use Rattle.bound_certificate.specs.Trees.{Closes, IsWholeTree}
 use Rattle.bound_certificate.specs.Written.{Written, WrittenSection, written, written_line}
-use Rattle.bound_certificate.specs.WrittenRanges.{BoundIs}
+use Rattle.certificate_parts.specs.WrittenRanges.{BoundIs}
 use Rattle.bound_certificate.specs.declared.certificate.Root.{Root}
 use Rattle.bound_certificate.specs.declared.certificate.Section.{Section}
 use Rattle.bound_certificate.specs.declared.certificate.TreeLine.{TreeLine}
 use Rattle.bound_certificate.specs.declared.certificate.TreeLine.TheVariants.{Split, Leaf}
-use Rattle.bound_certificate.specs.declared.text.cert_text.CertText.{CertText}
-use Rattle.bound_certificate.proofs.CertificateLaws.{read_on}
-use Rattle.bound_certificate.proofs.CertificateLoops.{refused_since}
+use Rattle.certificate_parts.specs.declared.cert_text.CertText.{CertText}
+use Rattle.certificate_parts.proofs.TextLaws.{read_on}
+use Rattle.certificate_parts.proofs.ItemLoops.{refused_since}
 use Rattle.bound_certificate.proofs.CertificateReading.{tree_read}
-use Rattle.bound_certificate.proofs.RootLines.{reads-bound}
+use Rattle.certificate_parts.proofs.BasisLines.{reads-bound}
 use Rattle.bound_certificate.proofs.TreeLines.{whole_where_closed}
 
 pub no_root_part : (g : Network) (s t : List ℕ × ℕ) (bound : Option ℕ) (refusal : CertText) → bound_at s ≡ Ok (bound, t) → or_refused (root_at g t) ≡ Err refusal → or_refused (body_at g s) ≡ Err refusal
@@ -78,20 +80,20 @@ tree_is_whole g sections s t lines is =
 module _ (g : Network) (bytes : List ℕ) (within : length bytes ≤ most_bytes) (own : has_other_version g bytes ≡ false) (s : List ℕ × ℕ) (start : s ≡ (bytes, 0)) where
   pub all_is_read : (t : List ℕ × ℕ) (w : Written) → certificate_at g s ≡ Ok (w, t) → rest_of t ≡ [] → certificate_in g bytes ≡ Ok w
   all_is_read t w found none =
-      read_on g bytes within own
+      read_on 101 (codes "vroute certificate ") (own_version g) (certificate_at g) bytes within own
       ∙ ap (λ r. or_refused (and_then r whole_text)) (ap (certificate_at g) (sym start) ∙ found)
       ∙ ap or_refused (whole_text-end w t none)
 
   pub fault_inside : (refusal : CertText) → or_refused (certificate_at g s) ≡ Err refusal → certificate_in g bytes ≡ Err refusal
   fault_inside refusal is =
       let found = refused_since (certificate_at g s) refusal is in
-      read_on g bytes within own
+      read_on 101 (codes "vroute certificate ") (own_version g) (certificate_at g) bytes within own
       ∙ ap (λ r. or_refused (and_then r whole_text)) (ap (certificate_at g) (sym start) ∙ found.1)
       ∙ ap (λ r. Err r) found.2
 
   pub fault_behind : (t : List ℕ × ℕ) (w : Written) (fault : TextFault) → certificate_at g s ≡ Ok (w, t) → (rest_of t ≢ []) × (fault ≡ Word t.1) → certificate_in g bytes ≡ Err (as_refusal fault)
   fault_behind t w fault found (some, is) =
-      read_on g bytes within own
+      read_on 101 (codes "vroute certificate ") (own_version g) (certificate_at g) bytes within own
       ∙ ap (λ r. or_refused (and_then r whole_text)) (ap (certificate_at g) (sym start) ∙ found)
       ∙ ap or_refused (whole_text-more w t some)
       ∙ ap (λ f. Err (as_refusal f)) (sym is)

@@ -11,13 +11,13 @@ use Rattle.text_records.proofs.Lines.{loose_length, own_length}
 use Rattle.text_records.proofs.Numbers.{Anything, ranged}
 use Rattle.text_records.proofs.Records.{parts-behind, parts-last, parts-own, parts-then, reads-record}
 use Rattle.bound_certificate.specs.CertificateTexts.{body_text, line_text, section_text, sections_text}
-use Rattle.bound_certificate.specs.Limits.{most_items}
+use Rattle.certificate_parts.specs.Limits.{most_items}
 use Rattle.bound_certificate.specs.Reading.{body_at, line_at, section_at, sections_at, tree_at}
 use Rattle.bound_certificate.specs.Written.{WrittenSection}
 use Rattle.bound_certificate.specs.declared.certificate.TreeLine.{TreeLine}
 use Rattle.bound_certificate.specs.declared.certificate.TreeLine.TheVariants.{Split, Leaf}
 use Rattle.bound_certificate.specs.WrittenRanges.{LineIs, LineLoose, SectionIs, SectionLoose, SectionsAre, SectionsLoose, TreeIs, TreeLoose, WrittenIs, WrittenLoose}
-use Rattle.bound_certificate.proofs.RootLines.{reads-bound}
+use Rattle.certificate_parts.proofs.BasisLines.{reads-bound}
 use Rattle.bound_certificate.proofs.RootReading.{reads-root}
 use Rattle.bound_certificate.proofs.SectionLines.{reads-section}
 use Rattle.bound_certificate.proofs.TreeParts.{reads-tree_line}

@@ -4,7 +4,8 @@ use Rattle.ev_model.specs.Network.{Network}
 use Rattle.ev_text.specs.Scans.{word_at}
 use Rattle.ev_text.specs.declared.TextFault.{TextFault}
 use Rattle.bound_certificate.specs.CertificateTexts.{is_first_version}
-use Rattle.bound_certificate.specs.Reading.{certificate_at, node_where}
+use Rattle.certificate_parts.specs.Reading.{node_where}
+use Rattle.bound_certificate.specs.Reading.{certificate_at}
 
 -- the level at home is another one
 pub other_home : (g : Network) (s t u v w : List ℕ × ℕ) (reserve home : ℕ) (fault : TextFault) → is_first_version g ≡ false → word_at (codes "evroute certificate 2" ++ 10 ∷ []) s ≡ Ok t → word_at (codes "levels ") t ≡ Ok u

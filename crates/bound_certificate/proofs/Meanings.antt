@@ -13,7 +13,8 @@ use Rattle.fleet_model.proofs.Numbers.{counted}
 use Rattle.piece_fn.specs.PieceFn.{first_level, level_times}
 use Rattle.piece_fn.specs.declared.label.Label.{Label}
 use Rattle.bound_certificate.specs.Meaning.{IsTreeOf, priced_label, priced_section, priced_sections}
-use Rattle.bound_certificate.specs.Ranges.{Fits, LabelFits, LineFits, PointFits, SectionFits, customer_count}
+use Rattle.certificate_parts.specs.Ranges.{LabelFits, PointFits, customer_count}
+use Rattle.bound_certificate.specs.Ranges.{Fits, LineFits, SectionFits}
 use Rattle.bound_certificate.specs.Trees.{lines_of}
 use Rattle.bound_certificate.specs.declared.certificate.Certificate.{Certificate}
 use Rattle.bound_certificate.specs.declared.certificate.Section.{Section}

@@ -6,14 +6,15 @@ use Rattle.ev_model.specs.Network.{Network}
 use Rattle.ev_text.specs.Readers.{many_from}
 use Rattle.ev_text.specs.declared.TextFault.{TextFault}
 use Rattle.ev_text.proofs.RunLoops.{IsRunTo, run-begins, run-breaks, run-ends, run-goes_on}
-use Rattle.bound_certificate.specs.Places.{IsPlaceOf}
-use Rattle.bound_certificate.specs.Ranges.{customer_count}
+use Rattle.certificate_parts.specs.Places.{IsPlaceOf}
+use Rattle.certificate_parts.specs.Ranges.{customer_count}
 use Rattle.bound_certificate.specs.Reading.{pair_at, rises_from}
-use Rattle.bound_certificate.specs.Written.{if_forbidden, pairs_after, pairs_from, place_node, written_pairs}
+use Rattle.certificate_parts.specs.Written.{place_node}
+use Rattle.bound_certificate.specs.Written.{if_forbidden, pairs_after, pairs_from, written_pairs}
 use Rattle.bound_certificate.specs.WrittenRanges.{next_pair}
-use Rattle.bound_certificate.specs.declared.text.reading.nodes.Place.{Place}
-use Rattle.bound_certificate.proofs.PlaceOrder.{below_by_node, same_by_node}
-use Rattle.bound_certificate.proofs.PointReading.{both_true}
+use Rattle.certificate_parts.specs.declared.reading.nodes.Place.{Place}
+use Rattle.certificate_parts.proofs.PlaceOrder.{below_by_node, same_by_node}
+use Rattle.certificate_parts.proofs.PointReading.{both_true}
 
 module _ (g : Network) where
   -- places that all may follow

@@ -2,7 +2,7 @@
 use Rattle.std.proofs.Common.{◌≡◌, ◌∙◌, ℕ, suc, ◌+◌, List, ◌++◌, sym, ap, append_assoc}
 use Rattle.customer_sets.specs.Pairs.{ForbiddenPairs}
 use Rattle.ev_model.specs.Network.{Network}
-use Rattle.bound_certificate.specs.Ranges.{customer_count}
+use Rattle.certificate_parts.specs.Ranges.{customer_count}
 use Rattle.bound_certificate.specs.Written.{if_forbidden, pairs_after, pairs_from}
 
 module _ (g : Network) (p : ForbiddenPairs) (front items all : List (ℕ × ℕ)) where

@@ -1,14 +1,15 @@
--- The readers of pairs and points read exactly their texts.
-use Rattle.std.proofs.Common.{◌≡◌, ℕ, ◌^◌, ◌<◌, Bool, ◌&&◌, not, List, [], ◌∷◌, Option, codes, nat_eq, refl, arith}
-use Rattle.ev_model.specs.Network.{Network, scaled_limit}
+-- The reader of a forbidden pair reads exactly its line.
+use Rattle.std.proofs.Common.{ℕ, [], Option, codes, refl, arith}
+use Rattle.ev_model.specs.Network.{Network}
 use Rattle.ev_text.specs.Texts.{StandsUnlessLonger}
 use Rattle.ev_text.proofs.ReadingLaws.{Reads}
-use Rattle.text_records.proofs.Numbers.{NoDigit, ranged}
-use Rattle.text_records.proofs.Records.{parts-behind, parts-last, parts-none, parts-then, reads-record}
+use Rattle.text_records.proofs.Numbers.{ranged}
+use Rattle.text_records.proofs.Records.{parts-behind, parts-none, parts-then, reads-record}
 use Rattle.route_plan.specs.Limits.{greatest_number}
-use Rattle.bound_certificate.specs.CertificateTexts.{pair_text, point_text}
-use Rattle.bound_certificate.specs.Reading.{is_higher, is_later, is_place, pair_at, point_at}
-use Rattle.bound_certificate.specs.WrittenRanges.{PairFits, PairLoose, PointIs, PointLoose, may_follow}
+use Rattle.bound_certificate.specs.CertificateTexts.{pair_text}
+use Rattle.certificate_parts.specs.Reading.{is_place}
+use Rattle.bound_certificate.specs.Reading.{pair_at}
+use Rattle.bound_certificate.specs.WrittenRanges.{PairFits, PairLoose, may_follow}
 pub use Rattle.text_records.proofs.Numbers.{Anything}
 
 pub reads-pair : (g : Network) (last : Option (ℕ × ℕ)) → Reads StandsUnlessLonger (pair_at g last) pair_text (PairFits g last) PairLoose Anything
@@ -21,18 +22,5 @@ reads-pair g last =
       parts = λ p fits. ((p.0, (p.1, tt)), (fits.first, (fits.second, tt)), refl, λ rest any. tt);
       fits = λ p is. record { first = is.0; second = is.1.0 };
       loose = λ p is. record { first = is.0; second = is.1.0 };
-      texts = λ p is. refl;
-    })
-
-pub reads-point : (g : Network) → g.capacity < 10 ^ 64 → scaled_limit g < 10 ^ 64 → (last : Option (ℕ × ℕ)) → Reads StandsUnlessLonger (point_at g last) point_text (PointIs g last) (PointLoose g) NoDigit
-reads-point g small_capacity small_limit last =
-    reads-record
-    (parts-then (ranged g.capacity (is_higher last) small_capacity)
-    (λ level. parts-behind 58 [] (parts-last (ranged (scaled_limit g) (is_later last level) small_limit) (λ time. (level, time))))
-    (λ level time rest keeps is before. refl))
-    (record {
-      parts = λ p is. ((p.0, p.1), (is.level, is.time), refl, λ rest before. before);
-      fits = λ p is. record { level = is.0; time = is.1 };
-      loose = λ p is. record { level = is.0; time = is.1 };
       texts = λ p is. refl;
     })

@@ -13,16 +13,17 @@ use Rattle.text_records.proofs.Lines.{loose_length, own_length}
 use Rattle.text_records.proofs.Numbers.{Anything, ranged, upto}
 use Rattle.text_records.proofs.Records.{parts-behind, parts-last, parts-none, parts-then, reads-record}
 use Rattle.route_plan.specs.declared.plan.RoutePlan.{RoutePlan}
-use Rattle.bound_certificate.specs.CertificateTexts.{basis_text, column_text, root_text, share_text}
-use Rattle.bound_certificate.specs.Limits.{greatest_weight, most_items}
-use Rattle.bound_certificate.specs.Ranges.{ColumnFits, customer_count}
+use Rattle.certificate_parts.specs.Texts.{basis_text}
+use Rattle.bound_certificate.specs.CertificateTexts.{column_text, root_text, share_text}
+use Rattle.certificate_parts.specs.Limits.{greatest_weight, most_items}
+use Rattle.certificate_parts.specs.Ranges.{ColumnFits, customer_count}
 use Rattle.bound_certificate.specs.Reading.{column_at, exact_or_wide, none_or_other, root_at, share_at}
-use Rattle.bound_certificate.specs.declared.certificate.BasisEntry.{BasisEntry}
-use Rattle.bound_certificate.specs.declared.certificate.Root.{Root}
+use Rattle.certificate_parts.specs.declared.entry.BasisEntry.{BasisEntry}
 use Rattle.bound_certificate.specs.declared.certificate.Root.TheVariants as root
 use Rattle.bound_certificate.specs.declared.certificate.Share.{Share}
-use Rattle.bound_certificate.specs.WrittenRanges.{EntryIs, RootIs, RootLoose, ShareIs, ShareLoose, next_entry}
-use Rattle.bound_certificate.proofs.RootLines.{reads-basis}
+use Rattle.certificate_parts.specs.WrittenRanges.{EntryIs, next_entry}
+use Rattle.bound_certificate.specs.WrittenRanges.{RootIs, RootLoose, ShareIs, ShareLoose}
+use Rattle.certificate_parts.proofs.BasisLines.{reads-basis}
 use Rattle.bound_certificate.proofs.RootParts.{reads-column, reads-share}
 
 -- a word that differs from a text behind what both begin with

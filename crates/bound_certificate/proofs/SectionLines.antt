@@ -1,41 +1,30 @@
 -- The reader of a section reads exactly its lines.
-use Rattle.std.proofs.Common.{◌≡◌, ℕ, ◌^◌, ◌<◌, ℤ, pos, List, [], ◌∷◌, ◌++◌, None, Some, decimal, codes, length, refl, append_assoc, arith, subst}
-use Rattle.std.specs.Fmt.{signed_decimal}
-use Rattle.std.specs.List.{All}
+use Rattle.std.proofs.Common.{◌≡◌, ℕ, ◌^◌, ◌<◌, ℤ, List, [], ◌∷◌, ◌++◌, None, Some, decimal, codes, length, refl, append_assoc, arith, subst}
 use Rattle.ev_model.specs.Network.{Network, scaled_limit}
-use Rattle.ev_text.specs.Readers.{Reader, many_from, signed_at, so_many}
+use Rattle.ev_text.specs.Readers.{many_from}
 use Rattle.ev_text.specs.Texts.{AreLooseRun, AreRun, StandsUnlessLonger, joined_texts}
 use Rattle.ev_text.proofs.ReadingLaws.{Reads}
-use Rattle.ev_text.proofs.RunLaws.{reads-many, reads-so_many}
-use Rattle.ev_text.proofs.SignedLaws.{reads-signed}
-use Rattle.text_records.specs.Lines.{line_of}
-use Rattle.text_records.proofs.Lines.{loose_length, own_length, reads-line}
+use Rattle.ev_text.proofs.RunLaws.{reads-many}
+use Rattle.text_records.proofs.Lines.{loose_length, own_length}
 use Rattle.text_records.proofs.Numbers.{Anything, upto}
 use Rattle.text_records.proofs.Records.{parts-behind, parts-last, parts-then, reads-record}
-use Rattle.bound_certificate.specs.CertificateTexts.{label_text, pair_text, prices_text, section_text}
-use Rattle.bound_certificate.specs.Limits.{greatest_price, greatest_weight, most_items, most_pairs}
-use Rattle.bound_certificate.specs.Ranges.{IsPrice, customer_count}
-use Rattle.bound_certificate.specs.Reading.{label_at, pair_at, section_at}
-use Rattle.bound_certificate.specs.Written.{WrittenLabel, WrittenSection}
-use Rattle.bound_certificate.specs.WrittenRanges.{LabelIs, LabelLoose, PairFits, PairLoose, SectionIs, SectionLoose, next_pair}
-use Rattle.bound_certificate.proofs.LabelLines.{reads-label}
+use Rattle.certificate_parts.specs.Texts.{label_text, prices_text}
+use Rattle.bound_certificate.specs.CertificateTexts.{pair_text, section_text}
+use Rattle.certificate_parts.specs.Limits.{greatest_weight, most_items}
+use Rattle.bound_certificate.specs.Limits.{most_pairs}
+use Rattle.bound_certificate.specs.Reading.{pair_at, section_at}
+use Rattle.certificate_parts.specs.Written.{WrittenLabel}
+use Rattle.bound_certificate.specs.Written.{WrittenSection}
+use Rattle.certificate_parts.specs.WrittenRanges.{LabelLoose}
+use Rattle.bound_certificate.specs.WrittenRanges.{PairFits, PairLoose, SectionIs, SectionLoose, next_pair}
 use Rattle.bound_certificate.proofs.Parts.{reads-pair}
+use Rattle.certificate_parts.proofs.PriceLines.{reads-prices}
+use Rattle.certificate_parts.proofs.LabelLines.{reads-labels}
 
 module _ (g : Network) (small_capacity : g.capacity < 10 ^ 64) (small_limit : scaled_limit g < 10 ^ 64) where
-  abbrev price_line : Reader (List ℤ)
-  price_line = line_of {S = Unit {0}} (codes "prices") (λ none. signed_at greatest_price) (λ none price. none) (customer_count g) (tt {0})
-
-  prices_read : Reads StandsUnlessLonger price_line prices_text (AreRun {S = Unit {0}} (λ none price. IsPrice price) (λ none price. none) (customer_count g) (tt {0})) (AreLooseRun IsPrice (customer_count g)) Anything
-  prices_read =
-      reads-line {S = Unit {0}} 112 (codes "rices") (λ none. signed_at greatest_price) (λ none price. none) signed_decimal (λ none price. IsPrice price) IsPrice (pos 0, omega arith)
-      (λ none. reads-signed StandsUnlessLonger (λ at text more still longer. still longer) greatest_price (omega arith) (omega arith)) (customer_count g) (tt {0})
-
   pairs_read : (count : ℕ) → Reads StandsUnlessLonger (many_from (pair_at g) (λ before pair. Some pair) count None) (joined_texts pair_text) (AreRun (PairFits g) next_pair count None) (AreLooseRun PairLoose count) Anything
   pairs_read count =
       reads-many StandsUnlessLonger (pair_at g) next_pair pair_text (PairFits g) PairLoose Anything ((0, 0), record { first = omega arith; second = omega arith }) (reads-pair g) (λ p rest. tt) count None
-
-  labels_read : (count : ℕ) → Reads StandsUnlessLonger (so_many count (label_at g)) (joined_texts label_text) (λ labels. All (LabelIs g) labels × (length labels ≡ count)) (AreLooseRun (LabelLoose g) count) Anything
-  labels_read count = reads-so_many StandsUnlessLonger (label_at g) label_text (LabelIs g) (LabelLoose g) Anything (reads-label g small_capacity small_limit) (λ l rest. tt) count
 
   abbrev lines : ℕ → ℕ → ℕ → List ℤ → List (ℕ × ℕ) → List WrittenLabel → List ℕ
   lines weight p l prices pairs labels =
@@ -55,9 +44,9 @@ module _ (g : Network) (small_capacity : g.capacity < 10 ^ 64) (small_limit : sc
       (parts-behind 115 (codes "ection ") (parts-then (upto greatest_weight (omega arith))
       (λ weight. parts-behind 32 [] (parts-then (upto most_pairs (omega arith))
       (λ p. parts-behind 32 [] (parts-then (upto most_items (omega arith))
-      (λ l. parts-behind 10 [] (parts-then prices_read
+      (λ l. parts-behind 10 [] (parts-then (reads-prices g)
       (λ prices. parts-then (pairs_read p)
-      (λ pairs. parts-last (labels_read l) (λ labels. record { weight = weight; prices = prices; pairs = pairs; labels = labels }))
+      (λ pairs. parts-last (reads-labels g small_capacity small_limit l) (λ labels. record { weight = weight; prices = prices; pairs = pairs; labels = labels }))
       (λ pairs labels rest are fit any. tt))
       (λ prices more rest are fits any. tt)))
       (λ l more rest few fits any. refl)))

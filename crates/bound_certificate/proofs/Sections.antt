@@ -3,8 +3,10 @@ use Rattle.std.proofs.Common.{◌≡◌, ◌∙◌, ℕ, List, ◌++◌, length,
 use Rattle.std.proofs.lemmas.List.{length-map}
 use Rattle.ev_model.specs.Network.{Network}
 use Rattle.ev_text.specs.Texts.{joined_texts}
-use Rattle.bound_certificate.specs.CertificateTexts.{label_text, pair_text, prices_text, section_head, section_text}
-use Rattle.bound_certificate.specs.Written.{written_label, written_pairs, written_section}
+use Rattle.certificate_parts.specs.Texts.{label_text, prices_text}
+use Rattle.bound_certificate.specs.CertificateTexts.{pair_text, section_head, section_text}
+use Rattle.certificate_parts.specs.Written.{written_label}
+use Rattle.bound_certificate.specs.Written.{written_pairs, written_section}
 use Rattle.bound_certificate.specs.declared.certificate.Section.{Section}
 
 four_parts : (front a b c d : List ℕ) → (((front ++ a) ++ b) ++ c) ++ d ≡ front ++ (a ++ (b ++ (c ++ d)))

@@ -10,7 +10,8 @@ use Rattle.ev_text.proofs.Loops.{in_front, in_front-none, in_front-twice}
 use Rattle.ev_text.proofs.Readings.{word_at-at_end}
 use Rattle.ev_text.proofs.Results.{no_bytes}
 use Rattle.bound_certificate.specs.CertificateTexts.{line_text}
-use Rattle.bound_certificate.specs.Ranges.{LineFits, customer_count}
+use Rattle.certificate_parts.specs.Ranges.{customer_count}
+use Rattle.bound_certificate.specs.Ranges.{LineFits}
 use Rattle.bound_certificate.specs.Reading.{few_lines, line_at, tree_at}
 use Rattle.bound_certificate.specs.Trees.{open_behind}
 use Rattle.bound_certificate.specs.Written.{written_line}

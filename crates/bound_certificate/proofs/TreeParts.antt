@@ -1,5 +1,5 @@
 -- The reader of a line of a tree reads exactly the line.
-use Rattle.std.proofs.Common.{◌≡◌, inl, inr, ◌&&◌, not, [], ◌∷◌, ℕ, codes, nat_eq, nat_lt, refl, arith}
+use Rattle.std.proofs.Common.{inl, inr, ◌&&◌, not, [], ℕ, codes, nat_eq, nat_lt, refl, arith}
 use Rattle.ev_model.specs.Network.{Network}
 use Rattle.ev_text.specs.Texts.{StandsUnlessLonger}
 use Rattle.ev_text.proofs.ChoiceLaws.{other_word}
@@ -9,10 +9,10 @@ use Rattle.text_records.proofs.Numbers.{Anything, ranged}
 use Rattle.text_records.proofs.Records.{parts-behind, parts-none, parts-then, reads-record}
 use Rattle.route_plan.specs.Limits.{greatest_number}
 use Rattle.bound_certificate.specs.CertificateTexts.{line_text}
-use Rattle.bound_certificate.specs.Limits.{most_items}
-use Rattle.bound_certificate.specs.Reading.{is_customer_node, line_at, split_or_leaf}
+use Rattle.certificate_parts.specs.Limits.{most_items}
+use Rattle.certificate_parts.specs.Reading.{is_customer_node}
+use Rattle.bound_certificate.specs.Reading.{line_at, split_or_leaf}
 use Rattle.bound_certificate.specs.WrittenRanges.{LineIs, LineLoose}
-use Rattle.bound_certificate.specs.declared.certificate.TreeLine.{TreeLine}
 use Rattle.bound_certificate.specs.declared.certificate.TreeLine.TheVariants.{Split, Leaf}
 
 pub reads-tree_line : (g : Network) (sections : ℕ) → Reads StandsUnlessLonger (line_at g sections) line_text (LineIs g sections) LineLoose Anything

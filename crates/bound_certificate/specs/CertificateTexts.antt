@@ -1,18 +1,15 @@
 -- The texts of certificates: each has one spelling, in lines that end with a line feed.
-use Rattle.std.specs.Prelude.{ℕ, ℤ, ◌&&◌, Bool, true, false, List, [], ◌∷◌, ◌++◌, Option, None, Some, codes, decimal, length, nat_eq}
-use Rattle.std.specs.Fmt.{signed_decimal}
+use Rattle.std.specs.Prelude.{ℕ, ◌&&◌, Bool, true, false, List, [], ◌∷◌, ◌++◌, codes, decimal, length, nat_eq}
 use Rattle.ev_model.specs.Network.{Network}
-use Rattle.ev_text.specs.Texts.{joined_texts, marked_texts, parted_texts}
-use Rattle.route_plan.specs.PlanTexts.{stop_text}
+use Rattle.ev_text.specs.Texts.{joined_texts}
 use Rattle.route_plan.specs.declared.plan.RoutePlan.{RoutePlan}
-use Rattle.bound_certificate.specs.Written.{Written, WrittenLabel, WrittenSection}
-use Rattle.bound_certificate.specs.declared.certificate.BasisEntry.{BasisEntry}
-use Rattle.bound_certificate.specs.declared.certificate.BasisEntry.TheVariants.{Helper, Column}
+use Rattle.bound_certificate.specs.Written.{Written, WrittenSection}
 use Rattle.bound_certificate.specs.declared.certificate.Root.{Root}
 use Rattle.bound_certificate.specs.declared.certificate.Root.TheVariants as root
 use Rattle.bound_certificate.specs.declared.certificate.Share.{Share}
 use Rattle.bound_certificate.specs.declared.certificate.TreeLine.{TreeLine}
 use Rattle.bound_certificate.specs.declared.certificate.TreeLine.TheVariants.{Split, Leaf}
+use Rattle.certificate_parts.specs.Texts.{basis_text, bound_text, label_text, prices_text, stops_text}
 
 -- an instance without a reserve and without a level at home has the first version of the text
 abbrev pub is_first_version : Network → Bool
@@ -28,26 +25,11 @@ head_lines false reserve home =
 abbrev pub head_text : Network → List ℕ
 head_text g = head_lines (is_first_version g) g.reserve g.home_level
 
-abbrev pub bound_text : Option ℕ → List ℕ
-bound_text None = codes "bound none" ++ 10 ∷ []
-bound_text (Some bound) = codes "bound " ++ (decimal bound ++ 10 ∷ [])
-
--- the stops of a plan, and the end of the line
-abbrev pub stops_text : RoutePlan → List ℕ
-stops_text p = parted_texts (codes " ") stop_text p.stops ++ 10 ∷ []
-
 abbrev pub share_text : Share → List ℕ
 share_text x = codes "share " ++ (decimal x.share ++ (codes " " ++ stops_text x.plan))
 
 abbrev pub column_text : RoutePlan → List ℕ
 column_text p = codes "column " ++ stops_text p
-
-abbrev pub entry_text : BasisEntry → List ℕ
-entry_text (Helper node) = codes "h" ++ decimal node
-entry_text (Column number) = decimal number
-
-abbrev pub basis_text : List BasisEntry → List ℕ
-basis_text basis = codes "basis" ++ (marked_texts (codes " ") entry_text basis ++ 10 ∷ [])
 
 -- the line of an exact root
 abbrev pub exact_head : ℕ → ℕ → List ℕ
@@ -67,28 +49,6 @@ root_text (root.Wide columns basis) =
 
 abbrev pub pair_text : ℕ × ℕ → List ℕ
 pair_text p = codes "pair " ++ (decimal p.0 ++ (codes " " ++ (decimal p.1 ++ 10 ∷ [])))
-
--- a set without a member is `-`
-abbrev pub set_text : List ℕ → List ℕ
-set_text [] = codes "-"
-set_text (node ∷ nodes) = parted_texts (codes ",") (λ n. decimal n) (node ∷ nodes)
-
-abbrev pub point_text : ℕ × ℕ → List ℕ
-point_text p = decimal p.0 ++ (codes ":" ++ decimal p.1)
-
--- the line of a label, up to its set
-abbrev pub label_head : ℕ → ℕ → List ℕ
-label_head last node =
-    codes "label " ++ (decimal last ++ (codes " " ++ (decimal node ++ codes " ")))
-
-abbrev pub label_text : WrittenLabel → List ℕ
-label_text l =
-    label_head l.last l.node
-    ++ (set_text l.served ++ (marked_texts (codes " ") point_text l.points ++ 10 ∷ []))
-
-abbrev pub prices_text : List ℤ → List ℕ
-prices_text prices =
-    codes "prices" ++ (marked_texts (codes " ") signed_decimal prices ++ 10 ∷ [])
 
 -- the line with a section's weight and counts
 abbrev pub section_head : ℕ → ℕ → ℕ → List ℕ

@@ -1,7 +1,6 @@
 -- What a certificate is beside its text: what its types promise of each value, and when two certificates are the same.
-use Rattle.std.specs.Prelude.{◌≡◌, ℕ, Bool, ℤ, List, Option, map}
+use Rattle.std.specs.Prelude.{◌≡◌, ℕ, Bool, ℤ, List, map}
 use Rattle.std.specs.List.{All}
-use Rattle.customer_sets.specs.CustSet.{IsCustomerSet}
 use Rattle.customer_sets.specs.Pairs.{IsPairs, allows_of}
 use Rattle.ev_model.specs.Network.{Network}
 use Rattle.piece_fn.specs.declared.label.Label.{Label}
@@ -9,13 +8,8 @@ use Rattle.bound_certificate.specs.CertificateTexts.{certificate_text}
 use Rattle.bound_certificate.specs.Ranges.{Fits}
 use Rattle.bound_certificate.specs.Written.{written}
 use Rattle.bound_certificate.specs.declared.certificate.Certificate.{Certificate}
-use Rattle.bound_certificate.specs.declared.certificate.Root.{Root}
 use Rattle.bound_certificate.specs.declared.certificate.Section.{Section}
-use Rattle.bound_certificate.specs.declared.certificate.TreeLine.{TreeLine}
-
--- the set of a label is a list of numbers below 128 in rising order
-abbrev pub HasSet : Label → Type 0
-HasSet l = IsCustomerSet l.set
+use Rattle.certificate_parts.specs.Ranges.{HasSet}
 
 -- a section as it is kept: each label has a set, and each forbidden pair is of two different places that there are
 pub record IsKept (s : Section) : Type 0 where

@@ -7,5 +7,4 @@ pub mod Meaning
 pub mod Reading
 pub mod WrittenRanges
 pub mod CertificateIn
-pub mod Places
 pub mod Kept

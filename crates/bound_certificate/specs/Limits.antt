@@ -1,30 +1,7 @@
 -- The limits of certificates and of their text.
-use Rattle.std.specs.Prelude.{ℕ, ◌^◌, ◌-◌}
-
--- the greatest bound
-abbrev pub greatest_bound : ℕ
-greatest_bound = 2 ^ 96
-
--- the greatest weight of a section, share of a route, and weight of the shares
-abbrev pub greatest_weight : ℕ
-greatest_weight = 2 ^ 40
-
--- the greatest price, and the greatest below 0
-abbrev pub greatest_price : ℕ
-greatest_price = 2 ^ 84
-
--- the most sections, shares, columns, and labels
-abbrev pub most_items : ℕ
-most_items = 2 ^ 64 - 1
+use Rattle.std.specs.Prelude.{ℕ}
+pub use Rattle.certificate_parts.specs.Limits.{greatest_bound, greatest_weight, most_items}
 
 -- the most forbidden pairs: those of 129 places, each with itself too
 abbrev pub most_pairs : ℕ
 most_pairs = 16641
-
--- the most customers
-abbrev pub most_customers : ℕ
-most_customers = 128
-
--- the most bytes of a text
-abbrev pub most_bytes : ℕ
-most_bytes = 2 ^ 28

@@ -14,8 +14,8 @@ use Rattle.piece_fn.specs.PieceFn.{first_level, level_times}
 use Rattle.piece_fn.specs.declared.label.Label.{Label}
 use Rattle.route_plan.specs.declared.plan.RoutePlan.{RoutePlan}
 use Rattle.bound_certificate.specs.Trees.{lines_of}
-use Rattle.bound_certificate.specs.declared.certificate.BasisEntry.{BasisEntry}
-use Rattle.bound_certificate.specs.declared.certificate.BasisEntry.TheVariants.{Helper, Column}
+use Rattle.certificate_parts.specs.declared.entry.BasisEntry.{BasisEntry}
+use Rattle.certificate_parts.specs.declared.entry.BasisEntry.TheVariants.{Helper, Column}
 use Rattle.bound_certificate.specs.declared.certificate.Section.{Section}
 use Rattle.bound_certificate.specs.declared.certificate.Share.{Share}
 use Rattle.bound_certificate.specs.declared.certificate.TreeLine.{TreeLine}

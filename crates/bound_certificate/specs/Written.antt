@@ -1,27 +1,15 @@
 -- A certificate as it is written: customers by their nodes, and forbidden pairs as a list in rising order.
-use Rattle.std.specs.Prelude.{ℕ, zero, suc, ◌+◌, ℤ, List, [], ◌∷◌, ◌++◌, Option, map, slice_index, if◌then◌else◌}
-use Rattle.customer_sets.specs.CustSet.{has}
+use Rattle.std.specs.Prelude.{ℕ, zero, suc, ◌+◌, ℤ, List, [], ◌∷◌, ◌++◌, Option, map, if◌then◌else◌}
 use Rattle.customer_sets.specs.Pairs.{ForbiddenPairs, allows_of}
 use Rattle.ev_model.specs.Network.{Network}
-use Rattle.instance_reader.specs.Instance.{customer_nodes}
-use Rattle.piece_fn.specs.declared.label.Label.{Label}
-use Rattle.bound_certificate.specs.Ranges.{customer_count}
-use Rattle.bound_certificate.specs.declared.certificate.BasisEntry.{BasisEntry}
-use Rattle.bound_certificate.specs.declared.certificate.BasisEntry.TheVariants.{Helper, Column}
+use Rattle.certificate_parts.specs.Ranges.{customer_count}
 use Rattle.bound_certificate.specs.declared.certificate.Certificate.{Certificate}
 use Rattle.bound_certificate.specs.declared.certificate.Root.{Root}
 use Rattle.bound_certificate.specs.declared.certificate.Root.TheVariants as root
 use Rattle.bound_certificate.specs.declared.certificate.Section.{Section}
 use Rattle.bound_certificate.specs.declared.certificate.TreeLine.{TreeLine}
 use Rattle.bound_certificate.specs.declared.certificate.TreeLine.TheVariants.{Split, Leaf}
-
-pub record WrittenLabel : Type 0 where
-  pub last : ℕ
-  pub node : ℕ
-  -- the nodes of the customers served, in rising order
-  pub served : List ℕ
-  -- levels, each with its time
-  pub points : List (ℕ × ℕ)
+use Rattle.certificate_parts.specs.Written.{WrittenLabel, place_node, written_entry, written_label}
 
 pub record WrittenSection : Type 0 where
   pub weight : ℕ
@@ -36,29 +24,6 @@ pub record Written : Type 0 where
   pub root : Root
   pub sections : List WrittenSection
   pub tree : List TreeLine
-
--- the node of the customer with a number
-abbrev pub customer_node : Network → ℕ → ℕ
-customer_node g c = slice_index (customer_nodes g) c
-
--- the node of a place
-abbrev pub place_node : Network → ℕ → ℕ
-place_node g zero = 0
-place_node g (suc c) = customer_node g c
-
--- of the nodes of customers, numbered from `number` on, those whose number is in the set
-abbrev pub nodes_in : List ℕ → ℕ → List ℕ → List ℕ
-nodes_in set number [] = []
-nodes_in set number (node ∷ nodes) =
-    (if has set number then node ∷ [] else []) ++ nodes_in set (number + 1) nodes
-
-abbrev pub written_label : Network → Label → WrittenLabel
-written_label g l = record {
-  last = l.last;
-  node = l.node;
-  served = nodes_in l.set 0 (customer_nodes g);
-  points = l.value;
-}
 
 -- the pair of two places by their nodes, where it is forbidden
 abbrev pub if_forbidden : Network → ForbiddenPairs → ℕ → ℕ → List (ℕ × ℕ)
@@ -85,10 +50,6 @@ written_section g s = record {
   pairs = written_pairs g s.pairs;
   labels = map (written_label g) s.labels;
 }
-
-abbrev pub written_entry : Network → BasisEntry → BasisEntry
-written_entry g (Helper c) = Helper (customer_node g c)
-written_entry g (Column k) = Column k
 
 abbrev pub written_root : Network → Root → Root
 written_root g root.None = root.None

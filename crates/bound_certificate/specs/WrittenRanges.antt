@@ -1,23 +1,24 @@
 -- Which certificates have a text on a network, as they are written: each number is in its range, and keeps the rules with
 -- the numbers before it. And the wider language of what may begin such a text, without the rules over several numbers.
-use Rattle.std.specs.Prelude.{◌≡◌, ℕ, ◌≤◌, Bool, true, ◌&&◌, not, List, [], ◌∷◌, Option, None, Some, length, nat_eq, nat_le, nat_lt}
-use Rattle.std.specs.List.{All, list_any}
-use Rattle.ev_model.specs.Network.{Network, node_count, scaled_limit}
-use Rattle.ev_text.specs.Texts.{AllFrom, AreLooseRun, AreRun, ConsFrom, ConsLoose}
+use Rattle.std.specs.Prelude.{ℕ, ◌≤◌, Bool, ◌&&◌, not, List, [], Option, None, Some, length, nat_eq, nat_le, nat_lt}
+use Rattle.std.specs.List.{All}
+use Rattle.ev_model.specs.Network.{Network}
+use Rattle.ev_text.specs.Texts.{AllFrom, AreLooseRun, AreRun}
 use Rattle.text_records.specs.Numbers.{Keeping, UpTo}
 use Rattle.route_plan.specs.Limits.{greatest_number}
-use Rattle.bound_certificate.specs.Limits.{greatest_bound, greatest_weight, most_items, most_pairs}
-use Rattle.bound_certificate.specs.Ranges.{ColumnFits, IsPrice, customer_count, same_entry}
-use Rattle.bound_certificate.specs.Reading.{is_above, is_customer_node, is_higher, is_later, is_place, rises_from}
+use Rattle.certificate_parts.specs.Limits.{greatest_weight, most_items}
+use Rattle.bound_certificate.specs.Limits.{most_pairs}
+use Rattle.certificate_parts.specs.Ranges.{ColumnFits, IsPrice, customer_count}
+use Rattle.certificate_parts.specs.Reading.{is_customer_node, is_place}
+use Rattle.bound_certificate.specs.Reading.{rises_from}
 use Rattle.bound_certificate.specs.Trees.{Closes}
-use Rattle.bound_certificate.specs.Written.{Written, WrittenLabel, WrittenSection}
-use Rattle.bound_certificate.specs.declared.certificate.BasisEntry.{BasisEntry}
-use Rattle.bound_certificate.specs.declared.certificate.BasisEntry.TheVariants.{Helper, Column}
+use Rattle.bound_certificate.specs.Written.{Written, WrittenSection}
 use Rattle.bound_certificate.specs.declared.certificate.Root.{Root}
 use Rattle.bound_certificate.specs.declared.certificate.Root.TheVariants as root
 use Rattle.bound_certificate.specs.declared.certificate.Share.{Share}
 use Rattle.bound_certificate.specs.declared.certificate.TreeLine.{TreeLine}
 use Rattle.bound_certificate.specs.declared.certificate.TreeLine.TheVariants.{Split, Leaf}
+use Rattle.certificate_parts.specs.WrittenRanges.{BoundIs, EntryIs, EntryLoose, LabelIs, LabelLoose, next_entry}
 
 -- a forbidden pair of two different places, above the pair before it
 abbrev pub may_follow : Network → Option (ℕ × ℕ) → ℕ → ℕ → Bool
@@ -33,55 +34,6 @@ pub record PairLoose (p : ℕ × ℕ) : Type 0 where
 
 abbrev pub next_pair : Option (ℕ × ℕ) → ℕ × ℕ → Option (ℕ × ℕ)
 next_pair before pair = Some pair
-
--- a level above the one before it, with a time that may follow the one before it
-pub record PointIs (g : Network) (last : Option (ℕ × ℕ)) (p : ℕ × ℕ) : Type 0 where
-  pub level : Keeping g.capacity (is_higher last) p.0
-  pub time : Keeping (scaled_limit g) (is_later last p.0) p.1
-
-pub record PointLoose (g : Network) (p : ℕ × ℕ) : Type 0 where
-  pub level : p.0 ≤ g.capacity
-  pub time : p.1 ≤ scaled_limit g
-
-abbrev pub next_point : Option (ℕ × ℕ) → ℕ × ℕ → Option (ℕ × ℕ)
-next_point before point = Some point
-
--- the points of a label, of which there is one at least
-abbrev pub PointsAre : Network → List (ℕ × ℕ) → Type 0
-PointsAre g points =
-    ConsFrom (PointIs g None) (λ first. AllFrom (PointIs g) next_point (Some first)) points
-
-abbrev pub PointsLoose : Network → List (ℕ × ℕ) → Type 0
-PointsLoose g points = ConsLoose (PointLoose g) (All (PointLoose g)) points
-
--- a customer of a set, above the one before it
-abbrev pub MemberIs : Network → Option ℕ → ℕ → Type 0
-MemberIs g last node =
-    Keeping greatest_number (λ n. is_customer_node g n && is_above last n) node
-
-abbrev pub next_member : Option ℕ → ℕ → Option ℕ
-next_member before node = Some node
-
-abbrev pub SetIs : Network → List ℕ → Type 0
-SetIs g [] = Unit {0}
-SetIs g (node ∷ nodes) =
-    MemberIs g None node × AllFrom (MemberIs g) next_member (Some node) nodes
-
-abbrev pub SetLoose : List ℕ → Type 0
-SetLoose [] = Unit {0}
-SetLoose (node ∷ nodes) = UpTo greatest_number node × All (UpTo greatest_number) nodes
-
-pub record LabelIs (g : Network) (l : WrittenLabel) : Type 0 where
-  pub last : Keeping greatest_number (is_place g) l.last
-  pub node : Keeping greatest_number (λ n. nat_lt n (node_count g)) l.node
-  pub served : SetIs g l.served
-  pub points : PointsAre g l.points
-
-pub record LabelLoose (g : Network) (l : WrittenLabel) : Type 0 where
-  pub last : l.last ≤ greatest_number
-  pub node : l.node ≤ greatest_number
-  pub served : SetLoose l.served
-  pub points : PointsLoose g l.points
 
 -- a section, with a price for each customer; no price depends on another
 pub record SectionIs (g : Network) (s : WrittenSection) : Type 0 where
@@ -110,22 +62,6 @@ pub record ShareLoose (x : Share) : Type 0 where
   pub share : x.share ≤ greatest_weight
   pub plan : ColumnFits x.plan
 
--- an entry of a basis over so many columns that is none of the earlier ones
-abbrev pub EntryIs : Network → ℕ → List BasisEntry → BasisEntry → Type 0
-EntryIs g columns earlier (Helper node) =
-    Keeping greatest_number (λ n. is_customer_node g n
-    && not (list_any (same_entry (Helper n)) earlier)) node
-EntryIs g columns earlier (Column number) =
-    Keeping most_items (λ n. nat_lt n columns
-    && not (list_any (same_entry (Column n)) earlier)) number
-
-abbrev pub EntryLoose : BasisEntry → Type 0
-EntryLoose (Helper node) = UpTo greatest_number node
-EntryLoose (Column number) = UpTo most_items number
-
-abbrev pub next_entry : List BasisEntry → BasisEntry → List BasisEntry
-next_entry earlier entry = entry ∷ earlier
-
 -- the root, where helpers name nodes
 abbrev pub RootIs : Network → Root → Type 0
 RootIs g root.None = Unit {0}
@@ -144,10 +80,6 @@ RootLoose g (root.Exact over shares) =
 RootLoose g (root.Wide columns basis) =
     (length columns ≤ most_items) × AreLooseRun ColumnFits (length columns) columns
     × AreLooseRun EntryLoose (customer_count g) basis
-
-abbrev pub BoundIs : Option ℕ → Type 0
-BoundIs None = Unit {0}
-BoundIs (Some bound) = bound ≤ greatest_bound
 
 -- a line of the tree: a split is on two different customers, by their nodes, and a leaf names one of so many sections
 abbrev pub LineIs : Network → ℕ → TreeLine → Type 0

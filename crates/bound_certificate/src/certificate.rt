@@ -1,5 +1,6 @@
 //! Certificates: what shows that no plan of a fleet costs less than a bound.
 
+use certificate_parts::BasisEntry;
 use customer_sets::Pairs;
 use ev_list::Listed;
 use piece_fn::Label;
@@ -57,14 +58,6 @@ pub enum Root {
 pub struct Share {
     pub share: u64,
     pub plan: RoutePlan,
-}
-
-/// An entry of a basis: the helper of a customer, by number, or a listed column, by its number from
-/// 0.
-#[derive(Clone, Copy, Debug, PartialEq, Eq)]
-pub enum BasisEntry {
-    Helper(usize),
-    Column(usize),
 }
 
 /// A line of a branching tree.

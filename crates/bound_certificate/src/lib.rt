@@ -6,9 +6,10 @@ mod laws;
 mod ranges;
 mod text;
 
-pub use certificate::{BasisEntry, Certificate, Root, Section, Share, TreeLine};
+pub use certificate::{Certificate, Root, Section, Share, TreeLine};
+pub use certificate_parts::{BasisEntry, CertText};
 pub use laws::fitting_certificates_have_sections_and_a_tree;
 pub use text::{
-    CertText, certificate_faults_are_first, push_certificate, read_certificate,
-    texts_mean_one_certificate, texts_spell_certificates, written_certificates_are_read,
+    certificate_faults_are_first, push_certificate, read_certificate, texts_mean_one_certificate,
+    texts_spell_certificates, written_certificates_are_read,
 };

@@ -1,29 +1,21 @@
 //! Whether a certificate is in the ranges of an instance. No call here takes memory.
 
-ghost use Rattle.std.specs.Prelude.{◌≡◌, ◌↔◌, ◌≤◌, IfSome, IsTrue, length};
+ghost use Rattle.std.specs.Prelude.{◌↔◌, ◌≤◌, IsTrue, length};
 ghost use Rattle.std.specs.List.{All};
 ghost use Rattle.instance_reader.specs.Instance.{customer_nodes};
-ghost use Rattle.bound_certificate.specs.Limits.{greatest_bound};
-ghost use Rattle.bound_certificate.specs.Ranges.{Fits, LineFits, RootFits, SectionFits, customer_count};
-ghost use Rattle.bound_certificate.specs.Trees.{IsWholeTree};
+ghost use Rattle.bound_certificate.specs.Ranges.{Fits, SectionFits};
 
-mod basis;
-mod label;
 mod root;
 mod section;
 mod tree;
 
 use crate::certificate::{Certificate, Section};
-pub(crate) use basis::stands_in;
+use certificate_parts::bound_fits;
 use instance_reader::Instance;
-pub(crate) use label::scaled_limit;
 use root::root_fits;
 use section::section_fits;
 pub(crate) use tree::open_behind;
 use tree::{is_whole_tree, lines_fit};
-
-/// The greatest bound.
-pub(crate) const GREATEST_BOUND: u128 = 1 << 96;
 
 impl Certificate {
     /// Whether the certificate is in the ranges of an instance of at most 128 customers, and its
@@ -48,16 +40,6 @@ impl Certificate {
             && sections_fit(inst, self.sections.as_slice())
             && lines_fit(customers, self.sections.len(), self.tree.as_slice())
             && is_whole_tree(self.tree.as_slice())
-    }
-}
-
-/// Whether a bound is at most 2^96.
-fn bound_fits(bound: Option<u128>) -> bool
-    ensures { IsTrue result ↔ IfSome bound (λ b. b ≤ greatest_bound) }
-{
-    match bound {
-        Some(number) => number <= GREATEST_BOUND,
-        None => true,
     }
 }
 

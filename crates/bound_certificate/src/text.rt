@@ -1,11 +1,9 @@
 //! The text of certificates.
 
-mod cert_text;
 mod laws;
 mod reading;
 mod writing;
 
-pub use cert_text::CertText;
 pub use laws::{
     certificate_faults_are_first, texts_mean_one_certificate, texts_spell_certificates,
     written_certificates_are_read,

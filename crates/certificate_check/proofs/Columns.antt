@@ -12,8 +12,8 @@ use Rattle.fleet_model.specs.Wide.{IsTooWide}
 use Rattle.route_plan.specs.declared.plan.RoutePlan.{RoutePlan}
 use Rattle.bound_certificate.specs.Meaning.{basis_columns, entry_column, route_columns}
 use Rattle.bound_certificate.specs.Ranges.{EntryFits}
-use Rattle.bound_certificate.specs.declared.certificate.BasisEntry.{BasisEntry}
-use Rattle.bound_certificate.specs.declared.certificate.BasisEntry.TheVariants.{Column, Helper}
+use Rattle.certificate_parts.specs.declared.entry.BasisEntry.{BasisEntry}
+use Rattle.certificate_parts.specs.declared.entry.BasisEntry.TheVariants.{Column, Helper}
 use Rattle.wide_bases.specs.Listed.{listed_columns, route_columns as listed_routes}
 use Rattle.wide_bases.specs.declared.listed.ListedRoute.{ListedRoute}
 use Rattle.certificate_check.specs.Columns.{AreListed, entry_number, TellsColumns, TellsWide}

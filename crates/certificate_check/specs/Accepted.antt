@@ -12,7 +12,7 @@ use Rattle.fleet_model.specs.Tree.{BranchTree, LeavesAreUnder}
 use Rattle.fleet_model.specs.Wide.{IsTooWide}
 use Rattle.route_plan.specs.declared.plan.RoutePlan.{RoutePlan}
 use Rattle.bound_certificate.specs.Meaning.{basis_columns, IsTreeOf, priced_sections, route_columns, route_shares}
-use Rattle.bound_certificate.specs.declared.certificate.BasisEntry.{BasisEntry}
+use Rattle.certificate_parts.specs.declared.entry.BasisEntry.{BasisEntry}
 use Rattle.bound_certificate.specs.declared.certificate.Certificate.{Certificate}
 use Rattle.bound_certificate.specs.declared.certificate.Root.{Root}
 use Rattle.bound_certificate.specs.declared.certificate.Root.TheVariants as root

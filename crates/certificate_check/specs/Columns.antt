@@ -2,8 +2,8 @@
 use Rattle.std.specs.Prelude.{ℕ, ◌+◌, Bool, true, false, List, [], ◌∷◌, Option, None, Some}
 use Rattle.ev_model.specs.Network.{Network}
 use Rattle.route_plan.specs.declared.plan.RoutePlan.{RoutePlan}
-use Rattle.bound_certificate.specs.declared.certificate.BasisEntry.{BasisEntry}
-use Rattle.bound_certificate.specs.declared.certificate.BasisEntry.TheVariants.{Column, Helper}
+use Rattle.certificate_parts.specs.declared.entry.BasisEntry.{BasisEntry}
+use Rattle.certificate_parts.specs.declared.entry.BasisEntry.TheVariants.{Column, Helper}
 use Rattle.wide_bases.specs.declared.listed.ListedRoute.{ListedRoute}
 use Rattle.certificate_check.specs.Accepted.{IsWideRoot}
 use Rattle.certificate_check.specs.Routes.{IsListedRoute}

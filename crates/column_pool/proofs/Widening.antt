@@ -20,7 +20,7 @@ use Rattle.route_plan.specs.declared.plan.RoutePlan.{RoutePlan}
 use Rattle.bound_certificate.specs.Limits.{most_items}
 use Rattle.bound_certificate.specs.Meaning.{basis_columns, entry_column, route_columns}
 use Rattle.bound_certificate.specs.Ranges.{AreDifferent, ColumnFits, ColumnsFit, EntryFits, same_entry}
-use Rattle.bound_certificate.specs.declared.certificate.BasisEntry.{BasisEntry}
+use Rattle.certificate_parts.specs.declared.entry.BasisEntry.{BasisEntry}
 use Rattle.bound_certificate.specs.declared.certificate.Section.{Section}
 use Rattle.column_pool.specs.Bounds.{IsNodeBound}
 use Rattle.column_pool.specs.Columns.{AreNodeRoutes, IsNodeRoute}

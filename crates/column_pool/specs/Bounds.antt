@@ -13,7 +13,7 @@ use Rattle.fleet_model.specs.Strong.{AreRisingPrices, IsWideBasis}
 use Rattle.route_plan.specs.declared.plan.RoutePlan.{RoutePlan}
 use Rattle.bound_certificate.specs.Meaning.{basis_columns, priced_section, route_shares}
 use Rattle.bound_certificate.specs.Ranges.{ColumnsFit, customer_count, SectionFits, SharesFit}
-use Rattle.bound_certificate.specs.declared.certificate.BasisEntry.{BasisEntry}
+use Rattle.certificate_parts.specs.declared.entry.BasisEntry.{BasisEntry}
 use Rattle.bound_certificate.specs.declared.certificate.Section.{Section}
 use Rattle.bound_certificate.specs.declared.certificate.Share.{Share}
 use Rattle.column_pool.specs.declared.bound.NodeBound.{NodeBound}

@@ -13,8 +13,8 @@ use Rattle.fleet_model.specs.Wide.{Follow, IsPast}
 use Rattle.route_plan.specs.declared.plan.RoutePlan.{RoutePlan}
 use Rattle.bound_certificate.specs.Meaning.{basis_columns}
 use Rattle.bound_certificate.specs.Ranges.{ColumnsFit, customer_count as count_customers}
-use Rattle.bound_certificate.specs.declared.certificate.BasisEntry.{BasisEntry}
-use Rattle.bound_certificate.specs.declared.certificate.BasisEntry.TheVariants as entry
+use Rattle.certificate_parts.specs.declared.entry.BasisEntry.{BasisEntry}
+use Rattle.certificate_parts.specs.declared.entry.BasisEntry.TheVariants as entry
 use Rattle.bound_certificate.specs.declared.certificate.Section.{Section}
 use Rattle.column_pool.specs.Bounds.{IsEmpty, IsExact, IsNodeSection}
 use Rattle.column_pool.specs.Faults.{columns_of}

@@ -1,8 +1,8 @@
 -- The line of a refusal: its kind, the number of the broken rule, and the place or the number that breaks it.
 -- Want of memory is no rule; it has no line, and its text here is empty.
 use Rattle.std.specs.Prelude.{◌≢◌, ℕ, ◌++◌, ◌∷◌, [], List, Option, None, Some, decimal, codes}
-use Rattle.bound_certificate.specs.declared.text.cert_text.CertText.{CertText}
-use Rattle.bound_certificate.specs.declared.text.cert_text.CertText.TheVariants as certificate
+use Rattle.certificate_parts.specs.declared.cert_text.CertText.{CertText}
+use Rattle.certificate_parts.specs.declared.cert_text.CertText.TheVariants as certificate
 use Rattle.charge_curve.specs.declared.fault.CurveFault.{CurveFault}
 use Rattle.charge_curve.specs.declared.fault.CurveFault.TheVariants as curve
 use Rattle.decimal_import.specs.declared.fault.ImportFault.{ImportFault}

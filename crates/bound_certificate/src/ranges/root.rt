@@ -1,21 +1,13 @@
 //! Whether the root of a certificate is in its ranges.
 
-ghost use Rattle.std.specs.Prelude.{◌≡◌, ◌↔◌, ◌≤◌, IsTrue, length};
+ghost use Rattle.std.specs.Prelude.{◌↔◌, IsTrue};
 ghost use Rattle.std.specs.List.{All};
-ghost use Rattle.ev_model.specs.declared.Stop.{Stop};
-ghost use Rattle.route_plan.specs.PlanTexts.{FitsText, IsSmallStop};
-ghost use Rattle.bound_certificate.specs.Ranges.{ColumnFits, ColumnsFit, IsWeight, RootFits, ShareFits, SharesFit};
+ghost use Rattle.certificate_parts.specs.Ranges.{ColumnFits};
+ghost use Rattle.bound_certificate.specs.Ranges.{ColumnsFit, RootFits, ShareFits, SharesFit};
 
-use crate::certificate::{BasisEntry, Root, Share};
-use crate::ranges::basis::basis_fits;
-use ev_model::Stop;
+use crate::certificate::{Root, Share};
+use certificate_parts::{BasisEntry, basis_fits, is_weight, stops_fit};
 use route_plan::RoutePlan;
-
-/// The greatest number of a node, and the greatest amount.
-const GREATEST_NUMBER: u64 = 1_000_000_000;
-
-/// The greatest weight.
-pub(crate) const GREATEST_WEIGHT: u64 = 1 << 40;
 
 /// Whether a root is in its ranges.
 pub(crate) fn root_fits(customers: usize, root: &Root) -> bool
@@ -35,13 +27,6 @@ fn shares_fit(over: u64, shares: &[Share]) -> bool
     ensures { IsTrue result ↔ SharesFit over shares.now }
 {
     is_weight(over) && each_share_fits(shares)
-}
-
-/// Whether the number is from 1 to 2^40.
-fn is_weight(number: u64) -> bool
-    ensures { IsTrue result ↔ IsWeight number }
-{
-    1 <= number && number <= GREATEST_WEIGHT
 }
 
 fn each_share_fits(shares: &[Share]) -> bool
@@ -83,28 +68,4 @@ fn column_fits(column: &RoutePlan) -> bool
     ensures { IsTrue result ↔ ColumnFits column.now }
 {
     stops_fit(column.stops.as_slice())
-}
-
-/// Whether there is a stop, and the numbers of all are at most 10^9.
-fn stops_fit(stops: &[Stop]) -> bool
-    ensures { IsTrue result ↔ FitsText stops.now }
-{
-    !stops.is_empty() && are_small(stops)
-}
-
-fn are_small(stops: &[Stop]) -> bool
-    ensures { IsTrue result ↔ All IsSmallStop stops.now }
-{
-    for stop in stops {
-        if !is_small(*stop) {
-            return false;
-        }
-    }
-    true
-}
-
-fn is_small(stop: Stop) -> bool
-    ensures { IsTrue result ↔ IsSmallStop stop }
-{
-    stop.node as u64 <= GREATEST_NUMBER && stop.added <= GREATEST_NUMBER
 }

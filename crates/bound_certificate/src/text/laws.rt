@@ -7,12 +7,13 @@ ghost use Rattle.ev_text.specs.Texts.{IsLonger};
 ghost use Rattle.bound_certificate.specs.CertificateIn.{BeginsLoosely, BeginsOtherVersion, SpellsWritten, certificate_in};
 ghost use Rattle.bound_certificate.specs.CertificateTexts.{certificate_text};
 ghost use Rattle.bound_certificate.specs.Kept.{AreSame, IsKept, IsSpelledBy};
-ghost use Rattle.bound_certificate.specs.Limits.{most_bytes};
-ghost use Rattle.bound_certificate.specs.Ranges.{Fits, customer_count};
+ghost use Rattle.certificate_parts.specs.Limits.{most_bytes};
+ghost use Rattle.certificate_parts.specs.Ranges.{customer_count};
+ghost use Rattle.bound_certificate.specs.Ranges.{Fits};
 ghost use Rattle.bound_certificate.specs.Written.{Written, written};
 ghost use Rattle.bound_certificate.specs.WrittenRanges.{WrittenIs};
 ghost use Rattle.bound_certificate.specs.declared.certificate.Certificate.{Certificate};
-ghost use Rattle.bound_certificate.specs.declared.text.cert_text.CertText.TheVariants.{Range, Text, TooLong, Version};
+ghost use Rattle.certificate_parts.specs.declared.cert_text.CertText.TheVariants.{Range, Text, TooLong, Version};
 
 /// Bytes are read as a certificate exactly where they spell it: each certificate in the ranges of a
 /// network has one text.

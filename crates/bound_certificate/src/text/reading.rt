@@ -1,32 +1,28 @@
 //! Reading the text of a certificate.
 
-ghost use Rattle.std.specs.Prelude.{◌≡◌, ◌≢◌, ◌≤◌, Err, IfErr, IfOk, OnOk, Ok, length, nat_eq};
+ghost use Rattle.std.specs.Prelude.{◌≡◌, ◌≢◌, ◌≤◌, Err, IfErr, IfOk, OnOk, Ok, length};
 ghost use Rattle.std.specs.List.{All};
 ghost use Rattle.instance_reader.specs.Instance.{customer_nodes};
-ghost use Rattle.bound_certificate.specs.CertificateIn.{certificate_in, has_other_version, or_refused, own_version, version_at};
+ghost use Rattle.certificate_parts.specs.Refusals.{or_refused};
+ghost use Rattle.bound_certificate.specs.CertificateIn.{certificate_in, has_other_version, own_version};
 ghost use Rattle.bound_certificate.specs.Kept.{AreSame, IsKept, IsSpelledBy};
 ghost use Rattle.bound_certificate.specs.Ranges.{Fits};
-ghost use Rattle.bound_certificate.specs.Reading.{body_at, bound_at, certificate_at, node_where};
+ghost use Rattle.bound_certificate.specs.Reading.{body_at, certificate_at};
 ghost use Rattle.bound_certificate.specs.Written.{written};
 ghost use Rattle.bound_certificate.specs.declared.certificate.Certificate.{Certificate};
-ghost use Rattle.bound_certificate.specs.declared.text.cert_text.CertText.TheVariants.{Memory};
+ghost use Rattle.certificate_parts.specs.declared.cert_text.CertText.TheVariants.{Memory};
 
-mod basis;
-mod label;
-mod nodes;
 mod pairs;
 mod root;
 mod section;
 mod tree;
 
 use crate::certificate::Certificate;
-use crate::ranges::GREATEST_BOUND;
-use crate::text::CertText;
 use crate::text::writing::is_first_version;
+use certificate_parts::{CertText, begins_another, take_bound, take_own};
 use ev_list::Listed;
 use ev_text::{Scan, TextFault};
 use instance_reader::Instance;
-use nodes::GREATEST_NUMBER;
 use root::take_root;
 use section::take_sections;
 use std::alloc::Global;
@@ -34,9 +30,6 @@ use tree::take_tree;
 
 /// The most bytes of a text: 2^28.
 const MOST_BYTES: usize = 1 << 28;
-
-/// The greatest number of a version that is told from text that is none: it has 38 digits.
-const GREATEST_VERSION: u128 = 99_999_999_999_999_999_999_999_999_999_999_999_999;
 
 /// The certificate of a text, for an instance of at most 128 customers. What is read is in the
 /// ranges of the instance, and its text is `bytes`; each certificate that fits has one text, which
@@ -80,22 +73,7 @@ pub fn read_certificate(
 fn has_other_version(inst: &Instance, bytes: &[u8]) -> bool
     ensures { result ≡ has_other_version inst.now bytes.now }
 {
-    let mut scan = Scan::new(bytes);
-    match take_version(&mut scan) {
-        Ok(number) => number != own_version(inst),
-        Err(_) => false,
-    }
-}
-
-/// Takes the first line of any version, and answers its number.
-fn take_version(scan: &mut Scan<'_>) -> Result<u128, TextFault>
-    ensures ok { IfOk result (λ number. version_at scan.old ≡ Ok (number, scan.new)) }
-    ensures fault { IfErr result (λ fault. version_at scan.old ≡ Err fault) }
-{
-    scan.word(b"evroute certificate ")?;
-    let number = scan.whole(GREATEST_VERSION)?;
-    scan.word(b"\n")?;
-    Ok(number)
+    begins_another(b"evroute certificate ", own_version(inst), bytes)
 }
 
 /// The version of the instance's certificates.
@@ -139,21 +117,6 @@ fn take_head(inst: &Instance, scan: &mut Scan<'_>) -> Result<(), TextFault>
     scan.word(b"\n")
 }
 
-/// Takes a number that has to be a given one.
-fn take_own(scan: &mut Scan<'_>, own: u64) -> Result<(), TextFault>
-    ensures ok { OnOk result (node_where (λ n. nat_eq n own) scan.old ≡ Ok (own, scan.new)) }
-    ensures fault { IfErr result (λ fault.
-        node_where (λ n. nat_eq n own) scan.old ≡ Err fault) }
-{
-    let at = scan.place();
-    let number = scan.whole(GREATEST_NUMBER)?;
-    if number == u128::from(own) {
-        Ok(())
-    } else {
-        Err(TextFault::TooLarge { at })
-    }
-}
-
 /// Takes the lines from the bound on.
 fn take_body(alloc: Global, inst: &Instance, scan: &mut Scan<'_>) -> Result<Certificate, CertText>
     requires { length (customer_nodes inst.now) ≤ 128 }
@@ -173,18 +136,4 @@ fn take_body(alloc: Global, inst: &Instance, scan: &mut Scan<'_>) -> Result<Cert
         sections: Listed::from_vec(sections),
         tree: Listed::from_vec(tree),
     })
-}
-
-/// Takes the line of the bound.
-fn take_bound(scan: &mut Scan<'_>) -> Result<Option<u128>, TextFault>
-    ensures ok { IfOk result (λ bound. bound_at scan.old ≡ Ok (bound, scan.new)) }
-    ensures fault { IfErr result (λ fault. bound_at scan.old ≡ Err fault) }
-{
-    scan.word(b"bound ")?;
-    if scan.choose(b"none\n")? {
-        return Ok(None);
-    }
-    let bound = scan.whole(GREATEST_BOUND)?;
-    scan.word(b"\n")?;
-    Ok(Some(bound))
 }

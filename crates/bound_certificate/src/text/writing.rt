@@ -4,21 +4,19 @@ ghost use Rattle.std.specs.Prelude.{◌≡◌, ◌≤◌, ◌++◌, IfOk, OnErr,
 ghost use Rattle.std.specs.List.{All};
 ghost use Rattle.ev_text.specs.Texts.{joined_texts};
 ghost use Rattle.instance_reader.specs.Instance.{customer_nodes};
-ghost use Rattle.bound_certificate.specs.CertificateTexts.{body_text, bound_text, certificate_text, head_lines, head_text, is_first_version, line_text, section_text, sections_text};
-ghost use Rattle.bound_certificate.specs.Ranges.{Fits, LineFits, SectionFits, customer_count};
+ghost use Rattle.bound_certificate.specs.CertificateTexts.{body_text, certificate_text, head_lines, head_text, is_first_version, line_text, section_text, sections_text};
+ghost use Rattle.certificate_parts.specs.Ranges.{customer_count};
+ghost use Rattle.bound_certificate.specs.Ranges.{Fits, LineFits, SectionFits};
 ghost use Rattle.bound_certificate.specs.Written.{written, written_line, written_section};
+ghost use Rattle.bound_certificate.specs.declared.certificate.TreeLine.TheVariants.{Split};
 
-mod label;
-mod nodes;
 mod pairs;
 mod root;
 mod section;
 
-ghost use Rattle.bound_certificate.specs.declared.certificate.TreeLine.TheVariants.{Split};
-
 use crate::certificate::{Certificate, Section, TreeLine};
+use certificate_parts::{place_node, write_bound};
 use instance_reader::Instance;
-use nodes::place_node;
 use root::write_root;
 use section::write_section;
 use std::alloc::{AllocError, Global};
@@ -94,16 +92,6 @@ fn write_body(
         certificate.sections.len(),
         certificate.tree.as_slice(),
     )
-}
-
-fn write_bound(alloc: Global, text: &mut Vec<u8>, bound: Option<u128>) -> Result<(), AllocError>
-    ensures { OnOk result (text.new.items ≡ text.old.items ++ bound_text bound) }
-{
-    let line = match bound {
-        Some(number) => format!(in alloc; "bound {number}\n")?,
-        None => format!(in alloc; "bound none\n")?,
-    };
-    text.extend_from_slice(line.as_bytes())
 }
 
 /// Appends the line with the number of sections, and the lines of each.

@@ -1,5 +1,5 @@
 use Rattle.bound_certificate.specs.Ranges.{SectionFits}
-use Rattle.bound_certificate.proofs.EachItem.{all_hold, item_holds}
+use Rattle.certificate_parts.proofs.EachItem.{all_hold, item_holds}
 use Rattle.bound_certificate.proofs.ranges.sections_fit.Goals as goal
 
 pub loop-section-preserved : goal.loop-section-preserved

@@ -3,13 +3,14 @@
 ghost use Rattle.std.specs.Prelude.{◌≡◌, ◌≢◌, ◌≤◌, ◌&&◌, Err, IfErr, IfOk, None, Ok, Some, length, nat_eq, not, true};
 ghost use Rattle.instance_reader.specs.Instance.{customer_nodes};
 ghost use Rattle.ev_text.specs.Readers.{many_from};
-ghost use Rattle.bound_certificate.specs.Ranges.{customer_count};
-ghost use Rattle.bound_certificate.specs.Reading.{node_where, pair_at, rises_from};
+ghost use Rattle.certificate_parts.specs.Ranges.{customer_count};
+ghost use Rattle.certificate_parts.specs.Reading.{node_where};
+ghost use Rattle.bound_certificate.specs.Reading.{pair_at, rises_from};
 ghost use Rattle.bound_certificate.specs.Written.{written_pairs};
-ghost use Rattle.bound_certificate.specs.Places.{IsPlaceOf};
+ghost use Rattle.certificate_parts.specs.Places.{IsPlaceOf};
 ghost use Rattle.bound_certificate.specs.WrittenRanges.{may_follow, next_pair};
 
-use crate::text::reading::nodes::{Place, take_place};
+use certificate_parts::{Place, take_place};
 use customer_sets::Pairs;
 use ev_text::{Scan, TextFault};
 use instance_reader::Instance;

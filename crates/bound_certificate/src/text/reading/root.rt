@@ -1,27 +1,23 @@
 //! Reading the root.
 
-ghost use Rattle.std.specs.Prelude.{◌≡◌, ◌≢◌, ◌≤◌, Err, IfErr, IfOk, Ok, length, nat_le};
+ghost use Rattle.std.specs.Prelude.{◌≡◌, ◌≢◌, ◌≤◌, Err, IfErr, IfOk, Ok, length};
 ghost use Rattle.std.specs.List.{All};
 ghost use Rattle.ev_text.specs.Readers.{so_many};
 ghost use Rattle.instance_reader.specs.Instance.{customer_nodes};
-ghost use Rattle.bound_certificate.specs.CertificateIn.{or_refused};
-ghost use Rattle.bound_certificate.specs.Ranges.{ColumnFits, IsWeight, RootFits, ShareFits, customer_count};
-ghost use Rattle.bound_certificate.specs.Reading.{column_at, exact_at, plan_line, root_at, share_at, weight_at, wide_at};
+ghost use Rattle.certificate_parts.specs.Refusals.{or_refused};
+ghost use Rattle.certificate_parts.specs.Ranges.{ColumnFits, customer_count};
+ghost use Rattle.bound_certificate.specs.Ranges.{RootFits, ShareFits};
+ghost use Rattle.bound_certificate.specs.Reading.{column_at, exact_at, root_at, share_at, wide_at};
 ghost use Rattle.bound_certificate.specs.Written.{written_root};
-ghost use Rattle.bound_certificate.specs.declared.certificate.Root.TheVariants as root_variant;
-ghost use Rattle.bound_certificate.specs.declared.text.cert_text.CertText.TheVariants.{Memory};
+ghost use Rattle.certificate_parts.specs.declared.cert_text.CertText.TheVariants.{Memory};
 
 use crate::certificate::{Root, Share};
-use crate::text::CertText;
-use crate::text::reading::basis::take_basis;
+use certificate_parts::{CertText, take_basis, take_plan, take_weight};
 use ev_list::Listed;
-use ev_text::{Scan, TextFault};
+use ev_text::Scan;
 use instance_reader::Instance;
-use route_plan::{RoutePlan, take_stops};
+use route_plan::RoutePlan;
 use std::alloc::Global;
-
-/// The greatest weight of shares, and the greatest share.
-const GREATEST_WEIGHT: u128 = 1 << 40;
 
 /// The most shares or columns.
 const MOST_ITEMS: u128 = u64::MAX as u128;
@@ -68,21 +64,6 @@ fn take_exact(alloc: Global, inst: &Instance, scan: &mut Scan<'_>) -> Result<Roo
     })
 }
 
-/// Takes a number from 1 to the greatest weight.
-fn take_weight(scan: &mut Scan<'_>) -> Result<u64, TextFault>
-    ensures ok { IfOk result (λ weight. weight_at scan.old ≡ Ok (weight, scan.new)) }
-    ensures fits { IfOk result (λ weight. IsWeight weight) }
-    ensures fault { IfErr result (λ fault. weight_at scan.old ≡ Err fault) }
-{
-    let at = scan.place();
-    let weight = scan.whole(GREATEST_WEIGHT)? as u64;
-    if weight >= 1 {
-        Ok(weight)
-    } else {
-        Err(TextFault::TooLarge { at })
-    }
-}
-
 fn take_shares(alloc: Global, scan: &mut Scan<'_>, count: u128) -> Result<Vec<Share>, CertText>
     ensures ok { IfOk result (λ shares. so_many count share_at scan.old
         ≡ Ok (shares.items, scan.new)) }
@@ -110,17 +91,6 @@ fn take_share(alloc: Global, scan: &mut Scan<'_>) -> Result<Share, CertText>
     scan.word(b" ")?;
     let plan = take_plan(alloc, scan)?;
     Ok(Share { share, plan })
-}
-
-/// Takes the stops of a plan, and the line feed.
-fn take_plan(alloc: Global, scan: &mut Scan<'_>) -> Result<RoutePlan, CertText>
-    ensures ok { IfOk result (λ plan. plan_line scan.old ≡ Ok (plan, scan.new)) }
-    ensures fits { IfOk result ColumnFits }
-    ensures fault { IfErr result (λ fault. fault ≢ CertText.Memory →
-        or_refused (plan_line scan.old) ≡ Err fault) }
-{
-    let plan = take_stops(alloc, scan)?;
-    Ok(plan)
 }
 
 /// Takes what stands behind the word of a wide root.

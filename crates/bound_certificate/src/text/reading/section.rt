@@ -1,33 +1,28 @@
 //! Reading sections.
 
-ghost use Rattle.std.specs.Prelude.{◌≡◌, ◌≢◌, ◌≤◌, ◌<◌, ℤ, Err, IfErr, IfOk, Ok, codes, length, map, nat_le, ◌∷◌, []};
+ghost use Rattle.std.specs.Prelude.{◌≡◌, ◌≢◌, ◌≤◌, ◌<◌, Err, IfErr, IfOk, Ok, length, map, nat_le};
 ghost use Rattle.std.specs.List.{All};
 ghost use Rattle.ev_model.specs.Network.{Network};
 ghost use Rattle.ev_text.specs.Readers.{number_where, so_many};
 ghost use Rattle.instance_reader.specs.Instance.{customer_nodes};
-ghost use Rattle.bound_certificate.specs.CertificateIn.{or_refused};
-ghost use Rattle.bound_certificate.specs.Kept.{HasSet, IsKept};
-ghost use Rattle.bound_certificate.specs.Limits.{greatest_weight, most_items};
-ghost use Rattle.bound_certificate.specs.Ranges.{LabelFits, SectionFits, customer_count};
-ghost use Rattle.bound_certificate.specs.Reading.{label_at, price_row, prices_at, section_at, section_behind, sections_at};
-ghost use Rattle.bound_certificate.specs.Written.{written_label, written_section};
-ghost use Rattle.bound_certificate.specs.declared.text.cert_text.CertText.TheVariants.{Memory};
+ghost use Rattle.certificate_parts.specs.Refusals.{or_refused};
+ghost use Rattle.bound_certificate.specs.Kept.{IsKept};
+ghost use Rattle.certificate_parts.specs.Limits.{greatest_weight, most_items};
+ghost use Rattle.bound_certificate.specs.Ranges.{SectionFits};
+ghost use Rattle.bound_certificate.specs.Reading.{section_at, section_behind, sections_at};
+ghost use Rattle.bound_certificate.specs.Written.{written_section};
+ghost use Rattle.certificate_parts.specs.declared.cert_text.CertText.TheVariants.{Memory};
 
 use crate::certificate::Section;
-use crate::text::CertText;
-use crate::text::reading::label::take_label;
 use crate::text::reading::pairs::take_pairs;
+use certificate_parts::{CertText, take_labels, take_prices};
 use ev_list::Listed;
 use ev_text::{Scan, TextFault};
 use instance_reader::Instance;
-use piece_fn::Label;
 use std::alloc::Global;
 
 /// The greatest weight of a section.
 const GREATEST_WEIGHT: u128 = 1 << 40;
-
-/// The greatest size of a price.
-const GREATEST_PRICE: u128 = 1 << 84;
 
 /// The most forbidden pairs: those of 129 places, each with itself too.
 const MOST_PAIRS: u128 = 16_641;
@@ -149,63 +144,4 @@ fn take_section_head(scan: &mut Scan<'_>) -> Result<SectionHead, TextFault>
         pairs,
         labels,
     })
-}
-
-/// Takes the line of prices, one for each customer.
-fn take_prices(alloc: Global, inst: &Instance, scan: &mut Scan<'_>) -> Result<Vec<i128>, CertText>
-    ensures ok { IfOk result (λ prices. prices_at inst.now scan.old
-        ≡ Ok (prices.items, scan.new)) }
-    ensures fault { IfErr result (λ fault. fault ≢ CertText.Memory →
-        or_refused (prices_at inst.now scan.old) ≡ Err fault) }
-{
-    let count = inst.customers().len();
-    if count == 0 {
-        scan.word(b"prices\n")?;
-        return Ok(Vec::new(alloc));
-    }
-    scan.word(b"prices ")?;
-    take_each_price(alloc, scan, count)
-}
-
-/// Takes so many prices, parted by spaces, and the line feed.
-fn take_each_price(alloc: Global, scan: &mut Scan<'_>, count: usize) -> Result<Vec<i128>, CertText>
-    requires { 0 < count }
-    ensures ok { IfOk result (λ prices. price_row count scan.old ≡ Ok (prices.items, scan.new)) }
-    ensures fault { IfErr result (λ fault. fault ≢ CertText.Memory →
-        or_refused (price_row count scan.old) ≡ Err fault) }
-{
-    let mut prices = Vec::new(alloc);
-    let first = scan.signed(GREATEST_PRICE)?;
-    prices.push(first)?;
-    for _ in 1..count {
-        scan.word(b" ")?;
-        let price = scan.signed(GREATEST_PRICE)?;
-        prices.push(price)?;
-    }
-    scan.word(b"\n")?;
-    Ok(prices)
-}
-
-/// Takes the lines of so many labels.
-fn take_labels(
-    alloc: Global,
-    inst: &Instance,
-    scan: &mut Scan<'_>,
-    count: u128,
-) -> Result<Vec<Label>, CertText>
-    requires few { length (customer_nodes inst.now) ≤ 128 }
-    ensures ok { IfOk result (λ labels. so_many count (label_at inst.now) scan.old
-        ≡ Ok (map (written_label inst.now) labels.items, scan.new)) }
-    ensures count { IfOk result (λ labels. length labels.items ≡ count) }
-    ensures fits { IfOk result (λ labels. All (LabelFits inst.now) labels.items) }
-    ensures kept { IfOk result (λ labels. All HasSet labels.items) }
-    ensures fault { IfErr result (λ fault. fault ≢ CertText.Memory →
-        or_refused (so_many count (label_at inst.now) scan.old) ≡ Err fault) }
-{
-    let mut labels = Vec::new(alloc);
-    for _ in 0..count {
-        let label = take_label(alloc, inst, scan)?;
-        labels.push(label)?;
-    }
-    Ok(labels)
 }

@@ -3,19 +3,20 @@
 ghost use Rattle.std.specs.Prelude.{◌≡◌, ◌≢◌, ◌<◌, ◌≤◌, ◌&&◌, Err, IfErr, IfOk, Ok, length, map, nat_eq, nat_lt, not, true};
 ghost use Rattle.std.specs.List.{All};
 ghost use Rattle.ev_text.specs.Readers.{number_where};
-ghost use Rattle.bound_certificate.specs.CertificateIn.{or_refused};
-ghost use Rattle.bound_certificate.specs.Limits.{most_items};
+ghost use Rattle.certificate_parts.specs.Refusals.{or_refused};
+ghost use Rattle.certificate_parts.specs.Limits.{most_items};
 ghost use Rattle.instance_reader.specs.Instance.{customer_nodes};
-ghost use Rattle.bound_certificate.specs.Ranges.{LineFits, customer_count};
-ghost use Rattle.bound_certificate.specs.Reading.{is_customer_node, line_at, node_where, split_or_leaf, tree_at};
+ghost use Rattle.certificate_parts.specs.Ranges.{customer_count};
+ghost use Rattle.bound_certificate.specs.Ranges.{LineFits};
+ghost use Rattle.certificate_parts.specs.Reading.{is_customer_node, node_where};
+ghost use Rattle.bound_certificate.specs.Reading.{line_at, split_or_leaf, tree_at};
 ghost use Rattle.bound_certificate.specs.Written.{written_line};
-ghost use Rattle.bound_certificate.specs.Places.{IsPlaceOf};
-ghost use Rattle.bound_certificate.specs.declared.text.cert_text.CertText.TheVariants.{Memory};
+ghost use Rattle.certificate_parts.specs.Places.{IsPlaceOf};
+ghost use Rattle.certificate_parts.specs.declared.cert_text.CertText.TheVariants.{Memory};
 
 use crate::certificate::TreeLine;
 use crate::ranges::open_behind;
-use crate::text::CertText;
-use crate::text::reading::nodes::{Place, take_customer};
+use certificate_parts::{CertText, Place, take_customer};
 use ev_text::{Scan, TextFault};
 use instance_reader::Instance;
 use std::alloc::Global;

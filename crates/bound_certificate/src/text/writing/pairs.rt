@@ -1,10 +1,10 @@
 //! The forbidden pairs of a section, by nodes.
 
 ghost use Rattle.std.specs.Prelude.{◌≡◌, ◌+◌, ◌≤◌, ◌++◌, IfOk, OnOk};
-ghost use Rattle.bound_certificate.specs.Ranges.{customer_count};
+ghost use Rattle.certificate_parts.specs.Ranges.{customer_count};
 ghost use Rattle.bound_certificate.specs.Written.{if_forbidden, pairs_after, written_pairs};
 
-use crate::text::writing::nodes::place_node;
+use certificate_parts::place_node;
 use customer_sets::Pairs;
 use instance_reader::Instance;
 use std::alloc::{AllocError, Global};

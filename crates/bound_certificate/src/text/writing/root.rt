@@ -1,18 +1,17 @@
 //! The lines of the root.
 
-ghost use Rattle.std.specs.Prelude.{◌≡◌, ◌<◌, ◌++◌, IfOk, OnOk, codes, length, map};
-ghost use Rattle.std.specs.List.{All};
-ghost use Rattle.ev_text.specs.Texts.{joined_texts, marked_texts};
-ghost use Rattle.bound_certificate.specs.CertificateTexts.{basis_text, column_text, entry_text, exact_head, root_text, share_text, stops_text, wide_head};
-ghost use Rattle.bound_certificate.specs.Ranges.{EntryFits, RootFits, customer_count};
-ghost use Rattle.bound_certificate.specs.Written.{written_entry, written_root};
-ghost use Rattle.bound_certificate.specs.declared.certificate.BasisEntry.TheVariants.{Helper};
+ghost use Rattle.std.specs.Prelude.{◌≡◌, ◌<◌, ◌++◌, OnOk, length};
+ghost use Rattle.ev_text.specs.Texts.{joined_texts};
+ghost use Rattle.bound_certificate.specs.CertificateTexts.{column_text, exact_head, root_text, share_text, wide_head};
+ghost use Rattle.certificate_parts.specs.Ranges.{customer_count};
+ghost use Rattle.bound_certificate.specs.Ranges.{RootFits};
+ghost use Rattle.bound_certificate.specs.Written.{written_root};
 ghost use Rattle.bound_certificate.specs.declared.certificate.Root.TheVariants as root_variant;
 
-use crate::certificate::{BasisEntry, Root, Share};
-use crate::text::writing::nodes::customer_node;
+use crate::certificate::{Root, Share};
+use certificate_parts::{write_basis, write_plan};
 use instance_reader::Instance;
-use route_plan::{RoutePlan, write_stops};
+use route_plan::RoutePlan;
 use std::alloc::{AllocError, Global};
 
 /// Appends the lines of the root.
@@ -81,14 +80,6 @@ fn write_share(alloc: Global, text: &mut Vec<u8>, share: &Share) -> Result<(), A
     write_plan(alloc, text, &share.plan)
 }
 
-/// Appends the stops of a plan, and a line feed.
-fn write_plan(alloc: Global, text: &mut Vec<u8>, plan: &RoutePlan) -> Result<(), AllocError>
-    ensures { OnOk result (text.new.items ≡ text.old.items ++ stops_text plan.now) }
-{
-    write_stops(alloc, text, plan.stops.as_slice())?;
-    text.extend_from_slice(b"\n")
-}
-
 /// Appends the line of a wide root, and those of its columns.
 fn write_columns(alloc: Global, text: &mut Vec<u8>, columns: &[RoutePlan]) -> Result<(), AllocError>
     ensures { OnOk result (text.new.items ≡ text.old.items
@@ -119,66 +110,4 @@ fn write_column(alloc: Global, text: &mut Vec<u8>, column: &RoutePlan) -> Result
 {
     text.extend_from_slice(b"column ")?;
     write_plan(alloc, text, column)
-}
-
-/// Appends the line of a basis.
-fn write_basis(
-    alloc: Global,
-    text: &mut Vec<u8>,
-    inst: &Instance,
-    columns: usize,
-    basis: &[BasisEntry],
-) -> Result<(), AllocError>
-    requires { All (EntryFits (customer_count inst.now) columns) basis.now }
-    ensures { OnOk result (text.new.items ≡ text.old.items
-        ++ basis_text (map (written_entry inst.now) basis.now)) }
-{
-    text.extend_from_slice(b"basis")?;
-    write_entries(alloc, text, inst, columns, basis)?;
-    text.extend_from_slice(b"\n")
-}
-
-fn write_entries(
-    alloc: Global,
-    text: &mut Vec<u8>,
-    inst: &Instance,
-    columns: usize,
-    basis: &[BasisEntry],
-) -> Result<(), AllocError>
-    requires { All (EntryFits (customer_count inst.now) columns) basis.now }
-    ensures { OnOk result (text.new.items ≡ text.old.items
-        ++ marked_texts (codes " ") entry_text (map (written_entry inst.now) basis.now)) }
-{
-    for entry in basis {
-        write_entry(alloc, text, inst, columns, *entry)?;
-    }
-    Ok(())
-}
-
-/// Appends a space and the entry of a basis.
-fn write_entry(
-    alloc: Global,
-    text: &mut Vec<u8>,
-    inst: &Instance,
-    columns: usize,
-    entry: BasisEntry,
-) -> Result<(), AllocError>
-    requires { EntryFits (customer_count inst.now) columns entry }
-    ensures { OnOk result (text.new.items ≡ text.old.items
-        ++ codes " " ++ entry_text (written_entry inst.now entry)) }
-{
-    let words = match entry {
-        BasisEntry::Helper(number) => helper_word(alloc, inst, number)?,
-        BasisEntry::Column(number) => format!(in alloc; " {number}")?,
-    };
-    text.extend_from_slice(words.as_bytes())
-}
-
-fn helper_word(alloc: Global, inst: &Instance, number: usize) -> Result<String, AllocError>
-    requires { number < customer_count inst.now }
-    ensures { IfOk result (λ s. s.bytes.items
-        ≡ codes " " ++ entry_text (written_entry inst.now (Helper number))) }
-{
-    let node = customer_node(inst, number);
-    format!(in alloc; " h{node}")
 }

@@ -1,19 +1,16 @@
 //! The lines of a section.
 
-ghost use Rattle.std.specs.Prelude.{◌≡◌, ◌≤◌, ◌++◌, OnOk, codes, length, map};
-ghost use Rattle.std.specs.Fmt.{signed_decimal};
-ghost use Rattle.ev_text.specs.Texts.{joined_texts, marked_texts};
+ghost use Rattle.std.specs.Prelude.{◌≡◌, ◌≤◌, ◌++◌, OnOk, length};
+ghost use Rattle.ev_text.specs.Texts.{joined_texts};
 ghost use Rattle.instance_reader.specs.Instance.{customer_nodes};
-ghost use Rattle.bound_certificate.specs.CertificateTexts.{label_text, pair_text, prices_text, section_head, section_text};
+ghost use Rattle.bound_certificate.specs.CertificateTexts.{pair_text, section_head, section_text};
 ghost use Rattle.bound_certificate.specs.Ranges.{SectionFits};
-ghost use Rattle.bound_certificate.specs.Written.{written_label, written_section};
+ghost use Rattle.bound_certificate.specs.Written.{written_section};
 
 use crate::certificate::Section;
-use crate::text::writing::label::write_label;
 use crate::text::writing::pairs::forbidden_pairs;
-use ev_text::push_signed;
+use certificate_parts::{write_labels, write_prices};
 use instance_reader::Instance;
-use piece_fn::Label;
 use std::alloc::{AllocError, Global};
 
 /// Appends the lines of a section: its weight and counts, the prices, the pairs and the labels.
@@ -56,33 +53,6 @@ fn write_head(
     text.extend_from_slice(line.as_bytes())
 }
 
-fn write_prices(alloc: Global, text: &mut Vec<u8>, prices: &[i128]) -> Result<(), AllocError>
-    ensures { OnOk result (text.new.items ≡ text.old.items ++ prices_text prices.now) }
-{
-    text.extend_from_slice(b"prices")?;
-    write_each_price(alloc, text, prices)?;
-    text.extend_from_slice(b"\n")
-}
-
-fn write_each_price(alloc: Global, text: &mut Vec<u8>, prices: &[i128]) -> Result<(), AllocError>
-    ensures { OnOk result (text.new.items ≡ text.old.items
-        ++ marked_texts (codes " ") signed_decimal prices.now) }
-{
-    for price in prices {
-        write_price(alloc, text, price)?;
-    }
-    Ok(())
-}
-
-/// Appends a space and a price.
-fn write_price(alloc: Global, text: &mut Vec<u8>, price: &i128) -> Result<(), AllocError>
-    ensures { OnOk result (text.new.items ≡ text.old.items
-        ++ codes " " ++ signed_decimal price.now) }
-{
-    text.extend_from_slice(b" ")?;
-    push_signed(alloc, text, *price)
-}
-
 fn write_pairs(
     alloc: Global,
     text: &mut Vec<u8>,
@@ -103,20 +73,4 @@ fn write_pair(alloc: Global, text: &mut Vec<u8>, pair: (usize, usize)) -> Result
     let (first, second) = pair;
     let line = format!(in alloc; "pair {first} {second}\n")?;
     text.extend_from_slice(line.as_bytes())
-}
-
-fn write_labels(
-    alloc: Global,
-    text: &mut Vec<u8>,
-    inst: &Instance,
-    labels: &[Label],
-) -> Result<(), AllocError>
-    requires { length (customer_nodes inst.now) ≤ 128 }
-    ensures { OnOk result (text.new.items ≡ text.old.items
-        ++ joined_texts label_text (map (written_label inst.now) labels.now)) }
-{
-    for label in labels {
-        write_label(alloc, text, inst, label)?;
-    }
-    Ok(())
 }

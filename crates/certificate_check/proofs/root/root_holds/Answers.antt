@@ -2,7 +2,7 @@ use Rattle.std.proofs.Common.{List, subst, sym}
 use Rattle.std.specs.Prelude.{IfOk}
 use Rattle.route_plan.specs.declared.plan.RoutePlan.{RoutePlan}
 use Rattle.bound_certificate.specs.Meaning.{priced_section}
-use Rattle.bound_certificate.specs.declared.certificate.BasisEntry.{BasisEntry}
+use Rattle.certificate_parts.specs.declared.entry.BasisEntry.{BasisEntry}
 use Rattle.bound_certificate.specs.declared.certificate.Root.{Root}
 use Rattle.certificate_check.specs.Bounds.{TellsRoot}
 use Rattle.certificate_check.specs.Columns.{TellsWide}

@@ -2,7 +2,7 @@ use Rattle.std.proofs.Common.{◌≡◌, ◌∙◌, ◌≤◌, ◌^◌, List, �
 use Rattle.instance_reader.specs.Instance.{customer_nodes}
 use Rattle.route_plan.specs.declared.plan.RoutePlan.{RoutePlan}
 use Rattle.bound_certificate.specs.Limits.{most_items}
-use Rattle.bound_certificate.specs.declared.certificate.BasisEntry.{BasisEntry}
+use Rattle.certificate_parts.specs.declared.entry.BasisEntry.{BasisEntry}
 use Rattle.column_pool.specs.Rising.{IsRisen}
 use Rattle.column_pool.specs.TooWide.{entry_of, IsWideAt}
 use Rattle.column_pool.specs.declared.bound.NodeBound.TheVariants.{Wide}

@@ -1,5 +1,5 @@
-use Rattle.bound_certificate.specs.Ranges.{ColumnFits}
-use Rattle.bound_certificate.proofs.EachItem.{all_hold, item_holds}
+use Rattle.certificate_parts.specs.Ranges.{ColumnFits}
+use Rattle.certificate_parts.proofs.EachItem.{all_hold, item_holds}
 use Rattle.bound_certificate.proofs.ranges.root.each_column_fits.Goals as goal
 
 pub loop-column-preserved : goal.loop-column-preserved

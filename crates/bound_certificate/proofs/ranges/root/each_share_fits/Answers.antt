@@ -1,5 +1,5 @@
 use Rattle.bound_certificate.specs.Ranges.{ShareFits}
-use Rattle.bound_certificate.proofs.EachItem.{all_hold, item_holds}
+use Rattle.certificate_parts.proofs.EachItem.{all_hold, item_holds}
 use Rattle.bound_certificate.proofs.ranges.root.each_share_fits.Goals as goal
 
 pub loop-share-preserved : goal.loop-share-preserved

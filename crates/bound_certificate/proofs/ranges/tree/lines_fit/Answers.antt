@@ -1,6 +1,6 @@
 use Rattle.std.proofs.lemmas.List.Elements.{All-more}
 use Rattle.bound_certificate.specs.Ranges.{LineFits}
-use Rattle.bound_certificate.proofs.EachItem.{all_hold}
+use Rattle.certificate_parts.proofs.EachItem.{all_hold}
 use Rattle.bound_certificate.proofs.ranges.tree.lines_fit.Goals as goal
 
 pub loop-line-preserved : goal.loop-line-preserved

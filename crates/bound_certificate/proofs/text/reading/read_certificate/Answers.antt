@@ -1,7 +1,7 @@
 use Rattle.std.proofs.Common.{arith, rules, ◌≡◌, ◌≢◌, Err, false}
 use Rattle.bound_certificate.specs.CertificateIn.{certificate_in, has_other_version}
 use Rattle.bound_certificate.specs.Written.{written}
-use Rattle.bound_certificate.specs.declared.text.cert_text.CertText.TheVariants.{Memory}
+use Rattle.certificate_parts.specs.declared.cert_text.CertText.TheVariants.{Memory}
 use Rattle.bound_certificate.proofs.BodyReading.{all_is_read, fault_behind, fault_inside}
 use Rattle.bound_certificate.proofs.OneCertificate.{one_certificate, spelled_where_read}
 use Rattle.bound_certificate.proofs.text.reading.read_certificate.Goals as goal

@@ -1,14 +1,15 @@
 use Rattle.std.proofs.Common.{rules, ◌≡◌, ◌≢◌, ◌∙◌, List, Err, length, map, subst, sym}
 use Rattle.std.specs.List.{All}
 use Rattle.std.proofs.lemmas.List.{length-map}
-use Rattle.bound_certificate.specs.CertificateIn.{or_refused}
+use Rattle.certificate_parts.specs.Refusals.{or_refused}
 use Rattle.bound_certificate.specs.Kept.{IsKept}
-use Rattle.bound_certificate.specs.Ranges.{Fits, LineFits, customer_count}
+use Rattle.certificate_parts.specs.Ranges.{customer_count}
+use Rattle.bound_certificate.specs.Ranges.{Fits, LineFits}
 use Rattle.bound_certificate.specs.Reading.{body_at}
 use Rattle.bound_certificate.specs.Written.{written_line, written_root, written_section}
 use Rattle.bound_certificate.specs.declared.certificate.Section.{Section}
 use Rattle.bound_certificate.specs.declared.certificate.TreeLine.{TreeLine}
-use Rattle.bound_certificate.specs.declared.text.cert_text.CertText.TheVariants.{Memory}
+use Rattle.certificate_parts.specs.declared.cert_text.CertText.TheVariants.{Memory}
 use Rattle.bound_certificate.proofs.BodyReading.{as_written, body_is_read, bound_in_range, no_root_part, no_sections, no_tree, tree_is_whole}
 use Rattle.bound_certificate.proofs.text.reading.take_body.Goals as goal
 

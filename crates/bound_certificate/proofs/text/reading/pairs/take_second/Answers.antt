@@ -2,9 +2,10 @@ use Rattle.std.proofs.Common.{◌∙◌, ◌&&◌, Err, ap, nat_eq, not, sym}
 use Rattle.std.proofs.lemmas.Bool.{eq-eqb, false≢true}
 use Rattle.ev_text.specs.declared.TextFault.TheVariants.{TooLarge}
 use Rattle.route_plan.specs.Limits.{greatest_number}
-use Rattle.bound_certificate.specs.Reading.{is_place, rises_from}
-use Rattle.bound_certificate.proofs.PointReading.{both_true}
-use Rattle.bound_certificate.proofs.Shorter.{kept_less, kept_more}
+use Rattle.certificate_parts.specs.Reading.{is_place}
+use Rattle.bound_certificate.specs.Reading.{rises_from}
+use Rattle.certificate_parts.proofs.PointReading.{both_true}
+use Rattle.certificate_parts.proofs.Shorter.{kept_less, kept_more}
 use Rattle.bound_certificate.proofs.text.reading.pairs.take_second.Goals as goal
 
 pub returns-then-may_stand-clause-ok : goal.returns-then-may_stand-clause-ok

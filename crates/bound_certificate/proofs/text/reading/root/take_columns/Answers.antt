@@ -3,11 +3,11 @@ use Rattle.std.specs.List.{All}
 use Rattle.std.proofs.lemmas.List.Elements.{All-nil}
 use Rattle.ev_text.specs.Readers.{so_many}
 use Rattle.ev_text.proofs.Loops.{many-begins, many-ends}
-use Rattle.bound_certificate.specs.CertificateIn.{or_refused}
-use Rattle.bound_certificate.specs.Ranges.{ColumnFits}
+use Rattle.certificate_parts.specs.Refusals.{or_refused}
+use Rattle.certificate_parts.specs.Ranges.{ColumnFits}
 use Rattle.bound_certificate.specs.Reading.{column_at}
-use Rattle.bound_certificate.specs.declared.text.cert_text.CertText.TheVariants.{Memory}
-use Rattle.bound_certificate.proofs.CertificateLoops.{all_more, breaks, goes_on, many_length}
+use Rattle.certificate_parts.specs.declared.cert_text.CertText.TheVariants.{Memory}
+use Rattle.certificate_parts.proofs.ItemLoops.{all_more, breaks, goes_on, many_length}
 use Rattle.bound_certificate.proofs.text.reading.root.take_columns.Goals as goal
 
 pub loop-init : goal.loop-init

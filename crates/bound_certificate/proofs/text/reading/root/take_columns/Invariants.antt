@@ -1,8 +1,8 @@
 use Rattle.std.proofs.Common.{◌-◌}
 use Rattle.std.specs.List.{All}
-use Rattle.bound_certificate.specs.Ranges.{ColumnFits}
+use Rattle.certificate_parts.specs.Ranges.{ColumnFits}
 use Rattle.bound_certificate.specs.Reading.{column_at}
-use Rattle.bound_certificate.proofs.CertificateLoops.{AreManyTo}
+use Rattle.certificate_parts.proofs.ItemLoops.{AreManyTo}
 use Rattle.bound_certificate.proofs.text.reading.root.take_columns.Given as goal
 
 abbrev pub invariant-loop : goal.invariant-loop

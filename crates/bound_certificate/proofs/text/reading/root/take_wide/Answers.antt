@@ -1,13 +1,16 @@
 use Rattle.std.proofs.Common.{arith, rules, ◌≡◌, ◌≢◌, ◌∙◌, ℕ, List, Err, length, map, subst, sym, Ok}
 use Rattle.std.specs.List.{All}
 use Rattle.route_plan.specs.declared.plan.RoutePlan.{RoutePlan}
-use Rattle.bound_certificate.specs.CertificateIn.{or_refused}
-use Rattle.bound_certificate.specs.Ranges.{ColumnsFit, EntryFits, customer_count}
-use Rattle.bound_certificate.specs.Reading.{basis_at, wide_at}
-use Rattle.bound_certificate.specs.Written.{written_entry}
-use Rattle.bound_certificate.specs.declared.certificate.BasisEntry.{BasisEntry}
-use Rattle.bound_certificate.specs.declared.text.cert_text.CertText.TheVariants.{Memory}
-use Rattle.bound_certificate.proofs.PartReading.{basis_is_read, no_basis}
+use Rattle.certificate_parts.specs.Refusals.{or_refused}
+use Rattle.certificate_parts.specs.Ranges.{EntryFits, customer_count}
+use Rattle.bound_certificate.specs.Ranges.{ColumnsFit}
+use Rattle.certificate_parts.specs.Reading.{basis_at}
+use Rattle.bound_certificate.specs.Reading.{wide_at}
+use Rattle.certificate_parts.specs.Written.{written_entry}
+use Rattle.certificate_parts.specs.declared.entry.BasisEntry.{BasisEntry}
+use Rattle.certificate_parts.specs.declared.cert_text.CertText.TheVariants.{Memory}
+use Rattle.bound_certificate.proofs.PartReading.{no_basis}
+use Rattle.certificate_parts.proofs.BasisReading.{basis_is_read}
 use Rattle.bound_certificate.proofs.text.reading.root.take_wide.Goals as goal
 
 pub returns-in_err-basis-clause-fault : goal.returns-in_err-basis-clause-fault

@@ -3,13 +3,13 @@ use Rattle.std.specs.List.{All}
 use Rattle.std.proofs.lemmas.List.{length-map}
 use Rattle.std.proofs.lemmas.List.Elements.{All-nil}
 use Rattle.ev_text.specs.Readers.{so_many}
-use Rattle.bound_certificate.specs.CertificateIn.{or_refused}
+use Rattle.certificate_parts.specs.Refusals.{or_refused}
 use Rattle.bound_certificate.specs.Kept.{IsKept}
 use Rattle.bound_certificate.specs.Ranges.{SectionFits}
 use Rattle.bound_certificate.specs.Reading.{section_at}
 use Rattle.bound_certificate.specs.Written.{written_section}
-use Rattle.bound_certificate.specs.declared.text.cert_text.CertText.TheVariants.{Memory}
-use Rattle.bound_certificate.proofs.CertificateLoops.{all_more, many_length, taken-begins, taken-breaks, taken-ends, taken-goes_on}
+use Rattle.certificate_parts.specs.declared.cert_text.CertText.TheVariants.{Memory}
+use Rattle.certificate_parts.proofs.ItemLoops.{all_more, many_length, taken-begins, taken-breaks, taken-ends, taken-goes_on}
 use Rattle.bound_certificate.proofs.text.reading.section.take_each_section.Goals as goal
 
 pub loop-init : goal.loop-init

@@ -4,7 +4,7 @@ use Rattle.bound_certificate.specs.Kept.{IsKept}
 use Rattle.bound_certificate.specs.Ranges.{SectionFits}
 use Rattle.bound_certificate.specs.Reading.{section_at}
 use Rattle.bound_certificate.specs.Written.{written_section}
-use Rattle.bound_certificate.proofs.CertificateLoops.{AreTakenTo}
+use Rattle.certificate_parts.proofs.ItemLoops.{AreTakenTo}
 use Rattle.bound_certificate.proofs.text.reading.section.take_each_section.Given as goal
 
 abbrev pub invariant-loop : goal.invariant-loop

@@ -1,11 +1,12 @@
 use Rattle.std.proofs.Common.{arith, rules, ◌≡◌, ◌≢◌, ◌∙◌, Err, ap, length, subst, sym}
 use Rattle.std.specs.List.{All}
-use Rattle.bound_certificate.specs.CertificateIn.{or_refused}
-use Rattle.bound_certificate.specs.Kept.{HasSet}
-use Rattle.bound_certificate.specs.Ranges.{IsPrice, LabelFits}
+use Rattle.certificate_parts.specs.Refusals.{or_refused}
+use Rattle.certificate_parts.specs.Ranges.{HasSet}
+use Rattle.certificate_parts.specs.Ranges.{IsPrice, LabelFits}
 use Rattle.bound_certificate.specs.Reading.{section_at}
-use Rattle.bound_certificate.specs.declared.text.cert_text.CertText.TheVariants.{Memory}
-use Rattle.bound_certificate.proofs.PartReading.{no_prices, prices_are}
+use Rattle.certificate_parts.specs.declared.cert_text.CertText.TheVariants.{Memory}
+use Rattle.bound_certificate.proofs.PartReading.{no_prices}
+use Rattle.certificate_parts.proofs.PriceLines.{prices_are}
 use Rattle.bound_certificate.proofs.text.reading.section.take_section.Goals as goal
 
 pub returns-in_err-head-clause-fault : goal.returns-in_err-head-clause-fault

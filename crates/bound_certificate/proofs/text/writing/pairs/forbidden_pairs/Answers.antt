@@ -1,5 +1,5 @@
 use Rattle.std.proofs.Common.{◌+◌, ◌-◌, length, ap, arith}
-use Rattle.bound_certificate.specs.Ranges.{customer_count}
+use Rattle.certificate_parts.specs.Ranges.{customer_count}
 use Rattle.bound_certificate.proofs.Pairs.{next_first}
 use Rattle.bound_certificate.proofs.text.writing.pairs.forbidden_pairs.Goals as goal
 

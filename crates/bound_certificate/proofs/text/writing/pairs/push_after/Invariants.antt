@@ -1,5 +1,5 @@
 use Rattle.std.proofs.Common.{◌≡◌, ◌+◌, ◌-◌, ◌++◌}
-use Rattle.bound_certificate.specs.Ranges.{customer_count}
+use Rattle.certificate_parts.specs.Ranges.{customer_count}
 use Rattle.bound_certificate.specs.Written.{pairs_after}
 use Rattle.bound_certificate.proofs.text.writing.pairs.push_after.Given as goal
 

@@ -1,7 +1,8 @@
 use Rattle.std.proofs.Common.{◌≡◌, ◌∙◌, ◌++◌, ap, length, map}
 use Rattle.ev_text.specs.Texts.{joined_texts}
-use Rattle.bound_certificate.specs.CertificateTexts.{label_text, pair_text, prices_text}
-use Rattle.bound_certificate.specs.Written.{written_label}
+use Rattle.certificate_parts.specs.Texts.{label_text, prices_text}
+use Rattle.bound_certificate.specs.CertificateTexts.{pair_text}
+use Rattle.certificate_parts.specs.Written.{written_label}
 use Rattle.bound_certificate.proofs.Sections.{section_written}
 use Rattle.bound_certificate.proofs.text.writing.section.write_section.Goals as goal
 

@@ -1,7 +1,0 @@
-use Rattle.std.proofs.Common.{take}
-use Rattle.std.specs.List.{All}
-use Rattle.bound_certificate.specs.Ranges.{LabelFits}
-use Rattle.bound_certificate.proofs.ranges.section.labels_fit.Given as goal
-
-abbrev pub invariant-loop-label : goal.invariant-loop-label
-invariant-loop-label l = All (LabelFits l.inst) (take l.label-index l.labels)

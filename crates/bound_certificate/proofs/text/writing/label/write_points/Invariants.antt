@@ -1,7 +1,0 @@
-use Rattle.std.proofs.Common.{◌≡◌, ◌++◌, codes, drop}
-use Rattle.ev_text.specs.Texts.{marked_texts}
-use Rattle.bound_certificate.specs.CertificateTexts.{point_text}
-use Rattle.bound_certificate.proofs.text.writing.label.write_points.Given as goal
-
-abbrev pub invariant-loop-point : goal.invariant-loop-point
-invariant-loop-point l = l.text.items ++ marked_texts (codes " ") point_text (drop l.point-index l.points) ≡ l.fn.text.items ++ marked_texts (codes " ") point_text l.points

@@ -1,8 +1,0 @@
-use Rattle.std.proofs.Common.{◌≡◌, ◌++◌, codes, drop, map}
-use Rattle.ev_text.specs.Texts.{marked_texts}
-use Rattle.bound_certificate.specs.CertificateTexts.{entry_text}
-use Rattle.bound_certificate.specs.Written.{written_entry}
-use Rattle.bound_certificate.proofs.text.writing.root.write_entries.Given as goal
-
-abbrev pub invariant-loop-entry : goal.invariant-loop-entry
-invariant-loop-entry l = l.text.items ++ marked_texts (codes " ") entry_text (map (written_entry l.inst) (drop l.entry-index l.basis)) ≡ l.fn.text.items ++ marked_texts (codes " ") entry_text (map (written_entry l.inst) l.basis)

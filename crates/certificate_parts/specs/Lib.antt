@@ -1,0 +1,9 @@
+pub mod Limits
+pub mod Ranges
+pub mod Written
+pub mod Texts
+pub mod Reading
+pub mod WrittenRanges
+pub mod Places
+pub mod Refusals
+pub mod Versions

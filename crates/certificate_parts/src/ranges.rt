@@ -1,0 +1,12 @@
+//! Whether parts of a certificate are in the ranges of an instance. No call here takes memory.
+
+mod basis;
+mod label;
+mod numbers;
+mod plan;
+
+pub use basis::{basis_fits, stands_in};
+pub use label::{labels_fit, scaled_limit};
+pub(crate) use numbers::{GREATEST_BOUND, GREATEST_PRICE, GREATEST_WEIGHT};
+pub use numbers::{are_prices, bound_fits, is_weight};
+pub use plan::stops_fit;
