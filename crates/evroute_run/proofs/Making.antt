@@ -8,10 +8,11 @@ use Rattle.ev_model.specs.Network.{Network, node_count}
 use Rattle.ev_model.specs.Route.{IsRoute, Moves}
 use Rattle.ev_model.specs.Time.{time_of}
 use Rattle.evroute_run.proofs.Task.{match_none, match_some}
-use Rattle.evroute_run.specs.MakeAnswer.{HasNoInstance, IsMakeRefused, MakeAnswers, MakesNetwork, route_of_all}
-use Rattle.evroute_run.specs.declared.answer.Answer.{Answer}
-use Rattle.evroute_run.specs.declared.status.Status.{Status}
-use Rattle.evroute_run.specs.declared.status.Status.TheVariants as status
+use Rattle.evroute_run.specs.MakeAnswer.{HasNoInstance, IsMakeRefused, MakeAnswers, MakesNetwork, made_file, route_of_all}
+use Rattle.job_frame.specs.declared.found.Answer.{Answer}
+use Rattle.job_frame.specs.Writes.{Written}
+use Rattle.job_frame.specs.declared.status.Status.{Status}
+use Rattle.job_frame.specs.declared.status.Status.TheVariants as status
 use Rattle.plan_writer.specs.MakeText.{make_text}
 use Rattle.plan_writer.specs.declared.refusal.Refusal.{Refusal}
 use Rattle.plan_writer.specs.declared.refusal.Refusal.TheVariants as refusal
@@ -85,16 +86,17 @@ pub puts_time : {E : Type 0} (job : MakeJob) (customers : ℕ) (g : Network) (ro
     → MatchOption found (HasNoPlan g route start) (λ p. IsFastest g route start p.stops)
     → (made : Result Answer E) → IfOk made (λ a. a.status ≡ status.Done)
     → IfOk made (λ a. a.text.items ≡ make_text (node_count g) g.denominator (Some (time_of g 1 g.capacity plan.stops)))
-    → IfOk made (λ a. MakeAnswers job a.status a.text.items)
+    → IfOk made (λ a. (ws : List Written) → ws ≡ made_file job ∷ [] → MakeAnswers job a.status ws a.text.items)
 puts_time {E} job customers g route start found plan same makes is full some answer (Err none) answered text = tt
 puts_time {E} job customers g route start found plan same makes is full some answer (Ok a) answered text =
     let all = of_all job customers route same is in
     let fastest = match_some found plan (HasNoPlan g route start) (λ p. IsFastest g route start p.stops) some answer in
-    subst (λ (s : Status). MakeAnswers job s a.text.items) (sym answered) (record {
+    λ ws written. subst (λ (s : Status). MakeAnswers job s ws a.text.items) (sym answered) (record {
       network = g;
       makes = makes;
       stops = plan.stops;
       fastest = subst (λ (n : ℕ). IsFastest g (route_of_all job.customers) n plan.stops) full (subst (λ (r : List ℕ). IsFastest g r start plan.stops) all fastest);
+      written = written;
       text_is = text;
     })
 
@@ -103,14 +105,15 @@ pub puts_no_time : {E : Type 0} (job : MakeJob) (customers : ℕ) (g : Network) 
     → MatchOption found (HasNoPlan g route start) (λ p. IsFastest g route start p.stops)
     → (made : Result Answer E) → IfOk made (λ a. a.status ≡ status.Negative)
     → IfOk made (λ a. a.text.items ≡ make_text (node_count g) g.denominator None)
-    → IfOk made (λ a. MakeAnswers job a.status a.text.items)
+    → IfOk made (λ a. (ws : List Written) → ws ≡ made_file job ∷ [] → MakeAnswers job a.status ws a.text.items)
 puts_no_time {E} job customers g route start found same makes is full none answer (Err e) answered text = tt
 puts_no_time {E} job customers g route start found same makes is full none answer (Ok a) answered text =
     let all = of_all job customers route same is in
     let no_plan = match_none found (HasNoPlan g route start) (λ p. IsFastest g route start p.stops) none answer in
-    subst (λ (s : Status). MakeAnswers job s a.text.items) (sym answered) (record {
+    λ ws written. subst (λ (s : Status). MakeAnswers job s ws a.text.items) (sym answered) (record {
       network = g;
       makes = makes;
       none = subst (λ (n : ℕ). HasNoPlan g (route_of_all job.customers) n) full (subst (λ (r : List ℕ). HasNoPlan g r start) all no_plan);
+      written = written;
       text_is = text;
     })

@@ -1,5 +1,5 @@
 -- What stands in the two files that `fleet` writes tells how its search ended.
-use Rattle.std.proofs.Common.{◌≡◌, ◌∙◌, ℕ, ◌≤◌, Bool, true, false, IsTrue, List, Option, Some, ap, arith, length, map, refl, subst, sym}
+use Rattle.std.proofs.Common.{◌≡◌, ◌∙◌, ℕ, ◌≤◌, Bool, true, false, IsTrue, List, [], ◌∷◌, Option, Some, ap, arith, length, map, refl, subst, sym}
 use Rattle.std.proofs.lemmas.Bool.{false≢true}
 use Rattle.std.proofs.lemmas.List.{length-map}
 use Rattle.std.proofs.lemmas.Option.{same_Some}
@@ -16,7 +16,7 @@ use Rattle.ev_fleet.specs.Outcome.{IsStoppedWell}
 use Rattle.ev_fleet.specs.Plans.{cost_held}
 use Rattle.ev_fleet.specs.declared.outcome.Outcome.{Outcome}
 use Rattle.ev_model.specs.Network.{IsNetwork, Network}
-use Rattle.ev_outside.specs.Shelf.{Files}
+use Rattle.ev_outside.specs.Shelf.{Files, HoldsUnder}
 use Rattle.ev_text.specs.Texts.{StandsUnlessLonger}
 use Rattle.ev_text.proofs.Results.{Ok-injective}
 use Rattle.ev_text.proofs.WholeLaws.{whole-spells}
@@ -25,11 +25,14 @@ use Rattle.route_plan.proofs.PlanReaders.{AnyBehind, reader-file}
 use Rattle.route_plan.specs.PlanReading.{file_at}
 use Rattle.route_plan.specs.PlanTexts.{FitsFile, fleet_plan_text}
 use Rattle.route_plan.specs.declared.plan.FleetPlan.{FleetPlan}
+use Rattle.job_frame.proofs.Performed.{AreWrittenAlike}
+use Rattle.job_frame.specs.Task.{Outcome as Answered}
+use Rattle.job_frame.specs.Writes.{HoldsAll, Written as NewFile}
 use Rattle.evroute_run.proofs.Instances.{one_limited}
 use Rattle.evroute_run.proofs.SearchReports.{held_fits}
 use Rattle.evroute_run.specs.CheckAnswer.{customer_count, most_customers}
 use Rattle.evroute_run.specs.FleetAnswer.{IsFound, PutsFound, search_status}
-use Rattle.evroute_run.specs.declared.status.Status.{Status}
+use Rattle.job_frame.specs.declared.status.Status.{Status}
 
 -- ---- one text for each
 
@@ -89,13 +92,21 @@ same_found g budget plan_bytes cert_bytes text other s t few p q =
     (subst (λ (held : Option FleetPlan). IsStoppedWell budget (cost_held g held) r.certificate.bound r) plan q.is.gap) in
     p.status_is ∙ same_status o.certificate.bound r.certificate.bound o.stopped r.stopped bound (same_end budget (cost_held g o.plan) o.certificate.bound o r p.is.gap gap nodes) ∙ sym q.status_is
 
+-- what stands in two files
+plan_in : (files : Option Files) (ws : List NewFile) (one two : NewFile) → ws ≡ one ∷ two ∷ [] → HoldsAll ws files → HoldsUnder files one.name one.bytes × HoldsUnder files two.name two.bytes
+plan_in files ws one two is holds =
+    let both : HoldsAll (one ∷ two ∷ []) files = subst (λ (xs : List NewFile). HoldsAll xs files) is holds in
+    (both.0, both.1.0)
+
 -- what was found of the same instance, and stands in the same files
-pub same_search : (job : FleetJob) (bytes text other : List ℕ) (files : Files) (s t : Status) → PutsFound job bytes (Some files) s text → PutsFound job bytes (Some files) t other → s ≡ t
-same_search job bytes text other files s t p q =
+pub same_search : (job : FleetJob) (bytes : List ℕ) (o r : Answered) → AreWrittenAlike o r → PutsFound job bytes o.status o.writes o.text → PutsFound job bytes r.status r.writes r.text → o.status ≡ r.status
+same_search job bytes o r alike p q =
     let network : q.network ≡ p.network = one_limited job.limit bytes q.network p.network q.fleet.network p.fleet.network in
-    let plan : q.plan_bytes ≡ p.plan_bytes = same_Some q.plan_bytes p.plan_bytes (sym q.plan ∙ p.plan) in
-    let cert : q.cert_bytes ≡ p.cert_bytes = same_Some q.cert_bytes p.cert_bytes (sym q.cert ∙ p.cert) in
-    same_found p.network job.nodes p.plan_bytes p.cert_bytes text other s t p.fleet.few p.found
-    (subst (λ (g : Network). IsFound g job.nodes p.plan_bytes p.cert_bytes t other) network
-    (subst (λ (bs : List ℕ). IsFound q.network job.nodes bs p.cert_bytes t other) plan
-    (subst (λ (bs : List ℕ). IsFound q.network job.nodes q.plan_bytes bs t other) cert q.found)))
+    let held = plan_in (Some alike.files) o.writes (record { name = job.plan; bytes = p.plan_bytes }) (record { name = job.cert; bytes = p.cert_bytes }) p.written alike.one in
+    let hold = plan_in (Some alike.files) r.writes (record { name = job.plan; bytes = q.plan_bytes }) (record { name = job.cert; bytes = q.cert_bytes }) q.written alike.other in
+    let plan : q.plan_bytes ≡ p.plan_bytes = same_Some q.plan_bytes p.plan_bytes (sym hold.0 ∙ held.0) in
+    let cert : q.cert_bytes ≡ p.cert_bytes = same_Some q.cert_bytes p.cert_bytes (sym hold.1 ∙ held.1) in
+    same_found p.network job.nodes p.plan_bytes p.cert_bytes o.text r.text o.status r.status p.fleet.few p.found
+    (subst (λ (g : Network). IsFound g job.nodes p.plan_bytes p.cert_bytes r.status r.text) network
+    (subst (λ (bs : List ℕ). IsFound q.network job.nodes bs p.cert_bytes r.status r.text) plan
+    (subst (λ (bs : List ℕ). IsFound q.network job.nodes q.plan_bytes bs r.status r.text) cert q.found)))

@@ -2,11 +2,11 @@
 use Rattle.std.proofs.Common.{◌≡◌, ℕ, List, Option, Result, Ok, Err, IfOk, subst, sym}
 use Rattle.evroute_run.specs.CheckAnswer.{CheckAnswers, IsCheckRefused}
 use Rattle.evroute_run.specs.Ended.{IsCheckEnded}
-use Rattle.evroute_run.specs.declared.answer.Answer.{Answer}
+use Rattle.job_frame.specs.declared.found.Answer.{Answer}
 use Rattle.evroute_run.specs.declared.answer.Ended.{Ended}
 use Rattle.evroute_run.specs.declared.answer.Ended.TheVariants.{Refused}
-use Rattle.evroute_run.specs.declared.status.Status.{Status}
-use Rattle.evroute_run.specs.declared.status.Status.TheVariants as status
+use Rattle.job_frame.specs.declared.status.Status.{Status}
+use Rattle.job_frame.specs.declared.status.Status.TheVariants as status
 use Rattle.plan_writer.specs.RefusalText.{IsRule, refusal_text}
 use Rattle.plan_writer.specs.declared.refusal.Refusal.{Refusal}
 

@@ -4,8 +4,8 @@ use Rattle.bound_certificate.specs.declared.certificate.Certificate.{Certificate
 use Rattle.ev_model.specs.Network.{Network}
 use Rattle.evroute_run.specs.CheckAnswer.{CheckAnswers, HasFleet, Holds, IsCertificateOf}
 use Rattle.evroute_run.specs.Judged.{IsJudgementOf, judged_status}
-use Rattle.evroute_run.specs.declared.answer.Answer.{Answer}
-use Rattle.evroute_run.specs.declared.status.Status.{Status}
+use Rattle.job_frame.specs.declared.found.Answer.{Answer}
+use Rattle.job_frame.specs.declared.status.Status.{Status}
 use Rattle.plan_writer.specs.CheckText.{check_text}
 use Rattle.plan_writer.specs.declared.check.Judgement.{Judgement}
 use Rattle.plan_writer.specs.declared.check.Judgement.TheVariants as judgement

@@ -11,8 +11,8 @@ use Rattle.ev_model.specs.Network.{Network}
 use Rattle.plan_check.specs.FleetRules.{stops_of}
 use Rattle.route_plan.specs.declared.plan.FleetPlan.{FleetPlan}
 use Rattle.evroute_run.specs.FleetAnswer.{IsClosed, StatusTells, search_status}
-use Rattle.evroute_run.specs.declared.status.Status.{Status}
-use Rattle.evroute_run.specs.declared.status.Status.TheVariants as status
+use Rattle.job_frame.specs.declared.status.Status.{Status}
+use Rattle.job_frame.specs.declared.status.Status.TheVariants as status
 
 -- a budget, the nodes that were looked at, cost and bound, and whether the search was stopped
 abbrev EndsWell : Option ℕ → ℕ → Option ℕ → Option ℕ → Bool → Type 0

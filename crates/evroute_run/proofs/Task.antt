@@ -18,11 +18,11 @@ use Rattle.route_plan.specs.declared.route.RouteFault.{RouteFault}
 use Rattle.evroute_run.specs.FixedAnswer.{FixedAnswers, HasStart, IsTask, start_of}
 use Rattle.evroute_run.specs.Ended.{IsEnded, IsNetworkEnded}
 use Rattle.evroute_run.specs.LimitedNetwork.{HasNetwork}
-use Rattle.evroute_run.specs.declared.answer.Answer.{Answer}
+use Rattle.job_frame.specs.declared.found.Answer.{Answer}
 use Rattle.evroute_run.specs.declared.answer.Ended.{Ended}
 use Rattle.evroute_run.specs.declared.answer.Ended.TheVariants.{Refused, Memory}
-use Rattle.evroute_run.specs.declared.status.Status.{Status}
-use Rattle.evroute_run.specs.declared.status.Status.TheVariants as status
+use Rattle.job_frame.specs.declared.status.Status.{Status}
+use Rattle.job_frame.specs.declared.status.Status.TheVariants as status
 use Rattle.plan_writer.specs.declared.refusal.Refusal.TheVariants as refusal
 
 pub has_start : (options : Options) (bytes : List ℕ) (g : Network) (level : ℕ) → HasNetwork options.limit bytes g → level ≡ start_of g options.charge → level ≤ g.capacity → HasStart options bytes g

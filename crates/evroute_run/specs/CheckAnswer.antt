@@ -1,5 +1,5 @@
 -- What `check` answers to the bytes of its instance, of its plan file and of its certificate.
-use Rattle.std.specs.Prelude.{◌≡◌, ◌≢◌, ℕ, ◌<◌, ◌≤◌, List, Option, None, Some, Ok, Err, length}
+use Rattle.std.specs.Prelude.{◌≡◌, ◌≢◌, ℕ, ◌<◌, ◌≤◌, List, [], ◌∷◌, Option, None, Some, Ok, Err, length}
 use Rattle.std.specs.List.{All}
 use Rattle.bound_certificate.specs.CertificateIn.{certificate_in}
 use Rattle.bound_certificate.specs.Kept.{IsKept}
@@ -10,6 +10,7 @@ use Rattle.certificate_check.specs.Accepted.{IsAccepted}
 use Rattle.certificate_check.specs.Truth.{IsTrueCertificate}
 use Rattle.certificate_check.specs.Verdicts.{IsVerdict}
 use Rattle.certificate_check.specs.declared.verdict.Verdict.TheVariants as verdict
+use Rattle.command_line.specs.Words.{CheckJob}
 use Rattle.ev_model.specs.Fleet.{cost_of, IsFleetPlan}
 use Rattle.ev_model.specs.Network.{Network}
 use Rattle.instance_reader.specs.Faults.{IsFirstFault}
@@ -25,9 +26,11 @@ use Rattle.plan_writer.specs.declared.refusal.Refusal.TheVariants as refusal
 use Rattle.route_plan.specs.PlanReading.{fleet_plan_in}
 use Rattle.route_plan.specs.PlanTexts.{SpellsFleetPlan}
 use Rattle.route_plan.specs.declared.plan.FleetPlan.{FleetPlan}
+use Rattle.evroute_run.specs.Caps.{certificate_read, file_read}
 use Rattle.evroute_run.specs.LimitedNetwork.{HasNetwork, IsPastLimit}
-use Rattle.evroute_run.specs.declared.status.Status.{Status}
-use Rattle.evroute_run.specs.declared.status.Status.TheVariants as status
+use Rattle.job_frame.specs.Task.{Outcome, Task}
+use Rattle.job_frame.specs.declared.status.Status.{Status}
+use Rattle.job_frame.specs.declared.status.Status.TheVariants as status
 
 -- the most customers of a fleet
 abbrev pub most_customers : ℕ
@@ -133,3 +136,26 @@ CheckAnswers limit bytes plan_bytes cert_bytes status.Negative text =
 CheckAnswers limit bytes plan_bytes cert_bytes status.Refused text =
     PutsCheckRefusal limit bytes plan_bytes cert_bytes text
 CheckAnswers limit bytes plan_bytes cert_bytes other text = ⊥
+
+-- `check` reads three files, and writes none
+abbrev pub check_answers : CheckJob → List (List ℕ) → Outcome → Type 0
+check_answers job (bytes ∷ plan_bytes ∷ cert_bytes ∷ []) o =
+    CheckAnswers job.limit bytes plan_bytes cert_bytes o.status o.text × (o.writes ≡ [])
+check_answers job other o = ⊥
+
+-- it comes to its plan where no rule of its instance is broken, and to its certificate where none of its plan's text is either
+abbrev pub check_goes_on : CheckJob → List (List ℕ) → Type 0
+check_goes_on job [] = Unit {0}
+check_goes_on job (bytes ∷ []) = (g : Network) × HasFleetNetwork job.limit bytes g
+check_goes_on job (bytes ∷ plan_bytes ∷ []) =
+    (g : Network) × ((plan : Option FleetPlan) × HasFleet job.limit bytes plan_bytes g plan)
+check_goes_on job other = ⊥
+
+abbrev pub check_task : CheckJob → Task
+check_task job = record {
+  reads = file_read job.file ∷ file_read job.plan ∷ certificate_read job.cert ∷ [];
+  goes_on = check_goes_on job;
+  answers = check_answers job;
+  is_open = ⊥;
+  has_budget = ⊥;
+}

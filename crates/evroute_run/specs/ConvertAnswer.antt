@@ -1,13 +1,16 @@
 -- What `convert` makes of the bytes of its file.
-use Rattle.std.specs.Prelude.{◌≡◌, ℕ, List, [], Ok, Err}
+use Rattle.std.specs.Prelude.{◌≡◌, ℕ, List, [], ◌∷◌, Ok, Err}
 use Rattle.command_line.specs.Words.{ConvertJob}
 use Rattle.decimal_import.specs.Conversion.{conversion_of}
 use Rattle.decimal_import.specs.Converted.{IsConverted}
 use Rattle.plan_writer.specs.RefusalText.{IsRule, refusal_text}
 use Rattle.plan_writer.specs.declared.refusal.Refusal.{Refusal}
 use Rattle.plan_writer.specs.declared.refusal.Refusal.TheVariants as refusal
-use Rattle.evroute_run.specs.declared.status.Status.{Status}
-use Rattle.evroute_run.specs.declared.status.Status.TheVariants as status
+use Rattle.evroute_run.specs.Caps.{file_read}
+use Rattle.job_frame.specs.Task.{Outcome, Task}
+use Rattle.job_frame.specs.Writes.{Written}
+use Rattle.job_frame.specs.declared.status.Status.{Status}
+use Rattle.job_frame.specs.declared.status.Status.TheVariants as status
 
 -- the bytes become this text: none of the rules of conversion is broken, each number under a key with a unit is the
 -- least whole number with the digits of the words, and every other byte stays
@@ -21,21 +24,38 @@ IsConvertRefused job bytes (refusal.Literal fault) =
     conversion_of bytes job.time_digits job.energy_digits ≡ Err fault
 IsConvertRefused job bytes other = ⊥
 
--- the bytes become some text, and nothing is put
-pub record PutsNothing (job : ConvertJob) (bytes text : List ℕ) : Type 0 where
+-- what the bytes become is written under the other name, and nothing is put
+pub record WritesWhole (job : ConvertJob) (bytes : List ℕ) (ws : List Written) (text : List ℕ)
+    : Type 0 where
   pub whole : List ℕ
   pub becomes : BecomesWhole job bytes whole
+  pub written : ws ≡ record { name = job.outfile; bytes = whole } ∷ []
   pub text_is : text ≡ []
 
--- the first broken rule
-pub record PutsConvertRefusal (job : ConvertJob) (bytes text : List ℕ) : Type 0 where
+-- the first broken rule is put, and nothing is written
+pub record PutsConvertRefusal (job : ConvertJob) (bytes : List ℕ) (ws : List Written)
+    (text : List ℕ) : Type 0 where
   pub refusal : Refusal
   pub rule : IsRule refusal
   pub refused : IsConvertRefused job bytes refusal
+  pub none : ws ≡ []
   pub text_is : text ≡ refusal_text refusal
 
--- the text that belongs to a status
-abbrev pub ConvertAnswers : ConvertJob → List ℕ → Status → List ℕ → Type 0
-ConvertAnswers job bytes status.Done text = PutsNothing job bytes text
-ConvertAnswers job bytes status.Refused text = PutsConvertRefusal job bytes text
-ConvertAnswers job bytes other text = ⊥
+-- the files and the text that belong to a status
+abbrev pub ConvertAnswers : ConvertJob → List ℕ → Status → List Written → List ℕ → Type 0
+ConvertAnswers job bytes status.Done ws text = WritesWhole job bytes ws text
+ConvertAnswers job bytes status.Refused ws text = PutsConvertRefusal job bytes ws text
+ConvertAnswers job bytes other ws text = ⊥
+
+abbrev pub convert_answers : ConvertJob → List (List ℕ) → Outcome → Type 0
+convert_answers job (bytes ∷ []) o = ConvertAnswers job bytes o.status o.writes o.text
+convert_answers job other o = ⊥
+
+abbrev pub convert_task : ConvertJob → Task
+convert_task job = record {
+  reads = file_read job.file ∷ [];
+  goes_on = λ before. Unit {0};
+  answers = convert_answers job;
+  is_open = ⊥;
+  has_budget = ⊥;
+}

@@ -4,12 +4,13 @@ use Rattle.std.specs.declared.alloc.Global.{Global}
 use Rattle.ev_outside.specs.Shelf.{CountsNeverFall, ShelfState}
 use Rattle.ev_outside.specs.Sink.{SinkState}
 use Rattle.ev_outside.specs.declared.failure.Failure.{Failure}
-use Rattle.evroute_run.specs.Codes.{code_of}
-use Rattle.evroute_run.specs.Run.{NothingFailed, Performs, TellsUsage, job_named}
+use Rattle.job_frame.specs.Codes.{code_of}
+use Rattle.evroute_run.specs.Run.{TellsUsage, job_named, task_of}
+use Rattle.job_frame.specs.Performs.{NothingFailed, Performs}
 use Rattle.evroute_run.specs.declared.message.Message.{Message}
 use Rattle.evroute_run.specs.declared.message.Message.TheVariants as message
-use Rattle.evroute_run.specs.declared.status.Status.{Status}
-use Rattle.evroute_run.specs.declared.status.Status.TheVariants as status
+use Rattle.job_frame.specs.declared.status.Status.{Status}
+use Rattle.job_frame.specs.declared.status.Status.TheVariants as status
 
 -- what the program owes for its words: from the shelf before to the shelf after, from the old output to the new one, putting
 -- on which takes memory or none
@@ -20,7 +21,7 @@ pub record Runs (words : List (String Global)) (takes_memory : Bool)
   -- such words put the usage text
   pub usage : IsNone (job_named words) → TellsUsage before after old new ended
   -- and the job that they name is performed
-  pub job : IfSome (job_named words) (λ job. Performs job before after old new ended)
+  pub job : IfSome (job_named words) (λ job. Performs (task_of job) before after old new ended)
   -- where no file and no output failed, no count of failed calls has changed
   pub stays : ended ≢ status.Fault → NothingFailed before after old new
   pub falls : CountsNeverFall before after

@@ -1,8 +1,9 @@
 -- What `fixed` answers to the bytes of its file.
-use Rattle.std.specs.Prelude.{◌≡◌, ℕ, ◌<◌, ◌≤◌, List, length, Option, None, Some, Err}
+use Rattle.std.specs.Prelude.{◌≡◌, ℕ, ◌<◌, ◌≤◌, List, [], ◌∷◌, length, Option, None, Some, Err}
 use Rattle.ev_model.specs.Network.{Network, node_count}
 use Rattle.ev_model.specs.Time.{time_of}
 use Rattle.ev_model.specs.declared.Stop.{Stop}
+use Rattle.command_line.specs.Words.{FixedJob}
 use Rattle.command_line.specs.declared.Options.{Options}
 use Rattle.instance_reader.specs.Faults.{IsFirstFault}
 use Rattle.ev_model.specs.Fastest.{HasNoPlan, IsFastest}
@@ -14,9 +15,11 @@ use Rattle.ev_model.specs.Route.{IsRoute}
 use Rattle.route_plan.specs.Limits.{most_route_nodes}
 use Rattle.route_plan.specs.RouteRules.{route_in}
 use Rattle.route_plan.specs.RouteWords.{SpellsRoute}
+use Rattle.evroute_run.specs.Caps.{file_read}
 use Rattle.evroute_run.specs.LimitedNetwork.{HasNetwork, IsPastLimit}
-use Rattle.evroute_run.specs.declared.status.Status.{Status}
-use Rattle.evroute_run.specs.declared.status.Status.TheVariants as status
+use Rattle.job_frame.specs.Task.{Outcome, Task}
+use Rattle.job_frame.specs.declared.status.Status.{Status}
+use Rattle.job_frame.specs.declared.status.Status.TheVariants as status
 
 -- the level at which the vehicle starts: that of the words, else a full battery
 abbrev pub start_of : Network → Option ℕ → ℕ
@@ -78,3 +81,18 @@ FixedAnswers options word bytes status.Done text = PutsPlan options word bytes t
 FixedAnswers options word bytes status.Negative text = PutsInfeasible options word bytes text
 FixedAnswers options word bytes status.Refused text = PutsRefusal options word bytes text
 FixedAnswers options word bytes other text = ⊥
+
+-- `fixed` reads its file, and writes none
+abbrev pub fixed_answers : FixedJob → List (List ℕ) → Outcome → Type 0
+fixed_answers job (bytes ∷ []) o =
+    FixedAnswers job.options job.route bytes o.status o.text × (o.writes ≡ [])
+fixed_answers job other o = ⊥
+
+abbrev pub fixed_task : FixedJob → Task
+fixed_task job = record {
+  reads = file_read job.file ∷ [];
+  goes_on = λ before. Unit {0};
+  answers = fixed_answers job;
+  is_open = ⊥;
+  has_budget = ⊥;
+}

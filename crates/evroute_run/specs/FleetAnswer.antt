@@ -1,5 +1,5 @@
 -- What `fleet` writes and puts on the bytes of its instance.
-use Rattle.std.specs.Prelude.{◌≡◌, ◌↔◌, ℕ, ◌*◌, ◌<◌, Bool, true, false, List, Option, None, Some, length, if◌then◌else◌}
+use Rattle.std.specs.Prelude.{◌≡◌, ◌≢◌, ◌↔◌, ℕ, ◌*◌, ◌<◌, Bool, true, false, List, [], ◌∷◌, Option, None, Some, length, if◌then◌else◌}
 use Rattle.bound_certificate.specs.CertificateTexts.{certificate_text}
 use Rattle.bound_certificate.specs.Written.{written}
 use Rattle.bound_certificate.specs.declared.certificate.Certificate.{Certificate}
@@ -12,7 +12,6 @@ use Rattle.ev_fleet.specs.Outcome.{IsOutcome, LeavesGap}
 use Rattle.ev_fleet.specs.Plans.{cost_held}
 use Rattle.ev_fleet.specs.declared.outcome.Outcome.{Outcome}
 use Rattle.ev_model.specs.Network.{IsNetwork, Network}
-use Rattle.ev_outside.specs.Shelf.{Files, HoldsUnder}
 use Rattle.fleet_model.specs.Prices.{sum_of}
 use Rattle.fleet_model.specs.Section.{Section}
 use Rattle.instance_reader.specs.Faults.{IsFirstFault}
@@ -24,10 +23,14 @@ use Rattle.plan_writer.specs.declared.fleet.RootLine.TheVariants as line
 use Rattle.plan_writer.specs.declared.refusal.Refusal.{Refusal}
 use Rattle.plan_writer.specs.declared.refusal.Refusal.TheVariants as refusal
 use Rattle.route_plan.specs.PlanTexts.{fleet_plan_text}
+use Rattle.evroute_run.specs.Caps.{file_read}
 use Rattle.evroute_run.specs.CheckAnswer.{HasFleetNetwork, customer_count, most_customers}
 use Rattle.evroute_run.specs.LimitedNetwork.{HasNetwork, IsPastLimit}
-use Rattle.evroute_run.specs.declared.status.Status.{Status}
-use Rattle.evroute_run.specs.declared.status.Status.TheVariants as status
+use Rattle.job_frame.specs.Task.{Task}
+use Rattle.job_frame.specs.Task as task
+use Rattle.job_frame.specs.Writes.{Written}
+use Rattle.job_frame.specs.declared.status.Status.{Status}
+use Rattle.job_frame.specs.declared.status.Status.TheVariants as status
 
 -- the first broken rule: of the instance, the limit, the count of customers
 abbrev pub IsFleetRefused : Option ℕ → List ℕ → Refusal → Type 0
@@ -103,28 +106,45 @@ pub record IsFound (g : Network) (budget : Option ℕ)
   pub tells : StatusTells g budget outcome ended
   pub text_is : text ≡ fleet_text g.denominator (outcomes_of g outcome root)
 
--- what was found on the instance of the bytes is put, and stands in the two written files
-pub record PutsFound (job : FleetJob) (bytes : List ℕ) (new : Option Files)
-    (ended : Status) (text : List ℕ) : Type 0 where
+-- what was found on the instance of the bytes is put, behind the two files
+pub record PutsFound (job : FleetJob) (bytes : List ℕ)
+    (ended : Status) (ws : List Written) (text : List ℕ) : Type 0 where
   pub network : Network
   pub fleet : HasFleetNetwork job.limit bytes network
   pub plan_bytes : List ℕ
   pub cert_bytes : List ℕ
   pub found : IsFound network job.nodes plan_bytes cert_bytes ended text
-  pub plan : HoldsUnder new job.plan plan_bytes
-  pub cert : HoldsUnder new job.cert cert_bytes
+  pub written : ws
+      ≡ record { name = job.plan; bytes = plan_bytes }
+      ∷ record { name = job.cert; bytes = cert_bytes } ∷ []
 
--- the line of the first broken rule is put
-pub record PutsFleetRefusal (job : FleetJob) (bytes text : List ℕ) : Type 0 where
+-- the line of the first broken rule is put, and nothing is written
+pub record PutsFleetRefusal (job : FleetJob) (bytes : List ℕ)
+    (ws : List Written) (text : List ℕ) : Type 0 where
   pub refusal : Refusal
   pub rule : IsRule refusal
   pub refused : IsFleetRefused job.limit bytes refusal
+  pub none : ws ≡ []
   pub text_is : text ≡ refusal_text refusal
 
--- the text that belongs to a status, where these files were left
-abbrev pub FleetAnswers : FleetJob → List ℕ → Option Files → Status → List ℕ → Type 0
-FleetAnswers job bytes new status.Done text = PutsFound job bytes new status.Done text
-FleetAnswers job bytes new status.Negative text = PutsFound job bytes new status.Negative text
-FleetAnswers job bytes new status.Stopped text = PutsFound job bytes new status.Stopped text
-FleetAnswers job bytes new status.Refused text = PutsFleetRefusal job bytes text
-FleetAnswers job bytes new other text = ⊥
+-- the files and the text that belong to a status
+abbrev pub FleetAnswers : FleetJob → List ℕ → Status → List Written → List ℕ → Type 0
+FleetAnswers job bytes status.Done ws text = PutsFound job bytes status.Done ws text
+FleetAnswers job bytes status.Negative ws text = PutsFound job bytes status.Negative ws text
+FleetAnswers job bytes status.Stopped ws text = PutsFound job bytes status.Stopped ws text
+FleetAnswers job bytes status.Refused ws text = PutsFleetRefusal job bytes ws text
+FleetAnswers job bytes other ws text = ⊥
+
+abbrev pub fleet_answers : FleetJob → List (List ℕ) → task.Outcome → Type 0
+fleet_answers job (bytes ∷ []) o = FleetAnswers job bytes o.status o.writes o.text
+fleet_answers job other o = ⊥
+
+-- what a search finds is left open, and a budget may end it
+abbrev pub fleet_task : FleetJob → Task
+fleet_task job = record {
+  reads = file_read job.file ∷ [];
+  goes_on = λ before. Unit {0};
+  answers = fleet_answers job;
+  is_open = Unit {0};
+  has_budget = job.nodes ≢ None;
+}

@@ -8,8 +8,8 @@ use Rattle.plan_writer.specs.declared.check.Judgement.{Judgement}
 use Rattle.plan_writer.specs.declared.check.Judgement.TheVariants as judgement
 use Rattle.route_plan.specs.declared.plan.FleetPlan.{FleetPlan}
 use Rattle.evroute_run.specs.CheckAnswer.{IsRejection, IsValid}
-use Rattle.evroute_run.specs.declared.status.Status.{Status}
-use Rattle.evroute_run.specs.declared.status.Status.TheVariants as status
+use Rattle.job_frame.specs.declared.status.Status.{Status}
+use Rattle.job_frame.specs.declared.status.Status.TheVariants as status
 
 -- both are accepted, or the first broken rule is found
 abbrev pub IsJudgementOf : Network → Option FleetPlan → Certificate → Judgement → Type 0

@@ -1,4 +1,4 @@
-pub mod Codes
+pub mod Caps
 pub mod LimitedNetwork
 pub mod FixedAnswer
 pub mod CheckAnswer
@@ -8,5 +8,4 @@ pub mod ConvertAnswer
 pub mod MakeAnswer
 pub mod Ended
 pub mod Run
-pub mod Found
 pub mod Ending

@@ -12,8 +12,10 @@ use Rattle.plan_writer.specs.MakeText.{make_text}
 use Rattle.plan_writer.specs.RefusalText.{IsRule, refusal_text}
 use Rattle.plan_writer.specs.declared.refusal.Refusal.{Refusal}
 use Rattle.plan_writer.specs.declared.refusal.Refusal.TheVariants as refusal
-use Rattle.evroute_run.specs.declared.status.Status.{Status}
-use Rattle.evroute_run.specs.declared.status.Status.TheVariants as status
+use Rattle.job_frame.specs.Task.{Outcome, Task}
+use Rattle.job_frame.specs.Writes.{Written}
+use Rattle.job_frame.specs.declared.status.Status.{Status}
+use Rattle.job_frame.specs.declared.status.Status.TheVariants as status
 
 -- no instance is made of the numbers
 abbrev pub HasNoInstance : MakeJob → Type 0
@@ -22,6 +24,10 @@ HasNoInstance job = IsOutOfRange job.seed job.customers job.stations
 -- the text of the instance that is made of the numbers
 abbrev pub text_made : MakeJob → List ℕ
 text_made job = made_text job.seed job.customers job.stations
+
+-- the made text as a file that is written
+abbrev pub made_file : MakeJob → Written
+made_file job = record { name = job.outfile; bytes = text_made job }
 
 -- an instance is made of the numbers, and g is its network
 pub record MakesNetwork (job : MakeJob) (g : Network) : Type 0 where
@@ -37,32 +43,50 @@ abbrev pub IsMakeRefused : MakeJob → Refusal → Type 0
 IsMakeRefused job refusal.Maker = HasNoInstance job
 IsMakeRefused job other = ⊥
 
--- the time of a plan of the route than which none is faster in any fraction of a unit, from a full battery
-pub record PutsTime (job : MakeJob) (text : List ℕ) : Type 0 where
+-- the time of a plan of the route than which none is faster in any fraction of a unit, from a full battery, behind the
+-- made text
+pub record PutsTime (job : MakeJob) (ws : List Written) (text : List ℕ) : Type 0 where
   pub network : Network
   pub makes : MakesNetwork job network
   pub stops : List Stop
   pub fastest : IsFastest network (route_of_all job.customers) network.capacity stops
+  pub written : ws ≡ made_file job ∷ []
   pub text_is : text ≡ make_text (node_count network) network.denominator
       (Some (time_of network 1 network.capacity stops))
 
 -- no plan of the route is feasible, in any fraction of a unit
-pub record PutsNoTime (job : MakeJob) (text : List ℕ) : Type 0 where
+pub record PutsNoTime (job : MakeJob) (ws : List Written) (text : List ℕ) : Type 0 where
   pub network : Network
   pub makes : MakesNetwork job network
   pub none : HasNoPlan network (route_of_all job.customers) network.capacity
+  pub written : ws ≡ made_file job ∷ []
   pub text_is : text ≡ make_text (node_count network) network.denominator None
 
--- the line of the broken rule
-pub record PutsMakeRefusal (job : MakeJob) (text : List ℕ) : Type 0 where
+-- the line of the broken rule, and nothing is written
+pub record PutsMakeRefusal (job : MakeJob) (ws : List Written) (text : List ℕ) : Type 0 where
   pub refusal : Refusal
   pub rule : IsRule refusal
   pub refused : IsMakeRefused job refusal
+  pub nothing : ws ≡ []
   pub text_is : text ≡ refusal_text refusal
 
--- the text that belongs to a status
-abbrev pub MakeAnswers : MakeJob → Status → List ℕ → Type 0
-MakeAnswers job status.Done text = PutsTime job text
-MakeAnswers job status.Negative text = PutsNoTime job text
-MakeAnswers job status.Refused text = PutsMakeRefusal job text
-MakeAnswers job other text = ⊥
+-- the files and the text that belong to a status
+abbrev pub MakeAnswers : MakeJob → Status → List Written → List ℕ → Type 0
+MakeAnswers job status.Done ws text = PutsTime job ws text
+MakeAnswers job status.Negative ws text = PutsNoTime job ws text
+MakeAnswers job status.Refused ws text = PutsMakeRefusal job ws text
+MakeAnswers job other ws text = ⊥
+
+-- `make` reads nothing
+abbrev pub make_answers : MakeJob → List (List ℕ) → Outcome → Type 0
+make_answers job [] o = MakeAnswers job o.status o.writes o.text
+make_answers job other o = ⊥
+
+abbrev pub make_task : MakeJob → Task
+make_task job = record {
+  reads = [];
+  goes_on = λ before. ⊥;
+  answers = make_answers job;
+  is_open = ⊥;
+  has_budget = ⊥;
+}

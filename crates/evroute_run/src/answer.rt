@@ -1,19 +1,12 @@
-//! What a job puts, and why one of its steps may be the last.
+//! Why a step of a job may be the last, and the line of a refusal.
 
-ghost use Rattle.std.specs.Prelude.{◌≡◌, IfErr, IfOk};
+ghost use Rattle.std.specs.Prelude.{◌≡◌, [], IfErr, IfOk};
 ghost use Rattle.plan_writer.specs.RefusalText.{IsRule, refusal_text};
 
-use crate::status::Status;
 use ev_outside::ShelfFault;
+use job_frame::{Answer, Found, Status};
 use plan_writer::{Refusal, push_refusal};
 use std::alloc::{AllocError, Global};
-
-/// What is put, and the status that goes with it.
-#[derive(Drop)]
-pub struct Answer {
-    pub status: Status,
-    pub text: Vec<u8>,
-}
 
 /// Why a step of the job is the last.
 #[derive(Clone, Copy, Debug, Drop, PartialEq, Eq)]
@@ -38,15 +31,16 @@ pub fn refuse(alloc: Global, refusal: Refusal) -> Result<Answer, AllocError>
     })
 }
 
-/// The line of a refusal as the answer to a job.
-pub fn refuse_job(alloc: Global, refusal: Refusal) -> Result<Answer, ShelfFault>
+/// The line of a refusal as all that a job finds.
+pub fn refuse_job(alloc: Global, refusal: Refusal) -> Result<Found, ShelfFault>
     requires { IsRule refusal }
-    ensures status { IfOk result (λ a. a.status ≡ Status.Refused) }
-    ensures text { IfOk result (λ a. a.text.items ≡ refusal_text refusal) }
+    ensures status { IfOk result (λ f. f.answer.status ≡ Status.Refused) }
+    ensures text { IfOk result (λ f. f.answer.text.items ≡ refusal_text refusal) }
+    ensures files { IfOk result (λ f. f.files.items ≡ []) }
     ensures memory { IfErr result (λ fault. fault ≡ ShelfFault.Memory) }
 {
     match refuse(alloc, refusal) {
-        Ok(answer) => Ok(answer),
+        Ok(answer) => Ok(Found::alone(alloc, answer)),
         Err(AllocError) => Err(ShelfFault::Memory),
     }
 }

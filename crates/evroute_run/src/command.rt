@@ -3,23 +3,22 @@
 ghost use Rattle.std.specs.Prelude.{◌≡◌, ◌≢◌, ◌⊎◌, [], false, IfSome, IsNone};
 ghost use Rattle.command_line.specs.JobValue.{IsJob, job_value};
 ghost use Rattle.ev_outside.specs.Shelf.{CountsNeverFall};
-ghost use Rattle.evroute_run.specs.Codes.{code_of};
 ghost use Rattle.evroute_run.specs.Ending.{Runs};
-ghost use Rattle.evroute_run.specs.Found.{Finds};
-ghost use Rattle.evroute_run.specs.Run.{NothingFailed, Performs, TellsUsage, job_named};
-ghost use Rattle.evroute_run.specs.declared.status.Status.{Status};
+ghost use Rattle.evroute_run.specs.Run.{TellsUsage, job_named, task_of};
+ghost use Rattle.job_frame.specs.Codes.{code_of};
+ghost use Rattle.job_frame.specs.Finds.{Finds};
+ghost use Rattle.job_frame.specs.Performs.{NothingFailed, Performs};
+ghost use Rattle.job_frame.specs.declared.status.Status.{Status};
 
-use crate::answer::Answer;
 use crate::check::check;
 use crate::convert::convert;
 use crate::fixed::fixed;
 use crate::fleet::fleet;
 use crate::make::make;
-use crate::status::Status;
-use crate::steps::put_answer;
 use crate::usage::put_usage;
 use command_line::{Job, job_words};
 use ev_outside::{Shelf, ShelfFault, Sink};
+use job_frame::{Found, Status, conclude};
 use std::alloc::{AllocError, Global};
 
 /// The program: its words after its name, the files and the output.
@@ -56,7 +55,7 @@ pub fn run<S: Shelf, K: Sink>(alloc: Global, words: &[String], shelf: &mut S, ou
         → TellsUsage (S.state shelf.old) (S.state shelf.new)
         (K.state out.old) (K.state out.new) result }
     ensures job { IfSome (job_named words.now) (λ job.
-        Performs job (S.state shelf.old) (S.state shelf.new)
+        Performs (task_of job) (S.state shelf.old) (S.state shelf.new)
         (K.state out.old) (K.state out.new) result) }
     ensures stays { result ≢ Status.Fault
         → NothingFailed (S.state shelf.old) (S.state shelf.new)
@@ -92,11 +91,11 @@ pub fn exit_code<S: Shelf, K: Sink>(
     run(alloc, words, shelf, out).code()
 }
 
-/// A job: its answer is found and put.
+/// A job: what it finds is written and put.
 fn perform<S: Shelf, K: Sink>(alloc: Global, job: &Job, shelf: &mut S, out: &mut K) -> Status
     requires { IsJob job.now }
     ensures words { result ≢ Status.Words }
-    ensures job { Performs (job_value job.now) (S.state shelf.old) (S.state shelf.new)
+    ensures job { Performs (task_of (job_value job.now)) (S.state shelf.old) (S.state shelf.new)
         (K.state out.old) (K.state out.new) result }
     ensures stays { result ≢ Status.Fault
         → NothingFailed (S.state shelf.old) (S.state shelf.new)
@@ -105,58 +104,23 @@ fn perform<S: Shelf, K: Sink>(alloc: Global, job: &Job, shelf: &mut S, out: &mut
     ensures memory { K.takes_memory ≡ false → result ≡ Status.Memory
         → K.state out.new ≡ K.state out.old }
 {
-    match find_answer(alloc, job, shelf) {
-        Ok(answer) => put_answer(&answer, out),
+    match find(alloc, job, shelf) {
+        Ok(found) => conclude(&found, shelf, out),
         Err(ShelfFault::Failed) => Status::Fault,
         Err(ShelfFault::Memory) => Status::Memory,
     }
 }
 
-/// The answer to a job, or why there is none.
-fn find_answer<S: Shelf>(alloc: Global, job: &Job, shelf: &mut S) -> Result<Answer, ShelfFault>
+/// What a job finds, or why it finds nothing.
+fn find<S: Shelf>(alloc: Global, job: &Job, shelf: &mut S) -> Result<Found, ShelfFault>
     requires { IsJob job.now }
-    ensures { Finds (job_value job.now) (S.state shelf.old) (S.state shelf.new) result }
+    ensures { Finds (task_of (job_value job.now)) (S.state shelf.old) (S.state shelf.new) result }
 {
     match job {
-        Job::Fixed(job) => fixed(
-            alloc,
-            job.file.as_str(),
-            job.route.as_str(),
-            job.options,
-            shelf,
-        ),
-        Job::Fleet(job) => fleet(
-            alloc,
-            job.file.as_str(),
-            job.plan.as_str(),
-            job.cert.as_str(),
-            job.limit,
-            job.nodes,
-            shelf,
-        ),
-        Job::Check(job) => check(
-            alloc,
-            job.file.as_str(),
-            job.plan.as_str(),
-            job.cert.as_str(),
-            job.limit,
-            shelf,
-        ),
-        Job::Convert(job) => convert(
-            alloc,
-            job.file.as_str(),
-            job.outfile.as_str(),
-            job.time_digits,
-            job.energy_digits,
-            shelf,
-        ),
-        Job::Make(job) => make(
-            alloc,
-            job.seed,
-            job.customers,
-            job.stations,
-            job.outfile.as_str(),
-            shelf,
-        ),
+        Job::Fixed(job) => fixed(alloc, job, shelf),
+        Job::Fleet(job) => fleet(alloc, job, shelf),
+        Job::Check(job) => check(alloc, job, shelf),
+        Job::Convert(job) => convert(alloc, job, shelf),
+        Job::Make(job) => make(alloc, job),
     }
 }

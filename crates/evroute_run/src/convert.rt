@@ -1,61 +1,60 @@
-//! The answer of `convert`: the decimals of a file become whole, in another.
+//! What `convert` finds: what the decimals of a file become, which is written into another.
 
-ghost use Rattle.std.specs.Prelude.{List, ℕ};
-ghost use Rattle.command_line.specs.Words.{ConvertFile, convert_job_of};
-ghost use Rattle.evroute_run.specs.ConvertAnswer.{BecomesWhole};
-ghost use Rattle.evroute_run.specs.Found.{Finds};
-ghost use Rattle.evroute_run.specs.Run.{AreRead};
+ghost use Rattle.std.specs.Prelude.{◌≡◌, ◌∷◌, [], IfOk, map};
+ghost use Rattle.command_line.specs.JobValue.{job_value};
+ghost use Rattle.command_line.specs.declared.Job.TheVariants.{Convert};
+ghost use Rattle.evroute_run.specs.Run.{task_of};
+ghost use Rattle.job_frame.specs.Finds.{Finds, written_by};
 
-use crate::answer::{Answer, refuse_job};
-use crate::status::Status;
-use crate::steps::{MOST_BYTES, read_file};
+use crate::answer::refuse_job;
+use crate::caps::MOST_BYTES;
+use command_line::ConvertWords;
 use decimal_import::ImportFault;
 use ev_outside::{Shelf, ShelfFault};
+use job_frame::{Answer, Found, NewFile, Status, read_file};
 use plan_writer::Refusal;
-use std::alloc::Global;
+use std::alloc::{AllocError, Global};
 
-/// The answer of `convert`: the file is read and converted, and what it becomes is written under
-/// the other name.
+/// What `convert` finds: the file is read and converted.
 pub fn convert<S: Shelf>(
     alloc: Global,
-    file: &str,
-    outfile: &str,
-    time_digits: u32,
-    energy_digits: u32,
+    job: &ConvertWords,
     shelf: &mut S,
-) -> Result<Answer, ShelfFault>
-    ensures { Finds (ConvertFile (convert_job_of file.now outfile.now time_digits energy_digits))
+) -> Result<Found, ShelfFault>
+    ensures { Finds (task_of (job_value (Convert job.now)))
         (S.state shelf.old) (S.state shelf.new) result }
 {
-    let bytes = match read_file(alloc, file, MOST_BYTES, shelf) {
+    let bytes = match read_file(alloc, job.file.as_str(), MOST_BYTES, shelf) {
         Ok(bytes) => bytes,
         Err(fault) => return Err(fault),
     };
-    match decimal_import::convert(alloc, bytes.as_slice(), time_digits, energy_digits) {
-        Ok(whole) => write_whole(alloc, outfile, whole.as_slice(), shelf),
+    let whole = decimal_import::convert(
+        alloc,
+        bytes.as_slice(),
+        job.time_digits,
+        job.energy_digits,
+    );
+    match whole {
+        Ok(whole) => match write_whole(alloc, job.outfile.as_str(), whole) {
+            Ok(found) => Ok(found),
+            Err(AllocError) => Err(ShelfFault::Memory),
+        },
         Err(ImportFault::Memory) => Err(ShelfFault::Memory),
         Err(fault) => refuse_job(alloc, Refusal::Literal(fault)),
     }
 }
 
-/// The answer where a file became this text: it is written, and nothing is put.
-fn write_whole<S: Shelf>(
-    alloc: Global,
-    outfile: &str,
-    whole: &[u8],
-    shelf: &mut S,
-) -> Result<Answer, ShelfFault>
-    ensures { (file bytes : List ℕ) (time_digits energy_digits : ℕ)
-        → AreRead (S.state shelf.old).files file bytes
-        → BecomesWhole (convert_job_of file outfile.now time_digits energy_digits) bytes whole.now
-        → Finds (ConvertFile (convert_job_of file outfile.now time_digits energy_digits))
-        (S.state shelf.old) (S.state shelf.new) result }
+/// What is found where a file became this text: it is written, and nothing is put.
+fn write_whole(alloc: Global, outfile: &str, whole: Vec<u8>) -> Result<Found, AllocError>
+    ensures status { IfOk result (λ f. f.answer.status ≡ Status.Done) }
+    ensures text { IfOk result (λ f. f.answer.text.items ≡ []) }
+    ensures files { IfOk result (λ f. map written_by f.files.items
+        ≡ record { name = outfile.now; bytes = whole.items } ∷ []) }
 {
-    match shelf.write(outfile, whole) {
-        Ok(()) => Ok(Answer {
-            status: Status::Done,
-            text: Vec::new(alloc),
-        }),
-        Err(fault) => Err(fault),
-    }
+    let answer = Answer {
+        status: Status::Done,
+        text: Vec::new(alloc),
+    };
+    let file = NewFile::new(alloc, outfile, whole)?;
+    Found::with_file(alloc, answer, file)
 }

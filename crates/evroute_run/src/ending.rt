@@ -3,16 +3,16 @@
 ghost use Rattle.std.specs.Prelude.{◌≡◌, ◌≢◌, IfErr, IfOk, Option};
 ghost use Rattle.std.specs.Process.{exit_status};
 ghost use Rattle.std.specs.IoError.{error_kind};
-ghost use Rattle.evroute_run.specs.Codes.{code_of};
+ghost use Rattle.job_frame.specs.Codes.{code_of};
 ghost use Rattle.evroute_run.specs.Ending.{IsToldAt, Runs, Tells, TellsIfSome};
 ghost use Rattle.evroute_run.specs.declared.message.Message.{Message};
-ghost use Rattle.evroute_run.specs.declared.status.Status.{Status};
+ghost use Rattle.job_frame.specs.declared.status.Status.{Status};
 
 use crate::command::exit_code;
 use crate::diagnostics::Diagnostics;
 use crate::message::Message;
-use crate::status::Status;
 use ev_outside::{Failure, FileShelf, OutSink, Shelf, Sink};
+use job_frame::Status;
 use std::alloc::Global;
 use std::io::{self, Error, ErrorKind, Print};
 use std::process::ExitCode;

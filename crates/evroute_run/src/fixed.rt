@@ -1,49 +1,45 @@
-//! The answer of `fixed`: one route of an instance is charged.
+//! What `fixed` finds: one route of an instance is charged.
 
 ghost use Rattle.std.specs.Prelude.{◌≡◌, ◌≤◌, IfErr, IfOk, List, None, Some, length, ℕ};
-ghost use Rattle.command_line.specs.Words.{FixedRoute, job_with};
+ghost use Rattle.command_line.specs.JobValue.{job_value};
+ghost use Rattle.command_line.specs.declared.Job.TheVariants.{Fixed};
 ghost use Rattle.command_line.specs.declared.Options.{Options};
 ghost use Rattle.ev_model.specs.Feasible.{IsFeasible};
 ghost use Rattle.ev_model.specs.Route.{IsRoute};
 ghost use Rattle.ev_model.specs.Time.{time_of};
 ghost use Rattle.evroute_run.specs.Ended.{IsEnded};
 ghost use Rattle.evroute_run.specs.FixedAnswer.{FixedAnswers, HasStart, IsTask, start_of};
-ghost use Rattle.evroute_run.specs.Found.{Finds};
 ghost use Rattle.evroute_run.specs.LimitedNetwork.{HasNetwork};
-ghost use Rattle.evroute_run.specs.Run.{IsAnswered};
+ghost use Rattle.evroute_run.specs.Run.{task_of};
+ghost use Rattle.job_frame.specs.Finds.{Finds};
+ghost use Rattle.job_frame.specs.Task.{IsAnswered};
 ghost use Rattle.plan_writer.specs.FixedText.{fixed_text};
 ghost use Rattle.route_plan.specs.Limits.{most_route_nodes};
 ghost use Rattle.route_plan.specs.RouteWords.{SpellsRoute};
 
-use crate::answer::{Answer, Ended, refuse};
+use crate::answer::{Ended, refuse};
+use crate::caps::MOST_BYTES;
 use crate::instance::limited_instance;
-use crate::status::Status;
-use crate::steps::{MOST_BYTES, read_file};
-use command_line::Options;
+use command_line::{FixedWords, Options};
 use ev_outside::{Shelf, ShelfFault};
 use frvcp_labels::solve_route;
 use instance_reader::Instance;
+use job_frame::{Answer, Found, Status, read_file};
 use plan_writer::{Refusal, push_fixed};
 use route_plan::{RouteFault, RoutePlan, read_route, walk};
 use std::alloc::{AllocError, Global};
 
-/// The answer of `fixed`: the file is read as an instance, and its route is charged.
-pub fn fixed<S: Shelf>(
-    alloc: Global,
-    file: &str,
-    route: &str,
-    options: Options,
-    shelf: &mut S,
-) -> Result<Answer, ShelfFault>
-    ensures { Finds (FixedRoute (job_with file.now route.now options))
+/// What `fixed` finds: the file is read as an instance, and its route is charged.
+pub fn fixed<S: Shelf>(alloc: Global, job: &FixedWords, shelf: &mut S) -> Result<Found, ShelfFault>
+    ensures { Finds (task_of (job_value (Fixed job.now)))
         (S.state shelf.old) (S.state shelf.new) result }
 {
-    let bytes = match read_file(alloc, file, MOST_BYTES, shelf) {
+    let bytes = match read_file(alloc, job.file.as_str(), MOST_BYTES, shelf) {
         Ok(bytes) => bytes,
         Err(fault) => return Err(fault),
     };
-    match answer_to(alloc, bytes.as_slice(), route, options) {
-        Ok(answer) => Ok(answer),
+    match answer_to(alloc, bytes.as_slice(), job.route.as_str(), job.options) {
+        Ok(answer) => Ok(Found::alone(alloc, answer)),
         Err(AllocError) => Err(ShelfFault::Memory),
     }
 }

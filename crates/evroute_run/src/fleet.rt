@@ -1,94 +1,63 @@
-//! The answer of `fleet`: a fleet is planned on an instance, and its plan and a certificate are
+//! What `fleet` finds: a fleet is planned on an instance, and its plan and a certificate are
 //! written.
 
-ghost use Rattle.std.specs.Prelude.{◌≢◌, ◌≤◌, IfSome, List, Option, ℕ};
-ghost use Rattle.command_line.specs.Words.{PlanFleet, fleet_job_of};
-ghost use Rattle.ev_model.specs.Network.{Network};
-ghost use Rattle.evroute_run.specs.CheckAnswer.{HasFleetNetwork, customer_count, most_customers};
+ghost use Rattle.std.specs.Prelude.{◌≡◌, ◌∷◌, ◌≤◌, [], IfOk, IfSome, List, map, string_bytes, ℕ};
+ghost use Rattle.command_line.specs.JobValue.{IsFleetJob, job_value};
+ghost use Rattle.command_line.specs.declared.Job.TheVariants.{Fleet};
+ghost use Rattle.evroute_run.specs.CheckAnswer.{customer_count, most_customers};
 ghost use Rattle.evroute_run.specs.FleetAnswer.{IsFound};
-ghost use Rattle.evroute_run.specs.Found.{Finds};
-ghost use Rattle.evroute_run.specs.Run.{AreRead};
+ghost use Rattle.evroute_run.specs.Run.{task_of};
+ghost use Rattle.job_frame.specs.Finds.{Finds, written_by};
 
-use crate::answer::{Answer, Ended, refuse_job};
+use crate::answer::{Ended, refuse_job};
+use crate::caps::MOST_BYTES;
 use crate::instance::fleet_instance;
 use crate::planning::{Planned, plan_all};
-use crate::steps::{MOST_BYTES, read_file};
+use command_line::FleetWords;
 use ev_outside::{Shelf, ShelfFault};
 use instance_reader::Instance;
+use job_frame::{Found, NewFile, read_file};
 use std::alloc::{AllocError, Global};
 
-/// The answer of `fleet`: the instance is read, a fleet is planned on it, and its plan and a
+/// What `fleet` finds: the instance is read, a fleet is planned on it, and its plan and a
 /// certificate are written.
-pub fn fleet<S: Shelf>(
-    alloc: Global,
-    file: &str,
-    plan: &str,
-    cert: &str,
-    limit: Option<u64>,
-    nodes: Option<u64>,
-    shelf: &mut S,
-) -> Result<Answer, ShelfFault>
-    requires files { plan.now ≢ cert.now }
-    requires nodes { IfSome nodes (λ most. 1 ≤ most) }
-    ensures { Finds (PlanFleet (fleet_job_of file.now plan.now cert.now limit nodes))
+pub fn fleet<S: Shelf>(alloc: Global, job: &FleetWords, shelf: &mut S) -> Result<Found, ShelfFault>
+    requires { IsFleetJob job.now }
+    ensures { Finds (task_of (job_value (Fleet job.now)))
         (S.state shelf.old) (S.state shelf.new) result }
 {
-    let bytes = match read_file(alloc, file, MOST_BYTES, shelf) {
+    let bytes = match read_file(alloc, job.file.as_str(), MOST_BYTES, shelf) {
         Ok(bytes) => bytes,
         Err(fault) => return Err(fault),
     };
-    match fleet_instance(alloc, bytes.as_slice(), limit) {
-        Ok(inst) => plan_on(alloc, &inst, plan, cert, nodes, shelf),
+    match fleet_instance(alloc, bytes.as_slice(), job.limit) {
+        Ok(inst) => match plan_on(alloc, &inst, job) {
+            Ok(found) => Ok(found),
+            Err(AllocError) => Err(ShelfFault::Memory),
+        },
         Err(Ended::Refused(refusal)) => refuse_job(alloc, refusal),
         Err(Ended::Memory) => Err(ShelfFault::Memory),
     }
 }
 
-/// The answer of `fleet` on the instance of its file: all memory is taken before a file is written.
-fn plan_on<S: Shelf>(
-    alloc: Global,
-    inst: &Instance,
-    plan: &str,
-    cert: &str,
-    nodes: Option<u64>,
-    shelf: &mut S,
-) -> Result<Answer, ShelfFault>
+/// What `fleet` finds on the instance of its file: the texts of a plan and of a certificate, and the
+/// report on both.
+fn plan_on(alloc: Global, inst: &Instance, job: &FleetWords) -> Result<Found, AllocError>
     requires few { customer_count inst.now ≤ most_customers }
-    requires files { plan.now ≢ cert.now }
-    requires nodes { IfSome nodes (λ most. 1 ≤ most) }
-    ensures { (file bytes : List ℕ) (limit : Option ℕ)
-        → AreRead (S.state shelf.old).files file bytes
-        → HasFleetNetwork limit bytes inst.now
-        → Finds (PlanFleet (fleet_job_of file plan.now cert.now limit nodes))
-        (S.state shelf.old) (S.state shelf.new) result }
+    requires nodes { IfSome job.now.nodes (λ most. 1 ≤ most) }
+    ensures { IfOk result (λ f. (plan_bytes cert_bytes : List ℕ)
+        × IsFound inst.now job.now.nodes plan_bytes cert_bytes
+        f.answer.status f.answer.text.items
+        × (map written_by f.files.items
+        ≡ record { name = string_bytes job.now.plan; bytes = plan_bytes }
+        ∷ record { name = string_bytes job.now.cert; bytes = cert_bytes } ∷ [])) }
 {
-    match plan_all(alloc, inst, nodes) {
-        Ok(planned) => write_planned(plan, cert, planned, shelf),
-        Err(AllocError) => Err(ShelfFault::Memory),
-    }
-}
-
-/// The answer where this was found: the plan is written, and then the certificate.
-fn write_planned<S: Shelf>(
-    plan: &str,
-    cert: &str,
-    planned: Planned,
-    shelf: &mut S,
-) -> Result<Answer, ShelfFault>
-    requires files { plan.now ≢ cert.now }
-    ensures { (file bytes : List ℕ) (limit nodes : Option ℕ) (g : Network)
-        → AreRead (S.state shelf.old).files file bytes
-        → HasFleetNetwork limit bytes g
-        → IsFound g nodes planned.plan.items planned.cert.items
-        planned.answer.status planned.answer.text.items
-        → Finds (PlanFleet (fleet_job_of file plan.now cert.now limit nodes))
-        (S.state shelf.old) (S.state shelf.new) result }
-{
-    if let Err(fault) = shelf.write(plan, planned.plan.as_slice()) {
-        return Err(fault);
-    }
-    match shelf.write(cert, planned.cert.as_slice()) {
-        Ok(()) => Ok(planned.answer),
-        Err(fault) => Err(fault),
-    }
+    let planned = plan_all(alloc, inst, job.nodes)?;
+    let Planned { plan, cert, answer } = planned;
+    let plan = NewFile::new(alloc, job.plan.as_str(), plan)?;
+    let cert = NewFile::new(alloc, job.cert.as_str(), cert)?;
+    let mut files = Vec::new(alloc);
+    files.push(plan)?;
+    files.push(cert)?;
+    Ok(Found { answer, files })
 }

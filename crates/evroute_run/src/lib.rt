@@ -2,6 +2,7 @@
 #![tactic(auto)]
 
 mod answer;
+mod caps;
 mod check;
 mod command;
 mod convert;
@@ -14,14 +15,12 @@ mod judging;
 mod make;
 mod message;
 mod planning;
-mod status;
-mod steps;
 mod sure;
 mod usage;
 
 pub use command::{exit_code, run};
 pub use diagnostics::{Diagnostics, SystemDiagnostics};
 pub use ending::{LastFailure, run_to_end};
+pub use job_frame::Status;
 pub use message::Message;
-pub use status::Status;
 pub use sure::run_surely;

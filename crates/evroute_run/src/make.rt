@@ -1,92 +1,69 @@
-//! The answer of `make`: an instance is made and written, and its route over all customers is
+//! What `make` finds: an instance is made, to be written, and its route over all customers is
 //! charged.
 
-ghost use Rattle.std.specs.Prelude.{◌≡◌, ◌<◌, ◌≤◌, IfErr, IfOk, None, Some, ℕ};
-ghost use Rattle.command_line.specs.Words.{MakeInstance, MakeJob, make_job_of};
+ghost use Rattle.std.specs.Prelude.{◌≡◌, ◌<◌, ◌≤◌, ◌∷◌, [], IfOk, List, None, Some, map};
+ghost use Rattle.command_line.specs.JobValue.{job_value};
+ghost use Rattle.command_line.specs.Words.{MakeJob};
+ghost use Rattle.command_line.specs.declared.Job.TheVariants.{Make};
 ghost use Rattle.ev_model.specs.Feasible.{IsFeasible};
 ghost use Rattle.ev_model.specs.Network.{node_count};
 ghost use Rattle.ev_model.specs.Time.{time_of};
-ghost use Rattle.evroute_run.specs.Found.{Finds};
-ghost use Rattle.evroute_run.specs.MakeAnswer.{MakeAnswers, MakesNetwork, route_of_all};
-ghost use Rattle.evroute_run.specs.Run.{IsAnswered};
-ghost use Rattle.instance_maker.specs.MadeInstance.{made_text};
+ghost use Rattle.ev_outside.specs.Shelf.{ShelfState};
+ghost use Rattle.evroute_run.specs.MakeAnswer.{MakeAnswers, MakesNetwork, made_file, route_of_all};
+ghost use Rattle.evroute_run.specs.Run.{task_of};
+ghost use Rattle.job_frame.specs.Finds.{Finds, written_by};
+ghost use Rattle.job_frame.specs.Task.{IsAnswered};
+ghost use Rattle.job_frame.specs.Writes.{Written};
 ghost use Rattle.plan_writer.specs.MakeText.{make_text};
 
-use crate::answer::{Answer, refuse_job};
-use crate::status::Status;
-use ev_outside::{Shelf, ShelfFault};
+use crate::answer::refuse_job;
+use command_line::MakeWords;
+use ev_outside::ShelfFault;
 use frvcp_labels::solve_route;
 use instance_maker::MakerFault;
 use instance_reader::Instance;
-use made_instances::made_instance;
+use job_frame::{Answer, Found, NewFile, Status};
+use made_instances::{MadeInstance, made_instance};
 use plan_writer::{Refusal, push_make_report};
 use route_plan::{RoutePlan, walk};
 use std::alloc::{AllocError, Global};
 
-/// The answer of `make`: the instance is made and written, and the route over all its customers is
+/// What `make` finds: the instance is made, to be written, and the route over all its customers is
 /// charged.
-pub fn make<S: Shelf>(
-    alloc: Global,
-    seed: u64,
-    customers: u32,
-    stations: u32,
-    outfile: &str,
-    shelf: &mut S,
-) -> Result<Answer, ShelfFault>
-    ensures { Finds (MakeInstance (make_job_of seed customers stations outfile.now))
-        (S.state shelf.old) (S.state shelf.new) result }
+pub fn make(alloc: Global, job: &MakeWords) -> Result<Found, ShelfFault>
+    ensures { (shelf : ShelfState) → Finds (task_of (job_value (Make job.now))) shelf shelf result }
 {
-    match made_instance(alloc, seed, customers, stations) {
-        Ok(made) => write_made(
-            alloc,
-            &made.instance,
-            made.text.as_slice(),
-            customers,
-            outfile,
-            shelf,
-        ),
+    match made_instance(alloc, job.seed, job.customers, job.stations) {
+        Ok(made) => match summary(alloc, made, job.customers, job.outfile.as_str()) {
+            Ok(found) => Ok(found),
+            Err(AllocError) => Err(ShelfFault::Memory),
+        },
         Err(MakerFault::Range) => refuse_job(alloc, Refusal::Maker),
         Err(MakerFault::Memory) => Err(ShelfFault::Memory),
     }
 }
 
-/// The answer where this instance with this text was made: the text is written, and the route is
-/// charged.
-fn write_made<S: Shelf>(
+/// The three lines on a made instance, and its text, which is written.
+fn summary(
     alloc: Global,
-    inst: &Instance,
-    text: &[u8],
+    made: MadeInstance,
     customers: u32,
     outfile: &str,
-    shelf: &mut S,
-) -> Result<Answer, ShelfFault>
+) -> Result<Found, AllocError>
     requires some { 1 ≤ customers }
-    requires nodes { customers < node_count inst.now }
-    ensures { (seed stations : ℕ)
-        → MakesNetwork (make_job_of seed customers stations outfile.now) inst.now
-        → text.now ≡ made_text seed customers stations
-        → Finds (MakeInstance (make_job_of seed customers stations outfile.now))
-        (S.state shelf.old) (S.state shelf.new) result }
+    requires nodes { customers < node_count made.instance }
+    ensures answers { (job : MakeJob) → job.customers ≡ customers
+        → MakesNetwork job made.instance → IfOk result (λ f. (ws : List Written)
+        → ws ≡ made_file job ∷ []
+        → MakeAnswers job f.answer.status ws f.answer.text.items) }
+    ensures answered { IfOk result (λ f. IsAnswered f.answer.status) }
+    ensures files { IfOk result (λ f. map written_by f.files.items
+        ≡ record { name = outfile.now; bytes = made.text.items } ∷ []) }
 {
-    match shelf.write(outfile, text) {
-        Ok(()) => summary(alloc, inst, customers),
-        Err(fault) => Err(fault),
-    }
-}
-
-/// The three lines on a made instance.
-fn summary(alloc: Global, inst: &Instance, customers: u32) -> Result<Answer, ShelfFault>
-    requires some { 1 ≤ customers }
-    requires nodes { customers < node_count inst.now }
-    ensures answers { (job : MakeJob) → job.customers ≡ customers → MakesNetwork job inst.now
-        → IfOk result (λ a. MakeAnswers job a.status a.text.items) }
-    ensures answered { IfOk result (λ a. IsAnswered a.status) }
-    ensures memory { IfErr result (λ fault. fault ≡ ShelfFault.Memory) }
-{
-    match charge_all(alloc, inst, customers) {
-        Ok(answer) => Ok(answer),
-        Err(AllocError) => Err(ShelfFault::Memory),
-    }
+    let MadeInstance { text, instance } = made;
+    let answer = charge_all(alloc, &instance, customers)?;
+    let file = NewFile::new(alloc, outfile, text)?;
+    Found::with_file(alloc, answer, file)
 }
 
 /// The three lines on a made instance, whose route over all customers is charged.
@@ -94,7 +71,8 @@ fn charge_all(alloc: Global, inst: &Instance, customers: u32) -> Result<Answer, 
     requires some { 1 ≤ customers }
     requires nodes { customers < node_count inst.now }
     ensures answers { (job : MakeJob) → job.customers ≡ customers → MakesNetwork job inst.now
-        → IfOk result (λ a. MakeAnswers job a.status a.text.items) }
+        → IfOk result (λ a. (ws : List Written) → ws ≡ made_file job ∷ []
+        → MakeAnswers job a.status ws a.text.items) }
     ensures answered { IfOk result (λ a. IsAnswered a.status) }
 {
     let route = route_of_all(alloc, customers)?;

@@ -1,8 +1,8 @@
 //! What people are told on standard error where the exit status alone would leave them without a
 //! cause.
 
-use super::status::Status;
 use ev_outside::Failure;
+use job_frame::Status;
 use std::fmt::{self, Display, Formatter};
 use std::io::Error;
 
@@ -19,7 +19,7 @@ pub enum Message<'a> {
 
 impl<'a> Message<'a> {
     ghost use Rattle.std.specs.Prelude.{◌≡◌, ◌≢◌, IsNone, Some};
-    ghost use Rattle.evroute_run.specs.Codes.{code_of};
+    ghost use Rattle.job_frame.specs.Codes.{code_of};
 
     /// The message at an exit status, where the last call of the system that failed is this one.
     /// There is none where the job was answered.

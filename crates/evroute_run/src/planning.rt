@@ -10,13 +10,12 @@ ghost use Rattle.evroute_run.specs.FleetAnswer.{IsFound, TellsRootOf, outcomes_o
 ghost use Rattle.fleet_model.specs.Prices.{sum_of};
 ghost use Rattle.plan_writer.specs.FleetText.{IsExactLine, IsLowestLine, fleet_text};
 
-use crate::answer::Answer;
 use crate::judging::cost_of;
-use crate::status::Status;
 use bound_certificate::{Certificate, Root, Section, push_certificate};
 use certificate_check::price_total;
 use ev_fleet::{Outcome, plan_fleet};
 use instance_reader::Instance;
+use job_frame::{Answer, Status};
 use plan_writer::{Outcomes, RootLine, push_fleet_report};
 use route_plan::push_fleet_plan;
 use std::alloc::{AllocError, Global};

@@ -5,8 +5,8 @@ ghost use Rattle.ev_outside.specs.Sure.{sure_output, sure_state};
 ghost use Rattle.evroute_run.specs.Ending.{Runs};
 
 use crate::command::run;
-use crate::status::Status;
 use ev_outside::{SureShelf, SureSink};
+use job_frame::Status;
 use std::alloc::Global;
 
 /// [`run`] over files and an output that never fail. It never ends with [`Status::Fault`].

@@ -4,11 +4,11 @@ ghost use Rattle.std.specs.Prelude.{◌≡◌, ◌≢◌, false};
 ghost use Rattle.command_line.specs.Usage.{usage_text};
 ghost use Rattle.ev_outside.specs.Counts.{Rose};
 ghost use Rattle.ev_outside.specs.Sink.{Adds, AddsPrefix};
-ghost use Rattle.evroute_run.specs.Run.{EndsUnlessHindered};
+ghost use Rattle.job_frame.specs.Performs.{EndsUnlessHindered};
 
-use crate::status::Status;
 use command_line::usage;
 use ev_outside::{Sink, SinkFault};
+use job_frame::Status;
 
 /// Puts the usage text. The status is that of words that name no job, unless the output fails or
 /// memory is refused.

@@ -414,7 +414,7 @@ fn a_made_instance_is_written_and_charged(rt: HostRuntime) {
 }
 
 #[test]
-fn a_made_instance_is_written_before_its_route_is_charged(rt: HostRuntime) {
+fn a_made_instance_is_written_whether_its_route_is_feasible_or_not(rt: HostRuntime) {
     let alloc = rt.alloc();
     let cases = [
         (

@@ -1,7 +1,7 @@
 -- Exit statuses.
 use Rattle.std.specs.Prelude.{ℕ}
-use Rattle.evroute_run.specs.declared.status.Status.{Status}
-use Rattle.evroute_run.specs.declared.status.Status.TheVariants.{Done, Negative, Words, Refused, Fault, Memory, Stopped}
+use Rattle.job_frame.specs.declared.status.Status.{Status}
+use Rattle.job_frame.specs.declared.status.Status.TheVariants.{Done, Negative, Words, Refused, Fault, Memory, Stopped}
 
 abbrev pub code_of : Status → ℕ
 code_of Done = 0

@@ -21,7 +21,7 @@ pub enum Status {
 
 impl Status {
     ghost use Rattle.std.specs.Prelude.{◌≡◌};
-    ghost use Rattle.evroute_run.specs.Codes.{code_of};
+    ghost use Rattle.job_frame.specs.Codes.{code_of};
 
     /// The exit status.
     pub fn code(self) -> u8

@@ -1,0 +1,76 @@
+-- The files that `fleet` leaves tell its status, and a budget alone stops it.
+use Rattle.std.proofs.Common.{◌≡◌, ◌≢◌, ◌∙◌, ℕ, ◌<◌, ◌≤◌, ◌⊎◌, List, [], ◌∷◌, Option, None, Some, length, ap, arith, inl, inr, refl, subst, sym}
+use Rattle.command_line.specs.Words.{FleetJob}
+use Rattle.ev_model.specs.Network.{Network}
+use Rattle.job_frame.proofs.Performed.{AreWrittenAlike, IsLawful}
+use Rattle.job_frame.specs.Task.{Outcome}
+use Rattle.job_frame.specs.Writes.{Written}
+use Rattle.plan_writer.specs.RefusalText.{IsRule}
+use Rattle.plan_writer.specs.declared.refusal.Refusal.{Refusal}
+use Rattle.plan_writer.specs.declared.refusal.Refusal.TheVariants as refusal
+use Rattle.evroute_run.proofs.Instances.{one_limited, refused_has_none}
+use Rattle.evroute_run.proofs.OneSearch.{same_search}
+use Rattle.evroute_run.specs.CheckAnswer.{HasFleetNetwork, customer_count}
+use Rattle.evroute_run.specs.FleetAnswer.{FleetAnswers, IsFleetRefused, PutsFleetRefusal, PutsFound, fleet_answers, fleet_task}
+use Rattle.job_frame.specs.declared.status.Status.{Status}
+use Rattle.job_frame.specs.declared.status.Status.TheVariants as status
+
+fleet_refused_not : (limit : Option ℕ) (bytes : List ℕ) (g : Network) (r : Refusal) → HasFleetNetwork limit bytes g → IsRule r → IsFleetRefused limit bytes r → ⊥
+fleet_refused_not limit bytes g (refusal.Instance e) has rule first = refused_has_none limit bytes (refusal.Instance e) g rule first has.network
+fleet_refused_not limit bytes g (refusal.Limit given) has rule past = refused_has_none limit bytes (refusal.Limit given) g rule past has.network
+fleet_refused_not limit bytes g (refusal.Customers count) has rule (h, network, is, many) =
+    let same : h ≡ g = one_limited limit bytes h g network has.network in
+    let counts : count ≡ customer_count g = is ∙ ap (λ (x : Network). customer_count x) same in
+    omega (arith, counts, many, has.few)
+fleet_refused_not limit bytes g (refusal.Charge level) has rule is = absurd is
+fleet_refused_not limit bytes g (refusal.Route e) has rule is = absurd is
+fleet_refused_not limit bytes g (refusal.Plan e) has rule is = absurd is
+fleet_refused_not limit bytes g (refusal.Certificate e) has rule is = absurd is
+fleet_refused_not limit bytes g (refusal.Literal e) has rule is = absurd is
+fleet_refused_not limit bytes g refusal.Maker has rule is = absurd is
+
+some_is_not_none : (budget : Option ℕ) (n : ℕ) → budget ≡ Some n → budget ≢ None
+some_is_not_none None n is none = absurd (cc)
+some_is_not_none (Some m) n is none = absurd (cc)
+
+stopped_has_budget : (job : FleetJob) (bytes : List ℕ) (ws : List Written) (text : List ℕ) → PutsFound job bytes status.Stopped ws text → job.nodes ≢ None
+stopped_has_budget job bytes ws text p =
+    some_is_not_none job.nodes (length p.found.outcome.certificate.sections) (p.found.tells.stopped.0 refl).0
+
+-- an answer is what was found, or a refusal
+FoundOrRefused : FleetJob → List ℕ → Outcome → Type 0
+FoundOrRefused job bytes o =
+    PutsFound job bytes o.status o.writes o.text ⊎ ((o.status ≡ status.Refused) × PutsFleetRefusal job bytes o.writes o.text)
+
+found_or_refused : (job : FleetJob) (bytes : List ℕ) (s : Status) (ws : List Written) (text : List ℕ) → FleetAnswers job bytes s ws text →
+    PutsFound job bytes s ws text ⊎ ((s ≡ status.Refused) × PutsFleetRefusal job bytes ws text)
+found_or_refused job bytes status.Done ws text p = inl p
+found_or_refused job bytes status.Negative ws text p = inl p
+found_or_refused job bytes status.Stopped ws text p = inl p
+found_or_refused job bytes status.Refused ws text p = inr (refl, p)
+found_or_refused job bytes status.Words ws text p = absurd p
+found_or_refused job bytes status.Fault ws text p = absurd p
+found_or_refused job bytes status.Memory ws text p = absurd p
+
+one_answer : (job : FleetJob) (bytes : List ℕ) (o p : Outcome) → AreWrittenAlike o p → FoundOrRefused job bytes o → FoundOrRefused job bytes p → o.status ≡ p.status
+unfolding FoundOrRefused
+one_answer job bytes o p alike (inl is) (inl was) = same_search job bytes o p alike is was
+one_answer job bytes o p alike (inl is) (inr (refused, was)) = absurd (fleet_refused_not job.limit bytes is.network was.refusal is.fleet was.rule was.refused)
+one_answer job bytes o p alike (inr (refused, is)) (inl was) = absurd (fleet_refused_not job.limit bytes was.network is.refusal was.fleet is.rule is.refused)
+one_answer job bytes o p alike (inr (refused, is)) (inr (other, was)) = refused ∙ sym other
+
+fleet_status : (job : FleetJob) (bytes : List (List ℕ)) (o p : Outcome) → fleet_answers job bytes o → fleet_answers job bytes p → (Unit {0} → AreWrittenAlike o p) → o.status ≡ p.status
+unfolding FoundOrRefused
+fleet_status job (bytes ∷ []) o p is was alike =
+    one_answer job bytes o p (alike tt) (found_or_refused job bytes o.status o.writes o.text is) (found_or_refused job bytes p.status p.writes p.text was)
+fleet_status job [] o p is was alike = absurd is
+fleet_status job (bytes ∷ more ∷ others) o p is was alike = absurd is
+
+fleet_stopped : (job : FleetJob) (bytes : List (List ℕ)) (o : Outcome) → fleet_answers job bytes o → o.status ≡ status.Stopped → job.nodes ≢ None
+fleet_stopped job (bytes ∷ []) o is stopped =
+    stopped_has_budget job bytes o.writes o.text (subst (λ (s : Status). FleetAnswers job bytes s o.writes o.text) stopped is)
+fleet_stopped job [] o is stopped = absurd is
+fleet_stopped job (bytes ∷ more ∷ others) o is stopped = absurd is
+
+pub fleet_lawful : (job : FleetJob) → IsLawful (fleet_task job)
+fleet_lawful job = record { one_status = fleet_status job; stopped = fleet_stopped job }

@@ -1,0 +1,26 @@
+-- What `make` finds.
+use Rattle.std.proofs.Common.{◌≡◌, ℕ, List, [], ◌∷◌, Option, Result, Ok, Err, IfOk, refl, subst, sym}
+use Rattle.command_line.specs.Words.{MakeJob}
+use Rattle.ev_outside.specs.Shelf.{Files}
+use Rattle.evroute_run.specs.MakeAnswer.{HasNoInstance, MakeAnswers, made_file, make_task}
+use Rattle.job_frame.specs.Task.{Answers, Outcome}
+use Rattle.job_frame.specs.Writes.{Written}
+use Rattle.job_frame.specs.declared.status.Status.{Status}
+use Rattle.job_frame.specs.declared.status.Status.TheVariants as status
+use Rattle.plan_writer.specs.RefusalText.{refusal_text}
+use Rattle.plan_writer.specs.declared.refusal.Refusal.TheVariants as refusal
+
+pub make_found : (job : MakeJob) (files : Option Files) (answered : Status) (ws : List Written) (text : List ℕ) → MakeAnswers job answered ws text →
+    Answers (make_task job) files (record { status = answered; writes = ws; text = text })
+make_found job files answered ws text answers = record { bytes = []; read = tt; answer = answers }
+
+pub make_refused : (job : MakeJob) (files : Option Files) → HasNoInstance job →
+    Answers (make_task job) files (record { status = status.Refused; writes = []; text = refusal_text refusal.Maker })
+make_refused job files nothing =
+    make_found job files status.Refused [] (refusal_text refusal.Maker) (record { refusal = refusal.Maker; rule = tt; refused = nothing; nothing = refl; text_is = refl })
+
+-- the made text under the name of the words
+pub file_is : (job : MakeJob) (name bytes : List ℕ) (ws : List Written) → ws ≡ record { name = name; bytes = bytes } ∷ [] → name ≡ job.outfile → bytes ≡ (made_file job).bytes → ws ≡ made_file job ∷ []
+file_is job name bytes ws is named same =
+    subst (λ (n : List ℕ). ws ≡ record { name = n; bytes = (made_file job).bytes } ∷ []) named
+    (subst (λ (bs : List ℕ). ws ≡ record { name = name; bytes = bs } ∷ []) same is)

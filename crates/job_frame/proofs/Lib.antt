@@ -1,0 +1,4 @@
+pub mod Writing
+pub mod FileReads
+pub mod Performed
+pub mod OneStatus

@@ -1,0 +1,148 @@
+-- A task whose outcome was found, written and put is performed.
+use Rattle.std.proofs.Common.{◌≡◌, ◌≢◌, ◌∙◌, ℕ, ◌⊎◌, ◌≤◌, List, [], ◌∷◌, ◌++◌, Option, None, Some, arith, inl, inr, refl, subst, sym}
+use Rattle.ev_outside.specs.Counts.{Rose}
+use Rattle.ev_outside.specs.Shelf.{CountsStay, Files, ShelfState}
+use Rattle.ev_outside.specs.Sink.{SinkState}
+use Rattle.ev_outside.specs.Sure.{sure_output, without_faults}
+use Rattle.job_frame.proofs.FileReads.{one_reading}
+use Rattle.job_frame.proofs.Writing.{leaves_held}
+use Rattle.job_frame.specs.Faults.{ComesToPut, Concludes, FailsReading, FailsToAnswer, FailsWriting, PutsPartOf, StopsToAnswer}
+use Rattle.job_frame.specs.Performs.{BreakNoRule, EndsUnlessHindered, HasFaultCause, IsCutOff, Performs, PutsAnswer, PutsPart}
+use Rattle.job_frame.specs.Task.{Answers, IsAnswered, Outcome, Task, Tells}
+use Rattle.job_frame.specs.Writes.{HoldsAll, KeepsAllBut, Leaves, StandIn, Written}
+use Rattle.job_frame.specs.declared.status.Status.{Status}
+use Rattle.job_frame.specs.declared.status.Status.TheVariants as status
+
+-- the same files hold what both outcomes wrote
+pub record AreWrittenAlike (o p : Outcome) : Type 0 where
+  pub files : Files
+  pub one : HoldsAll o.writes (Some files)
+  pub other : HoldsAll p.writes (Some files)
+
+-- what each command proves of its own task: its answers to the same bytes have one status, and a budget alone stops it
+pub record IsLawful (task : Task) : Type 0 where
+  pub one_status : (bytes : List (List ℕ)) (o p : Outcome) → task.answers bytes o → task.answers bytes p
+      → (task.is_open → AreWrittenAlike o p) → o.status ≡ p.status
+  pub stopped : (bytes : List (List ℕ)) (o : Outcome) → task.answers bytes o → o.status ≡ status.Stopped → task.has_budget
+
+both_in : (o p : Outcome) (old new : Option Files) → Leaves o.writes old new → StandIn p.writes new → AreWrittenAlike o p
+both_in o p old None leaves stand = absurd stand
+both_in o p old (Some files) leaves stand = record { files = files; one = (leaves_held o.writes old (Some files) leaves).0; other = stand }
+
+-- two answers to files that are told have one status
+one_answer : (task : Task) → IsLawful task → (files left : Option Files) (o p : Outcome) → Tells task.reads files → Answers task files o → Answers task files p
+    → Leaves o.writes files left → (task.is_open → StandIn p.writes left) → o.status ≡ p.status
+one_answer task lawful files left o p told is other leaves stand =
+    let same : other.bytes ≡ is.bytes = one_reading task.reads files other.bytes is.bytes told other.read is.read in
+    lawful.one_status is.bytes o p is.answer (subst (λ (bs : List (List ℕ)). task.answers bs p) same other.answer)
+    (λ open_. both_in o p files left leaves (stand open_))
+
+ends_so : (task : Task) → IsLawful task → (files left : Option Files) (old new : Option (List ℕ)) (ended : Status) (p : Outcome) → PutsAnswer task files left old new ended → Tells task.reads files
+    → Answers task files p → (task.is_open → StandIn p.writes left) → EndsUnlessHindered p.status ended
+ends_so task lawful files left old new ended p puts told is stand =
+    inl (puts.status_is ∙ one_answer task lawful files left puts.outcome p told puts.answers is puts.written stand)
+
+exactly : (task : Task) → IsLawful task → (files left : Option Files) (old new : Option (List ℕ)) (ended : Status) → ended ≢ status.Words →
+    (IsAnswered ended → PutsAnswer task files left old new ended) → Tells task.reads files → (o : Outcome) → Answers task files o
+    → (task.is_open → StandIn o.writes left) → EndsUnlessHindered o.status ended
+exactly task lawful files left old new status.Done words answer told o is stand = ends_so task lawful files left old new status.Done o (answer tt) told is stand
+exactly task lawful files left old new status.Negative words answer told o is stand = ends_so task lawful files left old new status.Negative o (answer tt) told is stand
+exactly task lawful files left old new status.Refused words answer told o is stand = ends_so task lawful files left old new status.Refused o (answer tt) told is stand
+exactly task lawful files left old new status.Stopped words answer told o is stand = ends_so task lawful files left old new status.Stopped o (answer tt) told is stand
+exactly task lawful files left old new status.Fault words answer told o is stand = inr (inl refl)
+exactly task lawful files left old new status.Memory words answer told o is stand = inr (inr refl)
+exactly task lawful files left old new status.Words words answer told o is stand = absurd (words refl)
+
+completely : (task : Task) → IsLawful task → (files left : Option Files) (old new : Option (List ℕ)) (ended : Status) → ended ≢ status.Words → ended ≢ status.Fault →
+    (IsAnswered ended → PutsAnswer task files left old new ended) → BreakNoRule task files →
+    (ended ≡ status.Done) ⊎ (ended ≡ status.Negative) ⊎ (ended ≡ status.Memory) ⊎ ((ended ≡ status.Stopped) × task.has_budget)
+completely task lawful files left old new status.Done words fault answer none = inl refl
+completely task lawful files left old new status.Negative words fault answer none = inr (inl refl)
+completely task lawful files left old new status.Memory words fault answer none = inr (inr (inl refl))
+completely task lawful files left old new status.Stopped words fault answer none =
+    let puts = answer tt in
+    inr (inr (inr (refl, lawful.stopped puts.answers.bytes puts.outcome puts.answers.answer (sym puts.status_is))))
+completely task lawful files left old new status.Refused words fault answer none =
+    let puts = answer tt in
+    absurd (none.unbroken puts.outcome puts.answers (sym puts.status_is))
+completely task lawful files left old new status.Fault words fault answer none = absurd (fault refl)
+completely task lawful files left old new status.Words words fault answer none = absurd (words refl)
+
+performs : (task : Task) → IsLawful task → (before after : ShelfState) (old new : SinkState) (ended : Status) → ended ≢ status.Words →
+    (IsAnswered ended → PutsAnswer task before.files after.files old.written new.written ended) → PutsPart task before.files after.files old.written new.written →
+    (ended ≡ status.Fault → HasFaultCause task before after old new) → (ended ≡ status.Memory → IsCutOff task before.files after.files old new) → Performs task before after old new ended
+performs task lawful before after old new ended words answer part fault memory = record {
+  answer = answer;
+  part = part;
+  exact = exactly task lawful before.files after.files old.written new.written ended words answer;
+  fault = fault;
+  memory = memory;
+  complete = λ none cause. completely task lawful before.files after.files old.written new.written ended words (λ is. cause (fault is)) answer none;
+}
+
+-- ---- an outcome that was found on a shelf whose files and counts stayed
+
+leaves_since : (ws : List Written) (old later new : Option Files) → later ≡ old → Leaves ws later new → Leaves ws old new
+leaves_since ws old later new same leaves = subst (λ (files : Option Files). Leaves ws files new) same leaves
+
+fails_since : (ws : List Written) (before later after : ShelfState) → later.files ≡ before.files → CountsStay before later → FailsWriting ws later after → FailsWriting ws before after
+fails_since ws before later after same stays fails = record {
+  first = fails.first;
+  write = fails.write;
+  rest = fails.rest;
+  are = fails.are;
+  written = fails.written;
+  others = subst (λ (files : Option Files). KeepsAllBut (fails.first ++ fails.write ∷ []) files after.files) same fails.others;
+  failed = subst (λ (n : ℕ). Rose n (after.failed_writes fails.write.name)) (stays.writes fails.write.name) fails.failed;
+}
+
+comes_since : (o : Outcome) (old later new : Option Files) → later ≡ old → ComesToPut o later new → ComesToPut o old new
+comes_since o old later new same comes = subst (λ (files : Option Files). ComesToPut o files new) same comes
+
+fault_since : (o : Outcome) (before later after : ShelfState) (old new : SinkState) → later.files ≡ before.files → CountsStay before later → FailsToAnswer o later after old new → FailsToAnswer o before after old new
+fault_since o before later after old new same stays (inl (fails, unput)) = inl (fails_since o.writes before later after same stays fails, unput)
+fault_since o before later after old new same stays (inr (comes, rose)) = inr (comes_since o before.files later.files after.files same comes, rose)
+
+stops_since : (o : Outcome) (files later left : Option Files) (old new : SinkState) → later ≡ files → StopsToAnswer o later left old new → StopsToAnswer o files left old new
+stops_since o files later left old new same stops = subst (λ (fs : Option Files). StopsToAnswer o fs left old new) same stops
+
+part_since : (o : Outcome) (files later left : Option Files) (old new : Option (List ℕ)) → later ≡ files → PutsPartOf o later left old new → PutsPartOf o files left old new
+part_since o files later left old new same part = subst (λ (fs : Option Files). PutsPartOf o fs left old new) same part
+
+pub performs_concluded : (task : Task) → IsLawful task → (before later after : ShelfState) (old new : SinkState) (o : Outcome) (ended : Status) → Answers task before.files o
+    → later.files ≡ before.files → CountsStay before later → ended ≢ status.Words → Concludes o later after old new ended → Performs task before after old new ended
+performs_concluded task lawful before later after old new o ended is same stays words concludes =
+    performs task lawful before after old new ended words
+    (λ answered. record {
+      outcome = o;
+      answers = is;
+      status_is = concludes.status_is answered;
+      written = leaves_since o.writes before.files later.files after.files same (concludes.written answered);
+      put = concludes.put answered;
+    })
+    (inr (o, is, part_since o before.files later.files after.files old.written new.written same concludes.part))
+    (λ fault. inr (o, is, fault_since o before later after old new same stays (concludes.fault fault)))
+    (λ memory. inr (o, is, stops_since o before.files later.files after.files old new same (concludes.memory memory)))
+
+-- a file couldn't be read
+pub performs_fault : (task : Task) → IsLawful task → (before after : ShelfState) (old : SinkState) → FailsReading task before after → after.files ≡ before.files → Performs task before after old old status.Fault
+performs_fault task lawful before after old fails same =
+    performs task lawful before after old old status.Fault (λ is. cc) (λ none. absurd none) (inl refl) (λ is. inl (fails, same, refl)) (λ is. cc)
+
+-- memory was refused before an answer was found
+pub performs_nothing : (task : Task) → IsLawful task → (before after : ShelfState) (old : SinkState) → after.files ≡ before.files → Performs task before after old old status.Memory
+performs_nothing task lawful before after old same =
+    performs task lawful before after old old status.Memory (λ is. cc) (λ none. absurd none) (inl refl) (λ is. cc) (λ is. inl (same, refl))
+
+-- ---- over files and an output that never fail
+
+pub never_rose : Rose 0 0 → ⊥
+never_rose rose = let one : 1 ≤ 0 = rose in omega (arith, one)
+
+answers_surely : (o : Outcome) (files left : Files) (old new : List ℕ) → FailsToAnswer o (without_faults files) (without_faults left) (sure_output old) (sure_output new) → ⊥
+answers_surely o files left old new (inl (fails, unput)) = never_rose fails.failed
+answers_surely o files left old new (inr (comes, rose)) = never_rose rose
+
+pub never_fails : (task : Task) (files left : Files) (old new : List ℕ) → HasFaultCause task (without_faults files) (without_faults left) (sure_output old) (sure_output new) → ⊥
+never_fails task files left old new (inl (fails, same, unput)) = never_rose fails.failed
+never_fails task files left old new (inr (o, is, fails)) = answers_surely o files left old new fails

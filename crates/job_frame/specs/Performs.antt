@@ -1,0 +1,73 @@
+-- What the program owes for a task.
+use Rattle.std.specs.Prelude.{◌≡◌, ◌≢◌, ℕ, ◌⊎◌, List, Option}
+use Rattle.ev_outside.specs.Shelf.{CountsStay, Files, ShelfState}
+use Rattle.ev_outside.specs.Sink.{Adds, SinkState}
+use Rattle.job_frame.specs.Faults.{FailsReading, FailsToAnswer, PutsPartOf, StopsToAnswer}
+use Rattle.job_frame.specs.Task.{Answers, IsAnswered, Outcome, Task, Tells}
+use Rattle.job_frame.specs.Writes.{Leaves, StandIn}
+use Rattle.job_frame.specs.declared.status.Status.{Status}
+use Rattle.job_frame.specs.declared.status.Status.TheVariants as status
+
+-- an answer with this status was written and put
+pub record PutsAnswer (task : Task)
+    (files left : Option Files) (old new : Option (List ℕ)) (ended : Status) : Type 0 where
+  pub outcome : Outcome
+  pub answers : Answers task files outcome
+  pub status_is : ended ≡ outcome.status
+  pub written : Leaves outcome.writes files left
+  pub put : Adds old new outcome.text
+
+-- nothing was put, or an answer, or a prefix of one
+abbrev pub PutsPart :
+    Task → Option Files → Option Files → Option (List ℕ) → Option (List ℕ) → Type 0
+PutsPart task files left old new =
+    (new ≡ old) ⊎ ((o : Outcome) × Answers task files o × PutsPartOf o files left old new)
+
+-- a file or the output failed when its turn came
+abbrev pub HasFaultCause : Task → ShelfState → ShelfState → SinkState → SinkState → Type 0
+HasFaultCause task before after old new =
+    (FailsReading task before after × (after.files ≡ before.files) × (new ≡ old))
+    ⊎ ((o : Outcome) × Answers task before.files o × FailsToAnswer o before after old new)
+
+-- memory was refused before an answer was found, or while it was written or put
+abbrev pub IsCutOff :
+    Task → Option Files → Option Files → SinkState → SinkState → Type 0
+IsCutOff task files left old new =
+    ((left ≡ files) × (new ≡ old))
+    ⊎ ((o : Outcome) × Answers task files o × StopsToAnswer o files left old new)
+
+-- the job ends with this status, unless a file or the output failed or memory was refused
+abbrev pub EndsUnlessHindered : Status → Status → Type 0
+EndsUnlessHindered wanted ended =
+    (ended ≡ wanted) ⊎ (ended ≡ status.Fault) ⊎ (ended ≡ status.Memory)
+
+-- what is read breaks no rule
+pub record BreakNoRule (task : Task) (files : Option Files) : Type 0 where
+  pub told : Tells task.reads files
+  pub unbroken : (o : Outcome) → Answers task files o → o.status ≢ status.Refused
+
+-- from the shelf before to the shelf after, from the old output to the new one
+pub record Performs (task : Task)
+    (before after : ShelfState) (old new : SinkState) (ended : Status) : Type 0 where
+  -- where the job ends with an answer, it is one to its files, and was written and put whole
+  pub answer : IsAnswered ended →
+      PutsAnswer task before.files after.files old.written new.written ended
+  -- however it ends, nothing else is put than an answer, or a prefix of one
+  pub part : PutsPart task before.files after.files old.written new.written
+  -- a status comes exactly where its cause holds
+  pub exact : Tells task.reads before.files → (o : Outcome) → Answers task before.files o
+      → (task.is_open → StandIn o.writes after.files) → EndsUnlessHindered o.status ended
+  -- a fault comes only where a file or the output failed in its turn, which says what the files hold
+  pub fault : ended ≡ status.Fault → HasFaultCause task before after old new
+  -- and so does want of memory
+  pub memory : ended ≡ status.Memory → IsCutOff task before.files after.files old new
+  -- where no rule is broken and nothing failed, the job is done, or its answer is negative, or memory was refused, or the
+  -- budget that it has ended it
+  pub complete : BreakNoRule task before.files → (HasFaultCause task before after old new → ⊥)
+      → (ended ≡ status.Done) ⊎ (ended ≡ status.Negative) ⊎ (ended ≡ status.Memory)
+      ⊎ ((ended ≡ status.Stopped) × task.has_budget)
+
+-- no count of failed calls is what it was not before
+pub record NothingFailed (before after : ShelfState) (old new : SinkState) : Type 0 where
+  pub shelf : CountsStay before after
+  pub sink : new.faults ≡ old.faults

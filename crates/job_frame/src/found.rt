@@ -1,0 +1,65 @@
+//! What a job finds before anything is written.
+
+use crate::status::Status;
+use std::alloc::{AllocError, Global};
+
+/// What is put, and the status that goes with it.
+#[derive(Drop)]
+pub struct Answer {
+    pub status: Status,
+    pub text: Vec<u8>,
+}
+
+/// A file that is written: its name, and all that it holds then.
+#[derive(Drop)]
+pub struct NewFile {
+    pub name: String,
+    pub bytes: Vec<u8>,
+}
+
+/// What a job finds: its answer, and the files that are written, in order, before it is put.
+#[derive(Drop)]
+pub struct Found {
+    pub answer: Answer,
+    pub files: Vec<NewFile>,
+}
+
+impl NewFile {
+    ghost use Rattle.std.specs.Prelude.{◌≡◌, IfOk};
+    ghost use Rattle.job_frame.specs.Finds.{written_by};
+
+    /// A file with this name that will hold these bytes.
+    pub fn new(alloc: Global, name: &str, bytes: Vec<u8>) -> Result<NewFile, AllocError>
+        ensures { IfOk result (λ f. written_by f ≡ record { name = name.now; bytes = bytes.items }) }
+    {
+        let name = String::from_str(alloc, name)?;
+        Ok(NewFile { name, bytes })
+    }
+}
+
+impl Found {
+    ghost use Rattle.std.specs.Prelude.{◌≡◌, ◌∷◌, [], IfOk, map};
+    ghost use Rattle.job_frame.specs.Finds.{written_by};
+    ghost use Rattle.job_frame.specs.declared.found.Found.{Found};
+
+    /// An answer for which no file is written.
+    pub fn alone(alloc: Global, answer: Answer) -> Found
+        ensures answer { result.answer ≡ answer }
+        ensures files { result.files.items ≡ [] }
+    {
+        Found {
+            answer,
+            files: Vec::new(alloc),
+        }
+    }
+
+    /// An answer before which one file is written.
+    pub fn with_file(alloc: Global, answer: Answer, file: NewFile) -> Result<Found, AllocError>
+        ensures answer { IfOk result (λ f. f.answer ≡ answer) }
+        ensures files { IfOk result (λ f. map written_by f.files.items ≡ written_by file ∷ []) }
+    {
+        let mut files = Vec::new(alloc);
+        files.push(file)?;
+        Ok(Found { answer, files })
+    }
+}
