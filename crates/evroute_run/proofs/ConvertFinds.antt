@@ -1,5 +1,5 @@
 -- What `convert` finds.
-use Rattle.std.proofs.Common.{◌≡◌, ◌≢◌, ◌∙◌, ℕ, List, [], ◌∷◌, Option, Result, Ok, Err, refl, subst, sym}
+use Rattle.std.proofs.Common.{◌≡◌, ◌≢◌, ℕ, List, [], ◌∷◌, Option, Result, Ok, Err, refl, subst}
 use Rattle.command_line.specs.Words.{ConvertJob}
 use Rattle.decimal_import.specs.Conversion.{Refuses, conversion_of}
 use Rattle.decimal_import.specs.Converted.{IsConverted}
@@ -9,7 +9,6 @@ use Rattle.ev_outside.specs.Shelf.{Files}
 use Rattle.evroute_run.specs.Caps.{most_bytes}
 use Rattle.evroute_run.specs.ConvertAnswer.{BecomesWhole, convert_task}
 use Rattle.job_frame.specs.Task.{Answers, AreReadUpTo}
-use Rattle.job_frame.specs.declared.status.Status.{Status}
 use Rattle.job_frame.specs.declared.status.Status.TheVariants as status
 use Rattle.plan_writer.specs.RefusalText.{refusal_text}
 use Rattle.plan_writer.specs.declared.refusal.Refusal.TheVariants as refusal

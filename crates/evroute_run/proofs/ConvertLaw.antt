@@ -1,5 +1,5 @@
 -- The causes of the statuses of `convert` exclude each other.
-use Rattle.std.proofs.Common.{◌≡◌, ◌∙◌, ℕ, List, [], ◌∷◌, sym}
+use Rattle.std.proofs.Common.{◌∙◌, ℕ, List, [], ◌∷◌, sym}
 use Rattle.command_line.specs.Words.{ConvertJob}
 use Rattle.ev_text.proofs.Results.{Err-ne-Ok}
 use Rattle.job_frame.proofs.OneStatus.{ExcludeEachOther, IsPlain, lawful, nothing_excludes}

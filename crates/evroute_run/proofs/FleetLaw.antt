@@ -1,5 +1,5 @@
 -- The files that `fleet` leaves tell its status, and a budget alone stops it.
-use Rattle.std.proofs.Common.{◌≡◌, ◌≢◌, ◌∙◌, ℕ, ◌<◌, ◌≤◌, ◌⊎◌, List, [], ◌∷◌, Option, None, Some, length, ap, arith, inl, inr, refl, subst, sym}
+use Rattle.std.proofs.Common.{◌≡◌, ◌≢◌, ◌∙◌, ℕ, ◌⊎◌, List, [], ◌∷◌, Option, None, Some, length, ap, arith, inl, inr, refl, subst, sym}
 use Rattle.command_line.specs.Words.{FleetJob}
 use Rattle.ev_model.specs.Network.{Network}
 use Rattle.job_frame.proofs.Performed.{AreWrittenAlike, IsLawful}

@@ -1,9 +1,9 @@
 -- What `make` finds.
-use Rattle.std.proofs.Common.{◌≡◌, ℕ, List, [], ◌∷◌, Option, Result, Ok, Err, IfOk, refl, subst, sym}
+use Rattle.std.proofs.Common.{◌≡◌, ℕ, List, [], ◌∷◌, Option, refl, subst}
 use Rattle.command_line.specs.Words.{MakeJob}
 use Rattle.ev_outside.specs.Shelf.{Files}
 use Rattle.evroute_run.specs.MakeAnswer.{HasNoInstance, MakeAnswers, made_file, make_task}
-use Rattle.job_frame.specs.Task.{Answers, Outcome}
+use Rattle.job_frame.specs.Task.{Answers}
 use Rattle.job_frame.specs.Writes.{Written}
 use Rattle.job_frame.specs.declared.status.Status.{Status}
 use Rattle.job_frame.specs.declared.status.Status.TheVariants as status

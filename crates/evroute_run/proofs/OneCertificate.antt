@@ -1,5 +1,5 @@
 -- Bytes mean one certificate at most, and so one list of priced sections.
-use Rattle.std.proofs.Common.{◌≡◌, ◌∙◌, ℕ, List, [], ◌∷◌, map, ap, ap₂, refl, sym}
+use Rattle.std.proofs.Common.{◌≡◌, ◌∙◌, ℕ, List, [], ◌∷◌, map, ap, refl, sym}
 use Rattle.ev_model.specs.Network.{Network}
 use Rattle.ev_text.proofs.Results.{Ok-injective}
 use Rattle.bound_certificate.proofs.OneCertificate.{one_written}

@@ -143,7 +143,8 @@ check_answers job (bytes ∷ plan_bytes ∷ cert_bytes ∷ []) o =
     CheckAnswers job.limit bytes plan_bytes cert_bytes o.status o.text × (o.writes ≡ [])
 check_answers job other o = ⊥
 
--- it comes to its plan where no rule of its instance is broken, and to its certificate where none of its plan's text is either
+-- it comes to its plan where no rule of its instance is broken, and to its certificate where none
+-- of its plan's text is either
 abbrev pub check_goes_on : CheckJob → List (List ℕ) → Type 0
 check_goes_on job [] = Unit {0}
 check_goes_on job (bytes ∷ []) = (g : Network) × HasFleetNetwork job.limit bytes g

@@ -43,8 +43,8 @@ abbrev pub IsMakeRefused : MakeJob → Refusal → Type 0
 IsMakeRefused job refusal.Maker = HasNoInstance job
 IsMakeRefused job other = ⊥
 
--- the time of a plan of the route than which none is faster in any fraction of a unit, from a full battery, behind the
--- made text
+-- the time of a plan of the route than which none is faster in any fraction of a unit, from a
+-- full battery, behind the made text
 pub record PutsTime (job : MakeJob) (ws : List Written) (text : List ℕ) : Type 0 where
   pub network : Network
   pub makes : MakesNetwork job network

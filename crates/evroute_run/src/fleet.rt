@@ -40,8 +40,8 @@ pub fn fleet<S: Shelf>(alloc: Global, job: &FleetWords, shelf: &mut S) -> Result
     }
 }
 
-/// What `fleet` finds on the instance of its file: the texts of a plan and of a certificate, and the
-/// report on both.
+/// What `fleet` finds on the instance of its file: the texts of a plan and of a certificate, and
+/// the report on both.
 fn plan_on(alloc: Global, inst: &Instance, job: &FleetWords) -> Result<Found, AllocError>
     requires few { customer_count inst.now ≤ most_customers }
     requires nodes { IfSome job.now.nodes (λ most. 1 ≤ most) }

@@ -27,8 +27,8 @@ pub record FailsReading (task : Task) (before after : ShelfState) : Type 0 where
   pub goes_on : task.goes_on bytes
   pub failed : HasFailedRead before after read.name
 
--- One of these files couldn't be written when its turn came: those before it hold their bytes, and nothing is known of the
--- bytes of this one alone.
+-- One of these files couldn't be written when its turn came: those before it hold their bytes,
+-- and nothing is known of the bytes of this one alone.
 pub record FailsWriting (ws : List Written) (before after : ShelfState) : Type 0 where
   pub first : List Written
   pub write : Written

@@ -20,7 +20,8 @@ outcome_of found = record {
   text = found.answer.text.items;
 }
 
--- the answer to the task's files, which were read in order; or why there is none: one of them failed, or memory was refused
+-- the answer to the task's files, which were read in order; or why there is none: one of them
+-- failed, or memory was refused
 pub record Finds
     (task : Task) (before after : ShelfState) (found : Result Found ShelfFault) : Type 0 where
   pub answered : IfOk found (λ f. IsAnswered f.answer.status)

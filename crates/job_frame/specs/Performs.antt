@@ -57,12 +57,12 @@ pub record Performs (task : Task)
   -- a status comes exactly where its cause holds
   pub exact : Tells task.reads before.files → (o : Outcome) → Answers task before.files o
       → (task.is_open → StandIn o.writes after.files) → EndsUnlessHindered o.status ended
-  -- a fault comes only where a file or the output failed in its turn, which says what the files hold
+  -- a fault comes only where a file or the output failed in its turn; that says what files hold
   pub fault : ended ≡ status.Fault → HasFaultCause task before after old new
   -- and so does want of memory
   pub memory : ended ≡ status.Memory → IsCutOff task before.files after.files old new
-  -- where no rule is broken and nothing failed, the job is done, or its answer is negative, or memory was refused, or the
-  -- budget that it has ended it
+  -- where no rule is broken and nothing failed, the job is done, or its answer is negative, or
+  -- memory was refused, or the budget that it has ended it
   pub complete : BreakNoRule task before.files → (HasFaultCause task before after old new → ⊥)
       → (ended ≡ status.Done) ⊎ (ended ≡ status.Negative) ⊎ (ended ≡ status.Memory)
       ⊎ ((ended ≡ status.Stopped) × task.has_budget)

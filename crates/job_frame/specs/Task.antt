@@ -36,7 +36,8 @@ IsAnswered status.Refused = Unit {0}
 IsAnswered status.Stopped = Unit {0}
 IsAnswered other = ⊥
 
--- the bytes that a read of the name for so many gives; where the shelf does not tell them, any of this count
+-- the bytes that a read of the name for so many gives; where the shelf does not tell them, any
+-- of this count
 abbrev pub AreReadUpTo : ℕ → Option Files → List ℕ → List ℕ → Type 0
 AreReadUpTo most None name bytes = length bytes ≤ most
 AreReadUpTo most (Some files) name bytes = bytes ≡ take most (bytes_under files name)

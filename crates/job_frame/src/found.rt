@@ -30,7 +30,8 @@ impl NewFile {
 
     /// A file with this name that will hold these bytes.
     pub fn new(alloc: Global, name: &str, bytes: Vec<u8>) -> Result<NewFile, AllocError>
-        ensures { IfOk result (λ f. written_by f ≡ record { name = name.now; bytes = bytes.items }) }
+        ensures { IfOk result (λ f. written_by f
+            ≡ record { name = name.now; bytes = bytes.items }) }
     {
         let name = String::from_str(alloc, name)?;
         Ok(NewFile { name, bytes })

@@ -1,4 +1,4 @@
-use Rattle.std.proofs.Common.{List, Option, [], ◌∷◌, ℕ, ap, refl, subst, sym}
+use Rattle.std.proofs.Common.{ap}
 use Rattle.std.specs.Option.{option_map}
 use Rattle.std.specs.Prelude.{string_bytes}
 use Rattle.command_line.specs.Words.{CheckJob, check_job_of}

@@ -1,4 +1,4 @@
-use Rattle.std.proofs.Common.{List, [], ◌∷◌, ℕ, ap, refl, subst}
+use Rattle.std.proofs.Common.{List, [], ℕ, ap, refl, subst}
 use Rattle.std.specs.Prelude.{string_bytes}
 use Rattle.command_line.specs.Words.{FixedJob, job_with}
 use Rattle.evroute_run.proofs.FixedFinds.{fixed_found}

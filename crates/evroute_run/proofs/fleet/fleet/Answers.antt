@@ -1,10 +1,10 @@
-use Rattle.std.proofs.Common.{◌≡◌, IfOk, List, [], ◌∷◌, ℕ, refl, rules, subst}
+use Rattle.std.proofs.Common.{◌≡◌, IfOk, [], refl, rules}
 use Rattle.std.specs.Prelude.{string_bytes}
 use Rattle.command_line.specs.Words.{FleetJob, fleet_job_of}
 use Rattle.evroute_run.proofs.FleetFinds.{both_differ, fleet_found, fleet_refused, found_is_answered}
 use Rattle.evroute_run.specs.Caps.{file_read, most_bytes}
 use Rattle.evroute_run.specs.FleetAnswer.{fleet_task}
-use Rattle.job_frame.proofs.FileReads.{fails_at_once, finds, finds_alone, finds_memory, finds_none, named_failed, named_read, ok_is_no_error}
+use Rattle.job_frame.proofs.FileReads.{fails_at_once, finds, finds_alone, finds_none, named_failed, named_read, ok_is_no_error}
 use Rattle.job_frame.specs.Finds.{outcome_of}
 use Rattle.job_frame.specs.declared.status.Status.TheVariants as status
 use Rattle.plan_writer.specs.RefusalText.{refusal_text}
