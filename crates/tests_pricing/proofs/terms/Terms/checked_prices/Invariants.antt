@@ -1,6 +1,6 @@
 use Rattle.std.proofs.Common.{◌≡◌, ◌≤◌, ◌^◌, length, unsigned_abs}
 use Rattle.std.specs.List.{All}
-use Rattle.pricing_tests.proofs.terms.Terms.checked_prices.Given as goal
+use Rattle.tests_pricing.proofs.terms.Terms.checked_prices.Given as goal
 
 abbrev pub invariant-loop-number : goal.invariant-loop-number
 invariant-loop-number g l = record {

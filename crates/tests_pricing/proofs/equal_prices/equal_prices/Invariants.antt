@@ -1,6 +1,6 @@
 use Rattle.std.proofs.Common.{◌≡◌, ◌≤◌, ◌^◌, length, unsigned_abs}
 use Rattle.std.specs.List.{All}
-use Rattle.pricing_tests.proofs.equal_prices.equal_prices.Given as goal
+use Rattle.tests_pricing.proofs.equal_prices.equal_prices.Given as goal
 
 abbrev pub invariant-loop : goal.invariant-loop
 invariant-loop l = record {
