@@ -4,6 +4,7 @@
 use ev_outside::{FileShelf, OutSink};
 use evroute_run::{SystemDiagnostics, run_to_end};
 pub use evroute_run::{Status, exit_code, run};
+use plain_words::{HeardSink, in_words, long_certificate, out_of_reach, unwritable};
 use std::alloc::{AllocError, Global};
 use std::process::ExitCode;
 use std::{env, io};
@@ -11,9 +12,14 @@ use std::{env, io};
 fn main(rt: HostRuntime) -> ExitCode {
     let alloc = rt.alloc();
     let mut shelf = FileShelf::new(alloc, &rt);
-    let mut out = OutSink::new(&rt);
+    let mut out = HeardSink::over(OutSink::new(&rt));
     let mut people = SystemDiagnostics::new(&rt);
-    run_to_end(alloc, words_of(&rt), &mut shelf, &mut out, &mut people)
+    if tell_unwritable(&rt) {
+        return ExitCode::from(Status::Fault.code());
+    }
+    let code = run_to_end(alloc, words_of(&rt), &mut shelf, &mut out, &mut people);
+    tell_in_words(&rt, out.first_line());
+    code
 }
 
 /// The words behind the program's name.
@@ -22,5 +28,41 @@ fn words_of(rt: &HostRuntime) -> io::Result<Vec<String>> {
     match env::args(rt)?.skip(1).collect::<Vec<String>>(alloc) {
         Ok(words) => Ok(words),
         Err(AllocError) => Err(io::Error::from(AllocError)),
+    }
+}
+
+/// Tells people on standard error what the line means that was printed first, where it is a refused
+/// or a rejected one or the usage text, else which customer is out of reach, or that a certificate is
+/// too long to be read again. Nothing is done where memory is refused or standard error fails.
+fn tell_in_words(rt: &HostRuntime, line: &str) {
+    let Ok(words) = words_of(rt) else { return };
+    if let Ok(Some(told)) = meaning(rt, words.as_slice(), line) {
+        let _ = eprintln!(rt; "evroute: {told}");
+    }
+}
+
+/// What people are told of the line that was printed first.
+fn meaning(rt: &HostRuntime, words: &[String], line: &str) -> Result<Option<String>, AllocError> {
+    let alloc = rt.alloc();
+    if let Some(told) = in_words(alloc, words, line)? {
+        return Ok(Some(told));
+    }
+    if let Some(told) = out_of_reach(alloc, &mut FileShelf::new(alloc, rt), words, line)? {
+        return Ok(Some(told));
+    }
+    long_certificate(alloc, rt, words)
+}
+
+/// Whether a file that would be written behind a long search can't be; then people are told which.
+fn tell_unwritable(rt: &HostRuntime) -> bool {
+    let Ok(words) = words_of(rt) else {
+        return false;
+    };
+    match unwritable(rt.alloc(), rt, words.as_slice()) {
+        Ok(Some(told)) => {
+            let _ = eprintln!(rt; "evroute: {told}");
+            true
+        }
+        _ => false,
     }
 }

@@ -20,3 +20,5 @@ mod many_customers;
 mod sure;
 #[cfg(test)]
 mod system;
+#[cfg(test)]
+mod words;

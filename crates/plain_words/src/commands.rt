@@ -1,0 +1,82 @@
+//! The commands of the program, as the usage text has them.
+
+/// A command: the names behind it, in order, and its options.
+#[derive(Clone, Copy)]
+pub(crate) struct Command {
+    pub(crate) names: &'static [&'static str],
+    pub(crate) options: &'static [NumberOption],
+}
+
+/// An option, whose value is a whole number of at most `most`.
+#[derive(Clone, Copy)]
+pub(crate) struct NumberOption {
+    pub(crate) word: &'static str,
+    pub(crate) most: u64,
+    pub(crate) is_required: bool,
+}
+
+const LIMIT: NumberOption = NumberOption {
+    word: "--limit",
+    most: 1_000_000_000_000_000_000,
+    is_required: false,
+};
+
+const CHARGE: NumberOption = NumberOption {
+    word: "--charge",
+    most: 1_000_000_000_000_000_000,
+    is_required: false,
+};
+
+const NODES: NumberOption = NumberOption {
+    word: "--nodes",
+    most: 1_000_000_000_000_000_000,
+    is_required: false,
+};
+
+const TIME_DIGITS: NumberOption = NumberOption {
+    word: "--time-digits",
+    most: 1_000_000_000,
+    is_required: true,
+};
+
+const ENERGY_DIGITS: NumberOption = NumberOption {
+    word: "--energy-digits",
+    most: 1_000_000_000,
+    is_required: true,
+};
+
+/// The command of a word.
+pub(crate) fn command_of(word: &str) -> Option<Command> {
+    match word {
+        "fixed" => Some(Command {
+            names: &["FILE", "ROUTE"],
+            options: &[LIMIT, CHARGE],
+        }),
+        "fleet" => Some(Command {
+            names: &["FILE", "PLAN", "CERT"],
+            options: &[LIMIT, NODES],
+        }),
+        "check" => Some(Command {
+            names: &["FILE", "PLAN", "CERT"],
+            options: &[LIMIT],
+        }),
+        "convert" => Some(Command {
+            names: &["FILE", "OUTFILE"],
+            options: &[TIME_DIGITS, ENERGY_DIGITS],
+        }),
+        "make" => Some(Command {
+            names: &["SEED", "CUSTOMERS", "STATIONS", "OUTFILE"],
+            options: &[],
+        }),
+        _ => None,
+    }
+}
+
+/// The greatest number that a name stands for; `None` where it is no number.
+pub(crate) fn greatest(name: &str) -> Option<u64> {
+    match name {
+        "SEED" => Some(u64::MAX),
+        "CUSTOMERS" | "STATIONS" => Some(4_294_967_295),
+        _ => None,
+    }
+}

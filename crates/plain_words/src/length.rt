@@ -1,0 +1,29 @@
+//! A certificate that was written and that `check` can't read.
+
+use crate::names::names_of;
+use std::alloc::{AllocError, Global};
+use std::fs::metadata;
+use std::rt::Files;
+
+/// The most bytes of a certificate that `check` reads.
+const MOST: u64 = 1 << 28;
+
+/// What is said of a certificate that `fleet` wrote and that is longer than `check` reads. `None`
+/// for other commands, and where the system tells no length.
+pub fn long_certificate<R: Files>(
+    alloc: Global,
+    files: &R,
+    words: &[String],
+) -> Result<Option<String>, AllocError> {
+    let names = names_of(alloc, words)?;
+    let ["fleet", _, _, cert] = names.as_slice() else {
+        return Ok(None);
+    };
+    match metadata(files, *cert) {
+        Ok(found) if found.is_file() && found.len() > MOST => Ok(Some(format!(in alloc;
+            "{cert}: {} bytes long, and evroute check reads at most {MOST}",
+            found.len()
+        )?)),
+        _ => Ok(None),
+    }
+}

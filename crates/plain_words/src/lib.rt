@@ -1,0 +1,38 @@
+//! What the program prints, in words for people.
+//!
+//! A line that is refused or rejected names a rule by its number, and the usage text doesn't say
+//! which word is wrong. What stands here says it in words, for standard error; standard output
+//! stays as it is. Nothing is proved of the wording but that no other line has any.
+#![tactic(auto)]
+
+mod commands;
+mod heard;
+mod length;
+mod names;
+mod reach;
+mod refused;
+mod rejected;
+mod writing;
+mod wrong_words;
+
+pub use heard::HeardSink;
+pub use length::long_certificate;
+use names::names_of;
+pub use reach::out_of_reach;
+use std::alloc::{AllocError, Global};
+pub use writing::unwritable;
+
+/// What the first line that was printed means, in words with the names of the files: of a line that
+/// begins with `refused` or `rejected`, and of the usage text, which of the program's words is
+/// wrong. `None` for any other line, and where no word is wrong. `words` stand behind the
+/// program's name.
+pub fn in_words(alloc: Global, words: &[String], line: &str) -> Result<Option<String>, AllocError> {
+    let parts = line.split(' ').collect::<Vec<&str>>(alloc)?;
+    let names = names_of(alloc, words)?;
+    match parts.as_slice() {
+        ["refused", cause @ ..] => refused::in_words(alloc, names.as_slice(), cause),
+        ["rejected", rule @ ..] => rejected::in_words(alloc, names.as_slice(), rule),
+        ["evroute", ..] => wrong_words::in_words(alloc, words),
+        _ => Ok(None),
+    }
+}

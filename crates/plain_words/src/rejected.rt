@@ -1,0 +1,85 @@
+//! Lines that begin with `rejected`.
+
+use crate::names::name_at;
+use std::alloc::{AllocError, Global};
+
+/// What a broken rule means, by the parts of its line behind the first word.
+pub(crate) fn in_words(
+    alloc: Global,
+    names: &[&str],
+    rule: &[&str],
+) -> Result<Option<String>, AllocError> {
+    match rule {
+        ["plan", rule @ ..] => plan(alloc, name_at(names, 2), rule),
+        ["certificate", rule @ ..] => certificate(alloc, name_at(names, 3), rule),
+        _ => Ok(None),
+    }
+}
+
+/// What a broken rule of a fleet plan means.
+fn plan(alloc: Global, file: &str, rule: &[&str]) -> Result<Option<String>, AllocError> {
+    match rule {
+        ["1", "route", route, "walk", walk] => Ok(Some(format!(in alloc;
+            "{file}: route {route}, counted from 0, {}",
+            walked(walk)
+        )?)),
+        ["1", "route", route, "walk", walk, "at", at] => Ok(Some(format!(in alloc;
+            "{file}: route {route}, at stop {at}, both counted from 0, {}",
+            walked(walk)
+        )?)),
+        ["2", "customer", node] => Ok(Some(format!(in alloc;
+            "{file}: customer {node} is served more than once"
+        )?)),
+        ["3", "customer", node] => Ok(Some(format!(in alloc;
+            "{file}: customer {node} is served by no route"
+        )?)),
+        ["4", "route", route] => Ok(Some(format!(in alloc;
+            "{file}: route {route}, counted from 0, serves no customer"
+        )?)),
+        ["5", "route", route, "at", at] => Ok(Some(format!(in alloc;
+            "{file}: route {route}: stop {at} wasn't inserted, and is no customer"
+        )?)),
+        _ => Ok(None),
+    }
+}
+
+/// What the rule of a walk with this number says of the vehicle.
+fn walked(walk: &str) -> &'static str {
+    match walk {
+        "1" => "doesn't begin and end at the depot, each time without charging there",
+        "2" => "comes to a node that isn't in the instance",
+        "3" => "stays where it is",
+        "4" => "arrives with less than the reserve, or at home with less than it must",
+        "5" => "charges, or stops over, where no station is",
+        "6" => "charges more than the battery holds",
+        "7" => "takes longer than the limit",
+        _ => "breaks a rule",
+    }
+}
+
+/// What a broken rule of a certificate means.
+fn certificate(alloc: Global, file: &str, rule: &[&str]) -> Result<Option<String>, AllocError> {
+    match rule {
+        ["1", "section", section] => Ok(Some(format!(in alloc;
+            "{file}: section {section} lists no label of a vehicle that starts"
+        )?)),
+        ["2", "section", section, "label", label, "node", node] => Ok(Some(format!(in alloc;
+            "{file}: section {section}: the step from label {label} to node {node} leads to no \
+             listed label"
+        )?)),
+        ["3", "section", section, "label", label] => Ok(Some(format!(in alloc;
+            "{file}: section {section}: from label {label} a vehicle comes home for less than its \
+             customers' prices"
+        )?)),
+        ["4", "leaf", leaf] => Ok(Some(format!(in alloc;
+            "{file}: leaf {leaf} of the tree allows a pair that its section forbids"
+        )?)),
+        ["5", "leaf", leaf] => Ok(Some(format!(in alloc;
+            "{file}: the section of leaf {leaf} doesn't show the bound"
+        )?)),
+        ["6"] => Ok(Some(format!(in alloc;
+            "{file}: the root is not the least cost of a fractional cover"
+        )?)),
+        _ => Ok(None),
+    }
+}

@@ -1,0 +1,171 @@
+//! Words that name no job: which of them is wrong.
+
+use crate::commands::{Command, NumberOption, command_of, greatest};
+use crate::names::{is_option, names_of};
+use std::alloc::{AllocError, Global};
+
+/// Which word is wrong, and why. `None` where the program was asked for its usage, or where no
+/// wrong word is found.
+pub(crate) fn in_words(alloc: Global, words: &[String]) -> Result<Option<String>, AllocError> {
+    if asks_for_usage(words) {
+        return Ok(None);
+    }
+    let names = names_of(alloc, words)?;
+    let Some(first) = names.first() else {
+        return Ok(Some(format!(in alloc; "no command is named")?));
+    };
+    let Some(command) = command_of(first) else {
+        return Ok(Some(format!(in alloc; "{first} is no command")?));
+    };
+    if let Some(wrong) = wrong_options(alloc, first, &command, words)? {
+        return Ok(Some(wrong));
+    }
+    wrong_names(alloc, first, &command, names.as_slice())
+}
+
+/// Whether there are no words, or one of them asks how the program is called.
+fn asks_for_usage(words: &[String]) -> bool {
+    words.is_empty()
+        || words
+            .iter()
+            .any(|word| matches!(word.as_str(), "-h" | "--help" | "help"))
+}
+
+/// What is wrong with the options, from the left; last, which one is missing.
+fn wrong_options(
+    alloc: Global,
+    name: &str,
+    command: &Command,
+    words: &[String],
+) -> Result<Option<String>, AllocError> {
+    let mut given: Vec<&str> = Vec::new(alloc);
+    let mut is_value = false;
+    for (at, word) in words.iter().enumerate() {
+        let word = word.as_str();
+        if is_value {
+            is_value = false;
+            continue;
+        }
+        if word == "--" {
+            break;
+        }
+        if !is_option(word) {
+            continue;
+        }
+        is_value = !word.contains('=');
+        let (option, value) = option_at(words, at, word);
+        if let Some(wrong) = wrong_option(alloc, name, command, option, value)? {
+            return Ok(Some(wrong));
+        }
+        if given.contains(&option) {
+            return Ok(Some(format!(in alloc; "{option} is given twice")?));
+        }
+        given.push(option)?;
+    }
+    missing_option(alloc, name, command, given.as_slice())
+}
+
+/// The option of the word at a place, and its value, which follows a `=` or is the next word.
+fn option_at<'a>(words: &'a [String], at: usize, word: &'a str) -> (&'a str, Option<&'a str>) {
+    if let Some((option, value)) = word.split_once('=') {
+        return (option, Some(value));
+    }
+    match words.get(at.saturating_add(1)) {
+        Some(next) => (word, Some(next.as_str())),
+        None => (word, None),
+    }
+}
+
+/// What is wrong with one option and its value.
+fn wrong_option(
+    alloc: Global,
+    name: &str,
+    command: &Command,
+    option: &str,
+    value: Option<&str>,
+) -> Result<Option<String>, AllocError> {
+    let Some(known) = option_of(command, option) else {
+        return Ok(Some(format!(in alloc; "{option} is no option of {name}")?));
+    };
+    let Some(value) = value else {
+        return Ok(Some(format!(in alloc; "{option} needs a number behind it")?));
+    };
+    if is_number(value, known.most) {
+        return Ok(None);
+    }
+    Ok(Some(format!(in alloc;
+        "{option} {value}: no whole number of at most {}",
+        known.most
+    )?))
+}
+
+/// The option of a command with this word.
+fn option_of(command: &Command, word: &str) -> Option<NumberOption> {
+    command.options.iter().copied().find(|it| it.word == word)
+}
+
+/// Which option has to be given and isn't.
+fn missing_option(
+    alloc: Global,
+    name: &str,
+    command: &Command,
+    given: &[&str],
+) -> Result<Option<String>, AllocError> {
+    for option in command.options {
+        if option.is_required && !given.contains(&option.word) {
+            return Ok(Some(format!(in alloc; "{name} needs {} N", option.word)?));
+        }
+    }
+    Ok(None)
+}
+
+/// What is wrong with the names behind a command.
+fn wrong_names(
+    alloc: Global,
+    name: &str,
+    command: &Command,
+    names: &[&str],
+) -> Result<Option<String>, AllocError> {
+    let given = names.len().saturating_sub(1);
+    let wanted = command.names.len();
+    if given != wanted {
+        return Ok(Some(format!(in alloc;
+            "{name} takes {wanted} names behind it, and {given} are given"
+        )?));
+    }
+    for (name, what) in names.iter().skip(1).zip(command.names) {
+        if let Some(most) = greatest(what) {
+            if !is_number(name, most) {
+                return Ok(Some(format!(in alloc;
+                    "{what} {name}: no whole number of at most {most}"
+                )?));
+            }
+        }
+    }
+    twice(alloc, names)
+}
+
+/// Which file is named twice.
+fn twice(alloc: Global, names: &[&str]) -> Result<Option<String>, AllocError> {
+    for (at, name) in names.iter().enumerate().skip(1) {
+        if names[at + 1..].contains(name) {
+            return Ok(Some(format!(in alloc; "{name} is named twice")?));
+        }
+    }
+    Ok(None)
+}
+
+/// Whether a word is a whole number of at most `most`, without zeros in front.
+fn is_number(word: &str, most: u64) -> bool {
+    let digits = word.as_bytes();
+    if digits.is_empty() || !digits.iter().all(|digit| digit.is_ascii_digit()) {
+        return false;
+    }
+    if digits.len() > 1 && digits.first() == Some(&b'0') {
+        return false;
+    }
+    match word.parse::<u64>() {
+        Ok(number) => number <= most,
+        Err(_) => false,
+    }
+}

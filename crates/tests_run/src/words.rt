@@ -1,0 +1,123 @@
+//! What people are told beside the output.
+
+use plain_words::in_words;
+use std::alloc::{AllocError, Global};
+use std::test::Fail;
+
+/// What is said of a line that was printed for these words, which are parted by blanks.
+fn said(alloc: Global, words: &str, line: &str) -> Result<String, AllocError> {
+    let mut list = Vec::new(alloc);
+    for word in words.split_ascii_whitespace() {
+        list.push(String::from_str(alloc, word)?)?;
+    }
+    match in_words(alloc, list.as_slice(), line)? {
+        Some(text) => Ok(text),
+        None => Ok(String::new(alloc)),
+    }
+}
+
+#[test]
+fn refusals_are_told_with_the_file(rt: HostRuntime) -> Result<(), Fail> {
+    let alloc = rt.alloc();
+    for (words, line, want) in [
+        (
+            "fixed --limit 5 shop.json 0,1,0",
+            "refused instance 4 max_q",
+            "shop.json: max_q is of another kind than it must be (evroute convert makes decimals \
+             whole)",
+        ),
+        (
+            "fleet a b c",
+            "refused instance 2",
+            "a: no JSON text (in UTF-8, without a byte order mark)",
+        ),
+        (
+            "check a b c",
+            "refused plan 4 at 7",
+            "b: ends too early, at byte 7",
+        ),
+        (
+            "check a b --limit=3 c",
+            "refused certificate 3",
+            "c: a certificate of another version",
+        ),
+        (
+            "fixed a 0,1",
+            "refused route 4",
+            "the route 0,1 doesn't begin and end at the depot, node 0",
+        ),
+        ("fixed a 0,1,0", "time 43/2", ""),
+        ("fixed a 0,1,0", "infeasible", ""),
+    ] {
+        let found = said(alloc, words, line)?;
+        assert_eq!(rt; found.as_str(), want, "at {line}");
+    }
+    Ok(())
+}
+
+#[test]
+fn broken_rules_are_told_with_the_file(rt: HostRuntime) -> Result<(), Fail> {
+    let alloc = rt.alloc();
+    for (line, want) in [
+        (
+            "rejected plan 1 route 0 walk 4 at 7",
+            "b: route 0, at stop 7, both counted from 0, arrives with less than the reserve, or at \
+             home with less than it must",
+        ),
+        (
+            "rejected plan 3 customer 5",
+            "b: customer 5 is served by no route",
+        ),
+        (
+            "rejected certificate 5 leaf 0",
+            "c: the section of leaf 0 doesn't show the bound",
+        ),
+    ] {
+        let found = said(alloc, "check a b c", line)?;
+        assert_eq!(rt; found.as_str(), want, "at {line}");
+    }
+    Ok(())
+}
+
+#[test]
+fn a_wrong_word_is_named(rt: HostRuntime) -> Result<(), Fail> {
+    let alloc = rt.alloc();
+    for (words, want) in [
+        ("", ""),
+        ("--help", ""),
+        ("fixed -h", ""),
+        ("--limit 5", "no command is named"),
+        ("fix a 0,1,0", "fix is no command"),
+        ("fixed a 0,1,0 --foot 3", "--foot is no option of fixed"),
+        (
+            "fixed a 0,1,0 --limit 5.5",
+            "--limit 5.5: no whole number of at most 1000000000000000000",
+        ),
+        ("fixed a 0,1,0 --limit", "--limit needs a number behind it"),
+        (
+            "fixed a 0,1,0 --limit 1 --limit=2",
+            "--limit is given twice",
+        ),
+        (
+            "convert a b --time-digits 1",
+            "convert needs --energy-digits N",
+        ),
+        (
+            "check a b",
+            "check takes 3 names behind it, and 2 are given",
+        ),
+        ("check a b a", "a is named twice"),
+        (
+            "make 1 x 0 m",
+            "CUSTOMERS x: no whole number of at most 4294967295",
+        ),
+    ] {
+        let found = said(
+            alloc,
+            words,
+            "evroute fixed FILE ROUTE [--limit N] [--charge N]",
+        )?;
+        assert_eq!(rt; found.as_str(), want, "at {words}");
+    }
+    Ok(())
+}
