@@ -14,9 +14,7 @@ fn main(rt: HostRuntime) -> ExitCode {
     let mut shelf = FileShelf::new(alloc, &rt);
     let mut out = HeardSink::over(OutSink::new(&rt));
     let mut people = SystemDiagnostics::new(&rt);
-    if tell_unwritable(&rt) {
-        return ExitCode::from(Status::Fault.code());
-    }
+    tell_unwritable(&rt);
     let code = run_to_end(alloc, words_of(&rt), &mut shelf, &mut out, &mut people);
     tell_in_words(&rt, out.first_line());
     code
@@ -53,16 +51,11 @@ fn meaning(rt: &HostRuntime, words: &[String], line: &str) -> Result<Option<Stri
     long_certificate(alloc, rt, words)
 }
 
-/// Whether a file that would be written behind a long search can't be; then people are told which.
-fn tell_unwritable(rt: &HostRuntime) -> bool {
-    let Ok(words) = words_of(rt) else {
-        return false;
-    };
-    match unwritable(rt.alloc(), rt, words.as_slice()) {
-        Ok(Some(told)) => {
-            let _ = eprintln!(rt; "evroute: {told}");
-            true
-        }
-        _ => false,
+/// Tells people before a long search which of its files can't be written. The search goes on: what
+/// becomes of it is for the files to say.
+fn tell_unwritable(rt: &HostRuntime) {
+    let Ok(words) = words_of(rt) else { return };
+    if let Ok(Some(told)) = unwritable(rt.alloc(), rt, words.as_slice()) {
+        let _ = eprintln!(rt; "evroute: {told}");
     }
 }

@@ -20,10 +20,10 @@ pub fn unwritable<R: Files>(
         return Ok(None);
     };
     if let Some(why) = cause(files, plan) {
-        return Ok(Some(format!(in alloc; "{plan}: {why}")?));
+        return Ok(Some(format!(in alloc; "{plan} can't be written: {why}")?));
     }
     match cause(files, cert) {
-        Some(why) => Ok(Some(format!(in alloc; "{cert}: {why}")?)),
+        Some(why) => Ok(Some(format!(in alloc; "{cert} can't be written: {why}")?)),
         None => Ok(None),
     }
 }
@@ -31,7 +31,7 @@ pub fn unwritable<R: Files>(
 /// Why a name can't be written.
 fn cause<R: Files>(files: &R, name: &str) -> Option<&'static str> {
     match metadata(files, name) {
-        Ok(found) if found.is_dir() => Some("is a folder"),
+        Ok(found) if found.is_dir() => Some("it is a folder"),
         Ok(_) => None,
         Err(error) if error.kind() == ErrorKind::NotFound => lacks_folder(files, name),
         Err(error) if error.kind() == ErrorKind::NotADirectory => Some("its folder is a file"),
