@@ -10,3 +10,5 @@ mod certificates;
 mod instances;
 #[cfg(test)]
 mod reports;
+#[cfg(test)]
+mod units;

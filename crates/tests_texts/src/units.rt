@@ -1,0 +1,67 @@
+//! That each key of an instance with a unit is one under which numbers become whole.
+
+use decimal_import::convert;
+use instance_reader::{Key, Part};
+use std::alloc::{AllocError, Global};
+use std::test::Fail;
+
+/// What 1.5 under a key becomes with one digit of times and two of energies. A key that is new here
+/// has to be told of what it is.
+fn under_key(key: Key) -> &'static str {
+    match key {
+        Key::Service | Key::Time | Key::TMax | Key::MaxT => "15",
+        Key::MaxQ | Key::Energy | Key::MinQ | Key::HomeQ => "150",
+        Key::Css | Key::Breaks => "1.5",
+    }
+}
+
+/// The same under a part of an entry.
+fn under_part(part: Part) -> &'static str {
+    match part {
+        Part::Time | Part::Plug => "15",
+        Part::Charge => "150",
+        Part::NodeId | Part::TypeName => "1.5",
+    }
+}
+
+/// An object with this number under a name.
+fn object(alloc: Global, name: &str, number: &str) -> Result<String, AllocError> {
+    format!(in alloc; "{{\"{name}\":{number}}}")
+}
+
+#[test]
+fn what_the_reader_reads_as_a_time_or_an_energy_becomes_whole(rt: HostRuntime) -> Result<(), Fail> {
+    let alloc = rt.alloc();
+    let keys = [
+        Key::MaxQ,
+        Key::Css,
+        Key::Breaks,
+        Key::Service,
+        Key::Energy,
+        Key::Time,
+        Key::TMax,
+        Key::MaxT,
+        Key::MinQ,
+        Key::HomeQ,
+    ];
+    for key in keys {
+        let text = object(alloc, key.name(), "1.5")?;
+        let whole = convert(alloc, text.as_bytes(), 1, 2).expect(&rt, "a text");
+        let wanted = object(alloc, key.name(), under_key(key))?;
+        assert_eq!(rt; whole.as_slice(), wanted.as_bytes());
+    }
+    let parts = [
+        Part::NodeId,
+        Part::TypeName,
+        Part::Time,
+        Part::Charge,
+        Part::Plug,
+    ];
+    for part in parts {
+        let text = object(alloc, part.name(), "1.5")?;
+        let whole = convert(alloc, text.as_bytes(), 1, 2).expect(&rt, "a text");
+        let wanted = object(alloc, part.name(), under_part(part))?;
+        assert_eq!(rt; whole.as_slice(), wanted.as_bytes());
+    }
+    Ok(())
+}
