@@ -1,8 +1,8 @@
--- What `make` finds.
-use Rattle.std.proofs.Common.{◌≡◌, ℕ, List, [], ◌∷◌, Option, refl, subst}
+-- What `make` answers.
+use Rattle.std.proofs.Common.{ℕ, List, [], Option, refl}
 use Rattle.command_line.specs.Words.{MakeJob}
 use Rattle.ev_outside.specs.Shelf.{Files}
-use Rattle.evroute_run.specs.MakeAnswer.{HasNoInstance, MakeAnswers, made_file, make_task}
+use Rattle.evroute_run.specs.MakeAnswer.{HasNoInstance, MakeAnswers, make_task}
 use Rattle.job_frame.specs.Task.{Answers}
 use Rattle.job_frame.specs.Writes.{Written}
 use Rattle.job_frame.specs.declared.status.Status.{Status}
@@ -18,9 +18,3 @@ pub make_refused : (job : MakeJob) (files : Option Files) → HasNoInstance job 
     Answers (make_task job) files (record { status = status.Refused; writes = []; text = refusal_text refusal.Maker })
 make_refused job files nothing =
     make_found job files status.Refused [] (refusal_text refusal.Maker) (record { refusal = refusal.Maker; rule = tt; refused = nothing; nothing = refl; text_is = refl })
-
--- the made text under the name of the words
-pub file_is : (job : MakeJob) (name bytes : List ℕ) (ws : List Written) → ws ≡ record { name = name; bytes = bytes } ∷ [] → name ≡ job.outfile → bytes ≡ (made_file job).bytes → ws ≡ made_file job ∷ []
-file_is job name bytes ws is named same =
-    subst (λ (n : List ℕ). ws ≡ record { name = n; bytes = (made_file job).bytes } ∷ []) named
-    (subst (λ (bs : List ℕ). ws ≡ record { name = name; bytes = bs } ∷ []) same is)

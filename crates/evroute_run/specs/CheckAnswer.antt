@@ -157,6 +157,7 @@ check_task job = record {
   reads = file_read job.file ∷ file_read job.plan ∷ certificate_read job.cert ∷ [];
   goes_on = check_goes_on job;
   answers = check_answers job;
+  writes_first = λ ws. ⊥;
   is_open = ⊥;
   has_budget = ⊥;
 }

@@ -56,6 +56,7 @@ convert_task job = record {
   reads = file_read job.file ∷ [];
   goes_on = λ before. Unit {0};
   answers = convert_answers job;
+  writes_first = λ ws. ⊥;
   is_open = ⊥;
   has_budget = ⊥;
 }

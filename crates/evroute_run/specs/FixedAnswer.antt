@@ -93,6 +93,7 @@ fixed_task job = record {
   reads = file_read job.file ∷ [];
   goes_on = λ before. Unit {0};
   answers = fixed_answers job;
+  writes_first = λ ws. ⊥;
   is_open = ⊥;
   has_budget = ⊥;
 }

@@ -145,6 +145,7 @@ fleet_task job = record {
   reads = file_read job.file ∷ [];
   goes_on = λ before. Unit {0};
   answers = fleet_answers job;
+  writes_first = λ ws. ⊥;
   is_open = Unit {0};
   has_budget = job.nodes ≢ None;
 }

@@ -82,11 +82,13 @@ abbrev pub make_answers : MakeJob → List (List ℕ) → Outcome → Type 0
 make_answers job [] o = MakeAnswers job o.status o.writes o.text
 make_answers job other o = ⊥
 
+-- it writes its file wherever an instance is made, before the route is charged
 abbrev pub make_task : MakeJob → Task
 make_task job = record {
   reads = [];
   goes_on = λ before. ⊥;
   answers = make_answers job;
+  writes_first = λ ws. (HasNoInstance job → ⊥) × (ws ≡ made_file job ∷ []);
   is_open = ⊥;
   has_budget = ⊥;
 }

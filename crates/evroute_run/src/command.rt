@@ -6,19 +6,19 @@ ghost use Rattle.ev_outside.specs.Shelf.{CountsNeverFall};
 ghost use Rattle.evroute_run.specs.Ending.{Runs};
 ghost use Rattle.evroute_run.specs.Run.{TellsUsage, job_named, task_of};
 ghost use Rattle.job_frame.specs.Codes.{code_of};
-ghost use Rattle.job_frame.specs.Finds.{Finds};
 ghost use Rattle.job_frame.specs.Performs.{NothingFailed, Performs};
 ghost use Rattle.job_frame.specs.declared.status.Status.{Status};
 
 use crate::check::check;
 use crate::convert::convert;
+use crate::finish::finish;
 use crate::fixed::fixed;
 use crate::fleet::fleet;
 use crate::make::make;
 use crate::usage::put_usage;
 use command_line::{Job, job_words};
-use ev_outside::{Shelf, ShelfFault, Sink};
-use job_frame::{Found, Status, conclude};
+use ev_outside::{Shelf, Sink};
+use job_frame::Status;
 use std::alloc::{AllocError, Global};
 
 /// The program: its words after its name, the files and the output.
@@ -91,7 +91,7 @@ pub fn exit_code<S: Shelf, K: Sink>(
     run(alloc, words, shelf, out).code()
 }
 
-/// A job: what it finds is written and put.
+/// A job. What it finds is written and put; `make` writes before it seeks its answer.
 fn perform<S: Shelf, K: Sink>(alloc: Global, job: &Job, shelf: &mut S, out: &mut K) -> Status
     requires { IsJob job.now }
     ensures words { result ≢ Status.Words }
@@ -104,23 +104,11 @@ fn perform<S: Shelf, K: Sink>(alloc: Global, job: &Job, shelf: &mut S, out: &mut
     ensures memory { K.takes_memory ≡ false → result ≡ Status.Memory
         → K.state out.new ≡ K.state out.old }
 {
-    match find(alloc, job, shelf) {
-        Ok(found) => conclude(&found, shelf, out),
-        Err(ShelfFault::Failed) => Status::Fault,
-        Err(ShelfFault::Memory) => Status::Memory,
-    }
-}
-
-/// What a job finds, or why it finds nothing.
-fn find<S: Shelf>(alloc: Global, job: &Job, shelf: &mut S) -> Result<Found, ShelfFault>
-    requires { IsJob job.now }
-    ensures { Finds (task_of (job_value job.now)) (S.state shelf.old) (S.state shelf.new) result }
-{
     match job {
-        Job::Fixed(job) => fixed(alloc, job, shelf),
-        Job::Fleet(job) => fleet(alloc, job, shelf),
-        Job::Check(job) => check(alloc, job, shelf),
-        Job::Convert(job) => convert(alloc, job, shelf),
-        Job::Make(job) => make(alloc, job),
+        Job::Fixed(job) => finish(fixed(alloc, job, shelf), shelf, out),
+        Job::Fleet(job) => finish(fleet(alloc, job, shelf), shelf, out),
+        Job::Check(job) => finish(check(alloc, job, shelf), shelf, out),
+        Job::Convert(job) => finish(convert(alloc, job, shelf), shelf, out),
+        Job::Make(job) => make(alloc, job, shelf, out),
     }
 }

@@ -8,6 +8,7 @@ mod command;
 mod convert;
 mod diagnostics;
 mod ending;
+mod finish;
 mod fixed;
 mod fleet;
 mod instance;

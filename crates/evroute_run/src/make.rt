@@ -1,69 +1,75 @@
-//! What `make` finds: an instance is made, to be written, and its route over all customers is
+//! What `make` does: an instance is made and written, and then its route over all customers is
 //! charged.
 
-ghost use Rattle.std.specs.Prelude.{◌≡◌, ◌<◌, ◌≤◌, ◌∷◌, [], IfOk, List, None, Some, map};
+ghost use Rattle.std.specs.Prelude.{◌≡◌, ◌≢◌, ◌<◌, ◌≤◌, ◌∷◌, [], false, IfOk, List, None, Some};
 ghost use Rattle.command_line.specs.JobValue.{job_value};
 ghost use Rattle.command_line.specs.Words.{MakeJob};
 ghost use Rattle.command_line.specs.declared.Job.TheVariants.{Make};
 ghost use Rattle.ev_model.specs.Feasible.{IsFeasible};
 ghost use Rattle.ev_model.specs.Network.{node_count};
 ghost use Rattle.ev_model.specs.Time.{time_of};
-ghost use Rattle.ev_outside.specs.Shelf.{ShelfState};
-ghost use Rattle.evroute_run.specs.MakeAnswer.{MakeAnswers, MakesNetwork, made_file, route_of_all};
+ghost use Rattle.ev_outside.specs.Shelf.{CountsNeverFall, ShelfState};
+ghost use Rattle.evroute_run.specs.MakeAnswer.{MakeAnswers, MakesNetwork, made_file, make_task, route_of_all};
 ghost use Rattle.evroute_run.specs.Run.{task_of};
-ghost use Rattle.job_frame.specs.Finds.{Finds, written_by};
+ghost use Rattle.job_frame.specs.Performs.{NothingFailed, Performs};
 ghost use Rattle.job_frame.specs.Task.{IsAnswered};
-ghost use Rattle.job_frame.specs.Writes.{Written};
+ghost use Rattle.job_frame.specs.Writes.{Leaves, Written};
 ghost use Rattle.plan_writer.specs.MakeText.{make_text};
 
 use crate::answer::refuse_job;
+use crate::finish::finish;
 use command_line::MakeWords;
-use ev_outside::ShelfFault;
+use ev_outside::{Shelf, ShelfFault, Sink};
 use frvcp_labels::solve_route;
 use instance_maker::MakerFault;
 use instance_reader::Instance;
-use job_frame::{Answer, Found, NewFile, Status};
-use made_instances::{MadeInstance, made_instance};
+use job_frame::{Answer, Status, put_answer};
+use made_instances::made_instance;
 use plan_writer::{Refusal, push_make_report};
 use route_plan::{RoutePlan, walk};
 use std::alloc::{AllocError, Global};
 
-/// What `make` finds: the instance is made, to be written, and the route over all its customers is
-/// charged.
-pub fn make(alloc: Global, job: &MakeWords) -> Result<Found, ShelfFault>
-    ensures { (shelf : ShelfState) → Finds (task_of (job_value (Make job.now))) shelf shelf result }
+/// `make`: the instance is made and written, and then the route over all its customers is charged.
+/// Where memory is refused for that, the file stands.
+pub fn make<S: Shelf, K: Sink>(alloc: Global, job: &MakeWords, shelf: &mut S, out: &mut K) -> Status
+    ensures words { result ≢ Status.Words }
+    ensures job { Performs (task_of (job_value (Make job.now)))
+        (S.state shelf.old) (S.state shelf.new) (K.state out.old) (K.state out.new) result }
+    ensures stays { result ≢ Status.Fault
+        → NothingFailed (S.state shelf.old) (S.state shelf.new)
+        (K.state out.old) (K.state out.new) }
+    ensures falls { CountsNeverFall (S.state shelf.old) (S.state shelf.new) }
+    ensures memory { K.takes_memory ≡ false → result ≡ Status.Memory
+        → K.state out.new ≡ K.state out.old }
 {
     match made_instance(alloc, job.seed, job.customers, job.stations) {
-        Ok(made) => match summary(alloc, made, job.customers, job.outfile.as_str()) {
-            Ok(found) => Ok(found),
-            Err(AllocError) => Err(ShelfFault::Memory),
+        Ok(made) => match shelf.write(job.outfile.as_str(), made.text.as_slice()) {
+            Ok(()) => put_summary(alloc, &made.instance, job.customers, out),
+            Err(ShelfFault::Failed) => Status::Fault,
+            Err(ShelfFault::Memory) => Status::Memory,
         },
-        Err(MakerFault::Range) => refuse_job(alloc, Refusal::Maker),
-        Err(MakerFault::Memory) => Err(ShelfFault::Memory),
+        Err(MakerFault::Range) => finish(refuse_job(alloc, Refusal::Maker), shelf, out),
+        Err(MakerFault::Memory) => Status::Memory,
     }
 }
 
-/// The three lines on a made instance, and its text, which is written.
-fn summary(
-    alloc: Global,
-    made: MadeInstance,
-    customers: u32,
-    outfile: &str,
-) -> Result<Found, AllocError>
+/// The three lines on a made instance are put behind its file: its route over all customers is
+/// charged.
+fn put_summary<K: Sink>(alloc: Global, inst: &Instance, customers: u32, out: &mut K) -> Status
     requires some { 1 ≤ customers }
-    requires nodes { customers < node_count made.instance }
-    ensures answers { (job : MakeJob) → job.customers ≡ customers
-        → MakesNetwork job made.instance → IfOk result (λ f. (ws : List Written)
-        → ws ≡ made_file job ∷ []
-        → MakeAnswers job f.answer.status ws f.answer.text.items) }
-    ensures answered { IfOk result (λ f. IsAnswered f.answer.status) }
-    ensures files { IfOk result (λ f. map written_by f.files.items
-        ≡ record { name = outfile.now; bytes = made.text.items } ∷ []) }
+    requires nodes { customers < node_count inst.now }
+    ensures words { result ≢ Status.Words }
+    ensures job { (job : MakeJob) → job.customers ≡ customers → MakesNetwork job inst.now
+        → (before after : ShelfState) → Leaves (made_file job ∷ []) before.files after.files
+        → Performs (make_task job) before after (K.state out.old) (K.state out.new) result }
+    ensures stays { result ≢ Status.Fault → (K.state out.new).faults ≡ (K.state out.old).faults }
+    ensures memory { K.takes_memory ≡ false → result ≡ Status.Memory
+        → K.state out.new ≡ K.state out.old }
 {
-    let MadeInstance { text, instance } = made;
-    let answer = charge_all(alloc, &instance, customers)?;
-    let file = NewFile::new(alloc, outfile, text)?;
-    Found::with_file(alloc, answer, file)
+    match charge_all(alloc, inst, customers) {
+        Ok(answer) => put_answer(&answer, out),
+        Err(AllocError) => Status::Memory,
+    }
 }
 
 /// The three lines on a made instance, whose route over all customers is charged.

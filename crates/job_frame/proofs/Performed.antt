@@ -2,9 +2,9 @@
 use Rattle.std.proofs.Common.{◌≡◌, ◌≢◌, ◌∙◌, ℕ, ◌⊎◌, ◌≤◌, List, [], ◌∷◌, ◌++◌, Option, None, Some, arith, inl, inr, refl, subst, sym}
 use Rattle.ev_outside.specs.Counts.{Rose}
 use Rattle.ev_outside.specs.Shelf.{CountsStay, Files, ShelfState}
-use Rattle.ev_outside.specs.Sink.{SinkState}
+use Rattle.ev_outside.specs.Sink.{Adds, AddsPrefix, SinkState}
 use Rattle.ev_outside.specs.Sure.{sure_output, without_faults}
-use Rattle.job_frame.proofs.FileReads.{one_reading}
+use Rattle.job_frame.proofs.FileReads.{nothing_fails, one_reading}
 use Rattle.job_frame.proofs.Writing.{leaves_held}
 use Rattle.job_frame.specs.Faults.{ComesToPut, Concludes, FailsReading, FailsToAnswer, FailsWriting, PutsPartOf, StopsToAnswer}
 use Rattle.job_frame.specs.Performs.{BreakNoRule, EndsUnlessHindered, HasFaultCause, IsCutOff, Performs, PutsAnswer, PutsPart}
@@ -121,8 +121,8 @@ performs_concluded task lawful before later after old new o ended is same stays 
       put = concludes.put answered;
     })
     (inr (o, is, part_since o before.files later.files after.files old.written new.written same concludes.part))
-    (λ fault. inr (o, is, fault_since o before later after old new same stays (concludes.fault fault)))
-    (λ memory. inr (o, is, stops_since o before.files later.files after.files old new same (concludes.memory memory)))
+    (λ fault. inr (inl (o, is, fault_since o before later after old new same stays (concludes.fault fault))))
+    (λ memory. inr (inl (o, is, stops_since o before.files later.files after.files old new same (concludes.memory memory))))
 
 -- a file couldn't be read
 pub performs_fault : (task : Task) → IsLawful task → (before after : ShelfState) (old : SinkState) → FailsReading task before after → after.files ≡ before.files → Performs task before after old old status.Fault
@@ -133,6 +133,43 @@ performs_fault task lawful before after old fails same =
 pub performs_nothing : (task : Task) → IsLawful task → (before after : ShelfState) (old : SinkState) → after.files ≡ before.files → Performs task before after old old status.Memory
 performs_nothing task lawful before after old same =
     performs task lawful before after old old status.Memory (λ is. cc) (λ none. absurd none) (inl refl) (λ is. cc) (λ is. inl (same, refl))
+
+-- ---- where files are written before an answer is sought
+
+-- an answer without a text is put without a call of the output
+some_text : (o : Outcome) (old new : SinkState) (ended : Status) → IsAnswered o.status → (o.text ≡ [] → (ended ≡ o.status) × (new ≡ old)) → (IsAnswered ended → ⊥) → o.text ≢ []
+some_text o old new ended answered empty hindered none = hindered (subst (λ (s : Status). IsAnswered s) (sym (empty none).0) answered)
+
+-- the files of an answer were written, and its text was put, or why it was not
+concludes_put : (o : Outcome) (before after : ShelfState) (old new : SinkState) (ended : Status) → IsAnswered o.status → Leaves o.writes before.files after.files
+    → (IsAnswered ended → (ended ≡ o.status) × Adds old.written new.written o.text) → AddsPrefix old.written new.written o.text
+    → (ended ≡ status.Fault → Rose old.faults new.faults) → (o.text ≡ [] → (ended ≡ o.status) × (new ≡ old)) → Concludes o before after old new ended
+concludes_put o before after old new ended answered leaves answer part fault empty = record {
+  status_is = λ is. (answer is).0;
+  written = λ is. leaves;
+  put = λ is. (answer is).1;
+  part = inr (leaves, part);
+  fault = λ is. inr (record { written = leaves; some = some_text o old new ended answered empty (subst (λ (s : Status). IsAnswered s) is) }, fault is);
+  memory = λ is. inr (record { written = leaves; some = some_text o old new ended answered empty (subst (λ (s : Status). IsAnswered s) is) });
+}
+
+pub performs_put : (task : Task) → IsLawful task → (before after : ShelfState) (old new : SinkState) (o : Outcome) (ended : Status) → Answers task before.files o → IsAnswered o.status
+    → Leaves o.writes before.files after.files → ended ≢ status.Words → (IsAnswered ended → (ended ≡ o.status) × Adds old.written new.written o.text)
+    → AddsPrefix old.written new.written o.text → (ended ≡ status.Fault → Rose old.faults new.faults) → (o.text ≡ [] → (ended ≡ o.status) × (new ≡ old))
+    → Performs task before after old new ended
+performs_put task lawful before after old new o ended is answered leaves words answer part fault empty =
+    performs_concluded task lawful before before after old new o ended is refl (nothing_fails before) words
+    (concludes_put o before after old new ended answered leaves answer part fault empty)
+
+-- one of these files couldn't be written
+pub performs_unwritten : (task : Task) → IsLawful task → (before after : ShelfState) (old : SinkState) (ws : List Written) → task.writes_first ws → FailsWriting ws before after → Performs task before after old old status.Fault
+performs_unwritten task lawful before after old ws first fails =
+    performs task lawful before after old old status.Fault (λ is. cc) (λ none. absurd none) (inl refl) (λ is. inr (inr (ws, first, fails, refl))) (λ is. cc)
+
+-- they were written, and memory was refused before an answer was found
+pub performs_unsought : (task : Task) → IsLawful task → (before after : ShelfState) (old : SinkState) (ws : List Written) → task.writes_first ws → Leaves ws before.files after.files → Performs task before after old old status.Memory
+performs_unsought task lawful before after old ws first leaves =
+    performs task lawful before after old old status.Memory (λ is. cc) (λ none. absurd none) (inl refl) (λ is. cc) (λ is. inr (inr (ws, first, leaves, refl)))
 
 -- ---- over files and an output that never fail
 
@@ -145,4 +182,5 @@ answers_surely o files left old new (inr (comes, rose)) = never_rose rose
 
 pub never_fails : (task : Task) (files left : Files) (old new : List ℕ) → HasFaultCause task (without_faults files) (without_faults left) (sure_output old) (sure_output new) → ⊥
 never_fails task files left old new (inl (fails, same, unput)) = never_rose fails.failed
-never_fails task files left old new (inr (o, is, fails)) = answers_surely o files left old new fails
+never_fails task files left old new (inr (inl (o, is, fails))) = answers_surely o files left old new fails
+never_fails task files left old new (inr (inr (ws, first, fails, unput))) = never_rose fails.failed

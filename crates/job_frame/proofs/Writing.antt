@@ -2,7 +2,6 @@
 use Rattle.std.proofs.Common.{◌≡◌, ◌∙◌, ℕ, ◌-◌, ◌≤◌, List, [], ◌∷◌, ◌++◌, Option, None, Some, ap, arith, drop, get_or, length, map, refl, subst, sym, take}
 use Rattle.std.proofs.Math.Seq.{drop-cons}
 use Rattle.std.proofs.lemmas.List.{take_rest}
-use Rattle.std.specs.Prelude.{string_bytes}
 use Rattle.ev_outside.specs.Counts.{Rose}
 use Rattle.ev_outside.specs.Shelf.{CountsStay, Files, HoldsUnder, KeepsOthers, ShelfState}
 use Rattle.job_frame.specs.Faults.{FailsWriting, HasFailedWrite, StopsWriting}
@@ -116,13 +115,17 @@ pub record IsWritten (w : Written) (before after : ShelfState) : Type 0 where
   pub keeps : KeepsOthers w.name before.files after.files
   pub stays : CountsStay before after
 
-pub is_written : (file : NewFile) (before after : ShelfState) (name bytes : List ℕ) → name ≡ string_bytes file.name → bytes ≡ file.bytes.items → HoldsUnder after.files name bytes
-    → KeepsOthers name before.files after.files → CountsStay before after → IsWritten (written_by file) before after
-is_written file before after name bytes named is holds keeps stays = record {
-  holds = subst (λ (n : List ℕ). HoldsUnder after.files n file.bytes.items) named (subst (λ (bs : List ℕ). HoldsUnder after.files name bs) is holds);
+pub is_written : (w : Written) (before after : ShelfState) (name bytes : List ℕ) → name ≡ w.name → bytes ≡ w.bytes → HoldsUnder after.files name bytes
+    → KeepsOthers name before.files after.files → CountsStay before after → IsWritten w before after
+is_written w before after name bytes named is holds keeps stays = record {
+  holds = subst (λ (n : List ℕ). HoldsUnder after.files n w.bytes) named (subst (λ (bs : List ℕ). HoldsUnder after.files name bs) is holds);
   keeps = subst (λ (n : List ℕ). KeepsOthers n before.files after.files) named keeps;
   stays = stays;
 }
+
+-- it alone
+pub leaves_one : (w : Written) (before after : ShelfState) → IsWritten w before after → Leaves (w ∷ []) before.files after.files
+leaves_one w before after is = ((is.holds, tt), keeps_one w before.files after.files is.keeps)
 
 -- no other file has the name of the first
 none_of_rest : (all : List Written) (w : Written) (ws : List Written) → all ≡ w ∷ ws → AreDifferent all → IsNoneOf w.name ws
@@ -141,11 +144,11 @@ then_stops all w ws before mid after are different is stops =
     subst (λ (xs : List Written). StopsWriting xs before.files after.files) (sym are)
     (stops_later w ws before.files mid.files after.files is.holds is.keeps (none_of_rest all w ws are different) stops)
 
-pub at_once_fails : (all : List Written) (file : NewFile) (ws : List Written) (before after : ShelfState) (name : List ℕ) → all ≡ written_by file ∷ ws → name ≡ string_bytes file.name
+pub at_once_fails : (all : List Written) (w : Written) (ws : List Written) (before after : ShelfState) (name : List ℕ) → all ≡ w ∷ ws → name ≡ w.name
     → HasFailedWrite before after name → KeepsOthers name before.files after.files → FailsWriting all before after
-at_once_fails all file ws before after name are named failed keeps =
+at_once_fails all w ws before after name are named failed keeps =
     subst (λ (xs : List Written). FailsWriting xs before after) (sym are)
-    (fails_first (written_by file) ws before after (subst (λ (n : List ℕ). HasFailedWrite before after n) named failed) (subst (λ (n : List ℕ). KeepsOthers n before.files after.files) named keeps))
+    (fails_first w ws before after (subst (λ (n : List ℕ). HasFailedWrite before after n) named failed) (subst (λ (n : List ℕ). KeepsOthers n before.files after.files) named keeps))
 
 pub at_once_stops : (all : List Written) (w : Written) (ws : List Written) (before after : ShelfState) → all ≡ w ∷ ws → after.files ≡ before.files → StopsWriting all before.files after.files
 at_once_stops all w ws before after are same =

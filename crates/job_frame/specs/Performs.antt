@@ -2,9 +2,9 @@
 use Rattle.std.specs.Prelude.{◌≡◌, ◌≢◌, ℕ, ◌⊎◌, List, Option}
 use Rattle.ev_outside.specs.Shelf.{CountsStay, Files, ShelfState}
 use Rattle.ev_outside.specs.Sink.{Adds, SinkState}
-use Rattle.job_frame.specs.Faults.{FailsReading, FailsToAnswer, PutsPartOf, StopsToAnswer}
+use Rattle.job_frame.specs.Faults.{FailsReading, FailsToAnswer, FailsWriting, PutsPartOf, StopsToAnswer}
 use Rattle.job_frame.specs.Task.{Answers, IsAnswered, Outcome, Task, Tells}
-use Rattle.job_frame.specs.Writes.{Leaves, StandIn}
+use Rattle.job_frame.specs.Writes.{Leaves, StandIn, Written}
 use Rattle.job_frame.specs.declared.status.Status.{Status}
 use Rattle.job_frame.specs.declared.status.Status.TheVariants as status
 
@@ -23,18 +23,22 @@ abbrev pub PutsPart :
 PutsPart task files left old new =
     (new ≡ old) ⊎ ((o : Outcome) × Answers task files o × PutsPartOf o files left old new)
 
--- a file or the output failed when its turn came
+-- a file or the output failed when its turn came: a file that is read; one of an answer, or the
+-- output behind them; or one of those that are written before an answer is sought
 abbrev pub HasFaultCause : Task → ShelfState → ShelfState → SinkState → SinkState → Type 0
 HasFaultCause task before after old new =
     (FailsReading task before after × (after.files ≡ before.files) × (new ≡ old))
     ⊎ ((o : Outcome) × Answers task before.files o × FailsToAnswer o before after old new)
+    ⊎ ((ws : List Written) × task.writes_first ws × FailsWriting ws before after × (new ≡ old))
 
--- memory was refused before an answer was found, or while it was written or put
+-- memory was refused before anything was written, or while an answer was written or put, or while
+-- it was sought behind the files that are written before
 abbrev pub IsCutOff :
     Task → Option Files → Option Files → SinkState → SinkState → Type 0
 IsCutOff task files left old new =
     ((left ≡ files) × (new ≡ old))
     ⊎ ((o : Outcome) × Answers task files o × StopsToAnswer o files left old new)
+    ⊎ ((ws : List Written) × task.writes_first ws × Leaves ws files left × (new ≡ old))
 
 -- the job ends with this status, unless a file or the output failed or memory was refused
 abbrev pub EndsUnlessHindered : Status → Status → Type 0

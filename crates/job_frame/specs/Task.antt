@@ -23,6 +23,8 @@ pub record Task : Type 1 where
   pub goes_on : List (List ℕ) → Type 0
   -- what is answered to the bytes of all of them
   pub answers : List (List ℕ) → Outcome → Type 0
+  -- these files are written before an answer is sought
+  pub writes_first : List Written → Type 0
   -- these bytes leave open what is found, and so the status: the written files tell it
   pub is_open : Type 0
   -- a budget may end the job

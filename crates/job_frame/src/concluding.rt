@@ -59,7 +59,7 @@ fn write_all<S: Shelf>(files: &[NewFile], shelf: &mut S) -> Result<(), ShelfFaul
 
 /// Puts the text of an answer. The status is that of the answer, unless the output fails or memory
 /// is refused. Where the text is empty the output isn't called.
-fn put_answer<K: Sink>(answer: &Answer, out: &mut K) -> Status
+pub fn put_answer<K: Sink>(answer: &Answer, out: &mut K) -> Status
     requires { IsAnswered answer.now.status }
     ensures answer { IsAnswered result → (result ≡ answer.now.status)
         × Adds (K.state out.old).written (K.state out.new).written answer.now.text.items }

@@ -1,29 +1,36 @@
-use Rattle.std.proofs.Common.{Err, Result, ap}
+use Rattle.std.proofs.Common.{subst, sym}
 use Rattle.command_line.specs.JobValue.{job_value}
-use Rattle.ev_outside.specs.declared.shelf.ShelfFault.{ShelfFault}
-use Rattle.evroute_run.proofs.Performed.{is_lawful}
+use Rattle.command_line.specs.declared.Job.{Job}
+use Rattle.command_line.specs.declared.Job.TheVariants.{Check, Convert, Fixed, Fleet}
 use Rattle.evroute_run.specs.Run.{task_of}
-use Rattle.job_frame.proofs.Performed.{performs_concluded, performs_fault, performs_nothing}
-use Rattle.job_frame.proofs.FileReads.{ok_is_no_error}
-use Rattle.job_frame.specs.Finds.{outcome_of}
-use Rattle.job_frame.specs.declared.found.Found.{Found}
+use Rattle.job_frame.specs.Performs.{Performs}
 use Rattle.evroute_run.proofs.command.perform.Goals as goal
 
-pub returns-in-Ok-clause-job : goal.returns-in-Ok-clause-job
-returns-in-Ok-clause-job g c =
-    let job = job_value c.args.job.now in
-    performs_concluded (task_of job) (is_lawful job) (g.S.Shelf.state c.args.shelf.now) (g.S.Shelf.state c.find.new.shelf) (g.S.Shelf.state c.conclude.new.shelf)
-    (g.K.Sink.state c.args.out.now) (g.K.Sink.state c.conclude.new.out) (outcome_of c.in-Ok.found) c.conclude.result
-    c.in-Ok.ensures.answers c.in-Ok.ensures.files (c.in-Ok.ensures.stays (λ failed. ok_is_no_error failed)) c.conclude.ensures.words c.conclude.ensures.concludes
+pub returns-in-Fixed-clause-job : goal.returns-in-Fixed-clause-job
+returns-in-Fixed-clause-job g c =
+    let before = g.S.Shelf.state c.args.shelf.now in
+    subst (λ (job : Job). Performs (task_of (job_value job)) before (g.S.Shelf.state c.finish.new.shelf) (g.K.Sink.state c.args.out.now) (g.K.Sink.state c.finish.new.out) c.finish.result)
+    (sym c.in-Fixed.is) (c.finish.ensures.job (job_value (Fixed c.in-Fixed.job)) before c.fixed.ensures)
 
-pub returns-in-Err-Failed-clause-job : goal.returns-in-Err-Failed-clause-job
-returns-in-Err-Failed-clause-job g c =
-    let job = job_value c.args.job.now in
-    performs_fault (task_of job) (is_lawful job) (g.S.Shelf.state c.args.shelf.now) (g.S.Shelf.state c.find.new.shelf) (g.K.Sink.state c.args.out.now)
-    (c.in-Err-Failed.ensures.fault (ap {B = Result Found ShelfFault} (λ (e : ShelfFault). Err e) c.in-Err-Failed.field-0-is)) c.in-Err-Failed.ensures.files
+pub returns-in-Fleet-clause-job : goal.returns-in-Fleet-clause-job
+returns-in-Fleet-clause-job g c =
+    let before = g.S.Shelf.state c.args.shelf.now in
+    subst (λ (job : Job). Performs (task_of (job_value job)) before (g.S.Shelf.state c.finish-in-Fleet.new.shelf) (g.K.Sink.state c.args.out.now) (g.K.Sink.state c.finish-in-Fleet.new.out) c.finish-in-Fleet.result)
+    (sym c.in-Fleet.is) (c.finish-in-Fleet.ensures.job (job_value (Fleet c.in-Fleet.job)) before c.fleet.ensures)
 
-pub returns-in-Err-Memory-clause-job : goal.returns-in-Err-Memory-clause-job
-returns-in-Err-Memory-clause-job g c =
-    let job = job_value c.args.job.now in
-    performs_nothing (task_of job) (is_lawful job) (g.S.Shelf.state c.args.shelf.now) (g.S.Shelf.state c.find.new.shelf) (g.K.Sink.state c.args.out.now)
-    c.in-Err-Memory.ensures.files
+pub returns-in-Check-clause-job : goal.returns-in-Check-clause-job
+returns-in-Check-clause-job g c =
+    let before = g.S.Shelf.state c.args.shelf.now in
+    subst (λ (job : Job). Performs (task_of (job_value job)) before (g.S.Shelf.state c.finish-in-Check.new.shelf) (g.K.Sink.state c.args.out.now) (g.K.Sink.state c.finish-in-Check.new.out) c.finish-in-Check.result)
+    (sym c.in-Check.is) (c.finish-in-Check.ensures.job (job_value (Check c.in-Check.job)) before c.check.ensures)
+
+pub returns-in-Convert-clause-job : goal.returns-in-Convert-clause-job
+returns-in-Convert-clause-job g c =
+    let before = g.S.Shelf.state c.args.shelf.now in
+    subst (λ (job : Job). Performs (task_of (job_value job)) before (g.S.Shelf.state c.finish-in-Convert.new.shelf) (g.K.Sink.state c.args.out.now) (g.K.Sink.state c.finish-in-Convert.new.out) c.finish-in-Convert.result)
+    (sym c.in-Convert.is) (c.finish-in-Convert.ensures.job (job_value (Convert c.in-Convert.job)) before c.convert.ensures)
+
+pub returns-in-Make-clause-job : goal.returns-in-Make-clause-job
+returns-in-Make-clause-job g c =
+    subst (λ (job : Job). Performs (task_of (job_value job)) (g.S.Shelf.state c.args.shelf.now) (g.S.Shelf.state c.make.new.shelf) (g.K.Sink.state c.args.out.now) (g.K.Sink.state c.make.new.out) c.make.result)
+    (sym c.in-Make.is) c.make.ensures.job

@@ -1,42 +1,49 @@
-use Rattle.std.proofs.Common.{ℕ, List, [], ◌∷◌, refl, rules, subst}
+use Rattle.std.proofs.Common.{◌∙◌, ℕ, List, [], ◌∷◌, refl, rules, subst}
 use Rattle.std.specs.Prelude.{string_bytes}
-use Rattle.command_line.specs.Words.{MakeJob, make_job_of}
-use Rattle.evroute_run.proofs.MakeFinds.{file_is, make_found, make_refused}
+use Rattle.command_line.specs.Words.{MakeInstance, MakeJob, make_job_of}
+use Rattle.evroute_run.proofs.MakeFinds.{make_refused}
+use Rattle.evroute_run.proofs.MakeLaw.{make_lawful}
 use Rattle.evroute_run.specs.MakeAnswer.{HasNoInstance, MakesNetwork, made_file, make_task}
 use Rattle.instance_reader.specs.Faults.{IsInstanceOf}
-use Rattle.job_frame.proofs.FileReads.{finds_alone, finds_as, finds_memory, nothing_fails, nothing_falls, ok_is_no_error}
+use Rattle.job_frame.proofs.FileReads.{finds_alone, nothing_fails, nothing_falls, ok_is_no_error}
+use Rattle.job_frame.proofs.Performed.{performs_unwritten}
+use Rattle.job_frame.proofs.Writing.{at_once_fails, is_written, leaves_one}
 use Rattle.job_frame.specs.declared.status.Status.TheVariants as status
 use Rattle.plan_writer.specs.RefusalText.{refusal_text}
 use Rattle.plan_writer.specs.declared.refusal.Refusal.TheVariants as refusal
 use Rattle.evroute_run.proofs.make.make.Goals as goal
 
-pub returns-in-Ok-summary : goal.returns-in-Ok-summary
-returns-in-Ok-summary c = λ shelf.
+pub returns-in-Ok-write-clause-job : goal.returns-in-Ok-write-clause-job
+returns-in-Ok-write-clause-job g c =
     let w = c.args.job.now in
     let job : MakeJob = make_job_of w.seed w.customers w.stations (string_bytes w.outfile) in
+    let before = g.S.Shelf.state c.args.shelf.now in
+    let after = g.S.Shelf.state c.write.new.self in
     let within : HasNoInstance job → ⊥ = λ none. ok_is_no_error ((c.in-Ok.ensures.range).1 none) in
     let instance = subst (λ (bs : List ℕ). IsInstanceOf bs c.in-Ok.made.instance) c.in-Ok.ensures.text c.in-Ok.ensures.means in
     let makes : MakesNetwork job c.in-Ok.made.instance = record { within = within; instance = instance } in
-    let found = c.in-Ok-summary.found in
-    let named = file_is job c.as_str.result.now c.in-Ok.made.text.items _ c.in-Ok-summary.ensures.files c.as_str.ensures.value c.in-Ok.ensures.text in
-    finds_as (make_task job) shelf shelf (record { status = found.answer.status; writes = made_file job ∷ []; text = found.answer.text.items }) _
-    (make_found job shelf.files found.answer.status (made_file job ∷ []) found.answer.text.items (c.in-Ok-summary.ensures.answers job refl makes (made_file job ∷ []) refl))
-    c.in-Ok-summary.ensures.answered (tt, tt) refl named refl tt (nothing_fails shelf) (nothing_falls shelf) refl
+    c.put_summary.ensures.job job refl makes before after
+    (leaves_one (made_file job) before after
+    (is_written (made_file job) before after c.as_str.result.now c.as_slice.result.now c.as_str.ensures.value (c.as_slice.ensures.value ∙ c.in-Ok.ensures.text)
+    c.in-Ok-write.ensures.bytes c.in-Ok-write.ensures.others (c.in-Ok-write.ensures.stays (λ failed. ok_is_no_error failed))))
 
-pub returns-in-Err-Range : goal.returns-in-Err-Range
-returns-in-Err-Range c = λ shelf.
+pub returns-in-Err-Failed-clause-job : goal.returns-in-Err-Failed-clause-job
+returns-in-Err-Failed-clause-job g c =
     let w = c.args.job.now in
     let job : MakeJob = make_job_of w.seed w.customers w.stations (string_bytes w.outfile) in
-    finds_alone (make_task job) shelf shelf status.Refused (refusal_text refusal.Maker) c.refuse_job.result
+    let before = g.S.Shelf.state c.args.shelf.now in
+    let after = g.S.Shelf.state c.write.new.self in
+    let within : HasNoInstance job → ⊥ = λ none. ok_is_no_error ((c.in-Ok.ensures.range).1 none) in
+    performs_unwritten (make_task job) (make_lawful job) before after (g.K.Sink.state c.args.out.now) (made_file job ∷ []) (within, refl)
+    (at_once_fails (made_file job ∷ []) (made_file job) [] before after c.as_str.result.now refl c.as_str.ensures.value
+    (c.in-Err-Failed.ensures.failed (search rules)) c.in-Err-Failed.ensures.others)
+
+pub returns-in-Err-Range-clause-job : goal.returns-in-Err-Range-clause-job
+returns-in-Err-Range-clause-job g c =
+    let w = c.args.job.now in
+    let job : MakeJob = make_job_of w.seed w.customers w.stations (string_bytes w.outfile) in
+    let shelf = g.S.Shelf.state c.args.shelf.now in
+    c.finish.ensures.job (MakeInstance job) shelf
+    (finds_alone (make_task job) shelf shelf status.Refused (refusal_text refusal.Maker) c.refuse_job.result
     (make_refused job shelf.files (c.in-Err-Range.ensures.range.0 (search rules))) tt
-    c.refuse_job.ensures.status c.refuse_job.ensures.text c.refuse_job.ensures.files c.refuse_job.ensures.memory (nothing_fails shelf) (nothing_falls shelf) refl
-
-pub returns-in-Err-Memory : goal.returns-in-Err-Memory
-returns-in-Err-Memory c = λ shelf.
-    let w = c.args.job.now in
-    finds_memory (make_task (make_job_of w.seed w.customers w.stations (string_bytes w.outfile))) shelf shelf (nothing_fails shelf) (nothing_falls shelf) refl
-
-pub returns-in-Err : goal.returns-in-Err
-returns-in-Err c = λ shelf.
-    let w = c.args.job.now in
-    finds_memory (make_task (make_job_of w.seed w.customers w.stations (string_bytes w.outfile))) shelf shelf (nothing_fails shelf) (nothing_falls shelf) refl
+    c.refuse_job.ensures.status c.refuse_job.ensures.text c.refuse_job.ensures.files c.refuse_job.ensures.memory (nothing_fails shelf) (nothing_falls shelf) refl)
