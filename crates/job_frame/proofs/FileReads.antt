@@ -114,9 +114,6 @@ pub finds_alone : (task : Task) (before after : ShelfState) (answered : Status) 
 finds_alone task before after answered text found answers is status text_is none memory stays falls files =
     finds_as task before after (record { status = answered; writes = []; text = text }) found answers is tt status (no_files found none) text_is memory stays falls files
 
-pub finds_memory : (task : Task) (before after : ShelfState) → CountsStay before after → CountsNeverFall before after → after.files ≡ before.files → Finds task before after (Err Memory)
-finds_memory task before after stays falls files = finds task before after (Err Memory) tt tt tt refl stays falls files
-
 -- the next file that is read failed, or memory was refused
 pub finds_none : {A : Type 0} (task : Task) (before after : ShelfState) (fault : ShelfFault)
     → (◌≡◌ {A = Result A ShelfFault} (Err fault) (Err Failed) → FailsReading task before after)

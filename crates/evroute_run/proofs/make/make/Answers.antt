@@ -1,10 +1,9 @@
-use Rattle.std.proofs.Common.{◌∙◌, ℕ, List, [], ◌∷◌, refl, rules, subst}
+use Rattle.std.proofs.Common.{◌∙◌, [], ◌∷◌, refl, rules}
 use Rattle.std.specs.Prelude.{string_bytes}
 use Rattle.command_line.specs.Words.{MakeInstance, MakeJob, make_job_of}
-use Rattle.evroute_run.proofs.MakeFinds.{make_refused}
+use Rattle.evroute_run.proofs.MakeFinds.{make_refused, makes_network}
 use Rattle.evroute_run.proofs.MakeLaw.{make_lawful}
-use Rattle.evroute_run.specs.MakeAnswer.{HasNoInstance, MakesNetwork, made_file, make_task}
-use Rattle.instance_reader.specs.Faults.{IsInstanceOf}
+use Rattle.evroute_run.specs.MakeAnswer.{HasNoInstance, made_file, make_task}
 use Rattle.job_frame.proofs.FileReads.{finds_alone, nothing_fails, nothing_falls, ok_is_no_error}
 use Rattle.job_frame.proofs.Performed.{performs_unwritten}
 use Rattle.job_frame.proofs.Writing.{at_once_fails, is_written, leaves_one}
@@ -20,9 +19,7 @@ returns-in-Ok-write-clause-job g c =
     let before = g.S.Shelf.state c.args.shelf.now in
     let after = g.S.Shelf.state c.write.new.self in
     let within : HasNoInstance job → ⊥ = λ none. ok_is_no_error ((c.in-Ok.ensures.range).1 none) in
-    let instance = subst (λ (bs : List ℕ). IsInstanceOf bs c.in-Ok.made.instance) c.in-Ok.ensures.text c.in-Ok.ensures.means in
-    let makes : MakesNetwork job c.in-Ok.made.instance = record { within = within; instance = instance } in
-    c.put_summary.ensures.job job refl makes before after
+    c.put_summary.ensures.job job refl (makes_network job c.in-Ok.made.instance c.in-Ok.made.text.items within c.in-Ok.ensures.text c.in-Ok.ensures.means) before after
     (leaves_one (made_file job) before after
     (is_written (made_file job) before after c.as_str.result.now c.as_slice.result.now c.as_str.ensures.value (c.as_slice.ensures.value ∙ c.in-Ok.ensures.text)
     c.in-Ok-write.ensures.bytes c.in-Ok-write.ensures.others (c.in-Ok-write.ensures.stays (λ failed. ok_is_no_error failed))))
