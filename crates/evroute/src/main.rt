@@ -30,8 +30,8 @@ fn words_of(rt: &HostRuntime) -> io::Result<Vec<String>> {
 }
 
 /// Tells people on standard error what the line means that was printed first, where it is a refused
-/// or a rejected one or the usage text, else which customer is out of reach, or that a certificate is
-/// too long to be read again. Nothing is done where memory is refused or standard error fails.
+/// or a rejected one or the usage text, else which customer is out of reach, or that a certificate
+/// is too long to be read again. Nothing is done where memory is refused or standard error fails.
 fn tell_in_words(rt: &HostRuntime, line: &str) {
     let Ok(words) = words_of(rt) else { return };
     if let Ok(Some(told)) = meaning(rt, words.as_slice(), line) {

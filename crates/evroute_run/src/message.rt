@@ -25,7 +25,8 @@ impl<'a> Message<'a> {
     /// There is none where the job was answered.
     pub fn at(code: u8, failure: Option<Failure<'a>>) -> Option<Message<'a>>
         ensures memory { code ≡ code_of Status.Memory → result ≡ Some Message.Memory }
-        ensures fault { code ≡ code_of Status.Fault → result ≡ Some (Message.Failure failure.entry) }
+        ensures fault { code ≡ code_of Status.Fault
+            → result ≡ Some (Message.Failure failure.entry) }
         ensures none { code ≢ code_of Status.Memory → code ≢ code_of Status.Fault → IsNone result }
     {
         if code == Status::Memory.code() {
