@@ -2,7 +2,7 @@
 use Rattle.std.proofs.Common.{◌≡◌, ◌≢◌, List, [], ◌∷◌, length, None, refl}
 use Rattle.std.specs.Borrow.{Bor}
 use Rattle.clap.specs.Walk.{Row, Text, texts}
-use Rattle.command_line.specs.Words.{check_of, convert_of, fixed_of, fleet_of, make_of}
+use Rattle.command_line.specs.Words.{check_of, convert_of, fixed_of, fleet_of, improve_of, make_of}
 
 pub no_fixed : (rest : List (Bor Text)) (rows : List Row) → length rest ≢ 2 → None ≡ fixed_of (texts rest) rows
 no_fixed [] rows other = refl
@@ -37,3 +37,10 @@ no_make (a ∷ b ∷ []) rows other = refl
 no_make (a ∷ b ∷ c ∷ []) rows other = refl
 no_make (a ∷ b ∷ c ∷ d ∷ []) rows other = absurd (other refl)
 no_make (a ∷ b ∷ c ∷ d ∷ e ∷ rest) rows other = refl
+
+pub no_improve : (rest : List (Bor Text)) (rows : List Row) → length rest ≢ 3 → None ≡ improve_of (texts rest) rows
+no_improve [] rows other = refl
+no_improve (a ∷ []) rows other = refl
+no_improve (a ∷ b ∷ []) rows other = refl
+no_improve (a ∷ b ∷ c ∷ []) rows other = absurd (other refl)
+no_improve (a ∷ b ∷ c ∷ d ∷ rest) rows other = refl

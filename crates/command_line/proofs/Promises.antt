@@ -6,9 +6,9 @@ use Rattle.std.specs.Prelude.{if◌then◌else◌, option_and_then, option_map}
 use Rattle.std.specs.Str.{bytes_eq}
 use Rattle.clap.specs.Words.{Row, Text, first_of}
 use Rattle.command_line.specs.JobValue.{IsJob, job_value}
-use Rattle.command_line.specs.Words.{CheckPlan, ConvertFile, FixedRoute, Job, MakeInstance, PlanFleet, are_different, at_least_one, charge_in, check_of, check_with, convert_of, convert_with, energy_digits_in, fixed_of, fixed_with, fleet_of, fleet_with, gives_only, is_listed, job_in, job_of_command, limit_in, make_of, make_with, most_count, most_seed, most_value, nodes_in, number_of, optional_number, rest_in, time_digits_in}
+use Rattle.command_line.specs.Words.{CheckPlan, ConvertFile, FixedRoute, ImprovePlan, Job, MakeInstance, PlanFleet, are_different, at_least_one, charge_in, check_of, check_with, convert_of, convert_with, energy_digits_in, fixed_of, fixed_with, fleet_of, fleet_with, gives_only, improve_of, improve_with, is_listed, job_in, job_of_command, limit_in, make_of, make_with, most_count, most_seed, most_value, nodes_in, number_of, optional_number, rest_in, time_digits_in}
 use Rattle.command_line.specs.declared.Job as values
-use Rattle.command_line.specs.declared.Job.TheVariants.{Check, Convert, Fixed, Fleet, Make}
+use Rattle.command_line.specs.declared.Job.TheVariants.{Check, Convert, Fixed, Fleet, Improve, Make}
 
 AtLeastOne : Option ℕ → Type 0
 AtLeastOne n = IfSome n (λ (k : ℕ). 1 ≤ k)
@@ -19,6 +19,7 @@ Looks (FixedRoute job) = Unit {0}
 Looks (CheckPlan job) = Unit {0}
 Looks (ConvertFile job) = Unit {0}
 Looks (MakeInstance job) = Unit {0}
+Looks (ImprovePlan job) = Unit {0}
 
 if_looks : (test : Bool) (p q : Option Job) → IfSome p Looks → IfSome q Looks → IfSome (if test then p else q) Looks
 if_looks true p q h k = h
@@ -74,6 +75,11 @@ unfolding Looks
 check_with_looks file plan cert None = tt
 check_with_looks file plan cert (Some l) = tt
 
+improve_with_looks : (file plan outfile : Text) (limit : Option (Option ℕ)) → IfSome (improve_with file plan outfile limit) Looks
+unfolding Looks
+improve_with_looks file plan outfile None = tt
+improve_with_looks file plan outfile (Some l) = tt
+
 convert_with_looks : (file outfile : Text) (time energy : Option ℕ) → IfSome (convert_with file outfile time energy) Looks
 unfolding Looks
 convert_with_looks file outfile None energy = tt
@@ -112,6 +118,13 @@ check_looks (a ∷ b ∷ []) rows = tt
 check_looks (a ∷ b ∷ c ∷ []) rows = if_looks _ (check_with a b c (limit_in rows)) None (check_with_looks a b c (limit_in rows)) tt
 check_looks (a ∷ b ∷ c ∷ d ∷ rest) rows = tt
 
+improve_looks : (rest : List Text) (rows : List Row) → IfSome (improve_of rest rows) Looks
+improve_looks [] rows = tt
+improve_looks (a ∷ []) rows = tt
+improve_looks (a ∷ b ∷ []) rows = tt
+improve_looks (a ∷ b ∷ c ∷ []) rows = if_looks _ (improve_with a b c (limit_in rows)) None (improve_with_looks a b c (limit_in rows)) tt
+improve_looks (a ∷ b ∷ c ∷ d ∷ rest) rows = tt
+
 convert_looks : (rest : List Text) (rows : List Row) → IfSome (convert_of rest rows) Looks
 convert_looks [] rows = tt
 convert_looks (a ∷ []) rows = tt
@@ -136,7 +149,8 @@ command_looks command rest rows =
     (if_looks (bytes_eq command (codes "fleet")) (fleet_of rest rows) _ (fleet_looks rest rows)
     (if_looks (bytes_eq command (codes "check")) (check_of rest rows) _ (check_looks rest rows)
     (if_looks (bytes_eq command (codes "convert")) (convert_of rest rows) _ (convert_looks rest rows)
-    (if_looks (bytes_eq command (codes "make")) (make_of rest rows) None (make_looks rest rows) tt))))
+    (if_looks (bytes_eq command (codes "make")) (make_of rest rows) _ (make_looks rest rows)
+    (if_looks (bytes_eq command (codes "improve")) (improve_of rest rows) None (improve_looks rest rows) tt)))))
 
 and_then_looks : (command : Option Text) (rows : List Row) → IfSome (option_and_then (λ c. job_of_command c (rest_in rows) rows) command) Looks
 and_then_looks None rows = tt
@@ -150,6 +164,7 @@ value_looks (Some (Fleet w)) h = record { files = h.0; nodes = h.1 }
 value_looks (Some (Check w)) h = tt
 value_looks (Some (Convert w)) h = tt
 value_looks (Some (Make w)) h = tt
+value_looks (Some (Improve w)) h = tt
 
 is_job : (rows : List Row) (found : Option values.Job) → option_map job_value found ≡ job_in rows → IfSome found IsJob
 is_job rows found is =

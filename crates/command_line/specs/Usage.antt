@@ -8,3 +8,4 @@ usage_text =
     ++ codes "evroute check FILE PLAN CERT [--limit N]\n"
     ++ codes "evroute convert FILE OUTFILE --time-digits N --energy-digits N\n"
     ++ codes "evroute make SEED CUSTOMERS STATIONS OUTFILE\n"
+    ++ codes "evroute improve FILE PLAN OUTFILE [--limit N]\n"

@@ -45,6 +45,13 @@ pub record MakeJob : Type 0 where
   pub stations : ℕ
   pub outfile : Text
 
+-- the job of making a plan cheaper: the names of its files, and the limit where one is given
+pub record ImproveJob : Type 0 where
+  pub file : Text
+  pub plan : Text
+  pub outfile : Text
+  pub limit : Option ℕ
+
 -- a job of the program
 pub data Job : Type 0 where
   FixedRoute : FixedJob → Job
@@ -52,6 +59,7 @@ pub data Job : Type 0 where
   CheckPlan : CheckJob → Job
   ConvertFile : ConvertJob → Job
   MakeInstance : MakeJob → Job
+  ImprovePlan : ImproveJob → Job
 
 -- the greatest limit, level and number of nodes
 abbrev pub most_value : ℕ
@@ -231,6 +239,23 @@ make_of (seed ∷ customers ∷ stations ∷ outfile ∷ []) rows =
     else None
 make_of rest rows = None
 
+-- the job of these words with this limit
+abbrev pub improve_job_of : Text → Text → Text → Option ℕ → ImproveJob
+improve_job_of file plan outfile limit =
+    record { file = file; plan = plan; outfile = outfile; limit = limit }
+
+-- `improve FILE PLAN OUTFILE [--limit N]`
+abbrev pub improve_with : Text → Text → Text → Option (Option ℕ) → Option Job
+improve_with file plan outfile limit =
+    option_map (λ n. ImprovePlan (improve_job_of file plan outfile n)) limit
+
+abbrev pub improve_of : List Text → List Row → Option Job
+improve_of (file ∷ plan ∷ outfile ∷ []) rows =
+    if gives_only (codes "limit" ∷ []) rows && are_different (file ∷ plan ∷ outfile ∷ [])
+    then improve_with file plan outfile (limit_in rows)
+    else None
+improve_of rest rows = None
+
 -- the job of a command, of the words behind it and of the options
 abbrev pub job_of_command : Text → List Text → List Row → Option Job
 job_of_command command rest rows =
@@ -239,6 +264,7 @@ job_of_command command rest rows =
     else if bytes_eq command (codes "check") then check_of rest rows
     else if bytes_eq command (codes "convert") then convert_of rest rows
     else if bytes_eq command (codes "make") then make_of rest rows
+    else if bytes_eq command (codes "improve") then improve_of rest rows
     else None
 
 -- the job of what the command finds

@@ -11,6 +11,7 @@ mod check;
 mod convert;
 mod fixed;
 mod fleet;
+mod improve;
 mod laws;
 mod make;
 mod matches;
@@ -82,6 +83,17 @@ pub struct MakeWords {
     pub outfile: String,
 }
 
+/// The words of the job `improve`: the file of the instance, another one with the plan, or that
+/// there is none, a third one into which the cheaper plan is written, and the limit on the time of
+/// each route in place of the instance's, in units of time.
+#[derive(Debug, Drop, PartialEq, Eq)]
+pub struct ImproveWords {
+    pub file: String,
+    pub plan: String,
+    pub outfile: String,
+    pub limit: Option<u64>,
+}
+
 /// A job of the program.
 #[derive(Debug, Drop, PartialEq, Eq)]
 pub enum Job {
@@ -95,12 +107,15 @@ pub enum Job {
     Convert(ConvertWords),
     /// An instance is made from a number.
     Make(MakeWords),
+    /// The plan of a file becomes cheaper, and is written into another.
+    Improve(ImproveWords),
 }
 
 /// The job of the words, which stand behind the program's name, read by one `clap` command: `fixed
 /// FILE ROUTE [--limit N] [--charge N]`, `fleet FILE PLAN CERT [--limit N] [--nodes N]`, `check
-/// FILE PLAN CERT [--limit N]`, `convert FILE OUTFILE --time-digits N --energy-digits N` or `make
-/// SEED CUSTOMERS STATIONS OUTFILE`. `None` comes exactly where the words are no such job.
+/// FILE PLAN CERT [--limit N]`, `convert FILE OUTFILE --time-digits N --energy-digits N`, `make
+/// SEED CUSTOMERS STATIONS OUTFILE` or `improve FILE PLAN OUTFILE [--limit N]`. `None` comes
+/// exactly where the words are no such job.
 ///
 /// Options stand anywhere before a word `--`, each at most once; the value is the next word or
 /// follows a `=`. A name that begins with `-` and has more behind it is given after `--`. Numbers
@@ -132,7 +147,8 @@ pub fn usage() -> &'static str
      evroute fleet FILE PLAN CERT [--limit N] [--nodes N]\n\
      evroute check FILE PLAN CERT [--limit N]\n\
      evroute convert FILE OUTFILE --time-digits N --energy-digits N\n\
-     evroute make SEED CUSTOMERS STATIONS OUTFILE\n"
+     evroute make SEED CUSTOMERS STATIONS OUTFILE\n\
+     evroute improve FILE PLAN OUTFILE [--limit N]\n"
 }
 
 #[cfg(test)]

@@ -12,6 +12,7 @@ use crate::check::check_job;
 use crate::convert::convert_job;
 use crate::fixed::fixed_job;
 use crate::fleet::fleet_job;
+use crate::improve::improve_job;
 use crate::make::make_job;
 use crate::words::{GREATEST_DIGITS, GREATEST_VALUE, is_listed, number_of, optional_number};
 use clap::ArgMatches;
@@ -112,6 +113,7 @@ fn job_of_command(
         "check" => check_job(alloc, rest, matches),
         "convert" => convert_job(alloc, rest, matches),
         "make" => make_job(alloc, rest, matches),
+        "improve" => improve_job(alloc, rest, matches),
         _ => Ok(None),
     }
 }

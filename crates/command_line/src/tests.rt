@@ -45,6 +45,12 @@ fn job_text(alloc: Global, line: &str) -> Result<String, AllocError> {
                 job.seed, job.customers, job.stations, job.outfile
             )
         }
+        Some(Job::Improve(job)) => {
+            format!(in alloc;
+                "improve {} {} {} {:?}",
+                job.file, job.plan, job.outfile, job.limit
+            )
+        }
         None => String::from_str(alloc, "none"),
     }
 }
@@ -125,6 +131,14 @@ fn words_name_jobs(rt: HostRuntime) {
         ("make 1 1 00 M", "none"),
         ("make 1 1 0 M --limit 1", "none"),
         ("make 1 1 0", "none"),
+        ("improve A P O", "improve A P O None"),
+        ("improve A --limit 3 P O", "improve A P O Some(3)"),
+        ("improve A P O --nodes 3", "none"),
+        ("improve A A O", "none"),
+        ("improve A P A", "none"),
+        ("improve A P P", "none"),
+        ("improve A P", "none"),
+        ("improve A P O Q", "none"),
         ("--help", "none"),
         ("fixed A 0,1,0 -h", "none"),
         ("help", "none"),

@@ -30,7 +30,7 @@ use Rattle.job_frame.specs.declared.status.Status.TheVariants as status
 same_fleet : (limit : Option ℕ) (bytes : List ℕ) (g h : Network) → HasFleetNetwork limit bytes g → HasFleetNetwork limit bytes h → g ≡ h
 same_fleet limit bytes g h p q = one_limited limit bytes g h p.network q.network
 
-same_plan : (bytes : List ℕ) (p q : Option FleetPlan) → SpellsFleetPlan bytes p → SpellsFleetPlan bytes q → p ≡ q
+pub same_plan : (bytes : List ℕ) (p q : Option FleetPlan) → SpellsFleetPlan bytes p → SpellsFleetPlan bytes q → p ≡ q
 same_plan bytes p q is other = Ok-injective p q (sym ((fleet_plan_is_spelled bytes p).1 is) ∙ (fleet_plan_is_spelled bytes q).1 other)
 
 -- what the files hold breaks no rule of a text
@@ -56,7 +56,7 @@ refused_holds_not limit bytes plan_bytes cert_bytes h (refusal.Literal e) rule i
 refused_holds_not limit bytes plan_bytes cert_bytes h refusal.Maker rule is = absurd is
 
 -- a valid plan breaks no rule
-valid_breaks_none : (g : Network) (plan : Option FleetPlan) (cost : Option ℕ) (fault : PlanFault) → IsValid g plan cost → BreaksFirst g plan fault → ⊥
+pub valid_breaks_none : (g : Network) (plan : Option FleetPlan) (cost : Option ℕ) (fault : PlanFault) → IsValid g plan cost → BreaksFirst g plan fault → ⊥
 valid_breaks_none g None cost fault valid broken = broken
 valid_breaks_none g (Some plan) cost fault valid broken = fleet_plan_keeps g plan.routes valid.0 fault broken.broken
 

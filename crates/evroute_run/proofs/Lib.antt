@@ -15,6 +15,8 @@ pub mod CheckLaw
 pub mod CheckFinds
 pub mod ConvertLaw
 pub mod ConvertFinds
+pub mod ImproveLaw
+pub mod ImproveFinds
 pub mod MakeLaw
 pub mod MakeFinds
 pub mod FleetLaw

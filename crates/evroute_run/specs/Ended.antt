@@ -4,6 +4,7 @@ use Rattle.command_line.specs.declared.Options.{Options}
 use Rattle.evroute_run.specs.CheckAnswer.{IsCheckRefused}
 use Rattle.evroute_run.specs.FixedAnswer.{IsRefused}
 use Rattle.evroute_run.specs.FleetAnswer.{IsFleetRefused}
+use Rattle.evroute_run.specs.ImproveAnswer.{IsImproveRefused}
 use Rattle.evroute_run.specs.LimitedNetwork.{IsNetworkRefused}
 use Rattle.plan_writer.specs.RefusalText.{IsRule}
 use Rattle.evroute_run.specs.declared.answer.Ended.{Ended}
@@ -29,6 +30,12 @@ abbrev pub IsCheckEnded : Option ℕ → List ℕ → List ℕ → List ℕ → 
 IsCheckEnded limit bytes plan_bytes cert_bytes (Refused refusal) =
     IsRule refusal × IsCheckRefused limit bytes plan_bytes cert_bytes refusal
 IsCheckEnded limit bytes plan_bytes cert_bytes Memory = Unit {0}
+
+-- of `improve`
+abbrev pub IsImproveEnded : Option ℕ → List ℕ → List ℕ → Ended → Type 0
+IsImproveEnded limit bytes plan_bytes (Refused refusal) =
+    IsRule refusal × IsImproveRefused limit bytes plan_bytes refusal
+IsImproveEnded limit bytes plan_bytes Memory = Unit {0}
 
 -- of `fleet`
 abbrev pub IsFleetEnded : Option ℕ → List ℕ → Ended → Type 0

@@ -6,6 +6,7 @@ pub mod FleetAnswer
 pub mod Judged
 pub mod ConvertAnswer
 pub mod MakeAnswer
+pub mod ImproveAnswer
 pub mod Ended
 pub mod Run
 pub mod Ending

@@ -6,7 +6,8 @@ ghost use Rattle.command_line.specs.declared.Job.TheVariants.{Check};
 ghost use Rattle.ev_model.specs.Network.{Network};
 ghost use Rattle.evroute_run.specs.Caps.{most_bytes};
 ghost use Rattle.evroute_run.specs.CheckAnswer.{HasFleet, HasFleetNetwork, customer_count, most_customers};
-ghost use Rattle.evroute_run.specs.Ended.{IsCheckEnded, IsRuleOrMemory};
+ghost use Rattle.evroute_run.specs.Ended.{IsCheckEnded, IsImproveEnded, IsRuleOrMemory};
+ghost use Rattle.evroute_run.specs.LimitedNetwork.{HasNetwork};
 ghost use Rattle.evroute_run.specs.Run.{task_of};
 ghost use Rattle.job_frame.specs.Finds.{Finds};
 ghost use Rattle.job_frame.specs.Task.{AreReadUpTo};
@@ -94,12 +95,14 @@ fn check_plan<S: Shelf>(
 }
 
 /// The fleet plan of a plan file, or none where it says so.
-fn plan_of(alloc: Global, bytes: &[u8]) -> Result<Option<FleetPlan>, Ended>
+pub fn plan_of(alloc: Global, bytes: &[u8]) -> Result<Option<FleetPlan>, Ended>
     ensures ok { IfOk result (SpellsFleetPlan bytes.now) }
     ensures rule { IfErr result IsRuleOrMemory }
     ensures ended { (limit : Option ℕ) (file cert_bytes : List ℕ) (g : Network)
         → HasFleetNetwork limit file g
         → IfErr result (IsCheckEnded limit file bytes.now cert_bytes) }
+    ensures improve { (limit : Option ℕ) (file : List ℕ) (g : Network) → HasNetwork limit file g
+        → IfErr result (IsImproveEnded limit file bytes.now) }
 {
     match read_fleet_plan(alloc, bytes) {
         Ok(plan) => Ok(plan),

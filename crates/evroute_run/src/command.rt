@@ -14,6 +14,7 @@ use crate::convert::convert;
 use crate::finish::finish;
 use crate::fixed::fixed;
 use crate::fleet::fleet;
+use crate::improve::improve;
 use crate::make::make;
 use crate::usage::put_usage;
 use command_line::{Job, job_words};
@@ -44,11 +45,17 @@ use std::alloc::{AllocError, Global};
 /// puts how many nodes it has, its denominator and the time of a fastest plan of the route over all
 /// customers ([`Status::Done`]), or that none is feasible ([`Status::Negative`]).
 ///
+/// `improve FILE PLAN OUTFILE [--limit N]` reads PLAN as a fleet plan, or as none, on the instance
+/// of FILE, writes a fleet plan into OUTFILE that no relocation and no exchange of customers makes
+/// cheaper, and puts its cost and that of the plan before ([`Status::Done`]), or puts the first
+/// rule that the plan breaks or, where there is none, the first customer whom no route of his own
+/// reaches ([`Status::Negative`]).
+///
 /// All put the line of the first broken rule of their files and words ([`Status::Refused`]). Other
 /// words put the usage text ([`Status::Words`]). After [`Status::Fault`] and [`Status::Memory`] a
-/// part of such a text may have been put. No file but OUTFILE, PLAN and CERT is written: by
-/// `convert` and `fleet` only where no rule is broken, by `make` wherever an instance is made. What
-/// it holds after a failed write isn't known.
+/// part of such a text may have been put. No file but OUTFILE, and PLAN and CERT of `fleet`, is
+/// written: by `convert` and `fleet` only where no rule is broken, by `make` wherever an instance
+/// is made, by `improve` only where it is done. What it holds after a failed write isn't known.
 pub fn run<S: Shelf, K: Sink>(alloc: Global, words: &[String], shelf: &mut S, out: &mut K) -> Status
     ensures words { result ≡ Status.Words → IsNone (job_named words.now) }
     ensures usage { IsNone (job_named words.now)
@@ -110,5 +117,6 @@ fn perform<S: Shelf, K: Sink>(alloc: Global, job: &Job, shelf: &mut S, out: &mut
         Job::Check(job) => finish(check(alloc, job, shelf), shelf, out),
         Job::Convert(job) => finish(convert(alloc, job, shelf), shelf, out),
         Job::Make(job) => make(alloc, job, shelf, out),
+        Job::Improve(job) => finish(improve(alloc, job, shelf), shelf, out),
     }
 }

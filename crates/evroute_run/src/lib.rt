@@ -11,6 +11,7 @@ mod ending;
 mod finish;
 mod fixed;
 mod fleet;
+mod improve;
 mod instance;
 mod judging;
 mod make;

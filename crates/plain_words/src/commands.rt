@@ -68,6 +68,10 @@ pub(crate) fn command_of(word: &str) -> Option<Command> {
             names: &["SEED", "CUSTOMERS", "STATIONS", "OUTFILE"],
             options: &[],
         }),
+        "improve" => Some(Command {
+            names: &["FILE", "PLAN", "OUTFILE"],
+            options: &[LIMIT],
+        }),
         _ => None,
     }
 }

@@ -13,6 +13,8 @@ mod files;
 #[cfg(test)]
 mod fleets;
 #[cfg(test)]
+mod improved;
+#[cfg(test)]
 mod long_files;
 #[cfg(test)]
 mod many_customers;

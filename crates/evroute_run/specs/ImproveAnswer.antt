@@ -1,0 +1,137 @@
+-- What `improve` answers to the bytes of its instance and of its plan file.
+use Rattle.std.specs.Prelude.{◌≡◌, ℕ, ◌⊎◌, List, [], ◌∷◌, Option, None, Some, Err, option_map}
+use Rattle.command_line.specs.Words.{ImproveJob}
+use Rattle.ev_model.specs.Fleet.{cost_of}
+use Rattle.ev_model.specs.Network.{Network}
+use Rattle.instance_reader.specs.Faults.{IsFirstFault}
+use Rattle.plan_check.specs.FleetRules.{stops_of}
+use Rattle.plan_check.specs.declared.fault.LargeFault.{LargeFault}
+use Rattle.plan_check.specs.declared.fault.LargeFault.TheVariants as large
+use Rattle.plan_check.specs.declared.fault.PlanFault.{PlanFault}
+use Rattle.plan_writer.specs.CheckText.{check_text}
+use Rattle.plan_writer.specs.RefusalText.{IsRule, refusal_text}
+use Rattle.plan_writer.specs.declared.check.Judgement.TheVariants as judgement
+use Rattle.plan_writer.specs.declared.refusal.Refusal.{Refusal}
+use Rattle.plan_writer.specs.declared.refusal.Refusal.TheVariants as refusal
+use Rattle.route_improve.specs.Improved.{CostsNoMore, IsFirstAlone, IsImproved}
+use Rattle.route_improve.specs.ImprovedText.{alone_text, improved_text}
+use Rattle.route_plan.specs.PlanReading.{fleet_plan_in}
+use Rattle.route_plan.specs.PlanTexts.{SpellsFleetPlan, fleet_plan_text}
+use Rattle.route_plan.specs.declared.plan.FleetPlan.{FleetPlan}
+use Rattle.route_plan.specs.declared.plan.RoutePlan.{RoutePlan}
+use Rattle.evroute_run.specs.Caps.{file_read}
+use Rattle.evroute_run.specs.CheckAnswer.{BreaksFirst, IsValid}
+use Rattle.evroute_run.specs.LimitedNetwork.{HasNetwork, IsPastLimit}
+use Rattle.job_frame.specs.Task.{Outcome, Task}
+use Rattle.job_frame.specs.Writes.{Written}
+use Rattle.job_frame.specs.declared.status.Status.{Status}
+use Rattle.job_frame.specs.declared.status.Status.TheVariants as status
+
+-- the bytes of the instance and of the plan file break no rule: g is the network, and the file
+-- holds the plan or says that there is none
+pub record HasPlan (limit : Option ℕ) (bytes plan_bytes : List ℕ)
+    (g : Network) (plan : Option FleetPlan) : Type 0 where
+  pub network : HasNetwork limit bytes g
+  pub spelled : SpellsFleetPlan plan_bytes plan
+
+-- the first broken rule: of the instance, the limit, the plan's text
+abbrev pub IsImproveRefused : Option ℕ → List ℕ → List ℕ → Refusal → Type 0
+IsImproveRefused limit bytes plan_bytes (refusal.Instance fault) = IsFirstFault bytes fault
+IsImproveRefused limit bytes plan_bytes (refusal.Limit given) = IsPastLimit limit bytes given
+IsImproveRefused limit bytes plan_bytes (refusal.Plan fault) =
+    (g : Network) × HasNetwork limit bytes g × (fleet_plan_in plan_bytes ≡ Err fault)
+IsImproveRefused limit bytes plan_bytes other = ⊥
+
+-- why a plan, or none, isn't made cheaper: the first rule that it breaks, or want of memory
+abbrev pub IsUnfit : Network → Option FleetPlan → LargeFault → Type 0
+IsUnfit g plan (large.Plan fault) = BreaksFirst g plan fault
+IsUnfit g plan large.Memory = Unit {0}
+
+-- the routes of a plan, where there is one
+abbrev pub routes_of : Option FleetPlan → Option (List RoutePlan)
+routes_of plan = option_map (λ p. p.routes) plan
+
+-- no rule of a text is broken: what the two files hold
+pub record HoldsPlan (limit : Option ℕ) (bytes plan_bytes : List ℕ) : Type 0 where
+  pub network : Network
+  pub plan : Option FleetPlan
+  pub has : HasPlan limit bytes plan_bytes network plan
+
+-- The plan file holds a fleet plan, or none. A fleet plan is written that costs no more, each of
+-- whose routes is fastest for the order of its customers, and that no relocation and no exchange
+-- makes cheaper; its cost and the one before are put.
+pub record PutsImproved (limit : Option ℕ) (outfile bytes plan_bytes : List ℕ)
+    (ws : List Written) (text : List ℕ) : Type 0 where
+  pub files : HoldsPlan limit bytes plan_bytes
+  pub was : Option ℕ
+  pub valid : IsValid files.network files.plan was
+  pub better : FleetPlan
+  pub improved : IsImproved files.network better.routes
+  pub cost : ℕ
+  pub cost_is : cost ≡ cost_of files.network 1 (stops_of better.routes)
+  pub no_more : CostsNoMore files.network (routes_of files.plan) cost
+  pub written : ws ≡ record { name = outfile; bytes = fleet_plan_text (Some better) } ∷ []
+  pub text_is : text ≡ improved_text files.network.denominator cost was
+
+-- the first rule that the plan of the file breaks is put, and nothing is written
+pub record PutsBrokenPlan (limit : Option ℕ) (bytes plan_bytes : List ℕ)
+    (ws : List Written) (text : List ℕ) : Type 0 where
+  pub files : HoldsPlan limit bytes plan_bytes
+  pub fault : PlanFault
+  pub broken : BreaksFirst files.network files.plan fault
+  pub none : ws ≡ []
+  pub text_is : text ≡ check_text files.network.denominator (judgement.Plan fault)
+
+-- the file holds no plan, and the first customer whom no route of his own reaches is put, and
+-- nothing is written
+pub record PutsAlone (limit : Option ℕ) (bytes plan_bytes : List ℕ)
+    (ws : List Written) (text : List ℕ) : Type 0 where
+  pub files : HoldsPlan limit bytes plan_bytes
+  pub no_plan : files.plan ≡ None
+  pub node : ℕ
+  pub alone : IsFirstAlone files.network node
+  pub none : ws ≡ []
+  pub text_is : text ≡ alone_text node
+
+-- the first broken rule of the instance, the limit or the plan's text is put, and nothing is
+-- written
+pub record PutsImproveRefusal (limit : Option ℕ) (bytes plan_bytes : List ℕ)
+    (ws : List Written) (text : List ℕ) : Type 0 where
+  pub refusal : Refusal
+  pub rule : IsRule refusal
+  pub refused : IsImproveRefused limit bytes plan_bytes refusal
+  pub none : ws ≡ []
+  pub text_is : text ≡ refusal_text refusal
+
+-- the files and the text that belong to a status
+abbrev pub ImproveAnswers : Option ℕ → List ℕ → List ℕ → List ℕ →
+    Status → List Written → List ℕ → Type 0
+ImproveAnswers limit outfile bytes plan_bytes status.Done ws text =
+    PutsImproved limit outfile bytes plan_bytes ws text
+ImproveAnswers limit outfile bytes plan_bytes status.Negative ws text =
+    PutsBrokenPlan limit bytes plan_bytes ws text ⊎ PutsAlone limit bytes plan_bytes ws text
+ImproveAnswers limit outfile bytes plan_bytes status.Refused ws text =
+    PutsImproveRefusal limit bytes plan_bytes ws text
+ImproveAnswers limit outfile bytes plan_bytes other ws text = ⊥
+
+-- `improve` reads two files
+abbrev pub improve_answers : ImproveJob → List (List ℕ) → Outcome → Type 0
+improve_answers job (bytes ∷ plan_bytes ∷ []) o =
+    ImproveAnswers job.limit job.outfile bytes plan_bytes o.status o.writes o.text
+improve_answers job other o = ⊥
+
+-- it comes to its plan where no rule of its instance is broken
+abbrev pub improve_goes_on : ImproveJob → List (List ℕ) → Type 0
+improve_goes_on job [] = Unit {0}
+improve_goes_on job (bytes ∷ []) = (g : Network) × HasNetwork job.limit bytes g
+improve_goes_on job other = ⊥
+
+abbrev pub improve_task : ImproveJob → Task
+improve_task job = record {
+  reads = file_read job.file ∷ file_read job.plan ∷ [];
+  goes_on = improve_goes_on job;
+  answers = improve_answers job;
+  writes_first = λ ws. ⊥;
+  is_open = ⊥;
+  has_budget = ⊥;
+}
