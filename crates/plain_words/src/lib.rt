@@ -17,14 +17,14 @@ mod wrong_words;
 
 pub use heard::HeardSink;
 pub use length::long_certificate;
-use names::names_of;
+use names::{name_at, names_of};
 pub use reach::out_of_reach;
 use std::alloc::{AllocError, Global};
 pub use writing::unwritable;
 
 /// What the first line that was printed means, in words with the names of the files: of a line that
-/// begins with `refused` or `rejected`, and of the usage text, which of the program's words is
-/// wrong. `None` for any other line, and where no word is wrong. `words` stand behind the
+/// begins with `refused`, `rejected` or `alone`, and of the usage text, which of the program's words
+/// is wrong. `None` for any other line, and where no word is wrong. `words` stand behind the
 /// program's name.
 pub fn in_words(alloc: Global, words: &[String], line: &str) -> Result<Option<String>, AllocError> {
     let parts = line.split(' ').collect::<Vec<&str>>(alloc)?;
@@ -32,6 +32,10 @@ pub fn in_words(alloc: Global, words: &[String], line: &str) -> Result<Option<St
     match parts.as_slice() {
         ["refused", cause @ ..] => refused::in_words(alloc, names.as_slice(), cause),
         ["rejected", rule @ ..] => rejected::in_words(alloc, names.as_slice(), rule),
+        ["alone", node] => Ok(Some(format!(in alloc;
+            "{}: no route of its own serves customer {node} within the limit",
+            name_at(names.as_slice(), 1)
+        )?)),
         ["evroute", ..] => wrong_words::in_words(alloc, words),
         _ => Ok(None),
     }

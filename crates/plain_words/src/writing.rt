@@ -7,23 +7,29 @@ use std::io::ErrorKind;
 use std::path::Path;
 use std::rt::Files;
 
-/// Which file that `fleet` would write behind its search can't be written, and why, as far as the
-/// system tells without a change: where a folder has its name, or its folder isn't there. `None`
-/// for other commands, which take no time.
+/// Which file that `fleet` or `improve` would write behind its search can't be written, and why, as
+/// far as the system tells without a change: where a folder has its name, or its folder isn't
+/// there. `None` for other commands, which take no time.
 pub fn unwritable<R: Files>(
     alloc: Global,
     files: &R,
     words: &[String],
 ) -> Result<Option<String>, AllocError> {
     let names = names_of(alloc, words)?;
-    let ["fleet", _, plan, cert] = names.as_slice() else {
-        return Ok(None);
-    };
-    if let Some(why) = cause(files, plan) {
-        return Ok(Some(format!(in alloc; "{plan} can't be written: {why}")?));
+    match names.as_slice() {
+        ["fleet", _, plan, cert] => match told_of(alloc, files, plan)? {
+            Some(told) => Ok(Some(told)),
+            None => told_of(alloc, files, cert),
+        },
+        ["improve", _, _, outfile] => told_of(alloc, files, outfile),
+        _ => Ok(None),
     }
-    match cause(files, cert) {
-        Some(why) => Ok(Some(format!(in alloc; "{cert} can't be written: {why}")?)),
+}
+
+/// What is said of a file that can't be written.
+fn told_of<R: Files>(alloc: Global, files: &R, name: &str) -> Result<Option<String>, AllocError> {
+    match cause(files, name) {
+        Some(why) => Ok(Some(format!(in alloc; "{name} can't be written: {why}")?)),
         None => Ok(None),
     }
 }

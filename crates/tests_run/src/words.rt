@@ -72,6 +72,10 @@ fn broken_rules_are_told_with_the_file(rt: HostRuntime) -> Result<(), Fail> {
             "rejected certificate 5 leaf 0",
             "c: the section of leaf 0 doesn't show the bound",
         ),
+        (
+            "alone 3",
+            "a: no route of its own serves customer 3 within the limit",
+        ),
     ] {
         let found = said(alloc, "check a b c", line)?;
         assert_eq!(rt; found.as_str(), want, "at {line}");
