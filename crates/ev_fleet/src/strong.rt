@@ -73,8 +73,8 @@ pub(crate) fn strongest(
     Ok(best)
 }
 
-/// The product of the gains of the children where the node is split on the choice. Where it can't be
-/// above `most`, a number that isn't may stand for it.
+/// The product of the gains of the children where the node is split on the choice. Where it can't
+/// be above `most`, a number that isn't may stand for it.
 fn gains(
     alloc: Global,
     inst: &Instance,

@@ -60,8 +60,8 @@ pub(crate) fn take_next(tree: &mut Tree) -> TakenNode
 }
 
 /// The section of the node with these forbidden pairs, and what shows its bound. The plans of its
-/// shares are offered as the plan that is held, and then one of the pool's routes, for which so many
-/// of them may be looked at.
+/// shares are offered as the plan that is held, and then one of the pool's routes, for which so
+/// many of them may be looked at.
 #[tactic(auto, using(crate::proofs::Bounds::most_most))]
 pub(crate) fn bound_pairs(
     alloc: Global,

@@ -23,8 +23,8 @@ use std::alloc::{AllocError, Global};
 pub use writing::unwritable;
 
 /// What the first line that was printed means, in words with the names of the files: of a line that
-/// begins with `refused`, `rejected` or `alone`, and of the usage text, which of the program's words
-/// is wrong. `None` for any other line, and where no word is wrong. `words` stand behind the
+/// begins with `refused`, `rejected` or `alone`, and of the usage text, which of the program's
+/// words is wrong. `None` for any other line, and where no word is wrong. `words` stand behind the
 /// program's name.
 pub fn in_words(alloc: Global, words: &[String], line: &str) -> Result<Option<String>, AllocError> {
     let parts = line.split(' ').collect::<Vec<&str>>(alloc)?;
