@@ -10,12 +10,13 @@ use Rattle.label_pool.specs.declared.label.Label.{Label}
 use Rattle.label_pool.proofs.Elements.{element_at, set_here, set_there}
 use Rattle.piece_fn.specs.PieceFn.{level_times}
 use Rattle.frvcp_labels.specs.Full.{AreFull, IsFullBy, IsNoted, full_at}
-use Rattle.frvcp_labels.specs.Search.{Holds, IsGrown, IsSound, MayGo, Reached, SpreadsTo}
-use Rattle.frvcp_labels.specs.Trips.{Journey}
-use Rattle.frvcp_labels.specs.Ways.{Leaving, leaving_after}
-use Rattle.frvcp_labels.specs.declared.state.State.{State}
+use Rattle.frvcp_labels.specs.Search.{IsGrown, IsSound, Reached, SpreadsTo}
+use Rattle.route_steps.specs.Steps.{Holds, MayGo}
+use Rattle.route_steps.specs.Trips.{Journey}
+use Rattle.route_steps.specs.Ways.{Leaving, leaving_after}
+use Rattle.route_steps.specs.declared.state.State.{State}
 use Rattle.frvcp_labels.proofs.Growing.{same_place}
-use Rattle.frvcp_labels.proofs.Leaving.{arrives}
+use Rattle.route_steps.proofs.Leaving.{arrives}
 
 pub noted : (full : List (Option ℕ)) (bucket : ℕ) (o : Option ℕ) → bucket < length full → IsNoted full bucket o (set full bucket o)
 noted full bucket o inside i time here = elim (cases_eq i bucket) [
@@ -51,7 +52,7 @@ full_added t old now full after s o bucket is grown reached at place has count t
 }
 
 -- what arrives later is reached
-pub full_spreads : (t : Journey) (labels : List (Label State)) (full : List (Option ℕ)) (from : State) (passed to : ℕ) → MayGo t from.passed passed to → AreFull t labels full → passed < length t.route
+pub full_spreads : (t : Journey) (labels : List (Label State)) (full : List (Option ℕ)) (from : State) (passed to : ℕ) → MayGo t.network t.route from.passed passed to → AreFull t labels full → passed < length t.route
     → ((level : ℕ) → IsLevel (level_times from.value) level → time_at (level_times from.value) (level_times from.value).first ≤ time_at (level_times from.value) level)
     → IsFullBy t full from passed to → SpreadsTo t labels from passed to
 full_spreads t labels full from passed to go is within least by v stop holds may node after =
@@ -74,13 +75,13 @@ full_spreads t labels full from passed to go is within least by v stop holds may
       };
     }
 
-pub may_within : (t : Journey) (before passed to : ℕ) → MayGo t before passed to → passed < length t.route
+pub may_within : (t : Journey) (before passed to : ℕ) → MayGo t.network t.route before passed to → passed < length t.route
 may_within t before passed to go = elim go.leads [
   | inl same ↦ (let on = go.on_way in omega (arith, same.0, on))
   | inr next ↦ (let on = go.on_way in omega (arith, next.0, on))
 ]
 
-pub label_spreads : (t : Journey) (labels : List (Label State)) (full : List (Option ℕ)) (label : Label State) (from : State) (passed to : ℕ) → MayGo t label.value.passed passed to → AreFull t labels full → IsSound t labels label
+pub label_spreads : (t : Journey) (labels : List (Label State)) (full : List (Option ℕ)) (label : Label State) (from : State) (passed to : ℕ) → MayGo t.network t.route label.value.passed passed to → AreFull t labels full → IsSound t labels label
     → from ≡ label.value → IsFullBy t full from passed to → SpreadsTo t labels label.value passed to
 label_spreads t labels full label from passed to go is sound same by =
     full_spreads t labels full label.value passed to go is (may_within t label.value.passed passed to go) sound.least

@@ -12,10 +12,11 @@ use Rattle.label_pool.specs.Labels.{IsCovered, Labels, beside, labels_with}
 use Rattle.label_pool.specs.declared.label.Label.{Label}
 use Rattle.label_pool.proofs.Elements.{appended_before, appended_cases}
 use Rattle.piece_fn.specs.PieceFn.{level_times}
-use Rattle.frvcp_labels.specs.Search.{AreSound, HasOrigin, Holds, IsBelowWays, IsGrown, IsSound, IsSoundPool, IsSoundState, IsStep, Reached, settled_count}
-use Rattle.frvcp_labels.specs.Trips.{Journey}
-use Rattle.frvcp_labels.specs.Ways.{Leaving}
-use Rattle.frvcp_labels.specs.declared.state.State.{State}
+use Rattle.frvcp_labels.specs.Search.{AreSound, HasOrigin, IsBelowWays, IsGrown, IsSound, IsSoundPool, Reached, settled_count}
+use Rattle.route_steps.specs.Steps.{Holds, IsSoundState, IsStep}
+use Rattle.route_steps.specs.Trips.{Journey}
+use Rattle.route_steps.specs.Ways.{Leaving}
+use Rattle.route_steps.specs.declared.state.State.{State}
 use Rattle.frvcp_labels.proofs.FirstLevel.{first_is_least}
 
 -- one state dominates another by their values
@@ -94,7 +95,7 @@ origin_stays : (t : Journey) (old new : List (Label State)) (parent : Option ℕ
 origin_stays t old new None s stays is = is
 origin_stays t old new (Some p) s stays is =
     let there = stays p is.0 is.1 in
-    (there.0, there.1, subst (λ (x : State). IsStep t x s) (sym there.2) is.2)
+    (there.0, there.1, subst (λ (x : State). IsStep t.network t.route x s) (sym there.2) is.2)
 
 pub sound_stays : (t : Journey) (old new : List (Label State)) (label : Label State) → ((i : ℕ) (label : Label State) → slice_get old i ≡ Some label → (other : Label State) × (slice_get new i ≡ Some other) × (other.value ≡ label.value))
     → IsSound t old label → IsSound t new label
@@ -194,7 +195,7 @@ module _ (t : Journey) (old now : Labels State) (new : Label State) where
       }
 
 -- a new label
-pub new_sound : (t : Journey) (labels : List (Label State)) (s : State) (bucket key : ℕ) (parent : Option ℕ) → IsSoundState t s → bucket ≡ s.passed * node_count t.network + s.node → IsValue (level_times s.value) → IsBelowWays t s key
+pub new_sound : (t : Journey) (labels : List (Label State)) (s : State) (bucket key : ℕ) (parent : Option ℕ) → IsSoundState t.network t.route s → bucket ≡ s.passed * node_count t.network + s.node → IsValue (level_times s.value) → IsBelowWays t s key
     → (s.passed ≡ length t.route - 1 → key ≡ time_at (level_times s.value) (level_times s.value).first) → HasOrigin t labels parent s
     → IsSound t labels (record { bucket = bucket; value = s; key = key; parent = parent; live = true; settled = false })
 new_sound t labels s bucket key parent sound place valid below home origin =

@@ -1,6 +1,3 @@
-pub mod Rests
-pub mod Plans
-pub mod StationList
 pub mod Growing
 pub mod Searching
 mod FullBattery
@@ -9,7 +6,6 @@ mod Spreading
 mod Turning
 mod Solving
 pub mod Points
-pub mod Leaving
 pub mod Tracing
 mod RestRate
 mod RestLaw

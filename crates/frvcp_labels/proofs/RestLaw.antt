@@ -16,11 +16,11 @@ use Rattle.piece_fn.proofs.Levels.{level_is, time_at-level_times}
 use Rattle.piece_fn.specs.PieceFn.{first_level, level_times}
 use Rattle.frvcp_labels.specs.Rest.{IsBelowPoints, IsRate, IsRestBound, step_cost}
 use Rattle.frvcp_labels.specs.Search.{IsBelowWays}
-use Rattle.frvcp_labels.specs.Trips.{Journey}
-use Rattle.frvcp_labels.specs.Ways.{IsRest, Leaving, MayStop, leaving_after, passed_after}
-use Rattle.frvcp_labels.specs.declared.state.State.{State}
+use Rattle.route_steps.specs.Trips.{Journey}
+use Rattle.route_steps.specs.Ways.{IsRest, Leaving, MayStop, leaving_after, passed_after}
+use Rattle.route_steps.specs.declared.state.State.{State}
 use Rattle.frvcp_labels.proofs.FirstLevel.{first_is_least}
-use Rattle.frvcp_labels.proofs.Rests.{rest_step}
+use Rattle.route_steps.proofs.Rests.{rest_step}
 
 -- one step, and the rest behind it
 pub step_sum : (d travel process plug rate energy level added after charging rest next time : ℕ) → rest ≤ d * (travel + process) + rate * energy + next → next ≤ time + rate * after → rate * added ≤ charging → after + energy ≡ level + added

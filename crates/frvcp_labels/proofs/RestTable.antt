@@ -6,8 +6,8 @@ use Rattle.std.proofs.lemmas.List.{get_or-set_other, get_or-set_same}
 use Rattle.std.proofs.Math.Nat.{mul-le-mul_right}
 use Rattle.ev_model.specs.Network.{Network, node_count}
 use Rattle.frvcp_labels.specs.Rest.{AreLayers, IsBelowSteps, IsDirect, IsRate, IsRateAt, IsSteady, step_cost}
-use Rattle.frvcp_labels.specs.Stations.{stations}
-use Rattle.frvcp_labels.proofs.StationList.{station-known, station-number}
+use Rattle.route_steps.specs.Stations.{stations}
+use Rattle.route_steps.proofs.StationList.{station-known, station-number}
 
 -- a number that is below the cost of going on over each station
 pub below_steps : (g : Network) (rate : ℕ) (least : List ℕ) (base from most : ℕ) (nodes : List ℕ) → nodes ≡ stations g

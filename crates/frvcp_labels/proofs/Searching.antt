@@ -14,16 +14,17 @@ use Rattle.piece_fn.specs.PieceFn.{level_times}
 use Rattle.label_pool.specs.Labels.{IsNext, NoneWaits, is_waiting}
 use Rattle.label_pool.specs.declared.label.Label.{Label}
 use Rattle.label_pool.proofs.Elements.{appended_before, appended_here, element_at, set_here, set_there}
-use Rattle.frvcp_labels.specs.Answers.{NoWayHome}
-use Rattle.frvcp_labels.specs.Search.{AreReached, AreSound, AreSteps, CoverStops, HasOrigin, Holds, IsGrown, IsSound, IsSoundState, IsSoundStep, IsSpread, IsStep, MayGo, Reached, Spreads, SpreadsTo, settled_count, state_at}
-use Rattle.frvcp_labels.specs.Stations.{stations}
-use Rattle.frvcp_labels.specs.Trips.{IsTrip, Journey}
-use Rattle.frvcp_labels.specs.Ways.{IsRest, Leaving, begin, leaving_after, passed_after}
-use Rattle.frvcp_labels.specs.declared.state.State.{State}
+use Rattle.route_steps.specs.Homes.{NoWayHome}
+use Rattle.frvcp_labels.specs.Search.{AreReached, AreSound, HasOrigin, IsGrown, IsSound, IsSpread, Reached, Spreads, SpreadsTo, settled_count}
+use Rattle.route_steps.specs.Steps.{AreSteps, CoverStops, Holds, IsSoundState, IsSoundStep, IsStep, MayGo, state_at}
+use Rattle.route_steps.specs.Stations.{stations}
+use Rattle.route_steps.specs.Trips.{IsTrip, Journey}
+use Rattle.route_steps.specs.Ways.{IsRest, Leaving, begin, leaving_after, passed_after}
+use Rattle.route_steps.specs.declared.state.State.{State}
 use Rattle.frvcp_labels.proofs.Growing.{sound_stays}
-use Rattle.frvcp_labels.proofs.Rests.{way_home}
+use Rattle.route_steps.proofs.Rests.{way_home}
 use Rattle.frvcp_labels.proofs.Points.{has_start, start_level, start_time}
-use Rattle.frvcp_labels.proofs.StationList.{station-curve, station-known, station-number}
+use Rattle.route_steps.proofs.StationList.{station-curve, station-known, station-number}
 
 is_later : (n : ℕ) → not (nat_eq n 0) ≡ nat_lt 0 n
 is_later zero = refl
@@ -44,8 +45,8 @@ module _ (t : Journey) (passed to : ℕ) (all values left : List (List (ℕ × �
   state_is : taken_state passed to (not empty) value ≡ state_at passed to (length left) value
   state_is = ap (λ b. taken_state passed to b value) (ap not told ∙ is_later (length left))
 
-  pub taken_step : (from : State) → AreSteps t from passed to all → IsSoundStep t from (taken_state passed to (not empty) value)
-  taken_step from steps = subst (λ (s : State). IsSoundStep t from s) (sym state_is) (steps (length left) value taken_here)
+  pub taken_step : (from : State) → AreSteps t.network t.route from passed to all → IsSoundStep t.network t.route from (taken_state passed to (not empty) value)
+  taken_step from steps = subst (λ (s : State). IsSoundStep t.network t.route from s) (sym state_is) (steps (length left) value taken_here)
 
   pub left_same : (k : ℕ) (w : List (ℕ × ℕ)) → slice_get left k ≡ Some w → slice_get all k ≡ Some w
   left_same k w here = same k w (ap (λ xs. slice_get xs k) parts ∙ appended_before left (value ∷ []) k w here)
@@ -65,14 +66,14 @@ module _ (t : Journey) (passed to : ℕ) (all values left : List (List (ℕ × �
   ]
 
 -- the label that a step leaves, in labels that have grown
-pub origin_of : (t : Journey) (first now : List (Label State)) (i : ℕ) (s : State) → i < length first → IsGrown first now → ((label : Label State) → slice_get first i ≡ Some label → IsSoundStep t label.value s) → HasOrigin t now (Some i) s
+pub origin_of : (t : Journey) (first now : List (Label State)) (i : ℕ) (s : State) → i < length first → IsGrown first now → ((label : Label State) → slice_get first i ≡ Some label → IsSoundStep t.network t.route label.value s) → HasOrigin t now (Some i) s
 origin_of t first now i s inside grown steps =
     let label = element_at first i inside in
     let there = grown.stays i label.0 label.1 in
-    (there.0, there.1, subst (λ (x : State). IsStep t x s) (sym there.2) (steps label.0 label.1).step)
+    (there.0, there.1, subst (λ (x : State). IsStep t.network t.route x s) (sym there.2) (steps label.0 label.1).step)
 
 -- what the values cover spreads
-pub covers_spread : (t : Journey) (labels : List (Label State)) (from : State) (passed to : ℕ) (values : List (List (ℕ × ℕ))) → CoverStops t from passed to values → AreReached labels passed to values → SpreadsTo t labels from passed to
+pub covers_spread : (t : Journey) (labels : List (Label State)) (from : State) (passed to : ℕ) (values : List (List (ℕ × ℕ))) → CoverStops t.network t.route from passed to values → AreReached labels passed to values → SpreadsTo t labels from passed to
 covers_spread t labels from passed to values covers reached v stop holds may node after =
     let some = covers v stop holds may node after in
     reached some.0 some.1 (slice_get_read values (length values) some.0 some.1 refl some.2 (sym some.3)) (leaving_after t.network v stop) (record { passed = sym after; node = sym node; reaches = some.4 })
@@ -237,7 +238,7 @@ module _ (t : Journey) (labels : List (Label State)) (is : IsSpread t labels (be
       omega (arith, least, in_time, is_key, is_limit, late)
 
 -- the start
-pub start_sound : (t : Journey) (value : List (ℕ × ℕ)) → IsTrip t.network t.route → t.start ≤ t.network.capacity → value ≡ (t.start, 0) ∷ [] → IsSoundState t (record { passed = 0; node = 0; charged = false; value = value })
+pub start_sound : (t : Journey) (value : List (ℕ × ℕ)) → IsTrip t.network t.route → t.start ≤ t.network.capacity → value ≡ (t.start, 0) ∷ [] → IsSoundState t.network t.route (record { passed = 0; node = 0; charged = false; value = value })
 start_sound t value trip low is = record {
   passed = (let two = trip.two in omega (arith, two));
   node = (let depot = trip.network.depot in omega (arith, depot));
@@ -256,14 +257,14 @@ begun t old now value empty grown is reached =
     (reached (begin t.start) (record { passed = refl; node = refl; reaches = (t.start, has, (omega arith, omega (arith, none))) }))
 
 -- where a step leads from a label
-pub next_node : (t : Journey) (passed : ℕ) (s : State) → IsTrip t.network t.route → s.passed + 1 < length t.route → passed ≡ s.passed → MayGo t s.passed (passed + 1) (slice_index t.route (passed + 1))
+pub next_node : (t : Journey) (passed : ℕ) (s : State) → IsTrip t.network t.route → s.passed + 1 < length t.route → passed ≡ s.passed → MayGo t.network t.route s.passed (passed + 1) (slice_index t.route (passed + 1))
 next_node t passed s trip before is = record {
   on_way = omega arith;
   known = trip.is_route.1.known (passed + 1) 0 (omega (arith, is, before));
   leads = inr (ap (λ n. n + 1) is, refl);
 }
 
-pub next_station : (t : Journey) (passed n to : ℕ) (s : State) → s.passed + 1 < length t.route → passed ≡ s.passed → n < length (stations t.network) → to ≡ slice_index (stations t.network) n → MayGo t s.passed passed to
+pub next_station : (t : Journey) (passed n to : ℕ) (s : State) → s.passed + 1 < length t.route → passed ≡ s.passed → n < length (stations t.network) → to ≡ slice_index (stations t.network) n → MayGo t.network t.route s.passed passed to
 next_station t passed n to s before is inside at = record {
   on_way = omega arith;
   known = subst (λ x. x < node_count t.network) (sym at) (station-known t.network n inside);

@@ -8,10 +8,11 @@ use Rattle.ev_model.specs.Network.{node_count}
 use Rattle.label_pool.specs.Labels.{Labels}
 use Rattle.label_pool.specs.declared.label.Label.{Label}
 use Rattle.label_pool.proofs.Elements.{element_at}
-use Rattle.frvcp_labels.specs.Search.{IsGrown, IsSoundPool, MayGo, Spreads, SpreadsTo, SpreadsToStations}
-use Rattle.frvcp_labels.specs.Stations.{stations}
-use Rattle.frvcp_labels.specs.Trips.{IsTrip, Journey}
-use Rattle.frvcp_labels.specs.declared.state.State.{State}
+use Rattle.frvcp_labels.specs.Search.{IsGrown, IsSoundPool, Spreads, SpreadsTo, SpreadsToStations}
+use Rattle.route_steps.specs.Steps.{MayGo}
+use Rattle.route_steps.specs.Stations.{stations}
+use Rattle.route_steps.specs.Trips.{IsTrip, Journey}
+use Rattle.route_steps.specs.declared.state.State.{State}
 use Rattle.frvcp_labels.proofs.Searching.{next_node, next_station, spreads_all, spreads_stays}
 
 pub IfOk-both : {X E : Type 0} (r : Result X E) (P Q : X → Type 0) → IfOk r P → IfOk r Q → IfOk r (λ x. P x × Q x)
@@ -69,13 +70,13 @@ module _ (t : Journey) (old now : List (Label State)) (i passed : ℕ) (grown : 
       let there = grown.stays i from.label from.here in
       sym there.2 ∙ ap (λ (l : Label State). l.value) (same_Some there.0 label (sym there.1 ∙ here))
 
-  pub goes_next : IsTrip t.network t.route → (label : Label State) → slice_get now i ≡ Some label → MayGo t label.value.passed (passed + 1) (slice_index t.route (passed + 1))
+  pub goes_next : IsTrip t.network t.route → (label : Label State) → slice_get now i ≡ Some label → MayGo t.network t.route label.value.passed (passed + 1) (slice_index t.route (passed + 1))
   goes_next trip label here =
-      subst (λ (s : State). MayGo t s.passed (passed + 1) (slice_index t.route (passed + 1))) (same_value label here) (next_node t passed from.label.value trip from.before from.is)
+      subst (λ (s : State). MayGo t.network t.route s.passed (passed + 1) (slice_index t.route (passed + 1))) (same_value label here) (next_node t passed from.label.value trip from.before from.is)
 
-  pub goes_to_station : (n to : ℕ) → n < length (stations t.network) → to ≡ slice_index (stations t.network) n → (label : Label State) → slice_get now i ≡ Some label → MayGo t label.value.passed passed to
+  pub goes_to_station : (n to : ℕ) → n < length (stations t.network) → to ≡ slice_index (stations t.network) n → (label : Label State) → slice_get now i ≡ Some label → MayGo t.network t.route label.value.passed passed to
   goes_to_station n to inside at label here =
-      subst (λ (s : State). MayGo t s.passed passed to) (same_value label here) (next_station t passed n to from.label.value from.before from.is inside at)
+      subst (λ (s : State). MayGo t.network t.route s.passed passed to) (same_value label here) (next_station t passed n to from.label.value from.before from.is inside at)
 
 -- what was spread to stations, and one more
 abbrev pub SpreadsBelow : Journey → List (Label State) → List (Label State) → ℕ → ℕ → ℕ → Type 0

@@ -10,14 +10,15 @@ use Rattle.ev_model.specs.declared.Stop.{Stop}
 use Rattle.dominance.specs.LevelTimes.{IsLevel, time_at}
 use Rattle.label_pool.specs.declared.label.Label.{Label}
 use Rattle.piece_fn.specs.PieceFn.{level_times}
-use Rattle.frvcp_labels.specs.Answers.{IsPlanWithin}
-use Rattle.frvcp_labels.specs.Search.{AreSound, HasOrigin, IsStart, IsStep, added_at, leaving_of, level_before, stop_at}
-use Rattle.frvcp_labels.specs.Trips.{IsTrip, Journey}
-use Rattle.frvcp_labels.specs.Ways.{IsRest, begin, depot_stop, leaving_after}
-use Rattle.frvcp_labels.specs.declared.state.State.{State}
+use Rattle.route_steps.specs.Homes.{IsPlanWithin}
+use Rattle.frvcp_labels.specs.Search.{AreSound, HasOrigin, IsStart}
+use Rattle.route_steps.specs.Steps.{IsStep, added_at, leaving_of, level_before, stop_at}
+use Rattle.route_steps.specs.Trips.{IsTrip, Journey}
+use Rattle.route_steps.specs.Ways.{IsRest, begin, depot_stop, leaving_after}
+use Rattle.route_steps.specs.declared.state.State.{State}
 use Rattle.frvcp_labels.proofs.Points.{start_level}
-use Rattle.frvcp_labels.proofs.Plans.{rest_plan}
-use Rattle.frvcp_labels.proofs.Rests.{rest_before}
+use Rattle.route_steps.proofs.Plans.{rest_plan}
+use Rattle.route_steps.proofs.Rests.{rest_before}
 
 -- from a level of the label `at` the stops lead to the end of the route, no later than the least time of the label at home
 pub record IsTraced (t : Journey) (labels : List (Label State)) (home at level : ℕ) (stops : List Stop) : Type 0 where
@@ -55,7 +56,7 @@ at_home t s level home two high in_time = record {
 }
 
 module _ (t : Journey) (labels : List (Label State)) (ends : get_or t.route (length t.route - 1) 0 ≡ 0) where
-  pub step_back : (from to : State) (level : ℕ) (stops : List Stop) → IsStep t from to → IsLevel (level_times to.value) level → IsRest t.network t.route (leaving_of to level) stops
+  pub step_back : (from to : State) (level : ℕ) (stops : List Stop) → IsStep t.network t.route from to → IsLevel (level_times to.value) level → IsRest t.network t.route (leaving_of to level) stops
       → IsRest t.network t.route (leaving_of from (level_before t.network from to level)) (stop_at from to level ∷ stops)
   step_back from to level stops step is rest =
       let before = level_before t.network from to level in
@@ -67,7 +68,7 @@ module _ (t : Journey) (labels : List (Label State)) (ends : get_or t.route (len
       rest_before t.network t.route v stop stops ends (step.may level is)
       (earlier t.network t.route (leaving_after t.network v stop).passed to.node (leaving_after t.network v stop).level (time_at (level_times to.value) level) (leaving_after t.network v stop).time stops (step.no_later level is) shape)
 
-  pub time_back : (from to : State) (level time : ℕ) (stops : List Stop) → IsStep t from to → IsLevel (level_times to.value) level → time_at (level_times to.value) level + time_from t.network 1 to.node level stops ≤ time
+  pub time_back : (from to : State) (level time : ℕ) (stops : List Stop) → IsStep t.network t.route from to → IsLevel (level_times to.value) level → time_at (level_times to.value) level + time_from t.network 1 to.node level stops ≤ time
       → time_at (level_times from.value) (level_before t.network from to level) + time_from t.network 1 from.node (level_before t.network from to level) (stop_at from to level ∷ stops) ≤ time
   time_back from to level time stops step is in_time =
       let sooner = step.no_later level is in
@@ -105,7 +106,7 @@ last_is_depot t trip = ap (λ r. get_or r (length r - 1) 0) trip.is_route.1.ends
 
 module _ (t : Journey) (labels : List (Label State)) (sound : AreSound t labels) (trip : IsTrip t.network t.route) where
   -- the label that one was come to from
-  pub origin_at : (at parent : ℕ) (label : Label State) (o : Option ℕ) → slice_get labels at ≡ Some label → o ≡ label.parent → o ≡ Some parent → (from : Label State) × (slice_get labels parent ≡ Some from) × IsStep t from.value label.value
+  pub origin_at : (at parent : ℕ) (label : Label State) (o : Option ℕ) → slice_get labels at ≡ Some label → o ≡ label.parent → o ≡ Some parent → (from : Label State) × (slice_get labels parent ≡ Some from) × IsStep t.network t.route from.value label.value
   origin_at at parent label o here told is = subst (λ (p : Option ℕ). HasOrigin t labels p label.value) (sym told ∙ is) (sound at label here).origin
 
   -- a label at the end of the route was come to with the level at home
@@ -139,7 +140,7 @@ module _ (t : Journey) (labels : List (Label State)) (sound : AreSound t labels)
     pub is : IsLevel (level_times label.value.value) level
     pub from : Label State
     pub from_here : slice_get labels parent ≡ Some from
-    pub step : IsStep t from.value label.value
+    pub step : IsStep t.network t.route from.value label.value
     pub from_is : f ≡ from.value
     pub to_is : to ≡ label.value
     pub before : level - added + arc ≡ level_before t.network from.value label.value level

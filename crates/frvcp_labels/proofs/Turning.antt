@@ -9,9 +9,9 @@ use Rattle.label_pool.proofs.Elements.{set_here}
 use Rattle.frvcp_labels.specs.Answers.{IsHome, IsTaken}
 use Rattle.frvcp_labels.specs.Full.{AreFull}
 use Rattle.frvcp_labels.specs.Search.{AreSound, IsGrown, IsSoundPool, IsSpread, Reached, Spreads, settled_count}
-use Rattle.frvcp_labels.specs.Trips.{Journey}
-use Rattle.frvcp_labels.specs.Ways.{begin}
-use Rattle.frvcp_labels.specs.declared.state.State.{State}
+use Rattle.route_steps.specs.Trips.{Journey}
+use Rattle.route_steps.specs.Ways.{begin}
+use Rattle.route_steps.specs.declared.state.State.{State}
 use Rattle.frvcp_labels.proofs.FullBattery.{full_grown}
 use Rattle.frvcp_labels.proofs.Searching.{count_most, falls, least_home, now_count, now_reached, now_sound, settled_now, turn}
 

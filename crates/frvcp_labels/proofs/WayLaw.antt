@@ -13,7 +13,7 @@ use Rattle.ev_model.specs.Time.{charging_time, plugging_time, time_from, time_of
 use Rattle.ev_model.specs.declared.Stop.{Stop}
 use Rattle.frvcp_labels.specs.Bounds.{AreWayCosts, way_cost, way_sum}
 use Rattle.frvcp_labels.specs.Rest.{IsRate, step_cost}
-use Rattle.frvcp_labels.specs.Ways.{depot_stop}
+use Rattle.route_steps.specs.Ways.{depot_stop}
 use Rattle.frvcp_labels.proofs.RestLaw.{charged, step_sum}
 
 module _ (g : Network) (rate : ℕ) (layers : List (List ℕ)) (is : IsRate g rate) (are : AreWayCosts g rate layers) where

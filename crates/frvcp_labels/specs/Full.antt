@@ -6,9 +6,9 @@ use Rattle.label_pool.specs.declared.label.Label.{Label}
 use Rattle.piece_fn.specs.PieceFn.{level_times}
 use Rattle.frvcp_labels.specs.Search.{Reached}
 use Rattle.label_steps.specs.Arrivals.{drive_time}
-use Rattle.frvcp_labels.specs.Trips.{Journey}
-use Rattle.frvcp_labels.specs.Ways.{Leaving}
-use Rattle.frvcp_labels.specs.declared.state.State.{State}
+use Rattle.route_steps.specs.Trips.{Journey}
+use Rattle.route_steps.specs.Ways.{Leaving}
+use Rattle.route_steps.specs.declared.state.State.{State}
 
 -- the vehicle with a full battery at a place, at a time
 abbrev pub full_at : Journey → ℕ → ℕ → ℕ → Leaving

@@ -1,6 +1,3 @@
-pub mod Ways
-pub mod Trips
-pub mod Stations
 pub mod Rest
 pub mod TripView
 pub mod Search

@@ -1,8 +1,8 @@
 -- What a `Trip` is, by its fields.
 use Rattle.std.specs.Prelude.{◌≡◌, ◌≤◌}
 use Rattle.frvcp_labels.specs.Rest.{IsRestBound}
-use Rattle.frvcp_labels.specs.Stations.{stations}
-use Rattle.frvcp_labels.specs.Trips.{IsTrip, Journey}
+use Rattle.route_steps.specs.Stations.{stations}
+use Rattle.route_steps.specs.Trips.{IsTrip, Journey}
 use Rattle.frvcp_labels.specs.declared.trip.Trip.TheInside.{Inside}
 
 abbrev pub journey : Inside → Journey

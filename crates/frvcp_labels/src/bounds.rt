@@ -13,10 +13,10 @@ ghost use Rattle.ev_model.specs.Time.{time_of};
 ghost use Rattle.ev_model.specs.declared.Stop.{Stop};
 ghost use Rattle.frvcp_labels.specs.Bounds.{AreWayCosts, IsLayer, lists_in, way_sum};
 ghost use Rattle.frvcp_labels.specs.Rest.{IsDirect, IsRate};
-ghost use Rattle.frvcp_labels.specs.Stations.{stations as stations_of};
+ghost use Rattle.route_steps.specs.Stations.{stations as stations_of};
 
 use crate::rest::{Arcs, fastest_rate};
-use crate::stations::station_nodes;
+use route_steps::station_nodes;
 use instance_reader::Instance;
 use std::alloc::{AllocError, Global};
 use std::marker::Model;

@@ -3,10 +3,11 @@
 ghost use Rattle.std.specs.Prelude.{◌≡◌, ◌+◌, ◌<◌, ◌*◌, ◌^◌, ℕ, IfOk, IfSome, IsTrue, None, OnOk, Option, length, replicate};
 ghost use Rattle.ev_model.specs.Network.{node_count};
 ghost use Rattle.frvcp_labels.specs.Full.{AreFull, IsFullBy, IsNoted};
-ghost use Rattle.frvcp_labels.specs.Search.{HasOrigin, Holds, IsGrown, IsSoundPool, IsSoundState, Reached};
-ghost use Rattle.frvcp_labels.specs.Ways.{Leaving};
+ghost use Rattle.frvcp_labels.specs.Search.{HasOrigin, IsGrown, IsSoundPool, Reached};
+ghost use Rattle.route_steps.specs.Steps.{Holds, IsSoundState};
+ghost use Rattle.route_steps.specs.Ways.{Leaving};
 
-use crate::state::State;
+use route_steps::State;
 use crate::trip::Trip;
 use dominance::LabelValue;
 use label_pool::Pool;
@@ -23,7 +24,7 @@ impl<'a> Trip<'a> {
     ) -> Result<(), AllocError>
         requires pool { IsSoundPool self.now pool.old }
         requires full { AreFull self.now pool.old.labels full.old }
-        requires state { IsSoundState self.now state }
+        requires state { IsSoundState self.now.network self.now.route state }
         requires origin { HasOrigin self.now pool.old.labels parent state }
         ensures pool { OnOk result (IsSoundPool self.now pool.new) }
         ensures full { OnOk result (AreFull self.now pool.new.labels full.new) }

@@ -9,20 +9,17 @@
 //! is needless, whatever it may charge; so no value is made for it.
 #![tactic(auto)]
 
-mod arrival;
 mod bounds;
 mod full;
 mod rest;
 mod search;
 mod solve;
-mod state;
-mod stations;
 mod trace;
 mod trip;
 
 pub use bounds::RouteBounds;
 pub use solve::solve_route;
-pub use stations::station_nodes;
+pub use route_steps::station_nodes;
 
 #[cfg(test)]
 mod tests;

@@ -9,7 +9,7 @@ ghost use Rattle.std.specs.List.{sum};
 ghost use Rattle.ev_model.specs.Network.{node_count};
 ghost use Rattle.ev_model.specs.Route.{IsRoute};
 ghost use Rattle.frvcp_labels.specs.Rest.{IsBelowPoints, IsBelowSteps, IsDirect, AreLayers, IsLowered, IsRate, IsRateAt, IsRestBound, IsSteady, step_cost};
-ghost use Rattle.frvcp_labels.specs.Stations.{stations as stations_of};
+ghost use Rattle.route_steps.specs.Stations.{stations as stations_of};
 
 use instance_reader::Instance;
 use label_steps::{drive_time, full_level, unit_time};

@@ -5,15 +5,17 @@ ghost use Rattle.label_pool.specs.declared.label.Label.{Label};
 ghost use Rattle.ev_model.specs.Network.{node_count};
 ghost use Rattle.dominance.specs.LevelTimes.{IsValue, time_at};
 ghost use Rattle.piece_fn.specs.PieceFn.{level_times};
-ghost use Rattle.frvcp_labels.specs.Answers.{IsHomeOrNone, IsTaken, NoWayHome};
+ghost use Rattle.frvcp_labels.specs.Answers.{IsHomeOrNone, IsTaken};
+ghost use Rattle.route_steps.specs.Homes.{NoWayHome};
 ghost use Rattle.frvcp_labels.specs.Full.{AreFull};
-ghost use Rattle.frvcp_labels.specs.Search.{AreReached, AreSteps, HasOrigin, Holds, IsBelowWays, IsGrown, IsSoundPool, IsSoundState, IsSpread, MayGo, Reached, Spreads, SpreadsTo, SpreadsToStations};
-ghost use Rattle.frvcp_labels.specs.Ways.{Leaving, begin};
-ghost use Rattle.frvcp_labels.specs.declared.state.State.{State};
+ghost use Rattle.frvcp_labels.specs.Search.{AreReached, HasOrigin, IsBelowWays, IsGrown, IsSoundPool, IsSpread, Reached, Spreads, SpreadsTo, SpreadsToStations};
+ghost use Rattle.route_steps.specs.Steps.{AreSteps, Holds, IsSoundState, MayGo};
+ghost use Rattle.route_steps.specs.Ways.{Leaving, begin};
+ghost use Rattle.route_steps.specs.declared.state.State.{State};
 
 use crate::full::none_yet;
 use crate::rest::least_total;
-use crate::state::State;
+use route_steps::{Place, State, values_at};
 use crate::trip::Trip;
 use dominance::LabelValue;
 use label_pool::Pool;
@@ -152,7 +154,7 @@ impl<'a> Trip<'a> {
         requires full { AreFull self.now pool.old.labels full.old }
         requires from { i < length pool.old.labels }
         requires next { (label : Label State) → slice_get pool.old.labels i ≡ Some label →
-            MayGo self.now label.value.passed passed to }
+            MayGo self.now.network self.now.route label.value.passed passed to }
         ensures pool { OnOk result (IsSoundPool self.now pool.new) }
         ensures full { OnOk result (AreFull self.now pool.new.labels full.new) }
         ensures grown { OnOk result (IsGrown pool.old.labels pool.new.labels) }
@@ -167,7 +169,12 @@ impl<'a> Trip<'a> {
         if self.is_full_by(full, from, passed, to) {
             return Ok(());
         }
-        let values = self.values_at(alloc, from, passed, to)?;
+        let start = Place {
+            passed: from.passed,
+            node: from.node,
+        };
+        let end = Place { passed, node: to };
+        let values = values_at(alloc, self.inst, self.route, &from.value, start, end)?;
         self.add_all(pool, full, i, passed, to, values)
     }
 
@@ -186,7 +193,7 @@ impl<'a> Trip<'a> {
         requires full { AreFull self.now pool.old.labels full.old }
         requires from { i < length pool.old.labels }
         requires steps { (label : Label State) → slice_get pool.old.labels i ≡ Some label →
-            AreSteps self.now label.value passed to values.items }
+            AreSteps self.now.network self.now.route label.value passed to values.items }
         ensures pool { OnOk result (IsSoundPool self.now pool.new) }
         ensures full { OnOk result (AreFull self.now pool.new.labels full.new) }
         ensures grown { OnOk result (IsGrown pool.old.labels pool.new.labels) }
@@ -212,7 +219,7 @@ impl<'a> Trip<'a> {
         state: State,
     ) -> Result<(), AllocError>
         requires pool { IsSoundPool self.now pool.old }
-        requires state { IsSoundState self.now state }
+        requires state { IsSoundState self.now.network self.now.route state }
         requires origin { HasOrigin self.now pool.old.labels parent state }
         ensures pool { OnOk result (IsSoundPool self.now pool.new) }
         ensures grown { OnOk result (IsGrown pool.old.labels pool.new.labels) }
@@ -228,7 +235,7 @@ impl<'a> Trip<'a> {
     /// A time that no way home of a vehicle of the state is below: at the route's end the least
     /// time.
     fn key(&self, state: &State) -> u64
-        requires state { IsSoundState self.now state.now }
+        requires state { IsSoundState self.now.network self.now.route state.now }
         requires few { length self.now.route * node_count self.now.network < 2 ^ 64 }
         ensures below { IsBelowWays self.now state.now result }
         ensures home { state.now.passed ≡ length self.now.route - 1 →

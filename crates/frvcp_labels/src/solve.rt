@@ -5,7 +5,7 @@ ghost use Rattle.ev_model.specs.Fastest.{HasNoPlan, IsFastest};
 ghost use Rattle.ev_model.specs.Route.{IsRoute};
 
 use crate::rest::Rest;
-use crate::stations::station_nodes;
+use route_steps::station_nodes;
 use crate::trip::Trip;
 use ev_list::Listed;
 use instance_reader::Instance;

@@ -2,12 +2,13 @@
 
 ghost use Rattle.std.specs.Prelude.{◌≡◌, ◌-◌, ◌<◌, ◌≤◌, ℕ, Some, IfOk, length, slice_get};
 ghost use Rattle.label_pool.specs.declared.label.Label.{Label};
-ghost use Rattle.frvcp_labels.specs.Answers.{IsPlanWithin};
-ghost use Rattle.frvcp_labels.specs.Search.{IsSoundPool, added_at};
-ghost use Rattle.frvcp_labels.specs.declared.state.State.{State};
+ghost use Rattle.route_steps.specs.Homes.{IsPlanWithin};
+ghost use Rattle.frvcp_labels.specs.Search.{IsSoundPool};
+ghost use Rattle.route_steps.specs.Steps.{added_at};
+ghost use Rattle.route_steps.specs.declared.state.State.{State};
 ghost use Rattle.piece_fn.specs.PieceFn.{level_times};
 
-use crate::state::State;
+use route_steps::State;
 use crate::trip::Trip;
 use dominance::LabelValue;
 use label_pool::Pool;

@@ -2,7 +2,7 @@
 ghost use Rattle.std.specs.Prelude.{◌≡◌, ◌+◌, ◌-◌, ◌*◌, ◌^◌, ◌<◌, ◌≤◌, length, slice_index, IfSome};
 ghost use Rattle.ev_model.specs.Network.{energy, node_count, scaled_limit};
 ghost use Rattle.label_steps.specs.Arrivals.{drive_time};
-ghost use Rattle.frvcp_labels.specs.Trips.{IsTrip, least_level};
+ghost use Rattle.route_steps.specs.Trips.{IsTrip};
 
 use crate::rest::Rest;
 use instance_reader::Instance;
@@ -21,7 +21,7 @@ pub(crate) struct Trip<'a> {
 }
 
 impl<'a> Model for Trip<'a> {
-    ghost use Rattle.frvcp_labels.specs.Trips.{Journey};
+    ghost use Rattle.route_steps.specs.Trips.{Journey};
 
     ghost Value = { Journey };
 
@@ -82,17 +82,6 @@ impl<'a> Trip<'a> {
         ensures { result ≡ energy self.now.network from to }
     {
         self.inst.energy(from, to)
-    }
-
-    /// The least level on arriving somewhere once so much of the route was passed.
-    pub(crate) fn least_level(&self, passed: usize) -> u64
-        ensures value { result ≡ least_level self.now.network self.now.route passed }
-    {
-        if passed == self.end() {
-            self.inst.min_q().max(self.inst.home_q())
-        } else {
-            self.inst.min_q()
-        }
     }
 
     /// How many buckets there are, `None` where there are too many for any memory.

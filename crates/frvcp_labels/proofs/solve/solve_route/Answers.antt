@@ -3,10 +3,11 @@ use Rattle.std.proofs.lemmas.Option.{same_Some, slice_get_within}
 use Rattle.ev_model.specs.Fastest.{IsFastest}
 use Rattle.ev_model.specs.Network.{Network}
 use Rattle.label_pool.specs.declared.label.Label.{Label}
-use Rattle.frvcp_labels.specs.declared.state.State.{State}
+use Rattle.route_steps.specs.declared.state.State.{State}
 use Rattle.frvcp_labels.specs.Answers.{IsHome, IsHomeOrNone}
-use Rattle.frvcp_labels.specs.Trips.{Journey}
-use Rattle.frvcp_labels.proofs.Solving.{fastest, is_trip, no_plan}
+use Rattle.route_steps.specs.Trips.{Journey}
+use Rattle.frvcp_labels.proofs.Solving.{fastest_home}
+use Rattle.route_steps.proofs.Solving.{is_trip, no_plan}
 use Rattle.frvcp_labels.proofs.solve.solve_route.Goals as goal
 
 abbrev of : Network → List ℕ → ℕ → Journey
@@ -34,5 +35,5 @@ returns c =
     let is : IsHome (of c.args.inst.now c.args.route.now c.args.start) c.first_home.new.pool.labels c.in-Some.home =
     subst (λ (o : Option ℕ). IsHomeOrNone (of c.args.inst.now c.args.route.now c.args.start) c.first_home.new.pool.labels o) c.in-Some.is c.in_ok-home.ensures.home in
     subst (λ stops. IsFastest c.args.inst.now c.args.route.now c.args.start stops) (sym c.from_vec.ensures)
-    (fastest (of c.args.inst.now c.args.route.now c.args.start) c.first_home.new.pool.labels c.in-Some.home c.in_ok-stops.stops.items
+    (fastest_home (of c.args.inst.now c.args.route.now c.args.start) c.first_home.new.pool.labels c.in-Some.home c.in_ok-stops.stops.items
     (is_trip c.args.inst.now c.args.route.now c.station_nodes.ensures.network c.requires.route) is c.in_ok-stops.ensures)

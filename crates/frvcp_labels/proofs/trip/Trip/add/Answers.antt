@@ -1,6 +1,6 @@
 use Rattle.std.proofs.Common.{false, refl, true}
 use Rattle.label_pool.specs.declared.label.Label.{Label}
-use Rattle.frvcp_labels.specs.declared.state.State.{State}
+use Rattle.route_steps.specs.declared.state.State.{State}
 use Rattle.frvcp_labels.proofs.Growing.{IsAdded, added_is, new_sound}
 use Rattle.frvcp_labels.proofs.trip.Trip.add.Goals as goal
 

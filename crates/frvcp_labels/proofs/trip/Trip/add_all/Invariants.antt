@@ -1,8 +1,9 @@
 use Rattle.std.proofs.Common.{◌≡◌, ◌≤◌, ℕ, List, Some, length}
 use Rattle.std.specs.Prelude.{slice_get}
 use Rattle.frvcp_labels.specs.Full.{AreFull}
-use Rattle.frvcp_labels.specs.Search.{Holds, IsGrown, IsSoundPool, Reached, state_at}
-use Rattle.frvcp_labels.specs.Ways.{Leaving}
+use Rattle.frvcp_labels.specs.Search.{IsGrown, IsSoundPool, Reached}
+use Rattle.route_steps.specs.Steps.{Holds, state_at}
+use Rattle.route_steps.specs.Ways.{Leaving}
 use Rattle.frvcp_labels.proofs.trip.Trip.add_all.Given as goal
 
 abbrev pub invariant-loop-value : goal.invariant-loop-value

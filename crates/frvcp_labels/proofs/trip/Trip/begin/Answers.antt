@@ -1,7 +1,7 @@
 use Rattle.std.proofs.Common.{◌∙◌, ◌∷◌, [], ◌≤◌, ap, subst}
 use Rattle.label_pool.specs.Labels.{Labels}
-use Rattle.frvcp_labels.specs.Trips.{IsTrip, Journey}
-use Rattle.frvcp_labels.specs.declared.state.State.{State}
+use Rattle.route_steps.specs.Trips.{IsTrip, Journey}
+use Rattle.route_steps.specs.declared.state.State.{State}
 use Rattle.frvcp_labels.proofs.FullBattery.{none_full}
 use Rattle.frvcp_labels.proofs.Searching.{begun, start_sound}
 use Rattle.frvcp_labels.proofs.trip.Trip.begin.Goals as goal

@@ -1,7 +1,7 @@
 use Rattle.std.proofs.Common.{◌≡◌, ◌∙◌, ◌+◌, ◌*◌, ◌≤◌, ◌<◌, ap, arith, length}
 use Rattle.std.proofs.Math.Nat.{mul-le-mul_right}
 use Rattle.ev_model.specs.Network.{node_count}
-use Rattle.frvcp_labels.specs.Trips.{Journey}
+use Rattle.route_steps.specs.Trips.{Journey}
 use Rattle.frvcp_labels.proofs.trip.Trip.bucket.Goals as goal
 
 within : (c : goal.After-nodes) → c.args.passed * c.nodes.result + c.args.node < length c.args.self.now.route * node_count c.args.self.now.network

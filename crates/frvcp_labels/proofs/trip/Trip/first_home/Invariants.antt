@@ -1,7 +1,7 @@
 use Rattle.std.proofs.Common.{◌-◌, ◌^◌}
 use Rattle.frvcp_labels.specs.Full.{AreFull}
 use Rattle.frvcp_labels.specs.Search.{IsSoundPool, IsSpread, settled_count}
-use Rattle.frvcp_labels.specs.Ways.{begin}
+use Rattle.route_steps.specs.Ways.{begin}
 use Rattle.frvcp_labels.proofs.trip.Trip.first_home.Given as goal
 
 abbrev pub invariant-loop-i : goal.invariant-loop-i

@@ -1,22 +1,37 @@
-use Rattle.std.proofs.Common.{◌<◌, subst, sym}
+use Rattle.std.proofs.Common.{◌<◌, ◌≤◌, ℕ, refl, subst, sym}
 use Rattle.std.proofs.lemmas.Result.{IfOk-weaker}
 use Rattle.label_pool.proofs.Elements.{element_at}
-use Rattle.frvcp_labels.specs.Search.{AreSteps, CoverStops, IsSoundState, MayGo}
-use Rattle.frvcp_labels.specs.declared.state.State.{State}
+use Rattle.route_steps.specs.Trips.{Journey}
+use Rattle.dominance.specs.LevelTimes.{IsLevel}
+use Rattle.piece_fn.specs.PieceFn.{level_times}
+use Rattle.route_steps.specs.Steps.{AreSteps, CoverStops, MayGo, StandsAt}
+use Rattle.route_steps.specs.declared.state.State.{State}
 use Rattle.ev_model.specs.Network.{node_count}
 use Rattle.frvcp_labels.proofs.FullBattery.{label_spreads, may_within}
 use Rattle.frvcp_labels.proofs.Searching.{covers_spread}
 use Rattle.frvcp_labels.proofs.trip.Trip.go.Goals as goal
 
-pub values_at-requires-clause-state : goal.values_at-requires-clause-state
-values_at-requires-clause-state c =
+-- a state at its own place
+stands : (s : State) → StandsAt (record { passed = s.passed; node = s.node }) s.value s
+stands s = record { passed = refl; node = refl; value = refl }
+
+pub values_at-requires-clause-known : goal.values_at-requires-clause-known
+values_at-requires-clause-known c =
     let label = element_at c.args.pool.now.labels c.args.i c.requires.from in
-    subst (λ (s : State). IsSoundState c.args.self.now s) (sym (c.value-from.ensures label.0 label.1)) (c.requires.pool.labels c.args.i label.0 label.1).state
+    subst (λ (j : Journey). c.value-from.result.now.node < node_count j.network) (sym c.self.view_is)
+    (subst (λ (s : State). s.node < node_count c.args.self.now.network) (sym (c.value-from.ensures label.0 label.1)) (c.requires.pool.labels c.args.i label.0 label.1).state.node)
+
+pub values_at-requires-clause-levels : goal.values_at-requires-clause-levels
+values_at-requires-clause-levels c =
+    let label = element_at c.args.pool.now.labels c.args.i c.requires.from in
+    subst (λ (j : Journey). (level : ℕ) → IsLevel (level_times c.value-from.result.now.value) level → level ≤ j.network.capacity) (sym c.self.view_is)
+    (subst (λ (s : State). (level : ℕ) → IsLevel (level_times s.value) level → level ≤ c.args.self.now.network.capacity) (sym (c.value-from.ensures label.0 label.1)) (c.requires.pool.labels c.args.i label.0 label.1).state.levels)
 
 pub values_at-requires-clause-next : goal.values_at-requires-clause-next
 values_at-requires-clause-next c =
     let label = element_at c.args.pool.now.labels c.args.i c.requires.from in
-    subst (λ (s : State). MayGo c.args.self.now s.passed c.args.passed c.args.to) (sym (c.value-from.ensures label.0 label.1)) (c.requires.next label.0 label.1)
+    subst (λ (j : Journey). MayGo j.network j.route c.value-from.result.now.passed c.args.passed c.args.to) (sym c.self.view_is)
+    (subst (λ (s : State). MayGo c.args.self.now.network c.args.self.now.route s.passed c.args.passed c.args.to) (sym (c.value-from.ensures label.0 label.1)) (c.requires.next label.0 label.1))
 
 pub is_full_by-requires-clause-left : goal.is_full_by-requires-clause-left
 is_full_by-requires-clause-left c =
@@ -35,13 +50,15 @@ is_full_by-requires-clause-reached c =
 
 pub add_all-requires-clause-steps : goal.add_all-requires-clause-steps
 add_all-requires-clause-steps c label here =
-    subst (λ (s : State). AreSteps c.args.self.now s c.args.passed c.args.to c.in_ok-values.values.items) (c.value-from.ensures label here) c.in_ok-values.ensures.steps
+    subst (λ (s : State). AreSteps c.args.self.now.network c.args.self.now.route s c.args.passed c.args.to c.in_ok-values.values.items) (c.value-from.ensures label here)
+    (subst (λ (j : Journey). AreSteps j.network j.route c.value-from.result.now c.args.passed c.args.to c.in_ok-values.values.items) c.self.view_is (c.in_ok-values.ensures.steps c.value-from.result.now (stands c.value-from.result.now)))
 
 pub returns-clause-spreads : goal.returns-clause-spreads
 returns-clause-spreads c =
     IfOk-weaker c.add_all.result _ _
     (λ u reached label here. covers_spread c.args.self.now c.add_all.new.pool.labels label.value c.args.passed c.args.to c.in_ok-values.values.items
-    (subst (λ (s : State). CoverStops c.args.self.now s c.args.passed c.args.to c.in_ok-values.values.items) (c.value-from.ensures label here) c.in_ok-values.ensures.covers) reached)
+    (subst (λ (s : State). CoverStops c.args.self.now.network c.args.self.now.route s c.args.passed c.args.to c.in_ok-values.values.items) (c.value-from.ensures label here)
+    (subst (λ (j : Journey). CoverStops j.network j.route c.value-from.result.now c.args.passed c.args.to c.in_ok-values.values.items) c.self.view_is (c.in_ok-values.ensures.covers c.value-from.result.now (stands c.value-from.result.now)))) reached)
     c.add_all.ensures.reached
 
 pub returns-then-is_full_by-clause-spreads : goal.returns-then-is_full_by-clause-spreads

@@ -3,7 +3,7 @@ use Rattle.std.specs.Prelude.{slice_index}
 use Rattle.std.proofs.lemmas.List.{get_or_default}
 use Rattle.ev_model.specs.Network.{node_count}
 use Rattle.frvcp_labels.specs.Rest.{IsBelowPoints, IsRestBound}
-use Rattle.frvcp_labels.specs.Trips.{Journey}
+use Rattle.route_steps.specs.Trips.{Journey}
 use Rattle.frvcp_labels.proofs.RestLaw.{home_below, total_below}
 use Rattle.frvcp_labels.proofs.trip.Trip.key.Goals as goal
 

@@ -2,8 +2,9 @@ use Rattle.std.proofs.Common.{◌≡◌, ◌+◌, Some, arith, subst, sym}
 use Rattle.std.specs.Prelude.{slice_get}
 use Rattle.std.proofs.lemmas.Result.{IfOk-weaker}
 use Rattle.label_pool.specs.declared.label.Label.{Label}
-use Rattle.frvcp_labels.specs.Search.{MayGo, SpreadsTo}
-use Rattle.frvcp_labels.specs.declared.state.State.{State}
+use Rattle.frvcp_labels.specs.Search.{SpreadsTo}
+use Rattle.route_steps.specs.Steps.{MayGo}
+use Rattle.route_steps.specs.declared.state.State.{State}
 use Rattle.frvcp_labels.proofs.Growing.{grown_on, grown_same}
 use Rattle.frvcp_labels.proofs.Spreading.{IfOk-both, goes_next, on_way, on_way_still, route_small, spread_from, spreads_whole, still_inside}
 use Rattle.frvcp_labels.proofs.trip.Trip.spread.Goals as goal
@@ -30,7 +31,7 @@ node_at-requires c =
 
 pub go-requires-clause-next : goal.go-requires-clause-next
 go-requires-clause-next c =
-    subst (λ x. (label : Label State) → slice_get c.args.pool.now.labels c.args.i ≡ Some label → MayGo c.args.self.now label.value.passed (c.value.result.now.passed + 1) x) (sym c.node_at.ensures)
+    subst (λ x. (label : Label State) → slice_get c.args.pool.now.labels c.args.i ≡ Some label → MayGo c.args.self.now.network c.args.self.now.route label.value.passed (c.value.result.now.passed + 1) x) (sym c.node_at.ensures)
     (goes_next c.args.self.now c.args.pool.now.labels c.args.pool.now.labels c.args.i c.value.result.now.passed (grown_same c.args.pool.now.labels) (spread_from c.args.self.now c.args.pool.now.labels c.args.i c.value.result.now c.requires.from c.requires.on_way c.value.ensures) c.requires.pool.trip)
 
 pub go_to_stations-requires-clause-from : goal.go_to_stations-requires-clause-from

@@ -2,7 +2,7 @@
 
 ghost use Rattle.std.specs.Prelude.{◌≡◌, IfOk};
 ghost use Rattle.ev_model.specs.Network.{IsNetwork};
-ghost use Rattle.frvcp_labels.specs.Stations.{stations};
+ghost use Rattle.route_steps.specs.Stations.{stations};
 
 use instance_reader::Instance;
 use std::alloc::{AllocError, Global};

@@ -9,7 +9,7 @@ use Rattle.ev_model.specs.Levels.{leaving_level}
 use Rattle.ev_model.specs.Route.{route_of}
 use Rattle.ev_model.specs.Time.{stop_time, time_from}
 use Rattle.ev_model.specs.declared.Stop.{Stop}
-use Rattle.frvcp_labels.specs.Ways.{IsRest, Leaving, MayStop, leaving_after, passed_after}
+use Rattle.route_steps.specs.Ways.{IsRest, Leaving, MayStop, leaving_after, passed_after}
 
 add_assoc : (a b c : ℕ) → (a + b) + c ≡ a + (b + c)
 add_assoc a b c = omega arith

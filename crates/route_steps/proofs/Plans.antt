@@ -8,7 +8,7 @@ use Rattle.ev_model.specs.Feasible.{IsFeasible}
 use Rattle.ev_model.specs.Route.{FollowsRoute}
 use Rattle.ev_model.specs.Time.{time_from, time_of}
 use Rattle.ev_model.specs.declared.Stop.{Stop}
-use Rattle.frvcp_labels.specs.Ways.{IsRest, begin, depot_stop}
+use Rattle.route_steps.specs.Ways.{IsRest, begin, depot_stop}
 
 one_time : (n : ℕ) → 1 * n ≡ n
 one_time n = omega arith

@@ -1,18 +1,27 @@
-//! Where a partial route has come to.
+//! Where a vehicle has come to on a route.
 
 use dominance::Covers;
 use piece_fn::PieceFn;
 
+/// A place on the way along a route.
+#[derive(Clone, Copy, Debug, PartialEq, Eq)]
+pub struct Place {
+    /// The index in the route of the last node that was served.
+    pub passed: usize,
+    /// The node: that one, or a station inserted after it.
+    pub node: usize,
+}
+
 /// A vehicle about to leave a node, and the least time at each level that it may then have.
 #[derive(Drop)]
-pub(crate) struct State {
+pub struct State {
     /// The index in the route of the last node that was served.
-    pub(crate) passed: usize,
+    pub passed: usize,
     /// The node: that one, or a station inserted after it.
-    pub(crate) node: usize,
+    pub node: usize,
     /// Whether the vehicle was plugged in there, and charged from the value's first level.
-    pub(crate) charged: bool,
-    pub(crate) value: PieceFn,
+    pub charged: bool,
+    pub value: PieceFn,
 }
 
 impl Covers for State {

@@ -1,8 +1,8 @@
 use Rattle.std.proofs.Common.{◌≡◌, ◌∙◌, ◌∷◌, [], ◌++◌, ℕ, List, Bor, Vec, Global, is_some, ap, sym, arith}
 use Rattle.ev_model.specs.Network.{curve_at}
-use Rattle.frvcp_labels.proofs.StationList.{has_curve, stations_below-all, stations_below-other, stations_below-station}
-use Rattle.frvcp_labels.proofs.stations.station_nodes.Goals as goal
-use Rattle.frvcp_labels.proofs.stations.station_nodes.Goals.{then-is_some+in_ok-push, else-is_some}
+use Rattle.route_steps.proofs.StationList.{has_curve, stations_below-all, stations_below-other, stations_below-station}
+use Rattle.route_steps.proofs.stations.station_nodes.Goals as goal
+use Rattle.route_steps.proofs.stations.station_nodes.Goals.{then-is_some+in_ok-push, else-is_some}
 
 pub loop-node-preserved : goal.loop-node-preserved
 loop-node-preserved c =

@@ -9,7 +9,7 @@ use Rattle.std.proofs.lemmas.List.{append-nil, map-id}
 use Rattle.std.proofs.lemmas.List.Elements.{All-filter, All-from_get_or, All-get_or, filter-append}
 use Rattle.std.proofs.lemmas.List.FromFn.{get_or-range_with_len, length-range_with_len, map-range_with_len_more}
 use Rattle.ev_model.specs.Network.{Network, curve_at, node_count}
-use Rattle.frvcp_labels.specs.Stations.{stations}
+use Rattle.route_steps.specs.Stations.{stations}
 
 passes_head : (p : ℕ → Bool) (x : ℕ) (ys : List ℕ) (j : ℕ) → p x ≡ true → ((i : ℕ) → i < length ys → p (get_or ys i 0) ≡ true) →
     j < length (x ∷ ys) → p (get_or (x ∷ ys) j 0) ≡ true

@@ -17,10 +17,10 @@ use Rattle.label_steps.specs.Arrivals.{CoversVehicle, drive_time, IsArrival}
 use Rattle.label_steps.specs.Leaves.{AreLeft, CoverCharges, IsPlugged, charge_time_at}
 use Rattle.label_steps.proofs.Stops.{passing_time, stop_parts}
 use Rattle.label_steps.proofs.Vehicles.{covers_vehicle, reaches_vehicle}
-use Rattle.frvcp_labels.specs.Search.{AreSteps, CoverStops, Holds, IsSoundState, IsSoundStep, MayGo, added_at, level_before, stop_at, state_at}
-use Rattle.frvcp_labels.specs.Trips.{Journey, least_level}
-use Rattle.frvcp_labels.specs.Ways.{Leaving, MayStop, leaving_after, passed_after}
-use Rattle.frvcp_labels.specs.declared.state.State.{State}
+use Rattle.route_steps.specs.Steps.{AreSteps, CoverStops, Holds, IsSoundStep, MayGo, added_at, level_before, stop_at, state_at}
+use Rattle.route_steps.specs.Trips.{Journey, least_level}
+use Rattle.route_steps.specs.Ways.{Leaving, MayStop, leaving_after, passed_after}
+use Rattle.route_steps.specs.declared.state.State.{State}
 
 not_equal : (a b : ℕ) → (a ≡ b → ⊥) → nat_eq a b ≡ false
 not_equal a b apart = elim (eqb_tells a b) [ inl same ↦ absurd (apart same.1) | inr other ↦ other.0 ]
@@ -43,7 +43,7 @@ least_within g route passed level reserve home = elim (cases_eq passed (length r
   | inr other ↦ (let is = not_equal passed (length route - 1) other in rw is reserve)
 ]
 
-module _ (t : Journey) (from : State) (passed to : ℕ) (go : MayGo t from.passed passed to) where
+module _ (t : Journey) (from : State) (passed to : ℕ) (go : MayGo t.network t.route from.passed passed to) where
   -- what arrives of a vehicle that may stop there
   pub arrives : (v : Leaving) (stop : Stop) → Holds from v → MayStop t.network t.route v stop → stop.node ≡ to → passed_after v.passed stop ≡ passed
       → (energy t.network from.node to + least_level t.network t.route passed ≤ v.level) × (v.time + drive_time t.network from.node to ≤ scaled_limit t.network)
@@ -66,7 +66,7 @@ module _ (t : Journey) (from : State) (passed to : ℕ) (go : MayGo t from.passe
 
   -- the values that are left cover each stop
   pub left_covers : (arrived : List (ℕ × ℕ)) (values : List (List (ℕ × ℕ))) → ((level time : ℕ) → CoversVehicle (level_times from.value) level time → energy t.network from.node to + least_level t.network t.route passed ≤ level → time + drive_time t.network from.node to ≤ scaled_limit t.network
-      → CoversVehicle (level_times arrived) (level - energy t.network from.node to) (time + drive_time t.network from.node to)) → CoverCharges t.network to arrived values → CoverStops t from passed to values
+      → CoversVehicle (level_times arrived) (level - energy t.network from.node to) (time + drive_time t.network from.node to)) → CoverCharges t.network to arrived values → CoverStops t.network t.route from passed to values
   left_covers arrived values covers charges v stop holds may node after =
       let parts = arrives v stop holds may node after in
       let there = covers v.level v.time (covers_vehicle (level_times from.value) v.level v.time holds.reaches) parts.0 parts.1 in
@@ -79,14 +79,14 @@ module _ (t : Journey) (from : State) (passed to : ℕ) (go : MayGo t from.passe
 
   -- where nothing may arrive there is no stop
   pub none_covers : (values : List (List (ℕ × ℕ))) → ((level time : ℕ) → CoversVehicle (level_times from.value) level time → energy t.network from.node to + least_level t.network t.route passed ≤ level → time + drive_time t.network from.node to ≤ scaled_limit t.network → ⊥)
-      → CoverStops t from passed to values
+      → CoverStops t.network t.route from passed to values
   none_covers values none v stop holds may node after =
       let parts = arrives v stop holds may node after in
       absurd (none v.level v.time (covers_vehicle (level_times from.value) v.level v.time holds.reaches) parts.0 parts.1)
 
   -- at the end of the route nothing is charged
   pub end_covers : (arrived : List (ℕ × ℕ)) (values : List (List (ℕ × ℕ))) → ((level time : ℕ) → CoversVehicle (level_times from.value) level time → energy t.network from.node to + least_level t.network t.route passed ≤ level → time + drive_time t.network from.node to ≤ scaled_limit t.network
-      → CoversVehicle (level_times arrived) (level - energy t.network from.node to) (time + drive_time t.network from.node to)) → passed ≡ length t.route - 1 → values ≡ arrived ∷ [] → CoverStops t from passed to values
+      → CoversVehicle (level_times arrived) (level - energy t.network from.node to) (time + drive_time t.network from.node to)) → passed ≡ length t.route - 1 → values ≡ arrived ∷ [] → CoverStops t.network t.route from passed to values
   end_covers arrived values covers end one v stop holds may node after =
       let parts = arrives v stop holds may node after in
       let there = covers v.level v.time (covers_vehicle (level_times from.value) v.level v.time holds.reaches) parts.0 parts.1 in
@@ -106,7 +106,7 @@ pub record IsComing (t : Journey) (passed to : ℕ) (arrived : LevelTimes) (leve
   pub no_later : time_at arrived (level - added) + charge_time_at t.network to (level - added) added ≤ time
   pub in_time : time ≤ scaled_limit t.network
 
-module _ (t : Journey) (from : State) (passed to : ℕ) (go : MayGo t from.passed passed to) (other : to ≢ from.node) (sound : IsSoundState t from) (arrived : LevelTimes)
+module _ (t : Journey) (from : State) (passed to : ℕ) (go : MayGo t.network t.route from.passed passed to) (other : to ≢ from.node) (sound : (level : ℕ) → IsLevel (level_times from.value) level → level ≤ t.network.capacity) (arrived : LevelTimes)
     (arrival : IsArrival (energy t.network from.node to) (drive_time t.network from.node to) (scaled_limit t.network) (least_level t.network t.route passed) (level_times from.value) arrived)
     (k : ℕ) (w : List (ℕ × ℕ)) (coming : (level : ℕ) → IsLevel (level_times w) level → IsComing t passed to arrived level (added_at (state_at passed to k w) level) (time_at (level_times w) level)) where
   abbrev s : State
@@ -171,7 +171,7 @@ module _ (t : Journey) (from : State) (passed to : ℕ) (go : MayGo t from.passe
         in_time = omega (arith, later, limit);
       }
 
-  pub is_step : IsSoundStep t from s
+  pub is_step : IsSoundStep t.network t.route from s
   is_step = record {
     state = record {
       passed = (let before = go.on_way in elim go.leads [ inl stays ↦ omega (arith, stays.0, before) | inr more ↦ omega (arith, more.0, before) ]);
@@ -188,12 +188,12 @@ module _ (t : Journey) (from : State) (passed to : ℕ) (go : MayGo t from.passe
     };
   }
 
-module _ (t : Journey) (from : State) (passed to : ℕ) (go : MayGo t from.passed passed to) (other : to ≢ from.node) (sound : IsSoundState t from) (arrived : List (ℕ × ℕ))
+module _ (t : Journey) (from : State) (passed to : ℕ) (go : MayGo t.network t.route from.passed passed to) (other : to ≢ from.node) (sound : (level : ℕ) → IsLevel (level_times from.value) level → level ≤ t.network.capacity) (arrived : List (ℕ × ℕ))
     (arrival : IsArrival (energy t.network from.node to) (drive_time t.network from.node to) (scaled_limit t.network) (least_level t.network t.route passed) (level_times from.value) (level_times arrived)) where
   pub arrived_low : (level : ℕ) → IsLevel (level_times arrived) level → level ≤ t.network.capacity
-  arrived_low level is = let low = sound.levels (level + energy t.network from.node to) ((arrival.left level).0 is).0 in omega (arith, low)
+  arrived_low level is = let low = sound (level + energy t.network from.node to) ((arrival.left level).0 is).0 in omega (arith, low)
 
-  passing : IsSoundStep t from (state_at passed to 0 arrived)
+  passing : IsSoundStep t.network t.route from (state_at passed to 0 arrived)
   passing = is_step t from passed to go other sound (level_times arrived) arrival 0 arrived (λ level is.
       let none = passing_time t.network to level in
       let back : level ≡ level - 0 = omega arith in
@@ -207,7 +207,7 @@ module _ (t : Journey) (from : State) (passed to : ℕ) (go : MayGo t from.passe
         in_time = omega (arith, arrival.later level is, ((arrival.left level).0 is).2);
       })
 
-  charged : (k : ℕ) (w : List (ℕ × ℕ)) → 0 < k → passed < length t.route - 1 → IsPlugged t.network to (level_times arrived) (level_times w) → IsSoundStep t from (state_at passed to k w)
+  charged : (k : ℕ) (w : List (ℕ × ℕ)) → 0 < k → passed < length t.route - 1 → IsPlugged t.network to (level_times arrived) (level_times w) → IsSoundStep t.network t.route from (state_at passed to k w)
   charged zero w more before plugged = absurd (omega arith)
   charged (suc k) w more before plugged = is_step t from passed to go other sound (level_times arrived) arrival (suc k) w (λ level is.
       let from_first = plugged.from level is in
@@ -226,10 +226,10 @@ module _ (t : Journey) (from : State) (passed to : ℕ) (go : MayGo t from.passe
       })
 
   -- the values that are left are steps
-  pub left_steps : (values : List (List (ℕ × ℕ))) → passed < length t.route - 1 → AreLeft t.network to arrived values → AreSteps t from passed to values
-  left_steps values before left zero w here = subst (λ x. IsSoundStep t from (state_at passed to 0 x)) (sym (left.passing w here)) passing
+  pub left_steps : (values : List (List (ℕ × ℕ))) → passed < length t.route - 1 → AreLeft t.network to arrived values → AreSteps t.network t.route from passed to values
+  left_steps values before left zero w here = subst (λ x. IsSoundStep t.network t.route from (state_at passed to 0 x)) (sym (left.passing w here)) passing
   left_steps values before left (suc k) w here = charged (suc k) w (omega arith) before (left.plugged (suc k) w here (omega arith))
 
-  pub one_step : (values : List (List (ℕ × ℕ))) → values ≡ arrived ∷ [] → AreSteps t from passed to values
-  one_step values one zero w here = subst (λ x. IsSoundStep t from (state_at passed to 0 x)) (same_Some arrived w (ap (λ vs. slice_get vs 0) (sym one) ∙ here)) passing
+  pub one_step : (values : List (List (ℕ × ℕ))) → values ≡ arrived ∷ [] → AreSteps t.network t.route from passed to values
+  one_step values one zero w here = subst (λ x. IsSoundStep t.network t.route from (state_at passed to 0 x)) (same_Some arrived w (ap (λ vs. slice_get vs 0) (sym one) ∙ here)) passing
   one_step values one (suc k) w here = absurd (none-some w (ap (λ vs. slice_get vs (suc k)) (sym one) ∙ here))

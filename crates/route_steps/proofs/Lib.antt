@@ -1,0 +1,5 @@
+pub mod Plans
+pub mod Solving
+pub mod StationList
+pub mod Leaving
+pub mod Rests
