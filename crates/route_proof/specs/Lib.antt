@@ -1,0 +1,5 @@
+pub mod Covered
+pub mod Closed
+pub mod Broken
+pub mod Ranges
+pub mod Verdicts
