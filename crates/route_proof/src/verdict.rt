@@ -12,7 +12,9 @@ pub enum RouteVerdict {
     /// No rule is broken.
     Accepted,
     /// The walk along the plan breaks a rule.
-    Plan { fault: WalkFault },
+    Plan {
+        fault: WalkFault,
+    },
     /// The plan is one of another route.
     Other,
     /// No label covers the start: the depot with the charge that the vehicle starts with, at time
@@ -26,5 +28,7 @@ pub enum RouteVerdict {
         via: bool,
     },
     /// A step home from a level of the label ends below the bar.
-    End { label: usize },
+    End {
+        label: usize,
+    },
 }

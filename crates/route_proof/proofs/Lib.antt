@@ -1,0 +1,4 @@
+pub mod Better
+pub mod Ranges
+pub mod Homecoming
+pub mod Rules
