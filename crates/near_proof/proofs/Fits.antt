@@ -1,0 +1,34 @@
+-- No level of a label in its ranges is above full.
+use Rattle.std.proofs.Common.{◌≡◌, ◌∙◌, ℕ, ◌+◌, ◌-◌, ◌≤◌, List, [], ◌∷◌, length, refl, arith}
+use Rattle.std.specs.List.{All, range_with_len}
+use Rattle.std.proofs.lemmas.List.{length-map}
+use Rattle.std.proofs.lemmas.List.Elements.{All-contains, All-head, All-tail}
+use Rattle.std.proofs.lemmas.List.FromFn.{length-range_with_len}
+use Rattle.charge_curve.specs.Points.{ArePoints, last_level, time_on}
+use Rattle.ev_model.specs.Network.{Network}
+use Rattle.piece_fn.specs.PieceFn.{first_level, level_times}
+use Rattle.certificate_parts.specs.Ranges.{PointFits}
+use Rattle.near_proof.specs.Covered.{AreWithinFull}
+use Rattle.near_proof.specs.Ranges.{NearFits, NearLabelFits}
+use Rattle.near_proof.specs.declared.proof.NearProof.{NearProof}
+
+last_is_small : (g : Network) (points : List (ℕ × ℕ)) → ArePoints points → All (PointFits g) points → last_level points ≤ g.capacity
+last_is_small g [] are fit = absurd are
+last_is_small g (p ∷ []) are fit = (All-head (PointFits g) p [] fit).0
+last_is_small g (p ∷ q ∷ ps) are fit = last_is_small g (q ∷ ps) are.3 (All-tail (PointFits g) p (q ∷ ps) fit)
+
+many_times : (points : List (ℕ × ℕ)) → length (level_times points).times ≡ last_level points + 1 - first_level points
+unfolding level_times
+many_times points =
+    let n = last_level points + 1 - first_level points in
+    length-map (range_with_len (first_level points) n) (time_on points) ∙ length-range_with_len (first_level points) n
+
+first_is : (points : List (ℕ × ℕ)) → (level_times points).first ≡ first_level points
+unfolding level_times
+first_is points = refl
+
+pub within_full : (g : Network) (p : NearProof) → NearFits g p → AreWithinFull g p.labels
+within_full g p fits l y there level =
+    let label = All-contains (NearLabelFits g) p.labels l fits.labels there in
+    let last = last_is_small g l.value label.valid label.points in
+    omega (arith, many_times l.value, first_is l.value, last, level.0, level.1)

@@ -1,0 +1,9 @@
+pub mod Memories
+pub mod Steps
+pub mod Rests
+pub mod Sound
+pub mod Fleets
+pub mod Raised
+pub mod Fits
+pub mod Truths
+pub mod Rules

@@ -1,0 +1,11 @@
+pub mod Terms
+pub mod States
+pub mod Steps
+pub mod Covered
+pub mod Closed
+pub mod Routes
+pub mod Accepted
+pub mod Broken
+pub mod Ranges
+pub mod Verdicts
+pub mod Truth
