@@ -1,0 +1,4 @@
+pub mod PartReading
+pub mod ProofReading
+pub mod ProofLaws
+pub mod WholeReading

@@ -1,0 +1,5 @@
+pub mod ProofTexts
+pub mod Reading
+pub mod TextRanges
+pub mod ProofIn
+pub mod VerdictText
