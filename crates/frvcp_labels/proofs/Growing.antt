@@ -12,7 +12,7 @@ use Rattle.label_pool.specs.Labels.{IsCovered, Labels, beside, labels_with}
 use Rattle.label_pool.specs.declared.label.Label.{Label}
 use Rattle.label_pool.proofs.Elements.{appended_before, appended_cases}
 use Rattle.piece_fn.specs.PieceFn.{level_times}
-use Rattle.frvcp_labels.specs.Search.{AreSound, HasOrigin, IsBelowWays, IsGrown, IsSound, IsSoundPool, Reached, settled_count}
+use Rattle.frvcp_labels.specs.Search.{AreSound, HasOrigin, HasPlans, IsBelowWays, IsGrown, IsSound, IsSoundPool, Reached, settled_count}
 use Rattle.route_steps.specs.Steps.{Holds, IsSoundState, IsStep}
 use Rattle.route_steps.specs.Trips.{Journey}
 use Rattle.route_steps.specs.Ways.{Leaving}
@@ -107,10 +107,11 @@ sound_stays t old new label stays is = record {
   below = is.below;
   home = is.home;
   origin = origin_stays t old new label.parent label.value stays is.origin;
+  plans = is.plans;
 }
 
 still_sound : (t : Journey) (labels : List (Label State)) (label : Label State) (live : Bool) → IsSound t labels label → IsSound t labels (record label { live = live })
-still_sound t labels label live is = record { state = is.state; bucket = is.bucket; first = is.first; least = is.least; below = is.below; home = is.home; origin = is.origin }
+still_sound t labels label live is = record { state = is.state; bucket = is.bucket; first = is.first; least = is.least; below = is.below; home = is.home; origin = is.origin; plans = is.plans }
 
 module _ (t : Journey) (old : List (Label State)) (new : Label State) (sound : AreSound t old) (is_new : IsSound t old new) (waits : new.settled ≡ false) where
   pub with_value : (i : ℕ) (label : Label State) → slice_get old i ≡ Some label → (other : Label State) × (slice_get (labels_with by_value old new) i ≡ Some other) × (other.value ≡ label.value)
@@ -196,9 +197,9 @@ module _ (t : Journey) (old now : Labels State) (new : Label State) where
 
 -- a new label
 pub new_sound : (t : Journey) (labels : List (Label State)) (s : State) (bucket key : ℕ) (parent : Option ℕ) → IsSoundState t.network t.route s → bucket ≡ s.passed * node_count t.network + s.node → IsValue (level_times s.value) → IsBelowWays t s key
-    → (s.passed ≡ length t.route - 1 → key ≡ time_at (level_times s.value) (level_times s.value).first) → HasOrigin t labels parent s
+    → (s.passed ≡ length t.route - 1 → key ≡ time_at (level_times s.value) (level_times s.value).first) → HasOrigin t labels parent s → HasPlans t s
     → IsSound t labels (record { bucket = bucket; value = s; key = key; parent = parent; live = true; settled = false })
-new_sound t labels s bucket key parent sound place valid below home origin =
+new_sound t labels s bucket key parent sound place valid below home origin plans =
     let v = level_times s.value in
     let some : 0 < length v.times = valid.some in
     record {
@@ -209,4 +210,5 @@ new_sound t labels s bucket key parent sound place valid below home origin =
       below = below;
       home = home;
       origin = origin;
+      plans = plans;
     }

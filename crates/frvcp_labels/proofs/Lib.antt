@@ -7,6 +7,9 @@ mod Turning
 mod Solving
 pub mod Points
 pub mod Tracing
+mod Planning
+mod Settling
+mod LiveStates
 mod RestRate
 mod RestLaw
 mod RestTable

@@ -128,14 +128,14 @@ module _ (t : Journey) (old : List (Label State)) (i : ℕ) (label : Label State
     | inr other ↦ (x, set_there old i j (record label { settled = true }) other ∙ at, refl)
   ]
 
-  now_cases : (j : ℕ) (x : Label State) → slice_get settled_now j ≡ Some x → ((j ≡ i) × (x ≡ record label { settled = true })) ⊎ (slice_get old j ≡ Some x)
+  pub now_cases : (j : ℕ) (x : Label State) → slice_get settled_now j ≡ Some x → ((j ≡ i) × (x ≡ record label { settled = true })) ⊎ (slice_get old j ≡ Some x)
   now_cases j x at = elim (cases_eq j i) [
     | inl this ↦ inl (this, sym (same_Some (record label { settled = true }) x (sym (set_here old i (record label { settled = true }) label here) ∙ ap (λ n. slice_get settled_now n) (sym this) ∙ at)))
     | inr other ↦ inr (sym (set_there old i j (record label { settled = true }) other) ∙ at)
   ]
 
   now_is_sound : IsSound t old label → IsSound t old (record label { settled = true })
-  now_is_sound is = record { state = is.state; bucket = is.bucket; first = is.first; least = is.least; below = is.below; home = is.home; origin = is.origin }
+  now_is_sound is = record { state = is.state; bucket = is.bucket; first = is.first; least = is.least; below = is.below; home = is.home; origin = is.origin; plans = is.plans }
 
   pub now_sound : AreSound t old → AreSound t settled_now
   now_sound sound j x at = elim (now_cases j x at) [

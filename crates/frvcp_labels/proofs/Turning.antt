@@ -19,10 +19,10 @@ pub is_taken : (old now : Labels State) (o : Option ℕ) (i : ℕ) → o ≡ Som
 is_taken old now o i is told = subst (λ (x : Option ℕ). IfSome x (λ n. IsTaken old now n)) is told
 
 module _ (t : Journey) (old now : Labels State) (i : ℕ) (taken : IsTaken old now i) where
-  labels_are : now.labels ≡ settled_now t old.labels i taken.label taken.next.here taken.next.waits
+  pub labels_are : now.labels ≡ settled_now t old.labels i taken.label taken.next.here taken.next.waits
   labels_are = ap (λ (p : Labels State). p.labels) taken.is
 
-  here_now : slice_get now.labels i ≡ Some (record taken.label { settled = true })
+  pub here_now : slice_get now.labels i ≡ Some (record taken.label { settled = true })
   here_now = ap (λ ls. slice_get ls i) labels_are ∙ set_here old.labels i (record taken.label { settled = true }) taken.label taken.next.here
 
   pub taken_inside : i < length now.labels

@@ -10,6 +10,7 @@ use Rattle.dominance.specs.LevelTimes.{IsLevel, time_at}
 use Rattle.label_pool.specs.Labels.{Labels}
 use Rattle.label_pool.specs.declared.label.Label.{Label}
 use Rattle.piece_fn.specs.PieceFn.{level_times}
+use Rattle.route_steps.specs.Homes.{IsPlanWithin}
 use Rattle.route_steps.specs.Stations.{stations}
 use Rattle.route_steps.specs.Steps.{Holds, IsSoundState, IsStep, leaving_of, state_at}
 use Rattle.route_steps.specs.Trips.{IsTrip, Journey}
@@ -34,8 +35,16 @@ IsBelowWays t s time =
     (v : Leaving) (stops : List Stop) → Holds s v → IsRest t.network t.route v stops →
     time ≤ v.time + time_from t.network 1 v.node v.level stops
 
+-- with whatever stops a vehicle of the state comes home, some plan of the route takes no more time
+abbrev pub HasPlans : Journey → State → Type 0
+HasPlans t s =
+    (level time : ℕ) (stops : List Stop) → IsLevel (level_times s.value) level →
+    IsRest t.network t.route (leaving_of s level) stops →
+    time_at (level_times s.value) level + time_from t.network 1 s.node level stops ≤ time →
+    (plan : List Stop) × IsPlanWithin t time plan
+
 -- a label has a sound state, its bucket, a key that no way home is below, which at the route's end is
--- its least time, and an origin
+-- its least time, an origin, and plans
 pub record IsSound (t : Journey) (labels : List (Label State)) (label : Label State) : Type 0 where
   pub state : IsSoundState t.network t.route label.value
   pub bucket : label.bucket ≡ label.value.passed * node_count t.network + label.value.node
@@ -47,6 +56,7 @@ pub record IsSound (t : Journey) (labels : List (Label State)) (label : Label St
   pub home : label.value.passed ≡ length t.route - 1 → label.key
       ≡ time_at (level_times label.value.value) (level_times label.value.value).first
   pub origin : HasOrigin t labels label.parent label.value
+  pub plans : HasPlans t label.value
 
 abbrev pub AreSound : Journey → List (Label State) → Type 0
 AreSound t labels =
@@ -104,6 +114,13 @@ pub record IsSpread (t : Journey) (labels : List (Label State)) (first : Leaving
       label.settled ≡ true → Spreads t labels label.value
   pub on_way : (i : ℕ) (label : Label State) → slice_get labels i ≡ Some label →
       label.settled ≡ true → label.value.passed < length t.route - 1
+  pub begun : Reached labels first
+
+-- each settled label that is on its way spreads, and the start is reached
+pub record IsSpreadOnWay (t : Journey) (labels : List (Label State)) (first : Leaving) : Type 0 where
+  pub spreads : (i : ℕ) (label : Label State) → slice_get labels i ≡ Some label →
+      label.settled ≡ true → label.value.passed < length t.route - 1 →
+      Spreads t labels label.value
   pub begun : Reached labels first
 
 -- what a vehicle of each of the values does is reached

@@ -16,8 +16,8 @@ ghost use Rattle.frvcp_labels.specs.Rest.{IsDirect, IsRate};
 ghost use Rattle.route_steps.specs.Stations.{stations as stations_of};
 
 use crate::rest::{Arcs, fastest_rate};
-use route_steps::station_nodes;
 use instance_reader::Instance;
+use route_steps::station_nodes;
 use std::alloc::{AllocError, Global};
 use std::marker::Model;
 

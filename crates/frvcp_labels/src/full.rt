@@ -7,10 +7,10 @@ ghost use Rattle.frvcp_labels.specs.Search.{HasOrigin, IsGrown, IsSoundPool, Rea
 ghost use Rattle.route_steps.specs.Steps.{Holds, IsSoundState};
 ghost use Rattle.route_steps.specs.Ways.{Leaving};
 
-use route_steps::State;
 use crate::trip::Trip;
 use dominance::LabelValue;
 use label_pool::Pool;
+use route_steps::State;
 use std::alloc::{AllocError, Global};
 
 impl<'a> Trip<'a> {

@@ -11,6 +11,8 @@
 
 mod bounds;
 mod full;
+mod listing;
+mod reaching;
 mod rest;
 mod search;
 mod solve;
@@ -18,8 +20,9 @@ mod trace;
 mod trip;
 
 pub use bounds::RouteBounds;
-pub use solve::solve_route;
+pub use reaching::reachable_states;
 pub use route_steps::station_nodes;
+pub use solve::solve_route;
 
 #[cfg(test)]
 mod tests;

@@ -15,11 +15,11 @@ ghost use Rattle.route_steps.specs.declared.state.State.{State};
 
 use crate::full::none_yet;
 use crate::rest::least_total;
-use route_steps::{Place, State, values_at};
 use crate::trip::Trip;
 use dominance::LabelValue;
 use label_pool::Pool;
 use piece_fn::PieceFn;
+use route_steps::{Place, State, values_at};
 use std::alloc::{AllocError, Global};
 
 impl<'a> Trip<'a> {
@@ -89,7 +89,7 @@ impl<'a> Trip<'a> {
     }
 
     /// Adds the labels that one step from a label leads to.
-    fn spread(
+    pub(crate) fn spread(
         &self,
         alloc: Global,
         pool: &mut Pool<State>,

@@ -5,11 +5,11 @@ ghost use Rattle.ev_model.specs.Fastest.{HasNoPlan, IsFastest};
 ghost use Rattle.ev_model.specs.Route.{IsRoute};
 
 use crate::rest::Rest;
-use route_steps::station_nodes;
 use crate::trip::Trip;
 use ev_list::Listed;
 use instance_reader::Instance;
 use route_plan::RoutePlan;
+use route_steps::station_nodes;
 use std::alloc::{AllocError, Global};
 
 /// A fastest plan of the route for a vehicle that starts with the charge `start`, in units of

@@ -8,11 +8,11 @@ ghost use Rattle.route_steps.specs.Steps.{added_at};
 ghost use Rattle.route_steps.specs.declared.state.State.{State};
 ghost use Rattle.piece_fn.specs.PieceFn.{level_times};
 
-use route_steps::State;
 use crate::trip::Trip;
 use dominance::LabelValue;
 use label_pool::Pool;
 use route_plan::Stop;
+use route_steps::State;
 use std::alloc::{AllocError, Global};
 
 impl<'a> Trip<'a> {

@@ -82,6 +82,15 @@ impl<V: Covers + Drop> Pool<V> {
         &self.labels[i].value
     }
 
+    /// Whether no other label has made label `i` needless. It takes no memory.
+    pub fn is_live(&self, i: usize) -> bool
+        requires { i < length self.now.labels }
+        ensures { (label : Label V) → slice_get self.now.labels i ≡ Some label →
+            result ≡ label.live }
+    {
+        self.labels[i].live
+    }
+
     /// The label that `i` was come to from, which has a lower number. It takes no memory.
     pub fn parent(&self, i: usize) -> Option<usize>
         requires { i < length self.now.labels }

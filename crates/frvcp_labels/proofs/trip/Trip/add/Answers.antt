@@ -2,6 +2,7 @@ use Rattle.std.proofs.Common.{false, refl, true}
 use Rattle.label_pool.specs.declared.label.Label.{Label}
 use Rattle.route_steps.specs.declared.state.State.{State}
 use Rattle.frvcp_labels.proofs.Growing.{IsAdded, added_is, new_sound}
+use Rattle.frvcp_labels.proofs.Planning.{origin_plans}
 use Rattle.frvcp_labels.proofs.trip.Trip.add.Goals as goal
 
 abbrev label : goal.In_ok-add → Label State
@@ -10,7 +11,8 @@ label c = record { bucket = c.bucket-bucket.result; value = c.args.state; key = 
 whole : (c : goal.In_ok-add) → IsAdded c.args.self.now c.args.pool.now c.add.new.self c.args.state
 whole c =
     added_is c.args.self.now c.args.pool.now c.add.new.self (label c) c.in_ok-add.field-0 c.requires.pool
-    (new_sound c.args.self.now c.args.pool.now.labels c.args.state c.bucket-bucket.result c.key-key.result c.args.parent c.requires.state c.bucket-bucket.ensures.value c.key-key.ensures.valid c.key-key.ensures.below c.key-key.ensures.home c.requires.origin)
+    (new_sound c.args.self.now c.args.pool.now.labels c.args.state c.bucket-bucket.result c.key-key.result c.args.parent c.requires.state c.bucket-bucket.ensures.value c.key-key.ensures.valid c.key-key.ensures.below c.key-key.ensures.home c.requires.origin
+    (origin_plans c.args.self.now c.args.pool.now.labels c.args.parent c.args.state c.requires.pool.trip c.requires.pool.labels c.requires.origin))
     refl c.in_ok-add.ensures.unchanged c.in_ok-add.ensures.added c.in_ok-add.ensures.own c.in_ok-add.ensures.keeps
 
 pub returns-clause-pool : goal.returns-clause-pool

@@ -1,0 +1,21 @@
+use Rattle.std.proofs.Common.{List, ℕ}
+use Rattle.ev_model.specs.Network.{Network}
+use Rattle.std.proofs.lemmas.Result.{IfOk-weaker}
+use Rattle.frvcp_labels.proofs.Settling.{all_held, on_way_only}
+use Rattle.frvcp_labels.proofs.Spreading.{IfOk-both}
+use Rattle.route_steps.proofs.Solving.{is_trip}
+use Rattle.route_steps.specs.Trips.{Journey}
+use Rattle.route_steps.specs.Ways.{begin}
+use Rattle.frvcp_labels.proofs.reaching.reachable_states.Goals as goal
+
+abbrev of : Network → List ℕ → ℕ → Journey
+of g route start = record { network = g; route = route; start = start }
+
+pub settle_all-requires-clause-spread : goal.settle_all-requires-clause-spread
+settle_all-requires-clause-spread c = on_way_only (of c.args.inst.now c.args.route.now c.args.start) c.in_ok-pool.pool.labels (begin c.args.start) c.in_ok-pool.ensures.spread
+
+pub returns-clause-all : goal.returns-clause-all
+returns-clause-all c =
+    IfOk-weaker c.live_states.result _ _
+    (λ states both. all_held (of c.args.inst.now c.args.route.now c.args.start) c.settle_all.new.pool.labels states.items (is_trip c.args.inst.now c.args.route.now c.station_nodes.ensures.network c.requires.route) c.in_ok-settle_all.ensures.pool.labels c.in_ok-settle_all.ensures.spread c.in_ok-settle_all.ensures.none both.0 both.1)
+    (IfOk-both c.live_states.result _ _ c.live_states.ensures.held c.live_states.ensures.labels)

@@ -1,0 +1,27 @@
+use Rattle.std.proofs.Common.{◌<◌, ◌^◌, ℕ, length, refl, subst, sym}
+use Rattle.std.specs.Prelude.{IsNone, Option}
+use Rattle.label_pool.specs.Labels.{Labels, NoneWaits}
+use Rattle.frvcp_labels.specs.Search.{IsSoundPool, IsSpreadOnWay}
+use Rattle.route_steps.specs.Ways.{begin}
+use Rattle.frvcp_labels.proofs.Settling.{next_taken, taken_turn_on_way}
+use Rattle.frvcp_labels.proofs.Turning.{taken_falls, taken_full, taken_inside, taken_sound}
+use Rattle.frvcp_labels.proofs.trip.Trip.settle_all.Goals as goal
+
+pub spread_on_way-requires-clause-pool : goal.spread_on_way-requires-clause-pool
+spread_on_way-requires-clause-pool c = taken_sound c.args.self.now c.loop-i.pool c.take_next.new.self c.in-Some.i (next_taken c.loop-i.pool c.take_next.new.self c.take_next.result c.in-Some.i c.in-Some.is c.take_next.ensures.next) c.loop-i.invariant.pool
+
+pub spread_on_way-requires-clause-full : goal.spread_on_way-requires-clause-full
+spread_on_way-requires-clause-full c = taken_full c.args.self.now c.loop-i.pool c.take_next.new.self c.in-Some.i (next_taken c.loop-i.pool c.take_next.new.self c.take_next.result c.in-Some.i c.in-Some.is c.take_next.ensures.next) c.loop-i.full c.loop-i.invariant.full
+
+pub spread_on_way-requires-clause-from : goal.spread_on_way-requires-clause-from
+spread_on_way-requires-clause-from c = taken_inside c.args.self.now c.loop-i.pool c.take_next.new.self c.in-Some.i (next_taken c.loop-i.pool c.take_next.new.self c.take_next.result c.in-Some.i c.in-Some.is c.take_next.ensures.next)
+
+pub loop-i-preserved : goal.loop-i-preserved
+loop-i-preserved c = record {
+  pool = c.in_ok-spread_on_way.ensures.pool;
+  full = c.in_ok-spread_on_way.ensures.full;
+  spread = taken_turn_on_way c.args.self.now c.loop-i.pool c.take_next.new.self c.in-Some.i (next_taken c.loop-i.pool c.take_next.new.self c.take_next.result c.in-Some.i c.in-Some.is c.take_next.ensures.next) c.spread_on_way.new.pool c.loop-i.invariant.spread c.in_ok-spread_on_way.ensures.grown c.in_ok-spread_on_way.ensures.spreads;
+}
+
+pub loop-i-smaller : goal.loop-i-smaller
+loop-i-smaller c = taken_falls c.args.self.now c.loop-i.pool c.take_next.new.self c.in-Some.i (next_taken c.loop-i.pool c.take_next.new.self c.take_next.result c.in-Some.i c.in-Some.is c.take_next.ensures.next) c.spread_on_way.new.pool c.in_ok-spread_on_way.ensures.grown c.take_next.ensures.small

@@ -1,0 +1,15 @@
+use Rattle.std.proofs.Common.{◌-◌, ◌^◌}
+use Rattle.frvcp_labels.specs.Full.{AreFull}
+use Rattle.frvcp_labels.specs.Search.{IsSoundPool, IsSpreadOnWay, settled_count}
+use Rattle.route_steps.specs.Ways.{begin}
+use Rattle.frvcp_labels.proofs.trip.Trip.settle_all.Given as goal
+
+abbrev pub invariant-loop-i : goal.invariant-loop-i
+invariant-loop-i l = record {
+  pool : IsSoundPool l.self l.pool;
+  full : AreFull l.self l.pool.labels l.full;
+  spread : IsSpreadOnWay l.self l.pool.labels (begin l.self.start);
+}
+
+abbrev pub decreases-loop-i : goal.decreases-loop-i
+decreases-loop-i l = 2 ^ 63 - settled_count l.pool.labels
