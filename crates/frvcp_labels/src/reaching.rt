@@ -2,6 +2,7 @@
 
 ghost use Rattle.std.specs.Prelude.{◌≤◌, IfOk};
 ghost use Rattle.std.specs.List.{All};
+ghost use Rattle.ev_model.specs.Network.{IsNetwork};
 ghost use Rattle.ev_model.specs.Route.{IsRoute};
 ghost use Rattle.frvcp_labels.specs.Listing.{HoldAll, IsStateOnWay};
 
@@ -29,6 +30,7 @@ pub fn reachable_states(
         (record { network = inst.now; route = route.now; start = start })) states.items) }
     ensures all { IfOk result (λ states. HoldAll
         (record { network = inst.now; route = route.now; start = start }) states.items) }
+    ensures network { IsNetwork inst.now }
 {
     let stations = station_nodes(alloc, inst)?;
     let rest = Rest::new(alloc, inst, route, &stations)?;
