@@ -10,6 +10,7 @@ pub mod Tracing
 mod Planning
 mod Settling
 mod LiveStates
+mod Within
 mod RestRate
 mod RestLaw
 mod RestTable

@@ -7,12 +7,10 @@ use Rattle.std.proofs.lemmas.Bool.Decides.{eqb_tells}
 use Rattle.std.proofs.lemmas.List.Elements.{All-append, All-cons, All-nil, Contains-append_left, Contains-push, Contains-push_cases}
 use Rattle.std.proofs.lemmas.Option.{same_Some, slice_get_within}
 use Rattle.label_pool.specs.declared.label.Label.{Label}
-use Rattle.route_steps.specs.Steps.{Holds}
 use Rattle.route_steps.specs.Trips.{Journey}
-use Rattle.route_steps.specs.Ways.{Leaving}
 use Rattle.route_steps.specs.declared.state.State.{State}
 use Rattle.frvcp_labels.specs.Listing.{HoldReached, IsStateOnWay, StandForLabels}
-use Rattle.frvcp_labels.specs.Search.{AreSound, Reached}
+use Rattle.frvcp_labels.specs.Search.{AreSound}
 
 -- the states are those of the live labels on their way among the first ones
 pub record AreListed (t : Journey) (labels : List (Label State)) (count : ℕ) (states : List State) : Type 0 where

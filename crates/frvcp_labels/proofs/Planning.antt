@@ -1,15 +1,10 @@
 -- The plans of the route that go by a level of a label.
-use Rattle.std.proofs.Common.{◌≡◌, ◌≤◌, ℕ, List, [], ◌∷◌, ◌+◌, ◌-◌, length, sym, ◌∙◌, arith, Option, Some, None}
-use Rattle.dominance.specs.LevelTimes.{IsLevel, time_at}
-use Rattle.ev_model.specs.declared.Stop.{Stop}
+use Rattle.std.proofs.Common.{ℕ, List, ◌∷◌, Option, Some, None}
 use Rattle.label_pool.specs.declared.label.Label.{Label}
-use Rattle.piece_fn.specs.PieceFn.{level_times}
-use Rattle.route_steps.specs.Homes.{IsPlanWithin}
-use Rattle.route_steps.specs.Steps.{leaving_of, level_before, stop_at}
+use Rattle.route_steps.specs.Steps.{level_before, stop_at}
 use Rattle.route_steps.specs.Trips.{IsTrip, Journey}
-use Rattle.route_steps.specs.Ways.{IsRest, MayStop, depot_stop, leaving_after}
+use Rattle.route_steps.specs.Ways.{depot_stop}
 use Rattle.route_steps.specs.declared.state.State.{State}
-use Rattle.route_steps.proofs.Rests.{rest_before}
 use Rattle.frvcp_labels.specs.Search.{AreSound, HasOrigin, HasPlans}
 use Rattle.frvcp_labels.proofs.Tracing.{at_start, first_is_depot, last_is_depot, step_back, time_back}
 

@@ -1,12 +1,10 @@
 -- The search goes on until no label waits.
-use Rattle.std.proofs.Common.{◌≡◌, ℕ, ◌+◌, ◌-◌, ◌<◌, ◌≤◌, ◌⊎◌, inl, inr, List, [], ◌∷◌, length, set, refl, sym, ◌∙◌, ap, subst, arith, Option, Some, true, false}
+use Rattle.std.proofs.Common.{◌≡◌, ℕ, ◌+◌, ◌-◌, ◌<◌, ◌≤◌, inl, inr, List, [], ◌∷◌, length, set, refl, sym, ◌∙◌, ap, subst, arith, Option, Some, true}
 use Rattle.std.specs.Prelude.{IfSome, slice_get}
-use Rattle.std.specs.List.{All, Contains}
 use Rattle.std.proofs.lemmas.Bool.{cases_Bool, cases_eq}
 use Rattle.std.proofs.lemmas.List.{drop_all}
 use Rattle.ev_model.specs.Network.{Network, scaled_limit}
 use Rattle.ev_model.specs.declared.Stop.{Stop}
-use Rattle.ev_model.specs.Time.{time_from}
 use Rattle.dominance.specs.LevelTimes.{IsLevel}
 use Rattle.piece_fn.specs.PieceFn.{level_times}
 use Rattle.label_pool.specs.Labels.{IsNext, Labels, NoneWaits, is_waiting}
@@ -18,10 +16,10 @@ use Rattle.route_steps.specs.Ways.{IsRest, Leaving, MayStop, begin, leaving_afte
 use Rattle.route_steps.specs.declared.state.State.{State}
 use Rattle.route_steps.proofs.Rests.{rest_before}
 use Rattle.frvcp_labels.specs.Answers.{IsTaken}
-use Rattle.frvcp_labels.specs.Listing.{HoldAll, HoldReached, SomeHolds, StandForLabels}
-use Rattle.frvcp_labels.specs.Search.{AreSound, HasPlans, IsGrown, IsSpread, IsSpreadOnWay, Reached, Spreads}
+use Rattle.frvcp_labels.specs.Listing.{HoldAll, HoldReached, StandForLabels}
+use Rattle.frvcp_labels.specs.Search.{AreSound, HasPlans, IsGrown, IsSpread, IsSpreadOnWay, Spreads}
 use Rattle.frvcp_labels.proofs.Searching.{now_cases, now_reached, settled_now}
-use Rattle.frvcp_labels.proofs.Tracing.{at_home, last_is_depot}
+use Rattle.frvcp_labels.proofs.Tracing.{last_is_depot}
 use Rattle.frvcp_labels.proofs.Turning.{labels_are, here_now}
 
 pub on_way_only : (t : Journey) (labels : List (Label State)) (first : Leaving) → IsSpread t labels first → IsSpreadOnWay t labels first

@@ -1,8 +1,9 @@
 -- States that take in all that a vehicle may come to on its way along a route.
-use Rattle.std.specs.Prelude.{◌≡◌, ℕ, ◌-◌, ◌<◌, List, true, length, slice_get, Some}
+use Rattle.std.specs.Prelude.{◌≡◌, ℕ, ◌-◌, ◌<◌, ◌≤◌, List, true, length, slice_get, Some}
 use Rattle.std.specs.List.{Contains}
 use Rattle.charge_curve.specs.Points.{ArePoints}
 use Rattle.dominance.specs.LevelTimes.{IsLevel}
+use Rattle.ev_model.specs.Network.{Network, scaled_limit}
 use Rattle.ev_model.specs.declared.Stop.{Stop}
 use Rattle.label_pool.specs.declared.label.Label.{Label}
 use Rattle.piece_fn.specs.PieceFn.{level_times}
@@ -23,8 +24,8 @@ pub record IsStateOnWay (t : Journey) (s : State) : Type 0 where
 abbrev pub SomeHolds : List State → Leaving → Type 0
 SomeHolds states v = (s : State) × Contains states s × Holds s v
 
--- the states hold the start, and whatever a stop on the way leads to; and with a stop home of a vehicle of
--- one of them ends a way that takes no less time than some plan of the route
+-- the states hold the start, and whatever a stop on the way leads to; and with a stop home of a
+-- vehicle of one of them ends a way that takes no less time than some plan of the route
 pub record HoldAll (t : Journey) (states : List State) : Type 0 where
   pub begun : SomeHolds states (begin t.start)
   pub next : (s : State) (v : Leaving) (stop : Stop) → Contains states s → Holds s v →
@@ -49,3 +50,7 @@ StandForLabels labels states =
 abbrev pub HoldReached : Journey → List (Label State) → List State → Type 0
 HoldReached t labels states =
     (v : Leaving) → Reached labels v → v.passed < length t.route - 1 → SomeHolds states v
+
+-- a point is a level of the battery at a time within the limit
+abbrev pub IsPointWithin : Network → ℕ × ℕ → Type 0
+IsPointWithin g p = (p.0 ≤ g.capacity) × (p.1 ≤ scaled_limit g)

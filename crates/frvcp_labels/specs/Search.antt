@@ -1,11 +1,8 @@
 -- The labels of a search, and what it keeps true of them.
-use Rattle.std.specs.Prelude.{◌≡◌, ℕ, ◌+◌, ◌-◌, ◌*◌, ◌^◌, ◌<◌, ◌≤◌, ◌⊎◌, true, List, [], ◌∷◌, length, nat_eq, nat_lt, if◌then◌else◌, slice_get, slice_index, Option, Some, MatchOption}
-use Rattle.std.specs.Option.{IsSome}
-use Rattle.ev_model.specs.Network.{Network, curve_at, energy, node_count, scaled_limit}
-use Rattle.ev_model.specs.Levels.{leaving_level}
-use Rattle.ev_model.specs.Time.{stop_time, time_from}
+use Rattle.std.specs.Prelude.{◌≡◌, ℕ, ◌+◌, ◌-◌, ◌*◌, ◌^◌, ◌<◌, ◌≤◌, true, List, [], ◌∷◌, length, if◌then◌else◌, slice_get, slice_index, Option, Some, MatchOption}
+use Rattle.ev_model.specs.Network.{node_count}
+use Rattle.ev_model.specs.Time.{time_from}
 use Rattle.ev_model.specs.declared.Stop.{Stop}
-use Rattle.dominance.specs.Coverage.{Reaches, SomeReaches}
 use Rattle.dominance.specs.LevelTimes.{IsLevel, time_at}
 use Rattle.label_pool.specs.Labels.{Labels}
 use Rattle.label_pool.specs.declared.label.Label.{Label}
@@ -43,8 +40,8 @@ HasPlans t s =
     time_at (level_times s.value) level + time_from t.network 1 s.node level stops ≤ time →
     (plan : List Stop) × IsPlanWithin t time plan
 
--- a label has a sound state, its bucket, a key that no way home is below, which at the route's end is
--- its least time, an origin, and plans
+-- a label has a sound state, its bucket, a key that no way home is below, which at the route's end
+-- is its least time, an origin, and plans
 pub record IsSound (t : Journey) (labels : List (Label State)) (label : Label State) : Type 0 where
   pub state : IsSoundState t.network t.route label.value
   pub bucket : label.bucket ≡ label.value.passed * node_count t.network + label.value.node
@@ -117,7 +114,8 @@ pub record IsSpread (t : Journey) (labels : List (Label State)) (first : Leaving
   pub begun : Reached labels first
 
 -- each settled label that is on its way spreads, and the start is reached
-pub record IsSpreadOnWay (t : Journey) (labels : List (Label State)) (first : Leaving) : Type 0 where
+pub record IsSpreadOnWay (t : Journey) (labels : List (Label State))
+    (first : Leaving) : Type 0 where
   pub spreads : (i : ℕ) (label : Label State) → slice_get labels i ≡ Some label →
       label.settled ≡ true → label.value.passed < length t.route - 1 →
       Spreads t labels label.value

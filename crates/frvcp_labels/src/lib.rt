@@ -11,6 +11,7 @@
 
 mod bounds;
 mod full;
+mod hopeless;
 mod listing;
 mod reaching;
 mod rest;
@@ -22,7 +23,7 @@ mod trip;
 pub use bounds::RouteBounds;
 pub use reaching::reachable_states;
 pub use route_steps::station_nodes;
-pub use solve::solve_route;
+pub use solve::{Solved, solve_route, solve_with_labels};
 
 #[cfg(test)]
 mod tests;

@@ -88,7 +88,7 @@ impl<'a> Trip<'a> {
     }
 
     /// Whether a label is live, and not at the route's end.
-    fn is_on_way(&self, pool: &Pool<State>, i: usize) -> bool
+    pub(crate) fn is_on_way(&self, pool: &Pool<State>, i: usize) -> bool
         requires pool { IsSoundPool self.now pool.now }
         requires known { i < length pool.now.labels }
         ensures { (label : Label State) → slice_get pool.now.labels i ≡ Some label →
@@ -100,7 +100,7 @@ impl<'a> Trip<'a> {
 }
 
 /// The same state once more.
-fn copied(alloc: Global, state: &State) -> Result<State, AllocError>
+pub(crate) fn copied(alloc: Global, state: &State) -> Result<State, AllocError>
     ensures same { IfOk result (λ copy. copy ≡ state.now) }
     ensures valid { ArePoints state.now.value }
 {

@@ -234,7 +234,7 @@ impl<'a> Trip<'a> {
 
     /// A time that no way home of a vehicle of the state is below: at the route's end the least
     /// time.
-    fn key(&self, state: &State) -> u64
+    pub(crate) fn key(&self, state: &State) -> u64
         requires state { IsSoundState self.now.network self.now.route state.now }
         requires few { length self.now.route * node_count self.now.network < 2 ^ 64 }
         ensures below { IsBelowWays self.now state.now result }

@@ -1,4 +1,4 @@
-use Rattle.std.proofs.Common.{◌≡◌, ◌∙◌, ◌++◌, ◌∷◌, [], ◌+◌, ◌<◌, ◌≤◌, List, ap, arith, length, subst, sym}
+use Rattle.std.proofs.Common.{◌≡◌, ◌∙◌, ◌++◌, ◌∷◌, [], ◌+◌, List, ap, arith, subst, sym}
 use Rattle.charge_curve.specs.Points.{ArePoints}
 use Rattle.label_pool.proofs.Elements.{element_at}
 use Rattle.route_steps.specs.declared.state.State.{State}

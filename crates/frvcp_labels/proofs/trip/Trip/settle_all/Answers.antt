@@ -1,8 +1,3 @@
-use Rattle.std.proofs.Common.{◌<◌, ◌^◌, ℕ, length, refl, subst, sym}
-use Rattle.std.specs.Prelude.{IsNone, Option}
-use Rattle.label_pool.specs.Labels.{Labels, NoneWaits}
-use Rattle.frvcp_labels.specs.Search.{IsSoundPool, IsSpreadOnWay}
-use Rattle.route_steps.specs.Ways.{begin}
 use Rattle.frvcp_labels.proofs.Settling.{next_taken, taken_turn_on_way}
 use Rattle.frvcp_labels.proofs.Turning.{taken_falls, taken_full, taken_inside, taken_sound}
 use Rattle.frvcp_labels.proofs.trip.Trip.settle_all.Goals as goal
