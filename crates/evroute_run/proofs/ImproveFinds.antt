@@ -1,12 +1,10 @@
 -- What `improve` finds, and which of its reads failed.
 use Rattle.std.specs.Borrow.{Bor}
 use Rattle.std.specs.Option.{option_map}
-use Rattle.std.proofs.Common.{◌≡◌, ◌⊎◌, ℕ, List, [], ◌∷◌, Option, None, Some, Result, Ok, Err, IfErr, IfOk, ap, inl, inr, map, refl, subst, sym, ◌∙◌}
+use Rattle.std.proofs.Common.{◌≡◌, ◌⊎◌, ℕ, List, [], ◌∷◌, Option, None, Some, Result, Ok, Err, IfErr, IfOk, ap, inl, inr, map, refl, subst, sym}
 use Rattle.command_line.specs.Words.{ImproveJob}
-use Rattle.ev_fleet.proofs.Holding.{may_hold}
-use Rattle.ev_fleet.specs.Plans as fleet
-use Rattle.ev_model.specs.Fleet.{cost_of, customers_of}
-use Rattle.ev_model.specs.Network.{IsNetwork, Network}
+use Rattle.ev_model.specs.Fleet.{cost_of}
+use Rattle.ev_model.specs.Network.{Network}
 use Rattle.ev_outside.specs.Shelf.{CountsNeverFall, CountsStay, Files, ShelfState}
 use Rattle.ev_outside.specs.declared.shelf.ShelfFault.{ShelfFault}
 use Rattle.ev_outside.specs.declared.shelf.ShelfFault.TheVariants as shelf
@@ -32,29 +30,11 @@ use Rattle.plan_writer.specs.RefusalText.{refusal_text}
 use Rattle.plan_writer.specs.declared.check.Judgement.TheVariants as judgement
 use Rattle.plan_writer.specs.declared.refusal.Refusal.{Refusal}
 use Rattle.plan_writer.specs.declared.refusal.Refusal.TheVariants as refusal
-use Rattle.route_improve.specs.Arranged as improve
 use Rattle.route_improve.specs.Improved.{CostsNoMore, IsFirstAlone, IsImproved}
 use Rattle.route_improve.specs.ImprovedText.{alone_text, improved_text}
-use Rattle.route_improve.specs.Orders.{orders_of}
-use Rattle.route_plan.specs.PlanTexts.{FitsFile, fleet_plan_text}
+use Rattle.route_plan.specs.PlanTexts.{fleet_plan_text}
 use Rattle.route_plan.specs.declared.plan.FleetPlan.{FleetPlan}
 use Rattle.route_plan.specs.declared.plan.RoutePlan.{RoutePlan}
-
--- ---- the plan that is written has a text
-
-one_first : (xs : List ℕ) → improve.first_or_depot xs ≡ fleet.first_or_depot xs
-one_first [] = refl
-one_first (x ∷ xs) = refl
-
-same_firsts : (g : Network) (ps : List RoutePlan) → map improve.first_or_depot (orders_of g ps) ≡ map (fleet.first_customer g) ps
-same_firsts g [] = refl
-same_firsts g (p ∷ ps) =
-    ap (λ (x : ℕ). x ∷ map improve.first_or_depot (orders_of g ps)) (one_first (customers_of g p.stops))
-    ∙ ap (λ (xs : List ℕ). fleet.first_customer g p ∷ xs) (same_firsts g ps)
-
-pub improved_fits : (g : Network) (plan : FleetPlan) → IsNetwork g → IsImproved g plan.routes → FitsFile (Some plan)
-improved_fits g plan network improved =
-    (may_hold g plan network improved.fleet (rw (same_firsts g plan.routes) at improved.order)).text
 
 -- ---- what is found for a plan
 

@@ -16,7 +16,7 @@ ghost use Rattle.plan_writer.specs.CheckText.{check_text};
 ghost use Rattle.plan_writer.specs.declared.check.Judgement.TheVariants as judgement;
 ghost use Rattle.route_improve.specs.Improved.{IsImproved};
 ghost use Rattle.route_improve.specs.ImprovedText.{alone_text, improved_text};
-ghost use Rattle.route_plan.specs.PlanTexts.{fleet_plan_text};
+ghost use Rattle.route_plan.specs.PlanTexts.{FitsFile, fleet_plan_text};
 
 use crate::answer::{Ended, refuse_job};
 use crate::caps::MOST_BYTES;
@@ -172,7 +172,7 @@ fn write_better(
     let cost = cost_after(alloc, inst, better)?;
     let mut text = Vec::new(alloc);
     push_improved(alloc, &mut text, inst, cost, was)?;
-    let bytes = plan_text(alloc, inst, better)?;
+    let bytes = plan_text(alloc, better)?;
     let file = NewFile::new(alloc, outfile, bytes)?;
     let answer = Answer {
         status: Status::Done,
@@ -195,13 +195,10 @@ fn cost_after(alloc: Global, inst: &Instance, better: &FleetPlan) -> Result<u128
 }
 
 /// The text of the file of a plan.
-fn plan_text(alloc: Global, inst: &Instance, better: &FleetPlan) -> Result<Vec<u8>, AllocError>
-    requires { IsImproved inst.now better.now.routes }
+fn plan_text(alloc: Global, better: &FleetPlan) -> Result<Vec<u8>, AllocError>
+    requires { FitsFile (Some better.now) }
     ensures { IfOk result (λ text. text.items ≡ fleet_plan_text (Some better.now)) }
 {
-    // That the instance's network is one is told by its calls; on it rests that the plan's numbers
-    // are small.
-    let _nodes = inst.nodes();
     let mut text = Vec::new(alloc);
     push_fleet_plan(alloc, &mut text, Some(better))?;
     Ok(text)

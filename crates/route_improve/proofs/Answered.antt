@@ -10,16 +10,17 @@ use Rattle.std.proofs.lemmas.List.Sorted.{All-permutation}
 use Rattle.std.proofs.lemmas.List.Sums.{get_or-le-sum_by, sum_by-append, sum_by-cons}
 use Rattle.ev_model.specs.Fastest.{IsFastest}
 use Rattle.ev_model.specs.Fleet.{cost_of, times_in}
-use Rattle.ev_model.specs.Network.{Network}
+use Rattle.ev_model.specs.Network.{IsNetwork, Network}
 use Rattle.plan_check.specs.FleetRules.{IsCustomer, stops_of}
 use Rattle.route_plan.specs.declared.plan.RoutePlan.{RoutePlan}
 use Rattle.route_improve.specs.Arranged.{AreArranged, AreSettled, are_served, first_node, first_or_depot}
 use Rattle.route_improve.specs.Finished.{ArePlansOf, IsPlanOf}
 use Rattle.route_improve.specs.Improved.{IsFastestForOrder, IsImproved}
 use Rattle.route_improve.specs.Moves.{IsSettled, has_customer}
-use Rattle.route_improve.specs.Orders.{route_over}
+use Rattle.route_improve.specs.Orders.{orders_of, route_over}
 use Rattle.route_improve.specs.Routes.{AreRoutes, AreSettledTo, IsOrder, cost_of_routes, lists_of, stands_in}
 use Rattle.route_improve.specs.declared.route.Route.{Route}
+use Rattle.route_improve.proofs.Fitting.{fits_file}
 use Rattle.route_improve.proofs.Finishing.{plan_customers, plans_cost, plans_fleet, plans_orders}
 use Rattle.route_improve.proofs.Prices.{TakesLeast}
 use Rattle.route_improve.proofs.Settled.{cost_all, least_front, settled}
@@ -186,13 +187,20 @@ module _ (g : Network) (routes before settled_routes : List Route) (plans : List
   front_plans : ArePlansOf g arranged.front plans
   front_plans = subst (λ (l : List Route). ArePlansOf g l plans) (ap are_served arranged.is ∙ served_front arranged.front arranged.empty served_are arranged.none) plans_are
 
-  pub plan_is_improved : IsImproved g plans
-  plan_is_improved = record {
+  orders_are : orders_of g plans ≡ lists_of arranged.front
+  orders_are = plans_orders g arranged.front plans customers_are front_plans
+
+  rising : IsStrictlyIncreasing (map first_or_depot (lists_of arranged.front))
+  rising = firsts_rise g arranged.front served_are customers_are once_are arranged.empty arranged.order
+
+  pub plan_is_improved : IsNetwork g → IsImproved g plans
+  plan_is_improved network = record {
     fleet = plans_fleet g arranged.front plans customers_are served_are once_are front_plans;
-    order = subst (λ l. IsStrictlyIncreasing (map first_or_depot l)) (sym (plans_orders g arranged.front plans customers_are front_plans)) (firsts_rise g arranged.front served_are customers_are once_are arranged.empty arranged.order);
+    order = subst (λ l. IsStrictlyIncreasing (map first_or_depot l)) (sym orders_are) rising;
     fastest = fastest_all g arranged.front plans customers_are front_plans;
-    settled = subst (IsSettled g) (sym (plans_orders g arranged.front plans customers_are front_plans))
+    settled = subst (IsSettled g) (sym orders_are)
         (settled g arranged.front arranged.empty arranged.none arranged.no_time all_are (subst (λ (l : List Route). AreSettledTo g l (length l)) arranged.is is.settled_are));
+    text = fits_file g arranged.front plans network served_are customers_are rising orders_are front_plans;
   }
 
   pub plan_costs : cost_of g 1 (stops_of plans) ≤ cost_of_routes routes

@@ -8,6 +8,7 @@ pub mod Arranging
 pub mod Settled
 pub mod Finishing
 pub mod Beginning
+pub mod Fitting
 pub mod Answered
 pub mod Owning
 pub mod Remembered

@@ -8,6 +8,7 @@ use Rattle.ev_model.specs.Fleet.{IsFleetPlan, cost_of, customers_of}
 use Rattle.ev_model.specs.Network.{Network}
 use Rattle.instance_reader.specs.Instance.{customer_nodes}
 use Rattle.plan_check.specs.FleetRules.{IsCustomer, stops_of}
+use Rattle.route_plan.specs.PlanTexts.{FitsFile}
 use Rattle.route_plan.specs.declared.plan.RoutePlan.{RoutePlan}
 use Rattle.route_improve.specs.Arranged.{first_or_depot}
 use Rattle.route_improve.specs.Moves.{IsSettled}
@@ -21,13 +22,14 @@ use Rattle.route_improve.specs.declared.own.OwnFault.TheVariants as own
 abbrev pub IsFastestForOrder : Network → RoutePlan → Type 0
 IsFastestForOrder g p = IsFastest g (route_over (customers_of g p.stops)) g.capacity p.stops
 
--- a fleet plan, its routes in rising order of their first customers and each fastest for its order,
--- that no move of single customers makes cheaper
+-- a fleet plan that may be written as text, its routes in rising order of their first customers and
+-- each fastest for its order, that no move of single customers makes cheaper
 pub record IsImproved (g : Network) (routes : List RoutePlan) : Type 0 where
   pub fleet : IsFleetPlan g 1 (stops_of routes)
   pub order : IsStrictlyIncreasing (map first_or_depot (orders_of g routes))
   pub fastest : All (IsFastestForOrder g) routes
   pub settled : IsSettled g (orders_of g routes)
+  pub text : FitsFile (Some (record { routes = routes }))
 
 -- no route of his own reaches the customer, in any fraction of a unit
 abbrev pub HasNoOwn : Network → ℕ → Type 0

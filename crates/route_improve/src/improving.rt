@@ -31,8 +31,9 @@ pub enum Improved {
 ///
 /// The plan is a fleet plan that costs no more than `from`, and without `from` no more than routes
 /// for the customers alone. Each of its routes is fastest for the order of its customers, and they
-/// stand in rising order of their first customers. [`Improved::Alone`] comes exactly where there is
-/// no `from` and some customer has no feasible route of his own. The only `Err` is want of memory.
+/// stand in rising order of their first customers. It may be written as text.
+/// [`Improved::Alone`] comes exactly where there is no `from` and some customer has no feasible
+/// route of his own. The only `Err` is want of memory.
 pub fn improve(
     alloc: Global,
     inst: &Instance,
@@ -86,6 +87,9 @@ fn settled_plan(
     ensures no_more { IfOk result (λ plan.
         cost_of inst.now 1 (stops_of plan.routes) ≤ cost_of_routes routes.items) }
 {
+    // That the instance's network is one is told by its calls; on it rests that the plan's numbers
+    // are small.
+    let _nodes = inst.nodes();
     join_routes(alloc, inst, pricer, &mut routes)?;
     let settled = settle(alloc, pricer, routes)?;
     plan_of(alloc, inst, &settled)

@@ -28,7 +28,8 @@ pub returns-clause-improved : goal.returns-clause-improved
 returns-clause-improved c =
     kept_by c.plan_of.result _ _ (λ (plan : FleetPlan) plans.
     plan_is_improved c.args.inst.now c.args.routes.items (settled_are (goal.at.returns-clause-improved c).In_ok-settled).arranged.0 c.in_ok-settled.settled.items plan.routes (settled_are (goal.at.returns-clause-improved c).In_ok-settled)
-    (settled_are (goal.at.returns-clause-improved c).In_ok-settled).arranged.1 (subst (λ (rs : List Route). ArePlansOf c.args.inst.now (are_served rs) plan.routes) c.deref.ensures.value plans))
+    (settled_are (goal.at.returns-clause-improved c).In_ok-settled).arranged.1 (subst (λ (rs : List Route). ArePlansOf c.args.inst.now (are_served rs) plan.routes) c.deref.ensures.value plans)
+    c.nodes-nodes.ensures.network)
     c.plan_of.ensures
 
 pub returns-clause-no_more : goal.returns-clause-no_more
