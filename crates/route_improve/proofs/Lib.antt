@@ -2,6 +2,7 @@ pub mod Prices
 pub mod Changed
 pub mod Moving
 pub mod Made
+pub mod Trying
 pub mod OrderRoutes
 pub mod Looking
 pub mod Arranging

@@ -2,6 +2,7 @@ pub mod Orders
 pub mod Moves
 pub mod Pricing
 pub mod Routes
+pub mod Trying
 pub mod Taking
 pub mod Arranged
 pub mod Going

@@ -1,12 +1,10 @@
 //! Single moves: each is made where it makes the routes cheaper.
 
-ghost use Rattle.std.specs.Prelude.{◌≡◌, ◌≢◌, ◌<◌, ◌≤◌, false, IfOk, IsTrue, length, set};
-ghost use Rattle.std.specs.List.{All};
-ghost use Rattle.index_links.specs.Lists.{list_at};
-ghost use Rattle.plan_check.specs.FleetRules.{IsCustomer};
-ghost use Rattle.route_improve.specs.Moves.{HasPlace, exchanged, relocated, taken_out};
-ghost use Rattle.route_improve.specs.Routes.{AreCheaper, AreNoCheaper, AreRoutes, IsSettledAt, lists_of};
+ghost use Rattle.std.specs.Prelude.{◌≡◌, ◌≢◌, ◌<◌, IfOk, length, set};
+ghost use Rattle.route_improve.specs.Moves.{HasPlace, exchanged};
+ghost use Rattle.route_improve.specs.Routes.{AreNoCheaper, AreRoutes, IsSettledAt, lists_of};
 ghost use Rattle.route_improve.specs.Taking.{AreOfPair, AreOfRoute};
+ghost use Rattle.route_improve.specs.Trying.{AreTried, HaveMove, IsNoExchange, IsNoRelocation};
 
 use crate::pricer::Pricer;
 use crate::route::Route;
@@ -23,15 +21,10 @@ pub(crate) fn try_moves(
     b: usize,
     j: usize,
 ) -> Result<bool, AllocError>
-    requires routes { AreRoutes pricer.old routes.old.items }
-    requires from { HasPlace (lists_of routes.old.items) a i }
-    requires to { b < length routes.old.items }
+    requires { HaveMove pricer.old routes.old.items a i b }
     ensures network { pricer.new ≡ pricer.old }
-    ensures made { IfOk result (λ made. IsTrue made →
-        AreCheaper pricer.old routes.old.items routes.new.items) }
-    ensures same { IfOk result (λ made. made ≡ false → routes.new.items ≡ routes.old.items) }
-    ensures settled { IfOk result (λ made. made ≡ false →
-        IsSettledAt pricer.old routes.old.items a i b j) }
+    ensures tried { IfOk result (AreTried pricer.old routes.old.items routes.new.items
+        (IsSettledAt pricer.old routes.old.items a i b j)) }
 {
     if relocate(alloc, pricer, routes, a, i, b, j)? {
         return Ok(true);
@@ -50,16 +43,10 @@ fn relocate(
     b: usize,
     j: usize,
 ) -> Result<bool, AllocError>
-    requires routes { AreRoutes pricer.old routes.old.items }
-    requires from { HasPlace (lists_of routes.old.items) a i }
-    requires to { b < length routes.old.items }
+    requires { HaveMove pricer.old routes.old.items a i b }
     ensures network { pricer.new ≡ pricer.old }
-    ensures made { IfOk result (λ made. IsTrue made →
-        AreCheaper pricer.old routes.old.items routes.new.items) }
-    ensures same { IfOk result (λ made. made ≡ false → routes.new.items ≡ routes.old.items) }
-    ensures settled { IfOk result (λ made. made ≡ false →
-        j ≤ length (list_at (taken_out (lists_of routes.old.items) a i) b) →
-        AreNoCheaper pricer.old routes.old.items (relocated (lists_of routes.old.items) a i b j)) }
+    ensures tried { IfOk result (AreTried pricer.old routes.old.items routes.new.items
+        (IsNoRelocation pricer.old routes.old.items a i b j)) }
 {
     if a == b {
         relocate_within(alloc, pricer, routes, a, i, j)
@@ -80,12 +67,8 @@ fn relocate_within(
     requires routes { AreRoutes pricer.old routes.old.items }
     requires from { HasPlace (lists_of routes.old.items) a i }
     ensures network { pricer.new ≡ pricer.old }
-    ensures made { IfOk result (λ made. IsTrue made →
-        AreCheaper pricer.old routes.old.items routes.new.items) }
-    ensures same { IfOk result (λ made. made ≡ false → routes.new.items ≡ routes.old.items) }
-    ensures settled { IfOk result (λ made. made ≡ false →
-        j ≤ length (list_at (taken_out (lists_of routes.old.items) a i) a) →
-        AreNoCheaper pricer.old routes.old.items (relocated (lists_of routes.old.items) a i a j)) }
+    ensures tried { IfOk result (AreTried pricer.old routes.old.items routes.new.items
+        (IsNoRelocation pricer.old routes.old.items a i a j)) }
 {
     if j >= routes[a].order.len() {
         return Ok(false);
@@ -106,17 +89,11 @@ fn relocate_between(
     b: usize,
     j: usize,
 ) -> Result<bool, AllocError>
-    requires routes { AreRoutes pricer.old routes.old.items }
-    requires from { HasPlace (lists_of routes.old.items) a i }
-    requires to { b < length routes.old.items }
+    requires place { HaveMove pricer.old routes.old.items a i b }
     requires apart { a ≢ b }
     ensures network { pricer.new ≡ pricer.old }
-    ensures made { IfOk result (λ made. IsTrue made →
-        AreCheaper pricer.old routes.old.items routes.new.items) }
-    ensures same { IfOk result (λ made. made ≡ false → routes.new.items ≡ routes.old.items) }
-    ensures settled { IfOk result (λ made. made ≡ false →
-        j ≤ length (list_at (taken_out (lists_of routes.old.items) a i) b) →
-        AreNoCheaper pricer.old routes.old.items (relocated (lists_of routes.old.items) a i b j)) }
+    ensures tried { IfOk result (AreTried pricer.old routes.old.items routes.new.items
+        (IsNoRelocation pricer.old routes.old.items a i b j)) }
 {
     if j > routes[b].order.len() {
         return Ok(false);
@@ -139,16 +116,10 @@ fn exchange(
     b: usize,
     j: usize,
 ) -> Result<bool, AllocError>
-    requires routes { AreRoutes pricer.old routes.old.items }
-    requires from { HasPlace (lists_of routes.old.items) a i }
-    requires to { b < length routes.old.items }
+    requires { HaveMove pricer.old routes.old.items a i b }
     ensures network { pricer.new ≡ pricer.old }
-    ensures made { IfOk result (λ made. IsTrue made →
-        AreCheaper pricer.old routes.old.items routes.new.items) }
-    ensures same { IfOk result (λ made. made ≡ false → routes.new.items ≡ routes.old.items) }
-    ensures settled { IfOk result (λ made. made ≡ false →
-        j < length (list_at (lists_of routes.old.items) b) →
-        AreNoCheaper pricer.old routes.old.items (exchanged (lists_of routes.old.items) a i b j)) }
+    ensures tried { IfOk result (AreTried pricer.old routes.old.items routes.new.items
+        (IsNoExchange pricer.old routes.old.items a i b j)) }
 {
     if j >= routes[b].order.len() {
         return Ok(false);
@@ -173,11 +144,9 @@ fn exchange_within(
     requires one { HasPlace (lists_of routes.old.items) a i }
     requires other { HasPlace (lists_of routes.old.items) a j }
     ensures network { pricer.new ≡ pricer.old }
-    ensures made { IfOk result (λ made. IsTrue made →
-        AreCheaper pricer.old routes.old.items routes.new.items) }
-    ensures same { IfOk result (λ made. made ≡ false → routes.new.items ≡ routes.old.items) }
-    ensures settled { IfOk result (λ made. made ≡ false →
-        AreNoCheaper pricer.old routes.old.items (exchanged (lists_of routes.old.items) a i a j)) }
+    ensures tried { IfOk result (AreTried pricer.old routes.old.items routes.new.items
+        (AreNoCheaper pricer.old routes.old.items
+        (exchanged (lists_of routes.old.items) a i a j))) }
 {
     let mut order = copy_of(alloc, &routes[a].order)?;
     let customer = order[i];
@@ -201,11 +170,9 @@ fn exchange_between(
     requires other { HasPlace (lists_of routes.old.items) b j }
     requires apart { a ≢ b }
     ensures network { pricer.new ≡ pricer.old }
-    ensures made { IfOk result (λ made. IsTrue made →
-        AreCheaper pricer.old routes.old.items routes.new.items) }
-    ensures same { IfOk result (λ made. made ≡ false → routes.new.items ≡ routes.old.items) }
-    ensures settled { IfOk result (λ made. made ≡ false →
-        AreNoCheaper pricer.old routes.old.items (exchanged (lists_of routes.old.items) a i b j)) }
+    ensures tried { IfOk result (AreTried pricer.old routes.old.items routes.new.items
+        (AreNoCheaper pricer.old routes.old.items
+        (exchanged (lists_of routes.old.items) a i b j))) }
 {
     let mut first = copy_of(alloc, &routes[a].order)?;
     let mut second = copy_of(alloc, &routes[b].order)?;
@@ -228,12 +195,9 @@ fn take_one(
     requires list { a < length routes.old.items }
     requires same { AreOfRoute pricer.old routes.old.items a order.items }
     ensures network { pricer.new ≡ pricer.old }
-    ensures made { IfOk result (λ made. IsTrue made →
-        AreCheaper pricer.old routes.old.items routes.new.items) }
-    ensures same { IfOk result (λ made. made ≡ false → routes.new.items ≡ routes.old.items) }
-    ensures settled { IfOk result (λ made. made ≡ false →
-        AreNoCheaper pricer.old routes.old.items
-        (set (lists_of routes.old.items) a order.items)) }
+    ensures tried { IfOk result (AreTried pricer.old routes.old.items routes.new.items
+        (AreNoCheaper pricer.old routes.old.items
+        (set (lists_of routes.old.items) a order.items))) }
 {
     let than = u128::from(routes[a].time);
     match pricer.least_times(alloc, &order, &[], than)? {
@@ -262,12 +226,9 @@ pub(crate) fn take_pair(
     requires apart { a ≢ b }
     requires same { AreOfPair pricer.old routes.old.items a b first.items second.items }
     ensures network { pricer.new ≡ pricer.old }
-    ensures made { IfOk result (λ made. IsTrue made →
-        AreCheaper pricer.old routes.old.items routes.new.items) }
-    ensures same { IfOk result (λ made. made ≡ false → routes.new.items ≡ routes.old.items) }
-    ensures settled { IfOk result (λ made. made ≡ false →
-        AreNoCheaper pricer.old routes.old.items
-        (set (set (lists_of routes.old.items) a first.items) b second.items)) }
+    ensures tried { IfOk result (AreTried pricer.old routes.old.items routes.new.items
+        (AreNoCheaper pricer.old routes.old.items
+        (set (set (lists_of routes.old.items) a first.items) b second.items))) }
 {
     let than = u128::from(routes[a].time) + u128::from(routes[b].time);
     match pricer.least_times(alloc, &first, &second, than)? {

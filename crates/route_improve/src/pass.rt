@@ -1,8 +1,8 @@
 //! Passes over all moves.
 
 ghost use Rattle.std.specs.Prelude.{◌≡◌, ◌<◌, false, IfOk, IsTrue, length};
-ghost use Rattle.route_improve.specs.Moves.{HasPlace};
 ghost use Rattle.route_improve.specs.Routes.{AreCheaper, AreRoutes, AreSettledTo, IsSettledList, IsSettledPair, IsSettledTo, count_at, lists_of};
+ghost use Rattle.route_improve.specs.Trying.{AreTried, HaveMove};
 
 use crate::moves::try_moves;
 use crate::pricer::Pricer;
@@ -95,15 +95,10 @@ fn improve_customer(
     i: usize,
     b: usize,
 ) -> Result<bool, AllocError>
-    requires routes { AreRoutes pricer.old routes.old.items }
-    requires from { HasPlace (lists_of routes.old.items) a i }
-    requires to { b < length routes.old.items }
+    requires { HaveMove pricer.old routes.old.items a i b }
     ensures network { pricer.new ≡ pricer.old }
-    ensures made { IfOk result (λ made. IsTrue made →
-        AreCheaper pricer.old routes.old.items routes.new.items) }
-    ensures same { IfOk result (λ made. made ≡ false → routes.new.items ≡ routes.old.items) }
-    ensures settled { IfOk result (λ made. made ≡ false →
-        IsSettledTo pricer.old routes.old.items a i b) }
+    ensures tried { IfOk result (AreTried pricer.old routes.old.items routes.new.items
+        (IsSettledTo pricer.old routes.old.items a i b)) }
 {
     for j in 0..routes[b].order.len() {
         if try_moves(alloc, pricer, routes, a, i, b, j)? {

@@ -5,6 +5,7 @@ use Rattle.route_improve.specs.Routes.{AreNoCheaper, lists_of}
 use Rattle.route_improve.specs.Taking.{AreOfPair}
 use Rattle.route_improve.proofs.Made.{copied, kept_by, read_at, two_exchanged}
 use Rattle.route_improve.proofs.Moving.{exchanged_between}
+use Rattle.route_improve.proofs.Trying.{shows}
 use Rattle.route_improve.proofs.moves.exchange_between.Goals as goal
 use Rattle.route_improve.proofs.moves.exchange_between.Goals.{After-index_mut-2}
 
@@ -28,11 +29,11 @@ take_pair-requires-clause-same c =
     (subst (AreOfPair c.args.pricer.now c.args.routes.now.items c.args.a c.args.b (set (list_at (lists_of c.args.routes.now.items) c.args.a) c.args.i (slice_index (list_at (lists_of c.args.routes.now.items) c.args.b) c.args.j))) (sym (second_is (goal.at.take_pair-requires-clause-same c).After-index_mut-2))
     (two_exchanged c.args.pricer.now c.args.routes.now.items c.requires.routes c.args.a c.args.i c.args.b c.args.j c.requires.one c.requires.other))
 
-pub returns-clause-settled : goal.returns-clause-settled
-returns-clause-settled c =
-    kept_by c.take_pair.result _ _ (λ made kept none.
+pub returns-clause-tried : goal.returns-clause-tried
+returns-clause-tried c =
+    kept_by c.take_pair.result _ _ (λ made. shows _ _ _ _ _ made (λ none.
     subst (AreNoCheaper c.args.pricer.now c.args.routes.now.items)
-    (ap (λ l. set (set (lists_of c.args.routes.now.items) c.args.a l) c.args.b (set c.in_ok-second.second.items c.args.j c.index-customer.result.now)) (first_is (goal.at.returns-clause-settled c).After-index_mut-2)
-    ∙ ap (λ l. set (set (lists_of c.args.routes.now.items) c.args.a (set (list_at (lists_of c.args.routes.now.items) c.args.a) c.args.i (slice_index (list_at (lists_of c.args.routes.now.items) c.args.b) c.args.j))) c.args.b l) (second_is (goal.at.returns-clause-settled c).After-index_mut-2)
-    ∙ sym (exchanged_between (lists_of c.args.routes.now.items) c.args.a c.args.i c.args.b c.args.j c.requires.apart)) (kept none))
-    c.take_pair.ensures.settled
+    (ap (λ l. set (set (lists_of c.args.routes.now.items) c.args.a l) c.args.b (set c.in_ok-second.second.items c.args.j c.index-customer.result.now)) (first_is (goal.at.returns-clause-tried c).After-index_mut-2)
+    ∙ ap (λ l. set (set (lists_of c.args.routes.now.items) c.args.a (set (list_at (lists_of c.args.routes.now.items) c.args.a) c.args.i (slice_index (list_at (lists_of c.args.routes.now.items) c.args.b) c.args.j))) c.args.b l) (second_is (goal.at.returns-clause-tried c).After-index_mut-2)
+    ∙ sym (exchanged_between (lists_of c.args.routes.now.items) c.args.a c.args.i c.args.b c.args.j c.requires.apart)) (none)))
+    c.take_pair.ensures.tried

@@ -5,6 +5,7 @@ use Rattle.route_improve.specs.Routes.{AreNoCheaper, lists_of}
 use Rattle.route_improve.specs.Taking.{AreOfRoute}
 use Rattle.route_improve.proofs.Made.{copied, kept_by, one_exchanged, read_at}
 use Rattle.route_improve.proofs.Moving.{exchanged_within}
+use Rattle.route_improve.proofs.Trying.{shows}
 use Rattle.route_improve.proofs.moves.exchange_within.Goals as goal
 use Rattle.route_improve.proofs.moves.exchange_within.Goals.{After-index_mut-2}
 
@@ -22,8 +23,8 @@ made_is c =
 pub take_one-requires-clause-same : goal.take_one-requires-clause-same
 take_one-requires-clause-same c = subst (AreOfRoute c.args.pricer.now c.args.routes.now.items c.args.a) (sym (made_is (goal.at.take_one-requires-clause-same c).After-index_mut-2)) (one_exchanged c.args.pricer.now c.args.routes.now.items c.requires.routes c.args.a c.args.i c.args.j c.requires.one c.requires.other)
 
-pub returns-clause-settled : goal.returns-clause-settled
-returns-clause-settled c =
-    kept_by c.take_one.result _ _ (λ made kept none.
-    subst (AreNoCheaper c.args.pricer.now c.args.routes.now.items) (ap (λ l. set (lists_of c.args.routes.now.items) c.args.a l) (made_is (goal.at.returns-clause-settled c).After-index_mut-2) ∙ sym (exchanged_within (lists_of c.args.routes.now.items) c.args.a c.args.i c.args.j c.requires.one.list)) (kept none))
-    c.take_one.ensures.settled
+pub returns-clause-tried : goal.returns-clause-tried
+returns-clause-tried c =
+    kept_by c.take_one.result _ _ (λ made. shows _ _ _ _ _ made (λ none.
+    subst (AreNoCheaper c.args.pricer.now c.args.routes.now.items) (ap (λ l. set (lists_of c.args.routes.now.items) c.args.a l) (made_is (goal.at.returns-clause-tried c).After-index_mut-2) ∙ sym (exchanged_within (lists_of c.args.routes.now.items) c.args.a c.args.i c.args.j c.requires.one.list)) none))
+    c.take_one.ensures.tried

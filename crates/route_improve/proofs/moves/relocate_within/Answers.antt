@@ -5,6 +5,7 @@ use Rattle.route_improve.specs.Routes.{AreNoCheaper, lists_of}
 use Rattle.route_improve.specs.Taking.{AreOfRoute}
 use Rattle.route_improve.proofs.Made.{copied, kept_by, one_relocated, read_at}
 use Rattle.route_improve.proofs.Moving.{relocated_within}
+use Rattle.route_improve.proofs.Trying.{shows}
 use Rattle.route_improve.proofs.moves.relocate_within.Goals as goal
 use Rattle.route_improve.proofs.moves.relocate_within.Goals.{In_ok-insert}
 
@@ -20,8 +21,8 @@ made_is c =
 pub take_one-requires-clause-same : goal.take_one-requires-clause-same
 take_one-requires-clause-same c = subst (AreOfRoute c.args.pricer.now c.args.routes.now.items c.args.a) (sym (made_is (goal.at.take_one-requires-clause-same c).In_ok-insert)) (one_relocated c.args.pricer.now c.args.routes.now.items c.requires.routes c.args.a c.args.i c.args.j c.requires.from)
 
-pub returns-clause-settled : goal.returns-clause-settled
-returns-clause-settled c =
-    kept_by c.take_one.result _ _ (λ made kept none room.
-    subst (AreNoCheaper c.args.pricer.now c.args.routes.now.items) (ap (λ l. set (lists_of c.args.routes.now.items) c.args.a l) (made_is (goal.at.returns-clause-settled c).In_ok-insert) ∙ sym (relocated_within (lists_of c.args.routes.now.items) c.args.a c.args.i c.args.j c.requires.from.list)) (kept none))
-    c.take_one.ensures.settled
+pub returns-clause-tried : goal.returns-clause-tried
+returns-clause-tried c =
+    kept_by c.take_one.result _ _ (λ made. shows _ _ _ _ _ made (λ none room.
+    subst (AreNoCheaper c.args.pricer.now c.args.routes.now.items) (ap (λ l. set (lists_of c.args.routes.now.items) c.args.a l) (made_is (goal.at.returns-clause-tried c).In_ok-insert) ∙ sym (relocated_within (lists_of c.args.routes.now.items) c.args.a c.args.i c.args.j c.requires.from.list)) none))
+    c.take_one.ensures.tried
