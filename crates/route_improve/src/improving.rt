@@ -13,6 +13,7 @@ use crate::pricer::Pricer;
 use crate::route::Route;
 use crate::savings::join_routes;
 use crate::settling::settle;
+use crate::watcher::{Course, MoveWatcher, Nobody};
 use instance_reader::Instance;
 use route_plan::FleetPlan;
 use std::alloc::{AllocError, Global};
@@ -42,14 +43,32 @@ pub fn improve(
     requires { IfSome from (λ plan. IsFleetPlan inst.now 1 (stops_of plan.now.routes)) }
     ensures { IfOk result (IsAnswer inst.now (option_map (λ plan. plan.now.routes) from.entry)) }
 {
+    improve_watched(alloc, inst, from, &mut Nobody {})
+}
+
+/// The same as `improve`, where a watcher is told how far the improvement is.
+pub fn improve_watched<W: MoveWatcher>(
+    alloc: Global,
+    inst: &Instance,
+    from: Option<&FleetPlan>,
+    watcher: &mut W,
+) -> Result<Improved, AllocError>
+    requires { IfSome from (λ plan. IsFleetPlan inst.now 1 (stops_of plan.now.routes)) }
+    ensures { IfOk result (IsAnswer inst.now (option_map (λ plan. plan.now.routes) from.entry)) }
+{
     match from {
-        Some(plan) => Ok(Improved::Plan(improve_plan(alloc, inst, plan)?)),
-        None => improve_none(alloc, inst),
+        Some(plan) => Ok(Improved::Plan(improve_plan(alloc, inst, plan, watcher)?)),
+        None => improve_none(alloc, inst, watcher),
     }
 }
 
 /// Makes a fleet plan cheaper.
-fn improve_plan(alloc: Global, inst: &Instance, plan: &FleetPlan) -> Result<FleetPlan, AllocError>
+fn improve_plan<W: MoveWatcher>(
+    alloc: Global,
+    inst: &Instance,
+    plan: &FleetPlan,
+    watcher: &mut W,
+) -> Result<FleetPlan, AllocError>
     requires { IsFleetPlan inst.now 1 (stops_of plan.now.routes) }
     ensures improved { IfOk result (λ better. IsImproved inst.now better.routes) }
     ensures no_more { IfOk result (λ better. cost_of inst.now 1 (stops_of better.routes)
@@ -57,11 +76,15 @@ fn improve_plan(alloc: Global, inst: &Instance, plan: &FleetPlan) -> Result<Flee
 {
     let mut pricer = Pricer::new(alloc, inst)?;
     let routes = routes_of(alloc, inst, &mut pricer, plan)?;
-    settled_plan(alloc, inst, &mut pricer, routes)
+    settled_plan(alloc, inst, &mut pricer, routes, watcher)
 }
 
 /// Makes routes for the customers alone cheaper.
-fn improve_none(alloc: Global, inst: &Instance) -> Result<Improved, AllocError>
+fn improve_none<W: MoveWatcher>(
+    alloc: Global,
+    inst: &Instance,
+    watcher: &mut W,
+) -> Result<Improved, AllocError>
     ensures { IfOk result (IsAnswer inst.now None) }
 {
     let routes = match own_routes(alloc, inst) {
@@ -70,16 +93,17 @@ fn improve_none(alloc: Global, inst: &Instance) -> Result<Improved, AllocError>
         Err(OwnFault::Memory) => return Err(AllocError),
     };
     let mut pricer = Pricer::new(alloc, inst)?;
-    let plan = settled_plan(alloc, inst, &mut pricer, routes)?;
+    let plan = settled_plan(alloc, inst, &mut pricer, routes, watcher)?;
     Ok(Improved::Plan(plan))
 }
 
 /// Joins routes, and then makes them cheaper until no relocation and no exchange helps.
-fn settled_plan(
+fn settled_plan<W: MoveWatcher>(
     alloc: Global,
     inst: &Instance,
     pricer: &mut Pricer,
     mut routes: Vec<Route>,
+    watcher: &mut W,
 ) -> Result<FleetPlan, AllocError>
     requires network { pricer.old ≡ inst.now }
     requires routes { AreRoutes inst.now routes.items }
@@ -90,7 +114,8 @@ fn settled_plan(
     // That the instance's network is one is told by its calls; on it rests that the plan's numbers
     // are small.
     let _nodes = inst.nodes();
-    join_routes(alloc, inst, pricer, &mut routes)?;
-    let settled = settle(alloc, pricer, routes)?;
+    let mut course = Course::new(watcher, routes.as_slice());
+    join_routes(alloc, inst, pricer, &mut routes, &mut course)?;
+    let settled = settle(alloc, pricer, routes, &mut course)?;
     plan_of(alloc, inst, &settled)
 }

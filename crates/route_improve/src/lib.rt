@@ -12,7 +12,9 @@ mod report;
 mod route;
 mod savings;
 mod settling;
+mod watcher;
 
-pub use improving::{Improved, improve};
+pub use improving::{Improved, improve, improve_watched};
 pub use plan_check::{LargeFault, check_large};
 pub use report::{push_alone, push_improved};
+pub use watcher::{MoveProgress, MoveWatcher};

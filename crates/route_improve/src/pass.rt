@@ -7,14 +7,16 @@ ghost use Rattle.route_improve.specs.Trying.{AreTried, HaveMove};
 use crate::moves::try_moves;
 use crate::pricer::Pricer;
 use crate::route::Route;
+use crate::watcher::{Course, MoveWatcher};
 use std::alloc::{AllocError, Global};
 
 /// Looks once at all relocations and exchanges, and makes those that are cheaper; whether one was
 /// made.
-pub(crate) fn pass(
+pub(crate) fn pass<W: MoveWatcher>(
     alloc: Global,
     pricer: &mut Pricer,
     routes: &mut Vec<Route>,
+    course: &mut Course<'_, W>,
 ) -> Result<bool, AllocError>
     requires { AreRoutes pricer.old routes.old.items }
     ensures network { pricer.new ≡ pricer.old }
@@ -26,7 +28,7 @@ pub(crate) fn pass(
 {
     let mut made = false;
     for a in 0..routes.len() {
-        if improve_route(alloc, pricer, routes, a)? {
+        if improve_route(alloc, pricer, routes, course, a)? {
             made = true;
         }
     }
@@ -34,10 +36,11 @@ pub(crate) fn pass(
 }
 
 /// Looks at the moves between route `a` and each route.
-fn improve_route(
+fn improve_route<W: MoveWatcher>(
     alloc: Global,
     pricer: &mut Pricer,
     routes: &mut Vec<Route>,
+    course: &mut Course<'_, W>,
     a: usize,
 ) -> Result<bool, AllocError>
     requires routes { AreRoutes pricer.old routes.old.items }
@@ -53,7 +56,9 @@ fn improve_route(
     for b in 0..routes.len() {
         if improve_pair(alloc, pricer, routes, a, b)? {
             made = true;
+            course.moved(routes);
         }
+        course.tell();
     }
     Ok(made)
 }

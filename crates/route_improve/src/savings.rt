@@ -8,6 +8,7 @@ ghost use Rattle.route_improve.specs.Routes.{AreCheaper, AreNoDearer, AreRoutes}
 use crate::moves::{copy_of, take_pair};
 use crate::pricer::Pricer;
 use crate::route::Route;
+use crate::watcher::{Course, MoveWatcher};
 use instance_reader::Instance;
 use std::alloc::{AllocError, Global};
 
@@ -21,11 +22,12 @@ struct Saving {
 }
 
 /// Joins routes where that is cheaper, each pair of customers tried at most once.
-pub(crate) fn join_routes(
+pub(crate) fn join_routes<W: MoveWatcher>(
     alloc: Global,
     inst: &Instance,
     pricer: &mut Pricer,
     routes: &mut Vec<Route>,
+    course: &mut Course<'_, W>,
 ) -> Result<(), AllocError>
     requires { AreRoutes pricer.old routes.old.items }
     ensures network { pricer.new ≡ pricer.old }
@@ -34,7 +36,10 @@ pub(crate) fn join_routes(
 {
     let savings = savings_of(alloc, inst)?;
     for saving in savings {
-        join(alloc, pricer, routes, &saving)?;
+        if join(alloc, pricer, routes, &saving)? {
+            course.moved(routes);
+        }
+        course.tell();
     }
     Ok(())
 }

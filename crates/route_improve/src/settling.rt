@@ -8,14 +8,16 @@ ghost use Rattle.route_improve.specs.Routes.{AreRoutes, AreSettledTo, cost_of_ro
 use crate::pass::pass;
 use crate::pricer::Pricer;
 use crate::route::Route;
+use crate::watcher::{Course, MoveWatcher};
 use std::alloc::{AllocError, Global};
 
 /// Makes moves until none makes the routes cheaper. In the end the routes with customers stand in
 /// rising order of their first ones, and one without customers follows.
-pub(crate) fn settle(
+pub(crate) fn settle<W: MoveWatcher>(
     alloc: Global,
     pricer: &mut Pricer,
     mut routes: Vec<Route>,
+    course: &mut Course<'_, W>,
 ) -> Result<Vec<Route>, AllocError>
     requires { AreRoutes pricer.old routes.items }
     ensures network { pricer.new ≡ pricer.old }
@@ -24,7 +26,7 @@ pub(crate) fn settle(
 {
     loop {
         routes = arranged(alloc, routes)?;
-        if !pass(alloc, pricer, &mut routes)? {
+        if !pass(alloc, pricer, &mut routes, course)? {
             return Ok(routes);
         }
     }

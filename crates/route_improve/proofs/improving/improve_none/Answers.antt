@@ -4,8 +4,8 @@ use Rattle.route_improve.proofs.Owning.{own_costs, own_routes_are}
 use Rattle.route_improve.proofs.improving.improve_none.Goals as goal
 
 pub settled_plan-requires-clause-routes : goal.settled_plan-requires-clause-routes
-settled_plan-requires-clause-routes c = own_routes_are c.args.inst.now c.in-Ok.routes.items c.in-Ok.ensures.own
+settled_plan-requires-clause-routes g c = own_routes_are c.args.inst.now c.in-Ok.routes.items c.in-Ok.ensures.own
 
 pub returns : goal.returns
-returns c =
+returns g c =
     (c.in_ok-plan.ensures.improved, own_costs c.args.inst.now c.in-Ok.routes.items (cost_of c.args.inst.now 1 (stops_of c.in_ok-plan.plan.routes)) c.in-Ok.ensures.own c.in_ok-plan.ensures.no_more)

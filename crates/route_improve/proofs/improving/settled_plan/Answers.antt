@@ -12,29 +12,29 @@ use Rattle.route_improve.proofs.improving.settled_plan.Goals as goal
 use Rattle.route_improve.proofs.improving.settled_plan.Goals.{In_ok-settled}
 
 -- the routes that no move makes cheaper
-settled_are : (c : In_ok-settled) → AreSettled c.args.inst.now c.args.routes.items c.in_ok-settled.settled.items
-settled_are c =
-    let joined = subst (λ (g : Network). AreNoDearer g c.args.routes.items c.join_routes.new.routes.items) c.requires.network c.in_ok-join_routes.ensures.joined in
-    let settled = subst (λ (g : Network). AreSettled g c.join_routes.new.routes.items c.in_ok-settled.settled.items) (c.join_routes.ensures.network ∙ c.requires.network) c.in_ok-settled.ensures.settled in
+settled_are : (g : _) (c : In_ok-settled g) → AreSettled c.args.inst.now c.args.routes.items c.in_ok-settled.settled.items
+settled_are g c =
+    let joined = subst (λ (h : Network). AreNoDearer h c.args.routes.items c.join_routes.new.routes.items) c.requires.network c.in_ok-join_routes.ensures.joined in
+    let settled = subst (λ (h : Network). AreSettled h c.join_routes.new.routes.items c.in_ok-settled.settled.items) (c.join_routes.ensures.network ∙ c.requires.network) c.in_ok-settled.ensures.settled in
     settled_of c.args.inst.now c.args.routes.items c.join_routes.new.routes.items c.in_ok-settled.settled.items joined settled
 
 pub join_routes-requires : goal.join_routes-requires
-join_routes-requires c = subst (λ (g : Network). AreRoutes g c.args.routes.items) (sym c.requires.network) c.requires.routes
+join_routes-requires g c = subst (λ (h : Network). AreRoutes h c.args.routes.items) (sym c.requires.network) c.requires.routes
 
 pub settle-requires : goal.settle-requires
-settle-requires c = subst (λ (g : Network). AreRoutes g c.join_routes.new.routes.items) (sym c.join_routes.ensures.network) c.in_ok-join_routes.ensures.joined.routes
+settle-requires g c = subst (λ (h : Network). AreRoutes h c.join_routes.new.routes.items) (sym c.join_routes.ensures.network) c.in_ok-join_routes.ensures.joined.routes
 
 pub returns-clause-improved : goal.returns-clause-improved
-returns-clause-improved c =
+returns-clause-improved g c =
     kept_by c.plan_of.result _ _ (λ (plan : FleetPlan) plans.
-    plan_is_improved c.args.inst.now c.args.routes.items (settled_are (goal.at.returns-clause-improved c).In_ok-settled).arranged.0 c.in_ok-settled.settled.items plan.routes (settled_are (goal.at.returns-clause-improved c).In_ok-settled)
-    (settled_are (goal.at.returns-clause-improved c).In_ok-settled).arranged.1 (subst (λ (rs : List Route). ArePlansOf c.args.inst.now (are_served rs) plan.routes) c.deref.ensures.value plans)
+    plan_is_improved c.args.inst.now c.args.routes.items (settled_are g (goal.at.returns-clause-improved g c).In_ok-settled).arranged.0 c.in_ok-settled.settled.items plan.routes (settled_are g (goal.at.returns-clause-improved g c).In_ok-settled)
+    (settled_are g (goal.at.returns-clause-improved g c).In_ok-settled).arranged.1 (subst (λ (rs : List Route). ArePlansOf c.args.inst.now (are_served rs) plan.routes) c.deref.ensures.value plans)
     c.nodes-nodes.ensures.network)
     c.plan_of.ensures
 
 pub returns-clause-no_more : goal.returns-clause-no_more
-returns-clause-no_more c =
+returns-clause-no_more g c =
     kept_by c.plan_of.result _ _ (λ (plan : FleetPlan) plans.
-    plan_costs c.args.inst.now c.args.routes.items (settled_are (goal.at.returns-clause-no_more c).In_ok-settled).arranged.0 c.in_ok-settled.settled.items plan.routes (settled_are (goal.at.returns-clause-no_more c).In_ok-settled)
-    (settled_are (goal.at.returns-clause-no_more c).In_ok-settled).arranged.1 (subst (λ (rs : List Route). ArePlansOf c.args.inst.now (are_served rs) plan.routes) c.deref.ensures.value plans))
+    plan_costs c.args.inst.now c.args.routes.items (settled_are g (goal.at.returns-clause-no_more g c).In_ok-settled).arranged.0 c.in_ok-settled.settled.items plan.routes (settled_are g (goal.at.returns-clause-no_more g c).In_ok-settled)
+    (settled_are g (goal.at.returns-clause-no_more g c).In_ok-settled).arranged.1 (subst (λ (rs : List Route). ArePlansOf c.args.inst.now (are_served rs) plan.routes) c.deref.ensures.value plans))
     c.plan_of.ensures

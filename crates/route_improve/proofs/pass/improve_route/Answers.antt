@@ -8,7 +8,7 @@ use Rattle.route_improve.proofs.pass.improve_route.Goals as goal
 use Rattle.route_improve.proofs.pass.improve_route.Goals.{then-branch, else-branch}
 
 pub loop-b-preserved : goal.loop-b-preserved
-loop-b-preserved c = record {
+loop-b-preserved g c = record {
   network = c.improve_pair.ensures.network ∙ c.loop-b.invariant.network;
   going = elim c.if-branch.branch [
     | then-branch w ↦

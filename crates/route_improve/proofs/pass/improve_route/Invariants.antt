@@ -4,7 +4,7 @@ use Rattle.route_improve.specs.Routes.{IsSettledList}
 use Rattle.route_improve.proofs.pass.improve_route.Given as goal
 
 abbrev pub invariant-loop-b : goal.invariant-loop-b
-invariant-loop-b l = record {
+invariant-loop-b g l = record {
   network : l.pricer ≡ l.initial.pricer;
   going : IsGoing l.initial.pricer l.initial.routes.items l.routes.items l.made;
   settled : l.made ≡ false → IsSettledList l.initial.pricer l.initial.routes.items l.b l.a;

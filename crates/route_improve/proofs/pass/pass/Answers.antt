@@ -8,7 +8,7 @@ use Rattle.route_improve.proofs.pass.pass.Goals as goal
 use Rattle.route_improve.proofs.pass.pass.Goals.{then-branch, else-branch}
 
 pub loop-a-preserved : goal.loop-a-preserved
-loop-a-preserved c = record {
+loop-a-preserved g c = record {
   network = c.improve_route.ensures.network ∙ c.loop-a.invariant.network;
   going = elim c.if-branch.branch [
     | then-branch w ↦

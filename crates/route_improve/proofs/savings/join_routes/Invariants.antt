@@ -3,7 +3,7 @@ use Rattle.route_improve.specs.Routes.{AreNoDearer}
 use Rattle.route_improve.proofs.savings.join_routes.Given as goal
 
 abbrev pub invariant-loop-saving : goal.invariant-loop-saving
-invariant-loop-saving l = record {
+invariant-loop-saving g l = record {
   network : l.pricer ≡ l.initial.pricer;
   joined : AreNoDearer l.initial.pricer l.initial.routes.items l.routes.items;
 }
