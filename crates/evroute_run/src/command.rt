@@ -17,6 +17,7 @@ use crate::fleet::fleet;
 use crate::improve::improve;
 use crate::make::make;
 use crate::usage::put_usage;
+use crate::watcher::{JobWatcher, Nobody};
 use command_line::{Job, job_words};
 use ev_outside::{Shelf, Sink};
 use job_frame::Status;
@@ -76,8 +77,22 @@ pub fn run<S: Shelf, K: Sink>(alloc: Global, words: &[String], shelf: &mut S, ou
     ensures no_words { K.takes_memory ≡ false → words.now ≡ []
         → (result ≡ Status.Words) ⊎ (result ≡ Status.Fault) }
 {
+    run_watched(alloc, words, shelf, out, &mut Nobody {})
+}
+
+/// The same as [`run`], where a watcher is told how far a search or an improvement is.
+pub fn run_watched<S: Shelf, K: Sink, W: JobWatcher>(
+    alloc: Global,
+    words: &[String],
+    shelf: &mut S,
+    out: &mut K,
+    watcher: &mut W,
+) -> Status
+    ensures { Runs words.now K.takes_memory (S.state shelf.old) (S.state shelf.new)
+        (K.state out.old) (K.state out.new) result }
+{
     match job_words(alloc, words) {
-        Ok(Some(job)) => perform(alloc, &job, shelf, out),
+        Ok(Some(job)) => perform(alloc, &job, shelf, out, watcher),
         Ok(None) => put_usage(out),
         Err(AllocError) => Status::Memory,
     }
@@ -99,7 +114,13 @@ pub fn exit_code<S: Shelf, K: Sink>(
 }
 
 /// A job. What it finds is written and put; `make` writes before it seeks its answer.
-fn perform<S: Shelf, K: Sink>(alloc: Global, job: &Job, shelf: &mut S, out: &mut K) -> Status
+fn perform<S: Shelf, K: Sink, W: JobWatcher>(
+    alloc: Global,
+    job: &Job,
+    shelf: &mut S,
+    out: &mut K,
+    watcher: &mut W,
+) -> Status
     requires { IsJob job.now }
     ensures words { result ≢ Status.Words }
     ensures job { Performs (task_of (job_value job.now)) (S.state shelf.old) (S.state shelf.new)
@@ -113,10 +134,10 @@ fn perform<S: Shelf, K: Sink>(alloc: Global, job: &Job, shelf: &mut S, out: &mut
 {
     match job {
         Job::Fixed(job) => finish(fixed(alloc, job, shelf), shelf, out),
-        Job::Fleet(job) => finish(fleet(alloc, job, shelf), shelf, out),
+        Job::Fleet(job) => finish(fleet(alloc, job, shelf, watcher), shelf, out),
         Job::Check(job) => finish(check(alloc, job, shelf), shelf, out),
         Job::Convert(job) => finish(convert(alloc, job, shelf), shelf, out),
         Job::Make(job) => make(alloc, job, shelf, out),
-        Job::Improve(job) => finish(improve(alloc, job, shelf), shelf, out),
+        Job::Improve(job) => finish(improve(alloc, job, shelf, watcher), shelf, out),
     }
 }

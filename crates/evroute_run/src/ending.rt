@@ -8,9 +8,10 @@ ghost use Rattle.evroute_run.specs.Ending.{IsToldAt, Runs, Tells, TellsIfSome};
 ghost use Rattle.evroute_run.specs.declared.message.Message.{Message};
 ghost use Rattle.job_frame.specs.declared.status.Status.{Status};
 
-use crate::command::exit_code;
+use crate::command::run_watched;
 use crate::diagnostics::Diagnostics;
 use crate::message::Message;
+use crate::watcher::JobWatcher;
 use ev_outside::{Failure, FileShelf, OutSink, Shelf, Sink};
 use job_frame::Status;
 use std::alloc::Global;
@@ -40,14 +41,21 @@ impl<'a, R: Print> LastFailure for OutSink<'a, R> {
 }
 
 /// The program from its words, or from why the system gives none: the job that they name, the exit
-/// status of how it ends, and what people are told.
-pub fn run_to_end<S: Shelf + LastFailure, K: Sink + LastFailure, D: Diagnostics>(
+/// status of how it ends, and what people are told. A watcher is told how far a search or an
+/// improvement is.
+pub fn run_to_end<S, K, D, W>(
     alloc: Global,
     words: io::Result<Vec<String>>,
     shelf: &mut S,
     out: &mut K,
     people: &mut D,
+    watcher: &mut W,
 ) -> ExitCode
+where
+    S: Shelf + LastFailure,
+    K: Sink + LastFailure,
+    D: Diagnostics,
+    W: JobWatcher,
     ensures runs { IfOk words (λ words. (ended : Status) × (exit_status result ≡ code_of ended)
         × Runs words.items K.takes_memory (S.state shelf.old) (S.state shelf.new)
         (K.state out.old) (K.state out.new) ended) }
@@ -67,7 +75,7 @@ pub fn run_to_end<S: Shelf + LastFailure, K: Sink + LastFailure, D: Diagnostics>
         Ok(words) => words,
         Err(error) => return without_words(people, error),
     };
-    let code = exit_code(alloc, words.as_slice(), shelf, out);
+    let code = run_watched(alloc, words.as_slice(), shelf, out, watcher).code();
     let failure = out.last_failure().or(shelf.last_failure());
     end(people, code, Message::at(code, failure))
 }

@@ -13,6 +13,7 @@ use crate::answer::{Ended, refuse_job};
 use crate::caps::MOST_BYTES;
 use crate::instance::fleet_instance;
 use crate::planning::{Planned, plan_all};
+use crate::watcher::JobWatcher;
 use command_line::FleetWords;
 use ev_outside::{Shelf, ShelfFault};
 use instance_reader::Instance;
@@ -21,7 +22,12 @@ use std::alloc::{AllocError, Global};
 
 /// What `fleet` finds: the instance is read, a fleet is planned on it, and its plan and a
 /// certificate are written.
-pub fn fleet<S: Shelf>(alloc: Global, job: &FleetWords, shelf: &mut S) -> Result<Found, ShelfFault>
+pub fn fleet<S: Shelf, W: JobWatcher>(
+    alloc: Global,
+    job: &FleetWords,
+    shelf: &mut S,
+    watcher: &mut W,
+) -> Result<Found, ShelfFault>
     requires { IsFleetJob job.now }
     ensures { Finds (task_of (job_value (Fleet job.now)))
         (S.state shelf.old) (S.state shelf.new) result }
@@ -31,7 +37,7 @@ pub fn fleet<S: Shelf>(alloc: Global, job: &FleetWords, shelf: &mut S) -> Result
         Err(fault) => return Err(fault),
     };
     match fleet_instance(alloc, bytes.as_slice(), job.limit) {
-        Ok(inst) => match plan_on(alloc, &inst, job) {
+        Ok(inst) => match plan_on(alloc, &inst, job, watcher) {
             Ok(found) => Ok(found),
             Err(AllocError) => Err(ShelfFault::Memory),
         },
@@ -42,7 +48,12 @@ pub fn fleet<S: Shelf>(alloc: Global, job: &FleetWords, shelf: &mut S) -> Result
 
 /// What `fleet` finds on the instance of its file: the texts of a plan and of a certificate, and
 /// the report on both.
-fn plan_on(alloc: Global, inst: &Instance, job: &FleetWords) -> Result<Found, AllocError>
+fn plan_on<W: JobWatcher>(
+    alloc: Global,
+    inst: &Instance,
+    job: &FleetWords,
+    watcher: &mut W,
+) -> Result<Found, AllocError>
     requires few { customer_count inst.now ≤ most_customers }
     requires nodes { IfSome job.now.nodes (λ most. 1 ≤ most) }
     ensures { IfOk result (λ f. (plan_bytes cert_bytes : List ℕ)
@@ -52,7 +63,7 @@ fn plan_on(alloc: Global, inst: &Instance, job: &FleetWords) -> Result<Found, Al
         ≡ record { name = string_bytes job.now.plan; bytes = plan_bytes }
         ∷ record { name = string_bytes job.now.cert; bytes = cert_bytes } ∷ [])) }
 {
-    let planned = plan_all(alloc, inst, job.nodes)?;
+    let planned = plan_all(alloc, inst, job.nodes, watcher)?;
     let Planned { plan, cert, answer } = planned;
     let plan = NewFile::new(alloc, job.plan.as_str(), plan)?;
     let cert = NewFile::new(alloc, job.cert.as_str(), cert)?;

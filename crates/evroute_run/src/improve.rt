@@ -22,21 +22,23 @@ use crate::answer::{Ended, refuse_job};
 use crate::caps::MOST_BYTES;
 use crate::check::plan_of;
 use crate::instance::limited_instance;
+use crate::watcher::JobWatcher;
 use command_line::ImproveWords;
 use ev_outside::{Shelf, ShelfFault};
 use instance_reader::Instance;
 use job_frame::{Answer, Found, NewFile, Status, read_file};
 use plan_check::{LargeFault, PlanFault, check_large};
 use plan_writer::{Judgement, push_check_report};
-use route_improve::{Improved, push_alone, push_improved};
+use route_improve::{Improved, improve_watched, push_alone, push_improved};
 use route_plan::{FleetPlan, push_fleet_plan};
 use std::alloc::{AllocError, Global};
 
 /// What `improve` finds: the instance is read, then the plan; and then this is made cheaper.
-pub fn improve<S: Shelf>(
+pub fn improve<S: Shelf, W: JobWatcher>(
     alloc: Global,
     job: &ImproveWords,
     shelf: &mut S,
+    watcher: &mut W,
 ) -> Result<Found, ShelfFault>
     ensures { Finds (task_of (job_value (Improve job.now)))
         (S.state shelf.old) (S.state shelf.new) result }
@@ -46,18 +48,19 @@ pub fn improve<S: Shelf>(
         Err(fault) => return Err(fault),
     };
     match limited_instance(alloc, bytes.as_slice(), job.limit) {
-        Ok(inst) => improve_on(alloc, &inst, job, shelf),
+        Ok(inst) => improve_on(alloc, &inst, job, shelf, watcher),
         Err(Ended::Refused(refusal)) => refuse_job(alloc, refusal),
         Err(Ended::Memory) => Err(ShelfFault::Memory),
     }
 }
 
 /// What `improve` finds on the instance of its file: the plan is read, and made cheaper.
-fn improve_on<S: Shelf>(
+fn improve_on<S: Shelf, W: JobWatcher>(
     alloc: Global,
     inst: &Instance,
     job: &ImproveWords,
     shelf: &mut S,
+    watcher: &mut W,
 ) -> Result<Found, ShelfFault>
     ensures { (bytes : List ℕ)
         → AreReadUpTo most_bytes (S.state shelf.old).files (string_bytes job.now.file) bytes
@@ -69,15 +72,16 @@ fn improve_on<S: Shelf>(
         Ok(bytes) => bytes,
         Err(fault) => return Err(fault),
     };
-    improve_text(alloc, inst, bytes.as_slice(), job.outfile.as_str())
+    improve_text(alloc, inst, bytes.as_slice(), job.outfile.as_str(), watcher)
 }
 
 /// What is found for the bytes of a plan file: the plan is read, and made cheaper.
-fn improve_text(
+fn improve_text<W: JobWatcher>(
     alloc: Global,
     inst: &Instance,
     bytes: &[u8],
     outfile: &str,
+    watcher: &mut W,
 ) -> Result<Found, ShelfFault>
     ensures answers { (limit : Option ℕ) (file : List ℕ) → HasNetwork limit file inst.now
         → IfOk result (λ f. ImproveAnswers limit outfile.now file bytes.now
@@ -85,7 +89,7 @@ fn improve_text(
     ensures memory { IfErr result (λ fault. fault ≡ ShelfFault.Memory) }
 {
     match plan_of(alloc, bytes) {
-        Ok(plan) => match improve_plan(alloc, inst, plan.as_ref(), outfile) {
+        Ok(plan) => match improve_plan(alloc, inst, plan.as_ref(), outfile, watcher) {
             Ok(found) => Ok(found),
             Err(AllocError) => Err(ShelfFault::Memory),
         },
@@ -95,11 +99,12 @@ fn improve_text(
 }
 
 /// What is found for a plan, or for none: it is judged, and made cheaper.
-fn improve_plan(
+fn improve_plan<W: JobWatcher>(
     alloc: Global,
     inst: &Instance,
     plan: Option<&FleetPlan>,
     outfile: &str,
+    watcher: &mut W,
 ) -> Result<Found, AllocError>
     ensures { (limit : Option ℕ) (file plan_bytes : List ℕ)
         → HasPlan limit file plan_bytes inst.now (option_map (λ p. p.now) plan.entry)
@@ -107,7 +112,7 @@ fn improve_plan(
         f.answer.status (map written_by f.files.items) f.answer.text.items) }
 {
     match cost_before(alloc, inst, plan) {
-        Ok(was) => make_cheaper(alloc, inst, plan, was, outfile),
+        Ok(was) => make_cheaper(alloc, inst, plan, was, outfile, watcher),
         Err(LargeFault::Plan { fault }) => reject(alloc, inst, fault),
         Err(LargeFault::Memory) => Err(AllocError),
     }
@@ -133,12 +138,13 @@ fn cost_before(
 
 /// What is found for a fleet plan of this cost, or for none: a cheaper plan, or a customer whom no
 /// route of his own reaches.
-fn make_cheaper(
+fn make_cheaper<W: JobWatcher>(
     alloc: Global,
     inst: &Instance,
     plan: Option<&FleetPlan>,
     was: Option<u128>,
     outfile: &str,
+    watcher: &mut W,
 ) -> Result<Found, AllocError>
     requires { IsValid inst.now (option_map (λ p. p.now) plan) was }
     ensures { (limit : Option ℕ) (file plan_bytes : List ℕ)
@@ -146,7 +152,8 @@ fn make_cheaper(
         → IfOk result (λ f. ImproveAnswers limit outfile.now file plan_bytes
         f.answer.status (map written_by f.files.items) f.answer.text.items) }
 {
-    match route_improve::improve(alloc, inst, plan) {
+    watcher.begin(inst.denominator());
+    match improve_watched(alloc, inst, plan, watcher) {
         Ok(Improved::Plan(better)) => write_better(alloc, inst, &better, was, outfile),
         Ok(Improved::Alone(node)) => put_alone(alloc, node),
         Err(AllocError) => Err(AllocError),

@@ -19,10 +19,14 @@ mod message;
 mod planning;
 mod sure;
 mod usage;
+mod watcher;
 
-pub use command::{exit_code, run};
+pub use command::{exit_code, run, run_watched};
 pub use diagnostics::{Diagnostics, SystemDiagnostics};
 pub use ending::{LastFailure, run_to_end};
+pub use ev_fleet::{Progress, Watcher};
 pub use job_frame::Status;
 pub use message::Message;
+pub use route_improve::{MoveProgress, MoveWatcher};
 pub use sure::run_surely;
+pub use watcher::{JobWatcher, Nobody};

@@ -11,9 +11,10 @@ ghost use Rattle.fleet_model.specs.Prices.{sum_of};
 ghost use Rattle.plan_writer.specs.FleetText.{IsExactLine, IsLowestLine, fleet_text};
 
 use crate::judging::cost_of;
+use crate::watcher::JobWatcher;
 use bound_certificate::{Certificate, Root, Section, push_certificate};
 use certificate_check::price_total;
-use ev_fleet::{Outcome, plan_fleet};
+use ev_fleet::{Outcome, plan_fleet_watched};
 use instance_reader::Instance;
 use job_frame::{Answer, Status};
 use plan_writer::{Outcomes, RootLine, push_fleet_report};
@@ -34,7 +35,12 @@ pub struct Planned {
 /// The texts of a fleet plan and of a certificate on an instance without too many customers, and
 /// the report on both; with a budget, which is the greatest number of nodes that are looked at, of
 /// what is found by then.
-pub fn plan_all(alloc: Global, inst: &Instance, nodes: Option<u64>) -> Result<Planned, AllocError>
+pub fn plan_all<W: JobWatcher>(
+    alloc: Global,
+    inst: &Instance,
+    nodes: Option<u64>,
+    watcher: &mut W,
+) -> Result<Planned, AllocError>
     requires few { customer_count inst.now ≤ most_customers }
     requires nodes { IfSome nodes (λ most. 1 ≤ most) }
     ensures { IfOk result (λ p. IsFound inst.now nodes p.plan.items p.cert.items
@@ -42,7 +48,8 @@ pub fn plan_all(alloc: Global, inst: &Instance, nodes: Option<u64>) -> Result<Pl
 {
     // That the instance's network is one is told by its calls; on it rests that the bound is true.
     let _nodes = inst.nodes();
-    let outcome = plan_fleet(alloc, inst, nodes)?;
+    watcher.begin(inst.denominator());
+    let outcome = plan_fleet_watched(alloc, inst, nodes, watcher)?;
     let mut plan = Vec::new(alloc);
     push_fleet_plan(alloc, &mut plan, outcome.plan.as_ref())?;
     let mut cert = Vec::new(alloc);

@@ -6,7 +6,7 @@ use Rattle.plan_check.specs.declared.fault.LargeFault.{LargeFault}
 use Rattle.evroute_run.proofs.improve.improve_plan.Goals as goal
 
 pub returns-in-Err-Plan : goal.returns-in-Err-Plan
-returns-in-Err-Plan c = λ limit file plan_bytes has.
+returns-in-Err-Plan t c = λ limit file plan_bytes has.
     let g = c.args.inst.now in
     let plan = option_map (λ p. p.now) c.args.plan in
     let broken = subst (λ (fault : LargeFault). IsUnfit g plan fault) c.in-Err-Plan.field-0-is c.in-Err-Plan.ensures.fault in

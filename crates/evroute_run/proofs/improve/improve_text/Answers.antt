@@ -5,12 +5,12 @@ use Rattle.route_plan.specs.declared.plan.FleetPlan.{FleetPlan}
 use Rattle.evroute_run.proofs.improve.improve_text.Goals as goal
 
 pub returns-in-Ok-improve_plan-clause-answers : goal.returns-in-Ok-improve_plan-clause-answers
-returns-in-Ok-improve_plan-clause-answers c = λ limit file network.
+returns-in-Ok-improve_plan-clause-answers g c = λ limit file network.
     let spelled = subst (λ (plan : Option FleetPlan). SpellsFleetPlan c.args.bytes.now plan) (sym c.as_ref.ensures.value) c.in-Ok.ensures.ok in
     c.in-Ok-improve_plan.ensures limit file c.args.bytes.now (record { network = network; spelled = spelled })
 
 pub returns-in-Err-Refused-clause-answers : goal.returns-in-Err-Refused-clause-answers
-returns-in-Err-Refused-clause-answers c = λ limit file network.
+returns-in-Err-Refused-clause-answers g c = λ limit file network.
     puts_refusal limit c.args.outfile.now file c.args.bytes.now c.in-Err-Refused.field-0 c.in-Err-Refused.refusal c.refuse_job.result
     c.in-Err-Refused.field-0-is (c.in-Err-Refused.ensures.improve limit file c.args.inst.now network)
     c.refuse_job.ensures.status c.refuse_job.ensures.files c.refuse_job.ensures.text

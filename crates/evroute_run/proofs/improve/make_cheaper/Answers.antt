@@ -9,7 +9,7 @@ use Rattle.route_plan.specs.declared.plan.RoutePlan.{RoutePlan}
 use Rattle.evroute_run.proofs.improve.make_cheaper.Goals as goal
 
 pub returns-in-Ok-Plan : goal.returns-in-Ok-Plan
-returns-in-Ok-Plan c = λ limit file plan_bytes has.
+returns-in-Ok-Plan t c = λ limit file plan_bytes has.
     let g = c.args.inst.now in
     let better = c.in-Ok-Plan.better in
     let answer = subst (λ (found : Improved). IsAnswer g (option_map (λ p. p.now.routes) c.args.plan) found) c.in-Ok-Plan.field-0-is c.in-Ok-Plan.ensures in
@@ -18,7 +18,7 @@ returns-in-Ok-Plan c = λ limit file plan_bytes has.
     has c.requires answer.0 no_more c.write_better.ensures.status c.write_better.ensures.files c.write_better.ensures.text
 
 pub returns-in-Ok-Alone : goal.returns-in-Ok-Alone
-returns-in-Ok-Alone c = λ limit file plan_bytes has.
+returns-in-Ok-Alone t c = λ limit file plan_bytes has.
     let g = c.args.inst.now in
     let answer = subst (λ (found : Improved). IsAnswer g (option_map (λ p. p.now.routes) c.args.plan) found) c.in-Ok-Alone.field-0-is c.in-Ok-Alone.ensures in
     puts_alone limit c.args.outfile.now file plan_bytes g (option_map (λ p. p.now) c.args.plan) c.in-Ok-Alone.node c.put_alone.result

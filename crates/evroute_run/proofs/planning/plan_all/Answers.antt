@@ -8,7 +8,7 @@ use Rattle.route_plan.specs.declared.plan.FleetPlan.{FleetPlan}
 use Rattle.evroute_run.proofs.planning.plan_all.Goals as goal
 
 pub returns : goal.returns
-returns c =
+returns t c =
     let g = c.args.inst.now in
     let o = c.in_ok-outcome.outcome in
     let given = option_map (λ p. p.now) c.as_ref.result in
