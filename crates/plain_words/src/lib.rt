@@ -1,4 +1,4 @@
-//! What the program prints, in words for people.
+//! What the program prints, in words for people, and how far a long job is.
 //!
 //! A line that is refused or rejected names a rule by its number, and the usage text doesn't say
 //! which word is wrong. What stands here says it in words, for standard error; standard output
@@ -7,19 +7,27 @@
 
 mod commands;
 mod heard;
+mod json;
+mod left;
 mod length;
 mod names;
+mod pace;
+mod progress;
 mod reach;
 mod refused;
 mod rejected;
+mod told;
 mod writing;
 mod wrong_words;
 
 pub use heard::HeardSink;
+pub use json::broken_json;
+pub use left::{Failed, left_behind};
 pub use length::long_certificate;
 use names::{name_at, names_of};
 pub use reach::out_of_reach;
 use std::alloc::{AllocError, Global};
+pub use told::{ToldProgress, wants_progress};
 pub use writing::unwritable;
 
 /// What the first line that was printed means, in words with the names of the files: of a line that

@@ -8,7 +8,7 @@ use route_plan::read_route;
 use std::alloc::{AllocError, Global};
 
 /// The most bytes of an instance.
-const MOST_BYTES: usize = 1 << 26;
+pub(crate) const MOST_BYTES: usize = 1 << 26;
 
 /// What is said where `fleet` printed that there is no fleet plan: a customer whom no route of its
 /// own serves, the first in order of nodes. There is one, since routes of their own for all

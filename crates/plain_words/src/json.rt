@@ -1,0 +1,73 @@
+//! From which byte on a file is no JSON text.
+
+use crate::names::names_of;
+use crate::reach::MOST_BYTES;
+use ev_outside::Shelf;
+use serde_json::Value;
+use serde_json::error::Category;
+use std::alloc::{AllocError, Global};
+
+/// The byte order mark, in UTF-8.
+const MARK: &[u8] = b"\xef\xbb\xbf";
+
+/// What is said where an instance was refused since it is no JSON text: from which byte on, counted
+/// from 0. The file is read again. `None` for other lines, and where it can't be had or is a JSON
+/// text by now.
+pub fn broken_json<S: Shelf>(
+    alloc: Global,
+    shelf: &mut S,
+    words: &[String],
+    line: &str,
+) -> Result<Option<String>, AllocError> {
+    if line != "refused instance 2" {
+        return Ok(None);
+    }
+    let names = names_of(alloc, words)?;
+    let [_, file, ..] = names.as_slice() else {
+        return Ok(None);
+    };
+    let mut bytes = Vec::new(alloc);
+    if shelf.read(file, MOST_BYTES, &mut bytes).is_err() {
+        return Ok(None);
+    }
+    told_of(alloc, file, bytes.as_slice())
+}
+
+/// What is said of the bytes of a file.
+fn told_of(alloc: Global, file: &str, bytes: &[u8]) -> Result<Option<String>, AllocError> {
+    if bytes.starts_with(MARK) {
+        return Ok(Some(format!(in alloc;
+            "{file}: begins with a byte order mark, which no JSON text has"
+        )?));
+    }
+    let Err(error) = Value::from_slice(alloc, bytes) else {
+        return Ok(None);
+    };
+    match error.classify() {
+        Category::Memory => Ok(None),
+        Category::Eof => Ok(Some(format!(in alloc;
+            "{file}: the JSON text ends too early, at byte {}",
+            bytes.len()
+        )?)),
+        _ => {
+            let from = place(bytes, error.line(), error.column());
+            Ok(Some(format!(in alloc; "{file}: no JSON text from byte {from} on")?))
+        }
+    }
+}
+
+/// The byte at a line and a column, both counted from 1.
+fn place(bytes: &[u8], line: usize, column: usize) -> usize {
+    let mut lines_left = line.saturating_sub(1);
+    let mut start: usize = 0;
+    for (at, byte) in bytes.iter().enumerate() {
+        if lines_left == 0 {
+            break;
+        }
+        if *byte == b'\n' {
+            lines_left -= 1;
+            start = at.saturating_add(1);
+        }
+    }
+    start.saturating_add(column.saturating_sub(1))
+}

@@ -1,0 +1,76 @@
+//! How far a search or an improvement is, in a line.
+
+use evroute_run::{MoveProgress, Progress};
+use std::fmt::{self, Display, Formatter};
+
+/// How far a search is, with its times scaled by the denominator.
+#[derive(Clone, Copy, Drop)]
+pub(crate) struct SearchLine {
+    pub(crate) progress: Progress,
+    pub(crate) denominator: u64,
+}
+
+impl SearchLine {
+    /// What no fleet plan costs less than: the bound of the open nodes, where the plan that is held
+    /// doesn't cost less.
+    fn bound(&self) -> Option<u128> {
+        match (self.progress.bound, self.progress.cost) {
+            (Some(bound), Some(cost)) => Some(bound.min(cost)),
+            (Some(bound), None) => Some(bound),
+            (None, cost) => cost,
+        }
+    }
+
+    /// By how much of its cost the plan that is held is above the bound, in hundredths of a percent
+    /// and rounded up, where a plan is held.
+    fn gap(&self) -> Option<u128> {
+        let cost = self.progress.cost?;
+        let apart = cost.saturating_sub(self.bound()?).checked_mul(10_000)?;
+        let gap = apart.checked_div(cost)?;
+        if gap.checked_mul(cost)? < apart {
+            gap.checked_add(1)
+        } else {
+            Some(gap)
+        }
+    }
+}
+
+impl Display for SearchLine {
+    fn fmt<W: fmt::Write>(&self, f: &mut Formatter<W>) -> fmt::Result {
+        let Progress {
+            nodes,
+            open_nodes,
+            ..
+        } = self.progress;
+        write!(f, "evroute: nodes {nodes}, open {open_nodes}")?;
+        if let Some(bound) = self.bound() {
+            write!(f, ", bound {bound}/{}", self.denominator)?;
+        }
+        match self.progress.cost {
+            Some(cost) => write!(f, ", plan held {cost}/{}", self.denominator)?,
+            None => f.write_str(", no plan held")?,
+        }
+        match self.gap() {
+            Some(gap) => write!(f, ", gap {}.{:02} %", gap / 100, gap % 100),
+            None => Ok(()),
+        }
+    }
+}
+
+/// How far an improvement is, with its times scaled by the denominator.
+#[derive(Clone, Copy, Drop)]
+pub(crate) struct MovesLine {
+    pub(crate) progress: MoveProgress,
+    pub(crate) denominator: u64,
+}
+
+impl Display for MovesLine {
+    fn fmt<W: fmt::Write>(&self, f: &mut Formatter<W>) -> fmt::Result {
+        let MoveProgress { moves, cost } = self.progress;
+        write!(
+            f,
+            "evroute: moves {moves}, cost {cost}/{}",
+            self.denominator
+        )
+    }
+}

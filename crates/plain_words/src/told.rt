@@ -1,0 +1,81 @@
+//! Who tells people how far a long job is.
+
+use crate::pace::Pace;
+use crate::progress::{MovesLine, SearchLine};
+use evroute_run::{JobWatcher, MoveProgress, MoveWatcher, Progress, Watcher};
+use std::env;
+use std::io::Eprint;
+use std::rt::{Clock, Env};
+
+/// Tells people on standard error how far a job is, a line at a time: the first 3 seconds behind
+/// its beginning, and none within a second of another. Nothing is told, and nothing else changes,
+/// where the clock or standard error fails.
+#[derive(Drop)]
+pub struct ToldProgress<'a, R: Clock + Eprint> {
+    rt: &'a R,
+    /// When the next line is due, where any is told.
+    pace: Option<Pace>,
+    denominator: u64,
+}
+
+impl<'a, R: Clock + Eprint> ToldProgress<'a, R> {
+    /// What begins now is told, where it is wanted.
+    pub fn new(rt: &'a R, is_wanted: bool) -> Self {
+        let pace = match rt.monotonic() {
+            Ok(now) if is_wanted => Some(Pace::beginning(now)),
+            _ => None,
+        };
+        ToldProgress {
+            rt,
+            pace,
+            denominator: 1,
+        }
+    }
+
+    /// Whether a line is due now.
+    fn is_due(&mut self) -> bool {
+        let Some(pace) = &mut self.pace else {
+            return false;
+        };
+        match self.rt.monotonic() {
+            Ok(now) => pace.is_due(now),
+            Err(_) => false,
+        }
+    }
+}
+
+impl<'a, R: Clock + Eprint> Watcher for ToldProgress<'a, R> {
+    fn watch(&mut self, progress: Progress) {
+        if self.is_due() {
+            let _ = self.rt.eprintln(SearchLine {
+                progress,
+                denominator: self.denominator,
+            });
+        }
+    }
+}
+
+impl<'a, R: Clock + Eprint> MoveWatcher for ToldProgress<'a, R> {
+    fn watch_moves(&mut self, progress: MoveProgress) {
+        if self.is_due() {
+            let _ = self.rt.eprintln(MovesLine {
+                progress,
+                denominator: self.denominator,
+            });
+        }
+    }
+}
+
+impl<'a, R: Clock + Eprint> JobWatcher for ToldProgress<'a, R> {
+    fn begin(&mut self, denominator: u64) {
+        self.denominator = denominator;
+    }
+}
+
+/// Whether people want to be told: unless the variable `EVROUTE_PROGRESS` is `0`.
+pub fn wants_progress<R: Env + Alloc>(rt: &R) -> bool {
+    match env::var(rt, "EVROUTE_PROGRESS") {
+        Ok(value) => value.as_str() != "0",
+        Err(_) => true,
+    }
+}
