@@ -2,9 +2,12 @@
 #![tactic(auto)]
 
 use ev_outside::{FileShelf, OutSink};
-use evroute_run::{SystemDiagnostics, run_to_end};
+use evroute_run::{LastFailure, SystemDiagnostics, run_to_end};
 pub use evroute_run::{Status, exit_code, run};
-use plain_words::{HeardSink, in_words, long_certificate, out_of_reach, unwritable};
+use plain_words::{
+    Failed, HeardSink, ToldProgress, broken_json, in_words, left_behind, long_certificate,
+    out_of_reach, unwritable, wants_progress,
+};
 use std::alloc::{AllocError, Global};
 use std::process::ExitCode;
 use std::{env, io};
@@ -14,8 +17,20 @@ fn main(rt: HostRuntime) -> ExitCode {
     let mut shelf = FileShelf::new(alloc, &rt);
     let mut out = HeardSink::over(OutSink::new(&rt));
     let mut people = SystemDiagnostics::new(&rt);
+    let mut progress = ToldProgress::new(&rt, wants_progress(&rt));
     tell_unwritable(&rt);
-    let code = run_to_end(alloc, words_of(&rt), &mut shelf, &mut out, &mut people);
+    let words = words_of(&rt);
+    let code = run_to_end(
+        alloc,
+        words,
+        &mut shelf,
+        &mut out,
+        &mut people,
+        &mut progress,
+    );
+    if let Some(failed) = what_failed(&shelf, &out, out.first_line()) {
+        tell_left(&rt, failed);
+    }
     tell_in_words(&rt, out.first_line());
     code
 }
@@ -42,6 +57,9 @@ fn tell_in_words(rt: &HostRuntime, line: &str) {
 /// What people are told of the line that was printed first.
 fn meaning(rt: &HostRuntime, words: &[String], line: &str) -> Result<Option<String>, AllocError> {
     let alloc = rt.alloc();
+    if let Some(told) = broken_json(alloc, &mut FileShelf::new(alloc, rt), words, line)? {
+        return Ok(Some(told));
+    }
     if let Some(told) = in_words(alloc, words, line)? {
         return Ok(Some(told));
     }
@@ -49,6 +67,28 @@ fn meaning(rt: &HostRuntime, words: &[String], line: &str) -> Result<Option<Stri
         return Ok(Some(told));
     }
     long_certificate(alloc, rt, words)
+}
+
+/// What failed last, where anything did: the output, to which a text with this first line was to
+/// go, or a file.
+fn what_failed<'a, S: LastFailure, K: LastFailure>(
+    shelf: &'a S,
+    out: &K,
+    line: &'a str,
+) -> Option<Failed<'a>> {
+    if out.last_failure().is_some() {
+        return Some(Failed::Output(line));
+    }
+    let failure = shelf.last_failure()?;
+    Some(Failed::File(failure.name))
+}
+
+/// Tells people what stands in the files of the job once a file or the output failed.
+fn tell_left(rt: &HostRuntime, failed: Failed<'_>) {
+    let Ok(words) = words_of(rt) else { return };
+    if let Ok(Some(told)) = left_behind(rt.alloc(), words.as_slice(), failed) {
+        let _ = eprintln!(rt; "evroute: {told}");
+    }
 }
 
 /// Tells people before a long search which of its files can't be written. The search goes on: what
