@@ -23,4 +23,6 @@ mod sure;
 #[cfg(test)]
 mod system;
 #[cfg(test)]
+mod watched;
+#[cfg(test)]
 mod words;

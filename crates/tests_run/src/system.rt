@@ -1,6 +1,6 @@
 use crate::files::words_of;
 use ev_outside::{FileShelf, OutSink};
-use evroute_run::{Diagnostics, Message, run_to_end};
+use evroute_run::{Diagnostics, Message, Nobody, run_to_end};
 use std::alloc::AllocError;
 use std::io::{self, Error, ErrorKind};
 use std::process::ExitCode;
@@ -33,7 +33,14 @@ fn run_on_system(rt: &HostRuntime, words: io::Result<Vec<String>>) -> (ExitCode,
     let mut people = Heard {
         lines: String::new(alloc),
     };
-    let code = run_to_end(alloc, words, &mut shelf, &mut out, &mut people);
+    let code = run_to_end(
+        alloc,
+        words,
+        &mut shelf,
+        &mut out,
+        &mut people,
+        &mut Nobody {},
+    );
     (code, people.lines)
 }
 

@@ -1,15 +1,22 @@
 //! What people are told beside the output.
 
-use plain_words::in_words;
+use ev_outside::MemoryShelf;
+use plain_words::{Failed, broken_json, in_words, left_behind};
 use std::alloc::{AllocError, Global};
 use std::test::Fail;
 
-/// What is said of a line that was printed for these words, which are parted by blanks.
-fn said(alloc: Global, words: &str, line: &str) -> Result<String, AllocError> {
+/// Words, which are parted by blanks.
+fn parted(alloc: Global, words: &str) -> Result<Vec<String>, AllocError> {
     let mut list = Vec::new(alloc);
     for word in words.split_ascii_whitespace() {
         list.push(String::from_str(alloc, word)?)?;
     }
+    Ok(list)
+}
+
+/// What is said of a line that was printed for these words, which are parted by blanks.
+fn said(alloc: Global, words: &str, line: &str) -> Result<String, AllocError> {
+    let list = parted(alloc, words)?;
     match in_words(alloc, list.as_slice(), line)? {
         Some(text) => Ok(text),
         None => Ok(String::new(alloc)),
@@ -122,6 +129,91 @@ fn a_wrong_word_is_named(rt: HostRuntime) -> Result<(), Fail> {
             "evroute fixed FILE ROUTE [--limit N] [--charge N]",
         )?;
         assert_eq!(rt; found.as_str(), want, "at {words}");
+    }
+    Ok(())
+}
+
+#[test]
+fn a_text_that_is_no_json_is_told_by_its_byte(rt: HostRuntime) -> Result<(), Fail> {
+    let alloc = rt.alloc();
+    let words = parted(alloc, "fleet A P Q")?;
+    let mut shelf = MemoryShelf::new(alloc, Vec::new(alloc));
+    for (bytes, want) in [
+        (
+            b"{".as_slice(),
+            "A: the JSON text ends too early, at byte 1",
+        ),
+        (b"".as_slice(), "A: the JSON text ends too early, at byte 0"),
+        (
+            b"{\"a\":\n [1, 2,, 3]}".as_slice(),
+            "A: no JSON text from byte 13 on",
+        ),
+        (
+            b"{\"a\":1}\n\nx".as_slice(),
+            "A: no JSON text from byte 9 on",
+        ),
+        (
+            b"{\"a\": \"\xff\"}".as_slice(),
+            "A: no JSON text from byte 7 on",
+        ),
+        (
+            b"\xef\xbb\xbf{}".as_slice(),
+            "A: begins with a byte order mark, which no JSON text has",
+        ),
+    ] {
+        shelf.set("A", bytes)?;
+        let told = broken_json(alloc, &mut shelf, words.as_slice(), "refused instance 2")?;
+        assert_eq!(rt; told.expect(&rt, "words").as_str(), want);
+    }
+    shelf.set("A", b"{}".as_slice())?;
+    let told = broken_json(alloc, &mut shelf, words.as_slice(), "refused instance 2")?;
+    assert!(rt; told.is_none());
+    Ok(())
+}
+
+#[test]
+fn what_a_failure_leaves_is_told(rt: HostRuntime) -> Result<(), Fail> {
+    let alloc = rt.alloc();
+    for (words, failed, want) in [
+        (
+            "fleet a --limit 3 b c",
+            Failed::File("b"),
+            "b may hold a part, and is to be written again, c is as it was before",
+        ),
+        (
+            "fleet a b c",
+            Failed::File("c"),
+            "b is whole, c may hold a part, and is to be written again",
+        ),
+        (
+            "fleet a b c",
+            Failed::Output("infeasible"),
+            "b is whole, c is whole",
+        ),
+        ("fleet a b c", Failed::Output("refused instance 2"), ""),
+        ("fleet a b c", Failed::File("a"), ""),
+        (
+            "improve a b c",
+            Failed::File("c"),
+            "c may hold a part, and is to be written again",
+        ),
+        ("improve a b c", Failed::File("b"), ""),
+        ("make 1 1 0 c", Failed::Output("nodes 2"), "c is whole"),
+        ("improve a b c", Failed::Output("alone 1"), ""),
+        (
+            "convert a b --time-digits 0 --energy-digits 0",
+            Failed::File("b"),
+            "b may hold a part, and is to be written again",
+        ),
+        ("check a b c", Failed::File("b"), ""),
+        ("fixed a 0,1,0", Failed::Output("time 43/2"), ""),
+    ] {
+        let list = parted(alloc, words)?;
+        let told = left_behind(alloc, list.as_slice(), failed)?;
+        match told {
+            Some(told) => assert_eq!(rt; told.as_str(), want, "{words}"),
+            None => assert_eq!(rt; "", want, "{words}"),
+        }
     }
     Ok(())
 }

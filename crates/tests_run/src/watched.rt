@@ -1,0 +1,227 @@
+//! How far a long job is, told over a clock that goes on each time it is read.
+
+use crate::files::{shelf_with, words_of};
+use ev_outside::MemorySink;
+use evroute_run::{MoveProgress, MoveWatcher, Progress, Status, Watcher, run_watched};
+use plain_words::{ToldProgress, wants_progress};
+use std::alloc::{AllocError, Global};
+use std::cell::Cell;
+use std::env::FillError;
+use std::fmt::Display;
+use std::io::{self, Eprint, Error, ErrorKind};
+use std::rt::{Clock, Env};
+use std::time::Duration;
+use worked_instances::THREE_CUSTOMERS;
+
+/// A clock that goes on by some milliseconds each time it is read, or fails; and a standard error
+/// that keeps its lines, each behind the milliseconds that the clock showed.
+#[derive(Drop)]
+struct Desk {
+    alloc: Global,
+    step: Option<u64>,
+    now: Cell<u64>,
+    told: Cell<String>,
+}
+
+impl Desk {
+    fn new(alloc: Global, step: Option<u64>) -> Self {
+        Desk {
+            alloc,
+            step,
+            now: Cell::new(0),
+            told: Cell::new(String::new(alloc)),
+        }
+    }
+
+    /// What was told, which is kept no longer.
+    fn told(&self) -> String {
+        self.told.replace(String::new(self.alloc))
+    }
+}
+
+impl Clock for Desk {
+    fn monotonic(&self) -> io::Result<Duration> {
+        match self.step {
+            Some(step) => {
+                let now = self.now.get().saturating_add(step);
+                self.now.set(now);
+                Ok(Duration::from_millis(now))
+            }
+            None => Err(Error::from(ErrorKind::Unsupported)),
+        }
+    }
+
+    fn since_1970(&self) -> io::Result<Duration> {
+        Err(Error::from(ErrorKind::Unsupported))
+    }
+}
+
+impl Eprint for Desk {
+    fn eprint<D: Display + Drop>(&self, value: D) -> io::Result<()> {
+        self.eprintln(value)
+    }
+
+    fn eprintln<D: Display + Drop>(&self, value: D) -> io::Result<()> {
+        let mut told = self.told();
+        let line = format!(in self.alloc; "{} ms: {value}\n", self.now.get())?;
+        told.push_str(line.as_str())?;
+        self.told.set(told);
+        Ok(())
+    }
+}
+
+#[test]
+fn the_first_line_comes_after_three_seconds_and_then_one_a_second(rt: HostRuntime) {
+    let desk = Desk::new(rt.alloc(), Some(300));
+    let mut progress = ToldProgress::new(&desk, true);
+    for moves in 0..25 {
+        progress.watch_moves(MoveProgress { moves, cost: 7 });
+    }
+    let want = "3300 ms: evroute: moves 9, cost 7/1\n\
+        4500 ms: evroute: moves 13, cost 7/1\n\
+        5700 ms: evroute: moves 17, cost 7/1\n\
+        6900 ms: evroute: moves 21, cost 7/1\n";
+    assert_eq!(rt; desk.told().as_str(), want);
+}
+
+#[test]
+fn a_search_is_told_with_its_bound_and_its_gap(rt: HostRuntime) {
+    let desk = Desk::new(rt.alloc(), Some(4000));
+    for (bound, cost, want) in [
+        (None, None, ", no plan held"),
+        (Some(17), None, ", bound 17/1, no plan held"),
+        (
+            Some(17),
+            Some(19),
+            ", bound 17/1, plan held 19/1, gap 10.53 %",
+        ),
+        (
+            Some(19),
+            Some(17),
+            ", bound 17/1, plan held 17/1, gap 0.00 %",
+        ),
+        (None, Some(17), ", bound 17/1, plan held 17/1, gap 0.00 %"),
+        (Some(0), Some(0), ", bound 0/1, plan held 0/1"),
+    ] {
+        let mut progress = ToldProgress::new(&desk, true);
+        progress.watch(Progress {
+            nodes: 5,
+            open_nodes: 2,
+            bound,
+            cost,
+        });
+        let told = desk.told();
+        assert!(rt; told.contains(": evroute: nodes 5, open 2,"));
+        assert!(rt; told.trim_end().ends_with(want), "{told}");
+    }
+}
+
+/// How the program ends where it is watched, what it puts, what it leaves in the files `P`, `Q` and
+/// `O`, and what people are told.
+#[derive(Drop)]
+struct Ended {
+    status: Status,
+    put: Vec<u8>,
+    left: Vec<u8>,
+    told: String,
+}
+
+/// The program over the instance with three customers, and over a clock with this step.
+fn watched(
+    alloc: Global,
+    line: &str,
+    step: Option<u64>,
+    is_wanted: bool,
+) -> Result<Ended, AllocError> {
+    let none = "evroute plan 1\nnone\n";
+    let mut shelf = shelf_with(alloc, THREE_CUSTOMERS, none, &[])?;
+    let mut out = MemorySink::new(alloc, Vec::new(alloc));
+    let words = words_of(alloc, line)?;
+    let desk = Desk::new(alloc, step);
+    let mut progress = ToldProgress::new(&desk, is_wanted);
+    let status = run_watched(alloc, words.as_slice(), &mut shelf, &mut out, &mut progress);
+    let mut left = Vec::new(alloc);
+    for name in ["P", "Q", "O"] {
+        left.extend_from_slice(shelf.get(name).unwrap_or(b"".as_slice()))?;
+    }
+    Ok(Ended {
+        status,
+        put: Vec::from_slice(alloc, out.bytes())?,
+        left,
+        told: desk.told(),
+    })
+}
+
+#[test]
+fn a_watched_job_ends_as_any(rt: HostRuntime) {
+    let alloc = rt.alloc();
+    for (line, want) in [
+        (
+            "fleet A P Q --limit 11",
+            "8000 ms: evroute: nodes 1, open 2, bound 17/1, plan held 19/1, gap 10.53 %\n",
+        ),
+        (
+            "improve A P O --limit 11",
+            "8000 ms: evroute: moves 0, cost 24/1\n",
+        ),
+    ] {
+        let quick = watched(alloc, line, Some(0), true).expect(&rt, "memory");
+        assert_eq!(rt; quick.status, Status::Done);
+        assert_eq!(rt; quick.told.as_str(), "", "{line}");
+        let slow = watched(alloc, line, Some(4000), true).expect(&rt, "memory");
+        assert!(rt; slow.told.as_str().starts_with(want), "{}", slow.told);
+        let unwanted = watched(alloc, line, Some(4000), false).expect(&rt, "memory");
+        assert_eq!(rt; unwanted.told.as_str(), "", "{line}");
+        let failing = watched(alloc, line, None, true).expect(&rt, "memory");
+        assert_eq!(rt; failing.told.as_str(), "", "{line}");
+        for other in [slow, unwanted, failing] {
+            assert_eq!(rt; other.status, quick.status);
+            assert_eq!(rt; other.put.as_slice(), quick.put.as_slice());
+            assert_eq!(rt; other.left.as_slice(), quick.left.as_slice());
+        }
+    }
+}
+
+/// An environment in which one variable has a value.
+#[derive(Drop)]
+struct OneVariable<'a> {
+    name: &'a str,
+    value: &'a str,
+}
+
+impl<'a> Env for OneVariable<'a> {
+    fn arg(&self, _i: usize, _buf: &mut [u8]) -> Result<usize, FillError> {
+        Err(FillError::NotPresent)
+    }
+
+    fn var(&self, name: &str, buf: &mut [u8]) -> Result<usize, FillError> {
+        if name != self.name {
+            return Err(FillError::NotPresent);
+        }
+        let value = self.value.as_bytes();
+        match buf.get_mut(..value.len()) {
+            Some(part) => {
+                part.copy_from_slice(value);
+                Ok(value.len())
+            }
+            None => Err(FillError::TooLong),
+        }
+    }
+
+    fn var_at(&self, _i: usize, _buf: &mut [u8]) -> Result<usize, FillError> {
+        Err(FillError::NotPresent)
+    }
+}
+
+#[test]
+fn a_variable_tells_that_nobody_wants_to_be_told(rt: HostRuntime) {
+    for (name, value, want) in [
+        ("EVROUTE_PROGRESS", "0", false),
+        ("EVROUTE_PROGRESS", "1", true),
+        ("EVROUTE_PROGRESS", "", true),
+        ("PROGRESS", "0", true),
+    ] {
+        let env = (OneVariable { name, value }, rt.alloc());
+        assert_eq!(rt; wants_progress(&env), want, "{name}={value}");
+    }
+}
