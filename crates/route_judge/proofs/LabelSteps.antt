@@ -41,7 +41,7 @@ stands l = record { passed = refl; node = refl; value = refl }
 
 module _ (q : Question) (l : RouteLabel) (p : Place) (go : MayGo q.journey.network q.journey.route l.passed p.passed p.node) where
   -- how much was passed after a stop that was inserted where nothing more is passed
-  passed_is : (via : Bool) → via ≡ nat_eq l.passed p.passed → (if via then l.passed else l.passed + 1) ≡ p.passed
+  pub passed_is : (via : Bool) → via ≡ nat_eq l.passed p.passed → (if via then l.passed else l.passed + 1) ≡ p.passed
   passed_is via is = elim go.leads [
     | inl stays ↦ (let true_is : via ≡ true = is ∙ eq-eqb l.passed p.passed (sym stays.0) in rw true_is (sym stays.0))
     | inr more ↦ (let false_is : via ≡ false = is ∙ ap (λ n. nat_eq l.passed n) more.0 ∙ not_next l.passed in rw false_is (sym more.0))

@@ -4,5 +4,6 @@ pub mod Looking
 pub mod Following
 pub mod LabelSteps
 pub mod LabelEnds
+pub mod Early
 pub mod Starting
 pub mod Faults

@@ -38,8 +38,8 @@ use std::alloc::{AllocError, Global};
 /// to the next node of the route comes first, and then those to stations by rising node.
 ///
 /// An accepted proof shows that its plan is a fastest one of the route, or without a plan that none
-/// is feasible, both in any fraction of a unit. It takes memory for an entry for each label, and
-/// for the values of one step at a time.
+/// is feasible, both in any fraction of a unit. It takes memory for at most two entries for each
+/// label, and for the values of one step at a time.
 pub fn check_route(
     alloc: Global,
     inst: &Instance,

@@ -8,9 +8,10 @@ ghost use Rattle.route_proof.specs.Ranges.{RouteLabelFits};
 ghost use Rattle.route_judge.specs.Links.{AreEntries};
 ghost use Rattle.route_judge.specs.Questions.{IsQuestion};
 
-use crate::links::{Entry, entries};
+use crate::links::{Entry, entries, entries_at, key_of};
 use instance_reader::Instance;
 use route_proof::RouteLabel;
+use route_steps::Place;
 use std::alloc::{AllocError, Global};
 use std::marker::Model;
 
@@ -24,6 +25,8 @@ pub(crate) struct Judged<'a> {
     bar: u64,
     labels: &'a [RouteLabel],
     entries: Vec<Entry>,
+    /// Of the labels with a full battery.
+    full: Vec<Entry>,
 }
 
 impl<'a> Model for Judged<'a> {
@@ -56,6 +59,7 @@ impl<'a> Judged<'a> {
         }) }
     {
         let entries = entries(alloc, inst.nodes(), labels)?;
+        let full = entries_at(alloc, inst.nodes(), inst.max_q(), labels)?;
         Ok(Judged {
             inst,
             route,
@@ -63,6 +67,7 @@ impl<'a> Judged<'a> {
             bar,
             labels,
             entries,
+            full,
         })
     }
 
@@ -134,5 +139,15 @@ impl<'a> Judged<'a> {
         ensures { AreEntries (node_count self.now.journey.network) self.now.labels result.now }
     {
         self.entries.as_slice()
+    }
+
+    /// The number of a label that may have a full battery at a place, the earliest of such.
+    pub(crate) fn first_full(&self, place: Place) -> Option<usize> {
+        let key = key_of(self.inst.nodes(), place.passed, place.node);
+        let at = self.full.partition_point(|entry| entry.key < key);
+        match self.full.get(at) {
+            Some(entry) => Some(entry.number),
+            None => None,
+        }
     }
 }

@@ -13,6 +13,7 @@ mod judge;
 mod judged;
 mod links;
 mod plan;
+mod quick;
 mod steps;
 
 pub use fault::LabelFault;

@@ -58,6 +58,29 @@ fn in_turn(alloc: Global, nodes: usize, labels: &[RouteLabel]) -> Result<Vec<Ent
     Ok(entries)
 }
 
+/// The entries of the labels that have a level, each with its time there: keys rise, and for each
+/// key times rise. What is answered never rests on them, so little is said of them.
+pub(crate) fn entries_at(
+    alloc: Global,
+    nodes: usize,
+    level: u64,
+    labels: &[RouteLabel],
+) -> Result<Vec<Entry>, AllocError> {
+    let mut entries = Vec::new(alloc);
+    for (number, label) in labels.iter().enumerate() {
+        if let Some(time) = label.value.at(level) {
+            entries.push(Entry {
+                key: key_of(nodes, label.passed, label.node),
+                time,
+                number,
+            })?;
+        }
+    }
+    entries.sort_by_key(|entry| entry.time)?;
+    entries.sort_by_key(|entry| entry.key)?;
+    Ok(entries)
+}
+
 /// How many entries come before those with a key.
 pub(crate) fn first(entries: &[Entry], key: u128) -> usize
     requires { IsNonDecreasingBy (λ (e : Entry). e.key) entries.now }

@@ -63,6 +63,9 @@ impl Judged<'_> {
         if to.node == label.node {
             return Ok(true);
         }
+        if self.is_covered_early(label, to) {
+            return Ok(true);
+        }
         let values = self.values(alloc, label, to)?;
         let asked = Asked {
             judged: self,
