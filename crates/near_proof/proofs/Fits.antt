@@ -6,10 +6,13 @@ use Rattle.std.proofs.lemmas.List.Elements.{All-contains, All-head, All-tail}
 use Rattle.std.proofs.lemmas.List.FromFn.{length-range_with_len}
 use Rattle.charge_curve.specs.Points.{ArePoints, last_level, time_on}
 use Rattle.ev_model.specs.Network.{Network}
+use Rattle.fleet_model.specs.Labels.{IsLevel}
 use Rattle.piece_fn.specs.PieceFn.{first_level, level_times}
 use Rattle.certificate_parts.specs.Ranges.{PointFits}
 use Rattle.near_proof.specs.Covered.{AreWithinFull}
 use Rattle.near_proof.specs.Ranges.{NearFits, NearLabelFits}
+use Rattle.near_proof.specs.States.{label_of}
+use Rattle.near_proof.specs.declared.proof.NearLabel.{NearLabel}
 use Rattle.near_proof.specs.declared.proof.NearProof.{NearProof}
 
 last_is_small : (g : Network) (points : List (ℕ × ℕ)) → ArePoints points → All (PointFits g) points → last_level points ≤ g.capacity
@@ -27,8 +30,10 @@ first_is : (points : List (ℕ × ℕ)) → (level_times points).first ≡ first
 unfolding level_times
 first_is points = refl
 
-pub within_full : (g : Network) (p : NearProof) → NearFits g p → AreWithinFull g p.labels
-within_full g p fits l y there level =
-    let label = All-contains (NearLabelFits g) p.labels l fits.labels there in
-    let last = last_is_small g l.value label.valid label.points in
+pub label_within_full : (g : Network) (l : NearLabel) → NearLabelFits g l → (y : ℕ) → IsLevel (label_of l) y → y ≤ g.capacity
+label_within_full g l fits y level =
+    let last = last_is_small g l.value fits.valid fits.points in
     omega (arith, many_times l.value, first_is l.value, last, level.0, level.1)
+
+pub within_full : (g : Network) (p : NearProof) → NearFits g p → AreWithinFull g p.labels
+within_full g p fits l y there level = label_within_full g l (All-contains (NearLabelFits g) p.labels l fits.labels there) y level

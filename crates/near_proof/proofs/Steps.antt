@@ -23,7 +23,7 @@ use Rattle.near_proof.specs.declared.proof.NearLabel.{NearLabel}
 use Rattle.near_proof.proofs.Memories.{remembers_fewer}
 
 -- what is covered covers what is worse, after no fewer services
-covered_by : (w : ℕ) (labels : List NearLabel) (a b : NearState) → IsNearCovered w labels a → a.count ≤ b.count → IsAsGood w a.state b.state → IsNearCovered w labels b
+pub covered_by : (w : ℕ) (labels : List NearLabel) (a b : NearState) → IsNearCovered w labels a → a.count ≤ b.count → IsAsGood w a.state b.state → IsNearCovered w labels b
 covered_by w labels a b covered more good =
     let l = covered.0 in
     let y = covered.2.1.0 in

@@ -14,8 +14,8 @@ use Rattle.near_proof.specs.declared.proof.NearProof.{NearProof}
 abbrev pub terms_of : NearProof → Terms
 terms_of p = record { weight = p.weight; prices = p.prices; sets = p.sets }
 
--- a near route that serves a customer, told by number, m times for an m above 0, and takes less time
--- than it earns and m: by a price one higher it would earn more than it takes
+-- a near route that serves a customer, told by number, m times for an m above 0, and takes less
+-- time than it earns and m: by a price one higher it would earn more than it takes
 pub record IsTight (g : Network) (t : Terms) (c : ℕ) (plan : List Stop) : Type 0 where
   pub route : IsNearRoute g t.sets plan
   pub serves : 1 ≤ times_in (numbers_of g plan) c

@@ -1,0 +1,11 @@
+pub mod Options
+pub mod Linking
+pub mod Covering
+pub mod LabelSteps
+pub mod StationSteps
+pub mod HomeSteps
+pub mod Members
+pub mod TightRoutes
+pub mod NearMembers
+pub mod Told
+pub mod Verdicts

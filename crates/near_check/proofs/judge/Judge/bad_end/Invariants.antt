@@ -1,0 +1,5 @@
+use Rattle.near_check.proofs.Told.{FreeBefore}
+use Rattle.near_check.proofs.judge.Judge.bad_end.Given as goal
+
+abbrev pub invariant-loop-number : goal.invariant-loop-number
+invariant-loop-number l = FreeBefore l.self.inst.now l.self.proof.now l.number

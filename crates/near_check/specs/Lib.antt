@@ -1,0 +1,5 @@
+pub mod Links
+pub mod Targets
+pub mod AskedInside
+pub mod Judging
+pub mod NearSets

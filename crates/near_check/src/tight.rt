@@ -1,0 +1,142 @@
+//! Tight routes.
+
+ghost use Rattle.std.specs.Prelude.{◌≡◌, ◌↔◌, ◌*◌, ◌<◌, ◌^◌, ◌≤◌, [], IfOk, IsTrue, length};
+ghost use Rattle.std.specs.List.{All};
+ghost use Rattle.ev_model.specs.Fleet.{times_in};
+ghost use Rattle.ev_model.specs.Network.{node_count};
+ghost use Rattle.fleet_model.specs.Places.{numbers_of};
+ghost use Rattle.instance_reader.specs.Instance.{customer_nodes};
+ghost use Rattle.near_proof.specs.Accepted.{IsTight, terms_of};
+ghost use Rattle.near_proof.specs.Ranges.{NearFits};
+ghost use Rattle.near_proof.specs.Routes.{KeepsMemory};
+ghost use Rattle.near_proof.specs.Terms.{earned_by};
+ghost use Rattle.plan_check.specs.FirstFaults.{first_stray, strays};
+ghost use Rattle.plan_check.specs.Tallies.{AreKnown};
+ghost use Rattle.route_plan.specs.FirstPlaces.{behind_first};
+
+use crate::memory::remembered;
+use customer_sets::CustSet;
+use instance_reader::Instance;
+use near_proof::NearProof;
+use route_plan::{Stop, walk};
+use std::alloc::{AllocError, Global};
+
+/// Whether the stops are a tight route for a customer, by number: a near route that serves the
+/// customer, and would earn more than it takes were the customer's price one higher.
+pub(crate) fn is_tight(
+    alloc: Global,
+    inst: &Instance,
+    proof: &NearProof,
+    customer: usize,
+    stops: &[Stop],
+) -> Result<bool, AllocError>
+    requires few { length (customer_nodes inst.now) ≤ 128 }
+    requires fits { NearFits inst.now proof.now }
+    ensures { IfOk result (λ tight.
+        IsTrue tight ↔ IsTight inst.now (terms_of proof.now) customer stops.now) }
+{
+    let Ok(end) = walk(inst, inst.max_q(), stops) else {
+        return Ok(false);
+    };
+    let numbers = numbers_of(alloc, inst, stops)?;
+    if stray_stop(inst, stops).is_some() {
+        return Ok(false);
+    }
+    if numbers.len() > inst.customers().len() {
+        return Ok(false);
+    }
+    let visits = times_in(&numbers, customer);
+    if visits == 0 {
+        return Ok(false);
+    }
+    if !keeps_memory(proof.sets.as_slice(), &numbers) {
+        return Ok(false);
+    }
+    let earned = earned_by(proof.prices.as_slice(), &numbers);
+    Ok(u128::from(end.time) < earned + visits as u128)
+}
+
+/// The numbers of the customers whom the stops serve, in order.
+fn numbers_of(alloc: Global, inst: &Instance, stops: &[Stop]) -> Result<Vec<usize>, AllocError>
+    requires known { AreKnown inst.now stops.now }
+    ensures value { IfOk result (λ numbers. numbers.items ≡ numbers_of inst.now stops.now) }
+    ensures within { IfOk result (λ numbers.
+        All (λ c. c < length (customer_nodes inst.now)) numbers.items) }
+{
+    let mut numbers = Vec::new(alloc);
+    for stop in stops {
+        if stop.via {
+            continue;
+        }
+        let Some(number) = inst.customer_number(stop.node) else {
+            continue;
+        };
+        numbers.push(number)?;
+    }
+    Ok(numbers)
+}
+
+/// How often a number stands among others.
+fn times_in(numbers: &[usize], number: usize) -> usize
+    ensures value { result ≡ times_in numbers.now number }
+    ensures within { result ≤ length numbers.now }
+{
+    let mut times = 0;
+    for other in numbers {
+        if *other == number {
+            times += 1;
+        }
+    }
+    times
+}
+
+/// What is earned by serving customers, each as often as it is served.
+fn earned_by(prices: &[u64], customers: &[usize]) -> u128
+    requires known { All (λ c. c < length prices.now) customers.now }
+    requires few { length customers.now ≤ 128 }
+    ensures value { result ≡ earned_by prices.now customers.now }
+    ensures small { result ≤ 2 ^ 80 }
+{
+    let mut earned = 0;
+    for customer in customers {
+        earned += u128::from(prices[*customer]);
+    }
+    earned
+}
+
+/// Whether nobody is served who is remembered.
+fn keeps_memory(sets: &[CustSet], customers: &[usize]) -> bool
+    requires known { All (λ c. c < length sets.now) customers.now }
+    requires few { length sets.now ≤ 128 }
+    ensures { IsTrue result ↔ KeepsMemory sets.now [] customers.now }
+{
+    let mut memory = CustSet::empty();
+    for customer in customers {
+        if memory.has(*customer) {
+            return false;
+        }
+        memory = remembered(memory, sets[*customer], *customer);
+    }
+    true
+}
+
+/// The first stop between the ends that wasn't inserted and isn't at a customer.
+fn stray_stop(inst: &Instance, stops: &[Stop]) -> Option<usize>
+    requires { AreKnown inst.now stops.now }
+    ensures { result ≡ first_stray inst.now 1 (behind_first stops.now) }
+{
+    for at in 1..stops.len().saturating_sub(1) {
+        if is_stray(inst, stops[at]) {
+            return Some(at);
+        }
+    }
+    None
+}
+
+/// Whether a stop wasn't inserted and isn't at a customer.
+fn is_stray(inst: &Instance, stop: Stop) -> bool
+    requires { stop.node < node_count inst.now }
+    ensures { result ≡ strays inst.now stop }
+{
+    !stop.via && inst.customer_number(stop.node).is_none()
+}
