@@ -6,4 +6,5 @@ mod labels;
 mod proving;
 
 pub use proving::prove_route;
+pub use route_judge::check_route;
 pub use route_proof::{RouteLabel, RouteProof, RouteVerdict};
