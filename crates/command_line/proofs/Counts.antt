@@ -2,7 +2,7 @@
 use Rattle.std.proofs.Common.{◌≡◌, ◌≢◌, List, [], ◌∷◌, length, None, refl}
 use Rattle.std.specs.Borrow.{Bor}
 use Rattle.clap.specs.Walk.{Row, Text, texts}
-use Rattle.command_line.specs.Words.{check_of, convert_of, fixed_of, fleet_of, improve_of, make_of}
+use Rattle.command_line.specs.Words.{check_of, convert_of, fixed_of, fleet_of, improve_of, make_of, proof_of}
 
 pub no_fixed : (rest : List (Bor Text)) (rows : List Row) → length rest ≢ 2 → None ≡ fixed_of (texts rest) rows
 no_fixed [] rows other = refl
@@ -44,3 +44,10 @@ no_improve (a ∷ []) rows other = refl
 no_improve (a ∷ b ∷ []) rows other = refl
 no_improve (a ∷ b ∷ c ∷ []) rows other = absurd (other refl)
 no_improve (a ∷ b ∷ c ∷ d ∷ rest) rows other = refl
+
+pub no_proof : (rest : List (Bor Text)) (rows : List Row) → length rest ≢ 3 → None ≡ proof_of (texts rest) rows
+no_proof [] rows other = refl
+no_proof (a ∷ []) rows other = refl
+no_proof (a ∷ b ∷ []) rows other = refl
+no_proof (a ∷ b ∷ c ∷ []) rows other = absurd (other refl)
+no_proof (a ∷ b ∷ c ∷ d ∷ rest) rows other = refl

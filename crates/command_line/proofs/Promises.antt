@@ -6,9 +6,9 @@ use Rattle.std.specs.Prelude.{if◌then◌else◌, option_and_then, option_map}
 use Rattle.std.specs.Str.{bytes_eq}
 use Rattle.clap.specs.Words.{Row, Text, first_of}
 use Rattle.command_line.specs.JobValue.{IsJob, job_value}
-use Rattle.command_line.specs.Words.{CheckPlan, ConvertFile, FixedRoute, ImprovePlan, Job, MakeInstance, PlanFleet, are_different, at_least_one, charge_in, check_of, check_with, convert_of, convert_with, energy_digits_in, fixed_of, fixed_with, fleet_of, fleet_with, gives_only, improve_of, improve_with, is_listed, job_in, job_of_command, limit_in, make_of, make_with, most_count, most_seed, most_value, nodes_in, number_of, optional_number, rest_in, time_digits_in}
+use Rattle.command_line.specs.Words.{CheckPlan, CheckRoute, ConvertFile, FixedRoute, ImprovePlan, Job, MakeInstance, PlanFleet, ProofJob, ProveRoute, are_different, at_least_one, charge_in, check_of, check_route_of, check_with, convert_of, convert_with, energy_digits_in, fixed_of, fixed_with, fleet_of, fleet_with, gives_only, improve_of, improve_with, is_listed, job_in, job_of_command, limit_in, make_of, make_with, most_count, most_seed, most_value, nodes_in, number_of, optional_number, proof_of, prove_of, rest_in, time_digits_in}
 use Rattle.command_line.specs.declared.Job as values
-use Rattle.command_line.specs.declared.Job.TheVariants.{Check, Convert, Fixed, Fleet, Improve, Make}
+use Rattle.command_line.specs.declared.Job.TheVariants as value
 
 AtLeastOne : Option ℕ → Type 0
 AtLeastOne n = IfSome n (λ (k : ℕ). 1 ≤ k)
@@ -19,6 +19,8 @@ Looks (FixedRoute job) = Unit {0}
 Looks (CheckPlan job) = Unit {0}
 Looks (ConvertFile job) = Unit {0}
 Looks (MakeInstance job) = Unit {0}
+Looks (ProveRoute job) = Unit {0}
+Looks (CheckRoute job) = Unit {0}
 Looks (ImprovePlan job) = Unit {0}
 
 if_looks : (test : Bool) (p q : Option Job) → IfSome p Looks → IfSome q Looks → IfSome (if test then p else q) Looks
@@ -143,6 +145,16 @@ make_looks (a ∷ b ∷ c ∷ d ∷ []) rows =
     (make_with_looks (number_of most_seed a) (number_of most_count b) (number_of most_count c) d) tt
 make_looks (a ∷ b ∷ c ∷ d ∷ e ∷ rest) rows = tt
 
+prove_looks : (found : Option ProofJob) → IfSome (option_map (λ job. ProveRoute job) found) Looks
+unfolding Looks
+prove_looks None = tt
+prove_looks (Some job) = tt
+
+check_route_looks : (found : Option ProofJob) → IfSome (option_map (λ job. CheckRoute job) found) Looks
+unfolding Looks
+check_route_looks None = tt
+check_route_looks (Some job) = tt
+
 command_looks : (command : Text) (rest : List Text) (rows : List Row) → IfSome (job_of_command command rest rows) Looks
 command_looks command rest rows =
     if_looks (bytes_eq command (codes "fixed")) (fixed_of rest rows) _ (fixed_looks rest rows)
@@ -150,7 +162,9 @@ command_looks command rest rows =
     (if_looks (bytes_eq command (codes "check")) (check_of rest rows) _ (check_looks rest rows)
     (if_looks (bytes_eq command (codes "convert")) (convert_of rest rows) _ (convert_looks rest rows)
     (if_looks (bytes_eq command (codes "make")) (make_of rest rows) _ (make_looks rest rows)
-    (if_looks (bytes_eq command (codes "improve")) (improve_of rest rows) None (improve_looks rest rows) tt)))))
+    (if_looks (bytes_eq command (codes "prove")) (prove_of rest rows) _ (prove_looks (proof_of rest rows))
+    (if_looks (bytes_eq command (codes "check-route")) (check_route_of rest rows) _ (check_route_looks (proof_of rest rows))
+    (if_looks (bytes_eq command (codes "improve")) (improve_of rest rows) None (improve_looks rest rows) tt)))))))
 
 and_then_looks : (command : Option Text) (rows : List Row) → IfSome (option_and_then (λ c. job_of_command c (rest_in rows) rows) command) Looks
 and_then_looks None rows = tt
@@ -159,12 +173,14 @@ and_then_looks (Some command) rows = command_looks command (rest_in rows) rows
 value_looks : (found : Option values.Job) → IfSome (option_map job_value found) Looks → IfSome found IsJob
 unfolding Looks AtLeastOne
 value_looks None h = tt
-value_looks (Some (Fixed w)) h = tt
-value_looks (Some (Fleet w)) h = record { files = h.0; nodes = h.1 }
-value_looks (Some (Check w)) h = tt
-value_looks (Some (Convert w)) h = tt
-value_looks (Some (Make w)) h = tt
-value_looks (Some (Improve w)) h = tt
+value_looks (Some (value.Fixed w)) h = tt
+value_looks (Some (value.Fleet w)) h = record { files = h.0; nodes = h.1 }
+value_looks (Some (value.Check w)) h = tt
+value_looks (Some (value.Convert w)) h = tt
+value_looks (Some (value.Make w)) h = tt
+value_looks (Some (value.Prove w)) h = tt
+value_looks (Some (value.CheckRoute w)) h = tt
+value_looks (Some (value.Improve w)) h = tt
 
 is_job : (rows : List Row) (found : Option values.Job) → option_map job_value found ≡ job_in rows → IfSome found IsJob
 is_job rows found is =

@@ -45,6 +45,14 @@ pub record MakeJob : Type 0 where
   pub stations : ℕ
   pub outfile : Text
 
+-- the job of proving that a charge of a route is a fastest one, or of judging such a proof: the
+-- names of its files, the word of its route, and its options
+pub record ProofJob : Type 0 where
+  pub file : Text
+  pub route : Text
+  pub cert : Text
+  pub options : Options
+
 -- the job of making a plan cheaper: the names of its files, and the limit where one is given
 pub record ImproveJob : Type 0 where
   pub file : Text
@@ -59,6 +67,8 @@ pub data Job : Type 0 where
   CheckPlan : CheckJob → Job
   ConvertFile : ConvertJob → Job
   MakeInstance : MakeJob → Job
+  ProveRoute : ProofJob → Job
+  CheckRoute : ProofJob → Job
   ImprovePlan : ImproveJob → Job
 
 -- the greatest limit, level and number of nodes
@@ -239,6 +249,32 @@ make_of (seed ∷ customers ∷ stations ∷ outfile ∷ []) rows =
     else None
 make_of rest rows = None
 
+-- the job of these words with these options
+abbrev pub proof_job_of : Text → Text → Text → Options → ProofJob
+proof_job_of file route cert options =
+    record { file = file; route = route; cert = cert; options = options }
+
+-- `FILE ROUTE CERT [--limit N] [--charge N]`
+abbrev pub proof_with : Text → Text → Text → Option (Option ℕ) → Option (Option ℕ) → Option ProofJob
+proof_with file route cert (Some limit) (Some charge) =
+    Some (proof_job_of file route cert (record { limit = limit; charge = charge }))
+proof_with file route cert limit charge = None
+
+abbrev pub proof_of : List Text → List Row → Option ProofJob
+proof_of (file ∷ route ∷ cert ∷ []) rows =
+    if gives_only (codes "limit" ∷ codes "charge" ∷ []) rows && are_different (file ∷ cert ∷ [])
+    then proof_with file route cert (limit_in rows) (charge_in rows)
+    else None
+proof_of rest rows = None
+
+-- `prove FILE ROUTE CERT [--limit N] [--charge N]`
+abbrev pub prove_of : List Text → List Row → Option Job
+prove_of rest rows = option_map (λ job. ProveRoute job) (proof_of rest rows)
+
+-- `check-route FILE ROUTE CERT [--limit N] [--charge N]`
+abbrev pub check_route_of : List Text → List Row → Option Job
+check_route_of rest rows = option_map (λ job. CheckRoute job) (proof_of rest rows)
+
 -- the job of these words with this limit
 abbrev pub improve_job_of : Text → Text → Text → Option ℕ → ImproveJob
 improve_job_of file plan outfile limit =
@@ -264,6 +300,8 @@ job_of_command command rest rows =
     else if bytes_eq command (codes "check") then check_of rest rows
     else if bytes_eq command (codes "convert") then convert_of rest rows
     else if bytes_eq command (codes "make") then make_of rest rows
+    else if bytes_eq command (codes "prove") then prove_of rest rows
+    else if bytes_eq command (codes "check-route") then check_route_of rest rows
     else if bytes_eq command (codes "improve") then improve_of rest rows
     else None
 

@@ -15,6 +15,7 @@ mod improve;
 mod laws;
 mod make;
 mod matches;
+mod proof;
 mod words;
 
 use arguments::{matches_of, named};
@@ -22,7 +23,7 @@ pub use laws::{numbers_have_one_spelling, words_are_read_as_they_stand};
 use matches::job_in;
 use std::alloc::{AllocError, Global};
 
-/// The options of `fixed`.
+/// The options of `fixed`, `prove` and `check-route`.
 #[derive(Clone, Copy, Debug, Drop, PartialEq, Eq)]
 pub struct Options {
     /// The limit on the route's time in place of the instance's, in units of time.
@@ -94,6 +95,17 @@ pub struct ImproveWords {
     pub limit: Option<u64>,
 }
 
+/// The words of the jobs `prove` and `check-route`: the file of the instance, the word of the
+/// route, another file for the proof, which `prove` writes and `check-route` reads, and the
+/// options.
+#[derive(Debug, Drop, PartialEq, Eq)]
+pub struct ProofWords {
+    pub file: String,
+    pub route: String,
+    pub cert: String,
+    pub options: Options,
+}
+
 /// A job of the program.
 #[derive(Debug, Drop, PartialEq, Eq)]
 pub enum Job {
@@ -107,6 +119,10 @@ pub enum Job {
     Convert(ConvertWords),
     /// An instance is made from a number.
     Make(MakeWords),
+    /// A route is charged, and what shows that none is faster is written.
+    Prove(ProofWords),
+    /// What shows that a charge of a route is a fastest one is judged.
+    CheckRoute(ProofWords),
     /// The plan of a file becomes cheaper, and is written into another.
     Improve(ImproveWords),
 }
@@ -114,8 +130,9 @@ pub enum Job {
 /// The job of the words, which stand behind the program's name, read by one `clap` command: `fixed
 /// FILE ROUTE [--limit N] [--charge N]`, `fleet FILE PLAN CERT [--limit N] [--nodes N]`, `check
 /// FILE PLAN CERT [--limit N]`, `convert FILE OUTFILE --time-digits N --energy-digits N`, `make
-/// SEED CUSTOMERS STATIONS OUTFILE` or `improve FILE PLAN OUTFILE [--limit N]`. `None` comes
-/// exactly where the words are no such job.
+/// SEED CUSTOMERS STATIONS OUTFILE`, `prove FILE ROUTE CERT [--limit N] [--charge N]`, `check-route
+/// FILE ROUTE CERT [--limit N] [--charge N]` or `improve FILE PLAN OUTFILE [--limit N]`. `None`
+/// comes exactly where the words are no such job.
 ///
 /// Options stand anywhere before a word `--`, each at most once; the value is the next word or
 /// follows a `=`. A name that begins with `-` and has more behind it is given after `--`. Numbers
@@ -148,6 +165,8 @@ pub fn usage() -> &'static str
      evroute check FILE PLAN CERT [--limit N]\n\
      evroute convert FILE OUTFILE --time-digits N --energy-digits N\n\
      evroute make SEED CUSTOMERS STATIONS OUTFILE\n\
+     evroute prove FILE ROUTE CERT [--limit N] [--charge N]\n\
+     evroute check-route FILE ROUTE CERT [--limit N] [--charge N]\n\
      evroute improve FILE PLAN OUTFILE [--limit N]\n"
 }
 

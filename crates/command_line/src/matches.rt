@@ -14,6 +14,7 @@ use crate::fixed::fixed_job;
 use crate::fleet::fleet_job;
 use crate::improve::improve_job;
 use crate::make::make_job;
+use crate::proof::{check_route_job, prove_job};
 use crate::words::{GREATEST_DIGITS, GREATEST_VALUE, is_listed, number_of, optional_number};
 use clap::ArgMatches;
 use std::alloc::{AllocError, Global};
@@ -113,6 +114,8 @@ fn job_of_command(
         "check" => check_job(alloc, rest, matches),
         "convert" => convert_job(alloc, rest, matches),
         "make" => make_job(alloc, rest, matches),
+        "prove" => prove_job(alloc, rest, matches),
+        "check-route" => check_route_job(alloc, rest, matches),
         "improve" => improve_job(alloc, rest, matches),
         _ => Ok(None),
     }

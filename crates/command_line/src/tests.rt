@@ -1,4 +1,4 @@
-use crate::{Job, job_words, usage};
+use crate::{Job, ProofWords, job_words, usage};
 use std::alloc::{AllocError, Global};
 
 /// The words of a line, in which they are parted by single spaces.
@@ -45,6 +45,8 @@ fn job_text(alloc: Global, line: &str) -> Result<String, AllocError> {
                 job.seed, job.customers, job.stations, job.outfile
             )
         }
+        Some(Job::Prove(job)) => proof_text(alloc, "prove", &job),
+        Some(Job::CheckRoute(job)) => proof_text(alloc, "check-route", &job),
         Some(Job::Improve(job)) => {
             format!(in alloc;
                 "improve {} {} {} {:?}",
@@ -53,6 +55,15 @@ fn job_text(alloc: Global, line: &str) -> Result<String, AllocError> {
         }
         None => String::from_str(alloc, "none"),
     }
+}
+
+/// What a job of proving or of judging a proof is, in one line.
+fn proof_text(alloc: Global, command: &str, job: &ProofWords) -> Result<String, AllocError> {
+    let options = job.options;
+    format!(in alloc;
+        "{command} {} {} {} {:?} {:?}",
+        job.file, job.route, job.cert, options.limit, options.charge
+    )
 }
 
 #[test]
@@ -131,6 +142,17 @@ fn words_name_jobs(rt: HostRuntime) {
         ("make 1 1 00 M", "none"),
         ("make 1 1 0 M --limit 1", "none"),
         ("make 1 1 0", "none"),
+        ("prove A 0,1,0 C", "prove A 0,1,0 C None None"),
+        (
+            "check-route A --charge 3 0,1,0 C --limit=4",
+            "check-route A 0,1,0 C Some(4) Some(3)",
+        ),
+        ("prove A A C", "prove A A C None None"),
+        ("prove A C C", "prove A C C None None"),
+        ("prove A 0,1,0 A", "none"),
+        ("check-route A 0,1,0 A", "none"),
+        ("prove A 0,1,0", "none"),
+        ("prove A 0,1,0 C --nodes 3", "none"),
         ("improve A P O", "improve A P O None"),
         ("improve A --limit 3 P O", "improve A P O Some(3)"),
         ("improve A P O --nodes 3", "none"),

@@ -26,10 +26,10 @@ read_as g word route options bytes task =
     let unbroken : route_fault (node_count g) route ≡ None = is_unbroken g route task.is_route task.short in
     rw (nodes, unbroken) refl
 
-same_network : (options : Options) (word bytes : List ℕ) (g h : Network) (r s : List ℕ) → IsTask options word bytes g r → IsTask options word bytes h s → g ≡ h
+pub same_network : (options : Options) (word bytes : List ℕ) (g h : Network) (r s : List ℕ) → IsTask options word bytes g r → IsTask options word bytes h s → g ≡ h
 same_network options word bytes g h r s p q = one_limited options.limit bytes g h p.start.network q.start.network
 
-same_route : (options : Options) (word bytes : List ℕ) (g h : Network) (r s : List ℕ) → IsTask options word bytes g r → IsTask options word bytes h s → r ≡ s
+pub same_route : (options : Options) (word bytes : List ℕ) (g h : Network) (r s : List ℕ) → IsTask options word bytes g r → IsTask options word bytes h s → r ≡ s
 same_route options word bytes g h r s p q =
     Ok-injective r s (sym (reads_what_is_spelled word r p.spelled) ∙ reads_what_is_spelled word s q.spelled)
 
@@ -38,7 +38,7 @@ charge_within_not g charge level is past within =
     let fits : level ≤ g.capacity = subst (λ (c : Option ℕ). start_of g c ≤ g.capacity) is within in
     omega (arith, past, fits)
 
-refused_is_no_task : (options : Options) (word bytes : List ℕ) (g : Network) (route : List ℕ) (r : Refusal) →
+pub refused_is_no_task : (options : Options) (word bytes : List ℕ) (g : Network) (route : List ℕ) (r : Refusal) →
     IsTask options word bytes g route → IsRule r → IsRefused options word bytes r → ⊥
 refused_is_no_task options word bytes g route (refusal.Instance e) task rule first =
     refused_has_none options.limit bytes (refusal.Instance e) g rule first task.start.network
@@ -66,7 +66,7 @@ plan_is_some options word bytes text other p q =
     (subst (λ (x : Network). HasNoPlan x q.route (start_of x options.charge)) network q.none) in
     none 1 p.stops p.fastest.feasible p.fastest.follows
 
-FixedCause : Options → List ℕ → List ℕ → Status → Type 0
+pub FixedCause : Options → List ℕ → List ℕ → Status → Type 0
 FixedCause options word bytes s = (text : List ℕ) × FixedAnswers options word bytes s text
 
 fixed_answered : (options : Options) (word bytes : List ℕ) (s : Status) → FixedCause options word bytes s → IsPlain s
@@ -88,7 +88,11 @@ fixed_exclude options word bytes = record {
   negative_refused = λ p q. refused_is_no_task options word bytes p.1.network p.1.route q.1.refusal p.1.task q.1.rule q.1.refused;
 }
 
-abbrev fixed_cause : FixedJob → List (List ℕ) → Status → Type 0
+pub caused : (options : Options) (word bytes : List ℕ) (s : Status) (text : List ℕ) → FixedAnswers options word bytes s text → FixedCause options word bytes s
+unfolding FixedCause
+caused options word bytes s text is = (text, is)
+
+abbrev pub fixed_cause : FixedJob → List (List ℕ) → Status → Type 0
 fixed_cause job (bytes ∷ []) s = FixedCause job.options job.route bytes s
 fixed_cause job other s = ⊥
 
@@ -98,7 +102,7 @@ fixed_has job (bytes ∷ []) o is = (o.text, is.0)
 fixed_has job [] o is = absurd is
 fixed_has job (bytes ∷ more ∷ others) o is = absurd is
 
-fixed_each : (job : FixedJob) (bytes : List (List ℕ)) → ExcludeEachOther (fixed_cause job bytes)
+pub fixed_each : (job : FixedJob) (bytes : List (List ℕ)) → ExcludeEachOther (fixed_cause job bytes)
 fixed_each job (bytes ∷ []) = fixed_exclude job.options job.route bytes
 fixed_each job [] = nothing_excludes
 fixed_each job (bytes ∷ more ∷ others) = nothing_excludes

@@ -21,5 +21,9 @@ pub mod MakeLaw
 pub mod MakeFinds
 pub mod FleetLaw
 pub mod FleetFinds
+pub mod ProveLaw
+pub mod ProveFinds
+pub mod CheckRouteLaw
+pub mod CheckRouteFinds
 pub mod Performed
 pub mod NeverFails

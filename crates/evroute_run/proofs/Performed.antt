@@ -4,16 +4,18 @@ use Rattle.std.proofs.lemmas.List.{append-nil}
 use Rattle.std.specs.Option.{option_map}
 use Rattle.command_line.specs.JobValue.{job_value}
 use Rattle.command_line.specs.Usage.{usage_text}
-use Rattle.command_line.specs.Words.{CheckPlan, ConvertFile, FixedRoute, ImprovePlan, Job, MakeInstance, PlanFleet}
+use Rattle.command_line.specs.Words.{CheckPlan, CheckRoute, ConvertFile, FixedRoute, ImprovePlan, Job, MakeInstance, PlanFleet, ProveRoute}
 use Rattle.command_line.specs.declared.Job as values
 use Rattle.ev_outside.specs.Shelf.{ShelfState}
 use Rattle.ev_outside.specs.Sink.{AddsPrefix, SinkState}
 use Rattle.evroute_run.proofs.CheckLaw.{check_lawful}
+use Rattle.evroute_run.proofs.CheckRouteLaw.{check_route_lawful}
 use Rattle.evroute_run.proofs.ConvertLaw.{convert_lawful}
 use Rattle.evroute_run.proofs.FixedLaw.{fixed_lawful}
 use Rattle.evroute_run.proofs.FleetLaw.{fleet_lawful}
 use Rattle.evroute_run.proofs.ImproveLaw.{improve_lawful}
 use Rattle.evroute_run.proofs.MakeLaw.{make_lawful}
+use Rattle.evroute_run.proofs.ProveLaw.{prove_lawful}
 use Rattle.evroute_run.specs.Run.{TellsUsage, task_of}
 use Rattle.job_frame.proofs.Performed.{IsLawful, performs_nothing}
 use Rattle.job_frame.specs.Performs.{Performs}
@@ -26,6 +28,8 @@ is_lawful (PlanFleet job) = fleet_lawful job
 is_lawful (CheckPlan job) = check_lawful job
 is_lawful (ConvertFile job) = convert_lawful job
 is_lawful (MakeInstance job) = make_lawful job
+is_lawful (ProveRoute job) = prove_lawful job
+is_lawful (CheckRoute job) = check_route_lawful job
 is_lawful (ImprovePlan job) = improve_lawful job
 
 -- ---- where no job is known, since memory for its words was refused

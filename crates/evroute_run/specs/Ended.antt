@@ -2,6 +2,7 @@
 use Rattle.std.specs.Prelude.{List, Option, ℕ}
 use Rattle.command_line.specs.declared.Options.{Options}
 use Rattle.evroute_run.specs.CheckAnswer.{IsCheckRefused}
+use Rattle.evroute_run.specs.CheckRouteAnswer.{IsCheckRouteRefused}
 use Rattle.evroute_run.specs.FixedAnswer.{IsRefused}
 use Rattle.evroute_run.specs.FleetAnswer.{IsFleetRefused}
 use Rattle.evroute_run.specs.ImproveAnswer.{IsImproveRefused}
@@ -30,6 +31,12 @@ abbrev pub IsCheckEnded : Option ℕ → List ℕ → List ℕ → List ℕ → 
 IsCheckEnded limit bytes plan_bytes cert_bytes (Refused refusal) =
     IsRule refusal × IsCheckRefused limit bytes plan_bytes cert_bytes refusal
 IsCheckEnded limit bytes plan_bytes cert_bytes Memory = Unit {0}
+
+-- of `check-route`
+abbrev pub IsCheckRouteEnded : Options → List ℕ → List ℕ → List ℕ → Ended → Type 0
+IsCheckRouteEnded options word bytes cert_bytes (Refused refusal) =
+    IsRule refusal × IsCheckRouteRefused options word bytes cert_bytes refusal
+IsCheckRouteEnded options word bytes cert_bytes Memory = Unit {0}
 
 -- of `improve`
 abbrev pub IsImproveEnded : Option ℕ → List ℕ → List ℕ → Ended → Type 0

@@ -7,6 +7,8 @@ pub mod Judged
 pub mod ConvertAnswer
 pub mod MakeAnswer
 pub mod ImproveAnswer
+pub mod ProveAnswer
+pub mod CheckRouteAnswer
 pub mod Ended
 pub mod Run
 pub mod Ending

@@ -2,16 +2,18 @@
 use Rattle.std.specs.Prelude.{◌≡◌, List, map, Option, String, string_bytes}
 use Rattle.std.specs.declared.alloc.Global.{Global}
 use Rattle.command_line.specs.Usage.{usage_text}
-use Rattle.command_line.specs.Words.{CheckPlan, ConvertFile, FixedRoute, ImprovePlan, Job, MakeInstance, PlanFleet, job_of}
+use Rattle.command_line.specs.Words.{CheckPlan, CheckRoute, ConvertFile, FixedRoute, ImprovePlan, Job, MakeInstance, PlanFleet, ProveRoute, job_of}
 use Rattle.ev_outside.specs.Counts.{Rose}
 use Rattle.ev_outside.specs.Shelf.{ShelfState}
 use Rattle.ev_outside.specs.Sink.{Adds, AddsPrefix, SinkState}
 use Rattle.evroute_run.specs.CheckAnswer.{check_task}
+use Rattle.evroute_run.specs.CheckRouteAnswer.{check_route_task}
 use Rattle.evroute_run.specs.ConvertAnswer.{convert_task}
 use Rattle.evroute_run.specs.FixedAnswer.{fixed_task}
 use Rattle.evroute_run.specs.FleetAnswer.{fleet_task}
 use Rattle.evroute_run.specs.ImproveAnswer.{improve_task}
 use Rattle.evroute_run.specs.MakeAnswer.{make_task}
+use Rattle.evroute_run.specs.ProveAnswer.{prove_task}
 use Rattle.job_frame.specs.Performs.{EndsUnlessHindered}
 use Rattle.job_frame.specs.Task.{Task}
 use Rattle.job_frame.specs.declared.status.Status.{Status}
@@ -28,6 +30,8 @@ task_of (PlanFleet job) = fleet_task job
 task_of (CheckPlan job) = check_task job
 task_of (ConvertFile job) = convert_task job
 task_of (MakeInstance job) = make_task job
+task_of (ProveRoute job) = prove_task job
+task_of (CheckRoute job) = check_route_task job
 task_of (ImprovePlan job) = improve_task job
 
 -- what the program owes where its words name no job: it tells how it is called

@@ -10,12 +10,14 @@ ghost use Rattle.job_frame.specs.Performs.{NothingFailed, Performs};
 ghost use Rattle.job_frame.specs.declared.status.Status.{Status};
 
 use crate::check::check;
+use crate::check_route::check_route;
 use crate::convert::convert;
 use crate::finish::finish;
 use crate::fixed::fixed;
 use crate::fleet::fleet;
 use crate::improve::improve;
 use crate::make::make;
+use crate::prove::prove;
 use crate::usage::put_usage;
 use crate::watcher::{JobWatcher, Nobody};
 use command_line::{Job, job_words};
@@ -46,6 +48,14 @@ use std::alloc::{AllocError, Global};
 /// puts how many nodes it has, its denominator and the time of a fastest plan of the route over all
 /// customers ([`Status::Done`]), or that none is feasible ([`Status::Negative`]).
 ///
+/// `prove FILE ROUTE CERT [--limit N] [--charge N]` reads FILE as an instance, writes a proof that
+/// a plan of the route is a fastest one, or that none is feasible, into CERT, and puts what `fixed`
+/// puts, with its status.
+///
+/// `check-route FILE ROUTE CERT [--limit N] [--charge N]` reads CERT as such a proof on the
+/// instance of FILE, and puts that it is accepted, with the least time or that no plan is feasible
+/// ([`Status::Done`]), or the first rule that it breaks ([`Status::Negative`]).
+///
 /// `improve FILE PLAN OUTFILE [--limit N]` reads PLAN as a fleet plan, or as none, on the instance
 /// of FILE, writes a fleet plan into OUTFILE that no relocation and no exchange of customers makes
 /// cheaper, and puts its cost and that of the plan before ([`Status::Done`]), or puts the first
@@ -54,9 +64,10 @@ use std::alloc::{AllocError, Global};
 ///
 /// All put the line of the first broken rule of their files and words ([`Status::Refused`]). Other
 /// words put the usage text ([`Status::Words`]). After [`Status::Fault`] and [`Status::Memory`] a
-/// part of such a text may have been put. No file but OUTFILE, and PLAN and CERT of `fleet`, is
-/// written: by `convert` and `fleet` only where no rule is broken, by `make` wherever an instance
-/// is made, by `improve` only where it is done. What it holds after a failed write isn't known.
+/// part of such a text may have been put. No file but OUTFILE, PLAN and CERT of `fleet`, and CERT
+/// of `prove`, is written: by `convert`, `fleet` and `prove` only where no rule is broken, by
+/// `make` wherever an instance is made, by `improve` only where it is done. What it holds after a
+/// failed write isn't known.
 pub fn run<S: Shelf, K: Sink>(alloc: Global, words: &[String], shelf: &mut S, out: &mut K) -> Status
     ensures words { result ≡ Status.Words → IsNone (job_named words.now) }
     ensures usage { IsNone (job_named words.now)
@@ -138,6 +149,8 @@ fn perform<S: Shelf, K: Sink, W: JobWatcher>(
         Job::Check(job) => finish(check(alloc, job, shelf), shelf, out),
         Job::Convert(job) => finish(convert(alloc, job, shelf), shelf, out),
         Job::Make(job) => make(alloc, job, shelf, out),
+        Job::Prove(job) => finish(prove(alloc, job, shelf), shelf, out),
+        Job::CheckRoute(job) => finish(check_route(alloc, job, shelf), shelf, out),
         Job::Improve(job) => finish(improve(alloc, job, shelf, watcher), shelf, out),
     }
 }

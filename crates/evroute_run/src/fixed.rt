@@ -1,6 +1,6 @@
 //! What `fixed` finds: one route of an instance is charged.
 
-ghost use Rattle.std.specs.Prelude.{◌≡◌, ◌≤◌, IfErr, IfOk, List, None, Some, length, ℕ};
+ghost use Rattle.std.specs.Prelude.{◌≡◌, ◌≤◌, IfErr, IfOk, List, None, Some, ℕ};
 ghost use Rattle.command_line.specs.JobValue.{job_value};
 ghost use Rattle.command_line.specs.declared.Job.TheVariants.{Fixed};
 ghost use Rattle.command_line.specs.declared.Options.{Options};
@@ -8,25 +8,22 @@ ghost use Rattle.ev_model.specs.Feasible.{IsFeasible};
 ghost use Rattle.ev_model.specs.Route.{IsRoute};
 ghost use Rattle.ev_model.specs.Time.{time_of};
 ghost use Rattle.evroute_run.specs.Ended.{IsEnded};
-ghost use Rattle.evroute_run.specs.FixedAnswer.{FixedAnswers, HasStart, IsTask, start_of};
-ghost use Rattle.evroute_run.specs.LimitedNetwork.{HasNetwork};
+ghost use Rattle.evroute_run.specs.FixedAnswer.{FixedAnswers, IsTask, start_of};
 ghost use Rattle.evroute_run.specs.Run.{task_of};
 ghost use Rattle.job_frame.specs.Finds.{Finds};
 ghost use Rattle.job_frame.specs.Task.{IsAnswered};
 ghost use Rattle.plan_writer.specs.FixedText.{fixed_text};
-ghost use Rattle.route_plan.specs.Limits.{most_route_nodes};
-ghost use Rattle.route_plan.specs.RouteWords.{SpellsRoute};
 
 use crate::answer::{Ended, refuse};
 use crate::caps::MOST_BYTES;
-use crate::instance::limited_instance;
+use crate::trip::trip_of;
 use command_line::{FixedWords, Options};
 use ev_outside::{Shelf, ShelfFault};
 use frvcp_labels::solve_route;
 use instance_reader::Instance;
 use job_frame::{Answer, Found, Status, read_file};
-use plan_writer::{Refusal, push_fixed};
-use route_plan::{RouteFault, RoutePlan, read_route, walk};
+use plan_writer::push_fixed;
+use route_plan::{RoutePlan, walk};
 use std::alloc::{AllocError, Global};
 
 /// What `fixed` finds: the file is read as an instance, and its route is charged.
@@ -68,61 +65,9 @@ fn charge_file(alloc: Global, bytes: &[u8], word: &str, options: Options) -> Res
     ensures answered { IfOk result (λ a. IsAnswered a.status) }
     ensures ended { IfErr result (IsEnded options word.now bytes.now) }
 {
-    match limited_instance(alloc, bytes, options.limit) {
-        Ok(inst) => charge_on(alloc, &inst, word, options),
+    match trip_of(alloc, bytes, word, options) {
+        Ok(trip) => charge_from(alloc, &trip.inst, trip.route.as_slice(), trip.start),
         Err(ended) => Err(ended),
-    }
-}
-
-/// The charged route of an instance whose limit is that of the words.
-fn charge_on(alloc: Global, inst: &Instance, word: &str, options: Options) -> Result<Answer, Ended>
-    ensures ok { (bytes : List ℕ) → HasNetwork options.limit bytes inst.now
-        → IfOk result (λ a. FixedAnswers options word.now bytes a.status a.text.items) }
-    ensures ended { (bytes : List ℕ) → HasNetwork options.limit bytes inst.now
-        → IfErr result (IsEnded options word.now bytes) }
-    ensures answered { IfOk result (λ a. IsAnswered a.status) }
-{
-    match start(inst, options) {
-        Ok(start) => match route(alloc, word, inst) {
-            Ok(route) => charge_from(alloc, inst, route.as_slice(), start),
-            Err(ended) => Err(ended),
-        },
-        Err(ended) => Err(ended),
-    }
-}
-
-/// The level at which the vehicle starts.
-fn start(inst: &Instance, options: Options) -> Result<u64, Ended>
-    ensures ok { IfOk result (λ level. (level ≡ start_of inst.now options.charge)) }
-    ensures within { IfOk result (λ level. level ≤ inst.now.capacity) }
-    ensures ended { (word bytes : List ℕ) → HasNetwork options.limit bytes inst.now
-        → IfErr result (IsEnded options word bytes) }
-{
-    let full = inst.max_q();
-    match options.charge {
-        Some(level) => {
-            if level <= full {
-                Ok(level)
-            } else {
-                Err(Ended::Refused(Refusal::Charge(level)))
-            }
-        }
-        None => Ok(full),
-    }
-}
-
-/// The route of the word.
-fn route(alloc: Global, word: &str, inst: &Instance) -> Result<Vec<usize>, Ended>
-    ensures spelled { IfOk result (λ nodes. SpellsRoute word.now nodes.items) }
-    ensures is_route { IfOk result (λ nodes. IsRoute inst.now nodes.items) }
-    ensures short { IfOk result (λ nodes. length nodes.items ≤ most_route_nodes) }
-    ensures ended { (options : Options) (bytes : List ℕ) → HasStart options bytes inst.now
-        → IfErr result (IsEnded options word.now bytes) }
-{
-    match read_route(alloc, word, inst) {
-        Ok(nodes) => Ok(nodes),
-        Err(RouteFault::Memory) => Err(Ended::Memory),
-        Err(fault) => Err(Ended::Refused(Refusal::Route(fault))),
     }
 }
 
@@ -149,7 +94,7 @@ fn charge_from(alloc: Global, inst: &Instance, route: &[usize], start: u64) -> R
 }
 
 /// The text of a feasible plan.
-fn report_plan(
+pub(crate) fn report_plan(
     alloc: Global,
     inst: &Instance,
     start: u64,
@@ -178,7 +123,7 @@ fn report_plan(
 }
 
 /// The text of a route without a feasible plan.
-fn infeasible(alloc: Global, inst: &Instance) -> Result<Answer, Ended>
+pub(crate) fn infeasible(alloc: Global, inst: &Instance) -> Result<Answer, Ended>
     ensures status { IfOk result (λ a. a.status ≡ Status.Negative) }
     ensures text { IfOk result (λ a. a.text.items ≡ fixed_text inst.now.denominator None) }
     ensures memory { IfErr result (λ e. e ≡ Ended.Memory) }

@@ -4,6 +4,7 @@
 mod answer;
 mod caps;
 mod check;
+mod check_route;
 mod command;
 mod convert;
 mod diagnostics;
@@ -17,7 +18,9 @@ mod judging;
 mod make;
 mod message;
 mod planning;
+mod prove;
 mod sure;
+mod trip;
 mod usage;
 mod watcher;
 

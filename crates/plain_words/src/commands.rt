@@ -68,6 +68,10 @@ pub(crate) fn command_of(word: &str) -> Option<Command> {
             names: &["SEED", "CUSTOMERS", "STATIONS", "OUTFILE"],
             options: &[],
         }),
+        "prove" | "check-route" => Some(Command {
+            names: &["FILE", "ROUTE", "CERT"],
+            options: &[LIMIT, CHARGE],
+        }),
         "improve" => Some(Command {
             names: &["FILE", "PLAN", "OUTFILE"],
             options: &[LIMIT],

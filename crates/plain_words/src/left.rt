@@ -24,6 +24,7 @@ pub fn left_behind(
     let files = match names.as_slice() {
         ["fleet", _, files @ ..] => files,
         ["improve", _, _, files @ ..] => files,
+        ["prove", _, _, files @ ..] => files,
         ["convert", _, files @ ..] => files,
         ["make", _, _, _, files @ ..] => files,
         _ => return Ok(None),

@@ -1,27 +1,30 @@
-//! A certificate that was written and that `check` can't read.
+//! A certificate or a proof that was written and that its judge can't read.
 
 use crate::names::names_of;
 use std::alloc::{AllocError, Global};
 use std::fs::metadata;
 use std::rt::Files;
 
-/// The most bytes of a certificate that `check` reads.
+/// The most bytes of a certificate that `check` reads, and of a proof that `check-route` reads.
 const MOST: u64 = 1 << 28;
 
-/// What is said of a certificate that `fleet` wrote and that is longer than `check` reads. `None`
-/// for other commands, and where the system tells no length.
+/// What is said of a certificate that `fleet` wrote and that is longer than `check` reads, or of a
+/// proof that `prove` wrote and that is longer than `check-route` reads. `None` for other commands,
+/// and where the system tells no length.
 pub fn long_certificate<R: Files>(
     alloc: Global,
     files: &R,
     words: &[String],
 ) -> Result<Option<String>, AllocError> {
     let names = names_of(alloc, words)?;
-    let ["fleet", _, _, cert] = names.as_slice() else {
-        return Ok(None);
+    let (cert, judge) = match names.as_slice() {
+        ["fleet", _, _, cert] => (cert, "check"),
+        ["prove", _, _, cert] => (cert, "check-route"),
+        _ => return Ok(None),
     };
     match metadata(files, *cert) {
         Ok(found) if found.is_file() && found.len() > MOST => Ok(Some(format!(in alloc;
-            "{cert}: {} bytes long, and evroute check reads at most {MOST}",
+            "{cert}: {} bytes long, and evroute {judge} reads at most {MOST}",
             found.len()
         )?)),
         _ => Ok(None),

@@ -23,7 +23,7 @@ pub(crate) fn in_words(
         )?)),
         ["route", rule @ ..] => route(alloc, name_at(names, 2), rule),
         ["plan", rule @ ..] => plan(alloc, name_at(names, 2), rule),
-        ["certificate", rule @ ..] => certificate(alloc, name_at(names, 3), rule),
+        ["certificate", rule @ ..] => certificate(alloc, kind(names), name_at(names, 3), rule),
         ["literal", rule @ ..] => literal(alloc, file, rule),
         ["maker", ..] => Ok(Some(format!(in alloc;
             "SEED is from 1 to 2147483646, and there are 1 to 399 customers and stations, at \
@@ -125,16 +125,29 @@ fn plan(alloc: Global, file: &str, rule: &[&str]) -> Result<Option<String>, Allo
     }
 }
 
-/// What is wrong with the text of a certificate.
-fn certificate(alloc: Global, file: &str, rule: &[&str]) -> Result<Option<String>, AllocError> {
+/// What the file of a certificate holds for a command: the proof of a route for `check-route`.
+fn kind(names: &[&str]) -> &'static str {
+    match names.first() {
+        Some(command) if *command == "check-route" => "a proof",
+        _ => "a certificate",
+    }
+}
+
+/// What is wrong with the text of a certificate, or of a proof.
+fn certificate(
+    alloc: Global,
+    kind: &str,
+    file: &str,
+    rule: &[&str],
+) -> Result<Option<String>, AllocError> {
     match rule {
         ["1", "at", at] => Ok(Some(format!(in alloc;
-            "{file}: no text of a certificate from byte {at} on"
+            "{file}: no text of {kind} from byte {at} on"
         )?)),
         ["2", "at", at] => Ok(Some(format!(in alloc;
             "{file}: the number at byte {at} is out of its range, or of another instance"
         )?)),
-        ["3"] => Ok(Some(format!(in alloc; "{file}: a certificate of another version")?)),
+        ["3"] => Ok(Some(format!(in alloc; "{file}: {kind} of another version")?)),
         ["4", _] => Ok(Some(format!(in alloc; "{file}: longer than 268435456 bytes")?)),
         _ => Ok(None),
     }

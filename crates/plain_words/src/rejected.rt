@@ -12,6 +12,7 @@ pub(crate) fn in_words(
     match rule {
         ["plan", rule @ ..] => plan(alloc, name_at(names, 2), rule),
         ["certificate", rule @ ..] => certificate(alloc, name_at(names, 3), rule),
+        ["proof", rule @ ..] => proof(alloc, name_at(names, 3), rule),
         _ => Ok(None),
     }
 }
@@ -54,6 +55,34 @@ fn walked(walk: &str) -> &'static str {
         "6" => "charges more than the battery holds",
         "7" => "takes longer than the limit",
         _ => "breaks a rule",
+    }
+}
+
+/// What a broken rule of a proof of a route means.
+fn proof(alloc: Global, file: &str, rule: &[&str]) -> Result<Option<String>, AllocError> {
+    match rule {
+        ["1", "walk", walk] => Ok(Some(format!(in alloc; "{file}: its plan {}", walked(walk))?)),
+        ["1", "walk", walk, "at", at] => Ok(Some(format!(in alloc;
+            "{file}: its plan, at stop {at}, counted from 0, {}",
+            walked(walk)
+        )?)),
+        ["2"] => Ok(Some(format!(in alloc; "{file}: its plan is one of another route")?)),
+        ["3"] => Ok(Some(format!(in alloc;
+            "{file}: no listed label covers a vehicle that starts"
+        )?)),
+        ["4", "label", label, "node", node] => Ok(Some(format!(in alloc;
+            "{file}: the step from label {label} to node {node}, the next of the route, leads to \
+             no listed label"
+        )?)),
+        ["4", "label", label, "via", node] => Ok(Some(format!(in alloc;
+            "{file}: the step from label {label} to the station at node {node} leads to no listed \
+             label"
+        )?)),
+        ["5", "label", label] => Ok(Some(format!(in alloc;
+            "{file}: from label {label} a vehicle comes home sooner than the plan, or within the \
+             limit where there is none"
+        )?)),
+        _ => Ok(None),
     }
 }
 

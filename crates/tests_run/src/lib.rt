@@ -19,6 +19,8 @@ mod long_files;
 #[cfg(test)]
 mod many_customers;
 #[cfg(test)]
+mod proved;
+#[cfg(test)]
 mod sure;
 #[cfg(test)]
 mod system;

@@ -49,6 +49,16 @@ fn refusals_are_told_with_the_file(rt: HostRuntime) -> Result<(), Fail> {
             "c: a certificate of another version",
         ),
         (
+            "check-route a 0,1,0 c",
+            "refused certificate 3",
+            "c: a proof of another version",
+        ),
+        (
+            "check-route a 0,1,0 c",
+            "rejected proof 4 label 0 via 2",
+            "c: the step from label 0 to the station at node 2 leads to no listed label",
+        ),
+        (
             "fixed a 0,1",
             "refused route 4",
             "the route 0,1 doesn't begin and end at the depot, node 0",

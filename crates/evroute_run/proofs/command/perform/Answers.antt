@@ -1,7 +1,7 @@
 use Rattle.std.proofs.Common.{subst, sym}
 use Rattle.command_line.specs.JobValue.{job_value}
 use Rattle.command_line.specs.declared.Job.{Job}
-use Rattle.command_line.specs.declared.Job.TheVariants.{Check, Convert, Fixed, Fleet, Improve}
+use Rattle.command_line.specs.declared.Job.TheVariants.{Check, CheckRoute, Convert, Fixed, Fleet, Improve, Prove}
 use Rattle.evroute_run.specs.Run.{task_of}
 use Rattle.job_frame.specs.Performs.{Performs}
 use Rattle.evroute_run.proofs.command.perform.Goals as goal
@@ -34,6 +34,18 @@ pub returns-in-Make-clause-job : goal.returns-in-Make-clause-job
 returns-in-Make-clause-job g c =
     subst (λ (job : Job). Performs (task_of (job_value job)) (g.S.Shelf.state c.args.shelf.now) (g.S.Shelf.state c.make.new.shelf) (g.K.Sink.state c.args.out.now) (g.K.Sink.state c.make.new.out) c.make.result)
     (sym c.in-Make.is) c.make.ensures.job
+
+pub returns-in-Prove-clause-job : goal.returns-in-Prove-clause-job
+returns-in-Prove-clause-job g c =
+    let before = g.S.Shelf.state c.args.shelf.now in
+    subst (λ (job : Job). Performs (task_of (job_value job)) before (g.S.Shelf.state c.finish-in-Prove.new.shelf) (g.K.Sink.state c.args.out.now) (g.K.Sink.state c.finish-in-Prove.new.out) c.finish-in-Prove.result)
+    (sym c.in-Prove.is) (c.finish-in-Prove.ensures.job (job_value (Prove c.in-Prove.job)) before c.prove.ensures)
+
+pub returns-in-CheckRoute-clause-job : goal.returns-in-CheckRoute-clause-job
+returns-in-CheckRoute-clause-job g c =
+    let before = g.S.Shelf.state c.args.shelf.now in
+    subst (λ (job : Job). Performs (task_of (job_value job)) before (g.S.Shelf.state c.finish-in-CheckRoute.new.shelf) (g.K.Sink.state c.args.out.now) (g.K.Sink.state c.finish-in-CheckRoute.new.out) c.finish-in-CheckRoute.result)
+    (sym c.in-CheckRoute.is) (c.finish-in-CheckRoute.ensures.job (job_value (CheckRoute c.in-CheckRoute.job)) before c.check_route.ensures)
 
 pub returns-in-Improve-clause-job : goal.returns-in-Improve-clause-job
 returns-in-Improve-clause-job g c =

@@ -1,0 +1,136 @@
+-- What `prove` finds.
+use Rattle.std.proofs.Common.{◌≡◌, ℕ, List, [], ◌∷◌, Option, None, Some, Result, Ok, Err, IfErr, IfOk, IfSome, ap, map, refl, subst, sym}
+use Rattle.command_line.specs.Words.{ProofJob}
+use Rattle.command_line.specs.declared.Options.{Options}
+use Rattle.ev_model.specs.Feasible.{IsFeasible}
+use Rattle.ev_model.specs.Network.{Network}
+use Rattle.ev_outside.specs.Shelf.{CountsNeverFall, CountsStay, Files, ShelfState}
+use Rattle.ev_outside.specs.declared.shelf.ShelfFault.{ShelfFault}
+use Rattle.ev_outside.specs.declared.shelf.ShelfFault.TheVariants as shelf
+use Rattle.job_frame.proofs.FileReads.{finds}
+use Rattle.job_frame.specs.Finds.{Finds, outcome_of, written_by}
+use Rattle.job_frame.specs.Task.{Answers, AreReadUpTo, IsAnswered}
+use Rattle.job_frame.specs.Writes.{AreDifferent, Written}
+use Rattle.job_frame.specs.declared.found.Found.{Found}
+use Rattle.job_frame.specs.declared.status.Status.{Status}
+use Rattle.job_frame.specs.declared.status.Status.TheVariants as status
+use Rattle.plan_writer.specs.FixedText.{fixed_text}
+use Rattle.plan_writer.specs.RefusalText.{refusal_text}
+use Rattle.plan_writer.specs.declared.refusal.Refusal.{Refusal}
+use Rattle.proof_text.specs.ProofTexts.{proof_text}
+use Rattle.route_plan.specs.declared.plan.RoutePlan.{RoutePlan}
+use Rattle.route_proof.specs.Closed.{HasGoodPlan, IsAccepted, IsTrue}
+use Rattle.route_proof.specs.Ranges.{ProofFits}
+use Rattle.route_proof.specs.declared.proof.RouteProof.{RouteProof}
+use Rattle.route_steps.specs.Trips.{Journey}
+use Rattle.evroute_run.specs.Caps.{most_bytes}
+use Rattle.evroute_run.specs.Ended.{IsEnded}
+use Rattle.evroute_run.specs.FixedAnswer.{IsTask, start_of}
+use Rattle.evroute_run.specs.ProveAnswer.{ProveAnswers, PutsProved, fixed_status, prove_task, timed_plan}
+use Rattle.evroute_run.specs.declared.answer.Ended.{Ended}
+use Rattle.evroute_run.specs.declared.answer.Ended.TheVariants.{Refused}
+
+-- a listed plan is feasible
+pub good_is_feasible : (t : Journey) (plan : Option RoutePlan) → HasGoodPlan t plan → IfSome plan (λ p. IsFeasible t.network 1 t.start p.stops)
+good_is_feasible t None good = tt
+good_is_feasible t (Some plan) good = good.0
+
+-- ---- what is found for a route
+
+by_status : (options : Options) (word cert bytes : List ℕ) (f : Found) (s : Status) → f.answer.status ≡ s
+    → ProveAnswers options word cert bytes s (map written_by f.files.items) f.answer.text.items
+    → ProveAnswers options word cert bytes f.answer.status (map written_by f.files.items) f.answer.text.items
+by_status options word cert bytes f s is answers =
+    subst (λ (x : Status). ProveAnswers options word cert bytes x (map written_by f.files.items) f.answer.text.items) (sym is) answers
+
+by_plan : (options : Options) (word cert bytes : List ℕ) (plan : Option RoutePlan) (ws : List Written) (text : List ℕ) → PutsProved options word cert bytes (fixed_status plan) ws text
+    → ProveAnswers options word cert bytes (fixed_status plan) ws text
+by_plan options word cert bytes None ws text p = p
+by_plan options word cert bytes (Some plan) ws text p = p
+
+pub puts_proved : (options : Options) (word cert bytes : List ℕ) (g : Network) (route : List ℕ) (level : ℕ) (proof : RouteProof) (f : Found) → IsTask options word bytes g route → level ≡ start_of g options.charge
+    → ProofFits g route proof → IsAccepted (record { network = g; route = route; start = level }) proof → IsTrue (record { network = g; route = route; start = level }) proof.plan
+    → f.answer.status ≡ fixed_status proof.plan → map written_by f.files.items ≡ record { name = cert; bytes = proof_text proof } ∷ []
+    → f.answer.text.items ≡ fixed_text g.denominator (timed_plan g level proof.plan)
+    → ProveAnswers options word cert bytes f.answer.status (map written_by f.files.items) f.answer.text.items
+puts_proved options word cert bytes g route level proof f task is fits accepted shows answered files text =
+    by_status options word cert bytes f (fixed_status proof.plan) answered
+    (by_plan options word cert bytes proof.plan (map written_by f.files.items) f.answer.text.items (record {
+      network = g;
+      route = route;
+      task = task;
+      proof = proof;
+      fits = fits;
+      accepted = subst (λ (n : ℕ). IsAccepted (record { network = g; route = route; start = n }) proof) is accepted;
+      shows = subst (λ (n : ℕ). IsTrue (record { network = g; route = route; start = n }) proof.plan) is shows;
+      status_is = refl;
+      written = files;
+      text_is = subst (λ (n : ℕ). f.answer.text.items ≡ fixed_text g.denominator (timed_plan g n proof.plan)) is text;
+    }))
+
+-- the first broken rule
+pub puts_refusal : {E : Type 0} (options : Options) (word cert bytes : List ℕ) (ended : Ended) (refusal : Refusal) (made : Result Found E) →
+    ended ≡ Refused refusal → IsEnded options word bytes ended
+    → IfOk made (λ f. f.answer.status ≡ status.Refused) → IfOk made (λ f. f.files.items ≡ [])
+    → IfOk made (λ f. f.answer.text.items ≡ refusal_text refusal)
+    → IfOk made (λ f. ProveAnswers options word cert bytes f.answer.status (map written_by f.files.items) f.answer.text.items)
+puts_refusal {E} options word cert bytes ended refusal (Err e) is refused answered files text = tt
+puts_refusal {E} options word cert bytes ended refusal (Ok f) is refused answered files text =
+    let first = subst (λ (e : Ended). IsEnded options word bytes e) is refused in
+    by_status options word cert bytes f status.Refused answered (record {
+      refusal = refusal;
+      rule = first.0;
+      refused = first.1;
+      none = ap (λ fs. map written_by fs) files;
+      text_is = text;
+    })
+
+-- ---- what the bytes of the file answer
+
+one_write : (name bytes : List ℕ) (ws : List Written) → ws ≡ record { name = name; bytes = bytes } ∷ [] → AreDifferent ws
+one_write name bytes ws is = subst (λ (xs : List Written). AreDifferent xs) (sym is) (tt, tt)
+
+no_write : (ws : List Written) → ws ≡ [] → AreDifferent ws
+no_write ws is = subst (λ (xs : List Written). AreDifferent xs) (sym is) tt
+
+answer_is_plain : (options : Options) (word cert bytes : List ℕ) (s : Status) (ws : List Written) (text : List ℕ) → ProveAnswers options word cert bytes s ws text → IsAnswered s × AreDifferent ws
+answer_is_plain options word cert bytes status.Done ws text p = (tt, one_write cert (proof_text p.proof) ws p.written)
+answer_is_plain options word cert bytes status.Negative ws text p = (tt, one_write cert (proof_text p.proof) ws p.written)
+answer_is_plain options word cert bytes status.Refused ws text p = (tt, no_write ws p.none)
+answer_is_plain options word cert bytes status.Words ws text p = absurd p
+answer_is_plain options word cert bytes status.Fault ws text p = absurd p
+answer_is_plain options word cert bytes status.Memory ws text p = absurd p
+answer_is_plain options word cert bytes status.Stopped ws text p = absurd p
+
+-- what is found, as an answer of the task
+pub record IsFoundFor (job : ProofJob) (files : Option Files) (f : Found) : Type 0 where
+  pub answered : IsAnswered f.answer.status
+  pub answers : Answers (prove_task job) files (outcome_of f)
+  pub different : AreDifferent (outcome_of f).writes
+
+pub prove_found : {E : Type 0} (job : ProofJob) (files : Option Files) (bytes given word cert : List ℕ) (made : Result Found E) →
+    AreReadUpTo most_bytes files job.file bytes → given ≡ bytes → word ≡ job.route → cert ≡ job.cert
+    → IfOk made (λ f. ProveAnswers job.options word cert given f.answer.status (map written_by f.files.items) f.answer.text.items)
+    → IfOk made (λ f. IsFoundFor job files f)
+prove_found {E} job files bytes given word cert (Err e) read same spelled named answers = tt
+prove_found {E} job files bytes given word cert (Ok f) read same spelled named answers =
+    let ws = map written_by f.files.items in
+    let plain = answer_is_plain job.options word cert given f.answer.status ws f.answer.text.items answers in
+    let here = subst (λ (bs : List ℕ). ProveAnswers job.options word cert bs f.answer.status ws f.answer.text.items) same answers in
+    let worded = subst (λ (w : List ℕ). ProveAnswers job.options w cert bytes f.answer.status ws f.answer.text.items) spelled here in
+    record {
+      answered = plain.0;
+      answers = record {
+        bytes = bytes ∷ [];
+        read = (read, tt);
+        answer = subst (λ (name : List ℕ). ProveAnswers job.options job.route name bytes f.answer.status ws f.answer.text.items) named worded;
+      };
+      different = plain.1;
+    }
+
+-- what is found is found for the task
+pub finds_proved : (job : ProofJob) (before after : ShelfState) (found : Result Found ShelfFault) → IfOk found (λ f. IsFoundFor job before.files f)
+    → IfErr found (λ fault. fault ≡ shelf.Memory) → CountsStay before after → CountsNeverFall before after → after.files ≡ before.files
+    → Finds (prove_task job) before after found
+finds_proved job before after (Err fault) is memory stays falls files = finds (prove_task job) before after (Err fault) tt tt tt memory stays falls files
+finds_proved job before after (Ok f) is memory stays falls files = finds (prove_task job) before after (Ok f) is.answered is.answers is.different tt stays falls files

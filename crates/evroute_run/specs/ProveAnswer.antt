@@ -1,0 +1,94 @@
+-- What `prove` answers to the bytes of its file.
+use Rattle.std.specs.Prelude.{◌≡◌, ℕ, List, [], ◌∷◌, Option, None, Some}
+use Rattle.command_line.specs.Words.{FixedJob, ProofJob, job_with}
+use Rattle.command_line.specs.declared.Options.{Options}
+use Rattle.ev_model.specs.Network.{Network}
+use Rattle.ev_model.specs.Time.{time_of}
+use Rattle.ev_model.specs.declared.Stop.{Stop}
+use Rattle.plan_writer.specs.FixedText.{fixed_text}
+use Rattle.plan_writer.specs.RefusalText.{IsRule, refusal_text}
+use Rattle.plan_writer.specs.declared.refusal.Refusal.{Refusal}
+use Rattle.proof_text.specs.ProofTexts.{proof_text}
+use Rattle.route_plan.specs.declared.plan.RoutePlan.{RoutePlan}
+use Rattle.route_proof.specs.Closed.{IsAccepted, IsTrue}
+use Rattle.route_proof.specs.Ranges.{ProofFits}
+use Rattle.route_proof.specs.declared.proof.RouteProof.{RouteProof}
+use Rattle.route_steps.specs.Trips.{Journey}
+use Rattle.evroute_run.specs.Caps.{file_read}
+use Rattle.evroute_run.specs.FixedAnswer.{IsRefused, IsTask, start_of}
+use Rattle.job_frame.specs.Task.{Outcome, Task}
+use Rattle.job_frame.specs.Writes.{Written}
+use Rattle.job_frame.specs.declared.status.Status.{Status}
+use Rattle.job_frame.specs.declared.status.Status.TheVariants as status
+
+-- the journey of the words on a network
+abbrev pub journey_of : Options → Network → List ℕ → Journey
+journey_of options g route =
+    record { network = g; route = route; start = start_of g options.charge }
+
+-- the stops of the plan that a proof lists, with their time; none where it lists none
+abbrev pub timed_plan : Network → ℕ → Option RoutePlan → Option (List Stop × ℕ)
+timed_plan g start None = None
+timed_plan g start (Some plan) = Some (plan.stops, time_of g 1 start plan.stops)
+
+-- `fixed` has this status where it puts this plan, or that there is none
+abbrev pub fixed_status : Option RoutePlan → Status
+fixed_status None = status.Negative
+fixed_status (Some plan) = status.Done
+
+-- A proof is written that is accepted, so that its plan is a fastest one, or no plan is feasible, in
+-- any fraction of a unit; and this plan is put as `fixed` puts it, or that there is none.
+pub record PutsProved (options : Options) (word cert bytes : List ℕ)
+    (ended : Status) (ws : List Written) (text : List ℕ) : Type 0 where
+  pub network : Network
+  pub route : List ℕ
+  pub task : IsTask options word bytes network route
+  pub proof : RouteProof
+  pub fits : ProofFits network route proof
+  pub accepted : IsAccepted (journey_of options network route) proof
+  pub shows : IsTrue (journey_of options network route) proof.plan
+  pub status_is : ended ≡ fixed_status proof.plan
+  pub written : ws ≡ record { name = cert; bytes = proof_text proof } ∷ []
+  pub text_is : text
+      ≡ fixed_text network.denominator
+      (timed_plan network (start_of network options.charge) proof.plan)
+
+-- the first broken rule, which is one of `fixed`, is put, and nothing is written
+pub record PutsProveRefusal (options : Options) (word bytes : List ℕ)
+    (ws : List Written) (text : List ℕ) : Type 0 where
+  pub refusal : Refusal
+  pub rule : IsRule refusal
+  pub refused : IsRefused options word bytes refusal
+  pub none : ws ≡ []
+  pub text_is : text ≡ refusal_text refusal
+
+-- the file and the text that belong to a status
+abbrev pub ProveAnswers : Options → List ℕ → List ℕ → List ℕ →
+    Status → List Written → List ℕ → Type 0
+ProveAnswers options word cert bytes status.Done ws text =
+    PutsProved options word cert bytes status.Done ws text
+ProveAnswers options word cert bytes status.Negative ws text =
+    PutsProved options word cert bytes status.Negative ws text
+ProveAnswers options word cert bytes status.Refused ws text =
+    PutsProveRefusal options word bytes ws text
+ProveAnswers options word cert bytes other ws text = ⊥
+
+-- `prove` reads one file
+abbrev pub prove_answers : ProofJob → List (List ℕ) → Outcome → Type 0
+prove_answers job (bytes ∷ []) o =
+    ProveAnswers job.options job.route job.cert bytes o.status o.writes o.text
+prove_answers job other o = ⊥
+
+abbrev pub prove_task : ProofJob → Task
+prove_task job = record {
+  reads = file_read job.file ∷ [];
+  goes_on = λ before. Unit {0};
+  answers = prove_answers job;
+  writes_first = λ ws. ⊥;
+  is_open = ⊥;
+  has_budget = ⊥;
+}
+
+-- the job of charging the same route
+abbrev pub fixed_job_of : ProofJob → FixedJob
+fixed_job_of job = job_with job.file job.route job.options
