@@ -19,7 +19,7 @@ const STATIONS: &str =
     r#"{"node_id":3,"cs_type":"fast"},{"node_id":4,"cs_type":"slow"},{"node_id":0,"cs_type":"slow"}"#;
 
 /// A number below `count`.
-fn below(words: &mut Pcg32, count: u64) -> u64
+pub(crate) fn below(words: &mut Pcg32, count: u64) -> u64
     requires { 0 < count }
     ensures { result < count }
 {
@@ -62,7 +62,7 @@ fn curve(alloc: Global, words: &mut Pcg32, kind: &str) -> Result<String, AllocEr
 }
 
 /// The text of an instance: a battery of 8 to 20 units, a reserve, a level at home, a limit.
-fn text(alloc: Global, words: &mut Pcg32) -> Result<String, AllocError> {
+pub(crate) fn text(alloc: Global, words: &mut Pcg32) -> Result<String, AllocError> {
     let (full, reserve, home) = (below(words, 13) + 8, below(words, 3), below(words, 6));
     let limit = below(words, 80) + 20;
     let head = format!(in alloc;
