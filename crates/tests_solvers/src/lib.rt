@@ -1,11 +1,16 @@
 //! Tests that both solvers of one route, by a table of whole levels and by labels, agree: whether
-//! there is a plan, and how long a fastest one takes; and that proofs of routes are accepted.
+//! there is a plan, and how long a fastest one takes; that proofs of routes are accepted, and that
+//! the judge finds in changed ones what a look at each level finds.
 #![tactic(auto)]
 
 #[cfg(test)]
 mod both;
 #[cfg(test)]
 mod drawn;
+#[cfg(test)]
+mod judging;
+#[cfg(test)]
+mod levels;
 #[cfg(test)]
 mod proving;
 #[cfg(test)]
