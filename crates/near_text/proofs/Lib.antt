@@ -1,0 +1,3 @@
+pub mod OwnSets
+pub mod PartReading
+pub mod NearReading
