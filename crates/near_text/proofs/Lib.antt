@@ -1,3 +1,9 @@
 pub mod OwnSets
 pub mod PartReading
 pub mod NearReading
+pub mod MemberLoops
+pub mod PriceRows
+pub mod SetLoops
+pub mod WholeReading
+pub mod WrittenNears
+pub mod NearLaws

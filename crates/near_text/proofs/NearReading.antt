@@ -1,8 +1,8 @@
 -- The reader of a near proof reads exactly its text.
-use Rattle.std.proofs.Common.{◌≡◌, ◌∙◌, ℕ, ◌^◌, ◌<◌, ◌≤◌, List, [], ◌∷◌, ◌++◌, Option, codes, decimal, length, refl, subst, ap, append_assoc, arith}
+use Rattle.std.proofs.Common.{◌≡◌, ℕ, ◌^◌, ◌<◌, ◌≤◌, List, [], ◌∷◌, ◌++◌, Option, codes, decimal, length, refl, subst, ap, append_assoc, arith}
 use Rattle.std.specs.List.{All}
 use Rattle.ev_model.specs.Network.{Network, scaled_limit}
-use Rattle.ev_text.specs.Texts.{AllFrom, AreLooseRun, StandsUnlessLonger, joined_texts}
+use Rattle.ev_text.specs.Texts.{AllFrom, StandsUnlessLonger, joined_texts}
 use Rattle.ev_text.proofs.ReadingLaws.{Reads}
 use Rattle.std.proofs.lemmas.List.Elements.{All-cons, All-head, All-nil, All-tail}
 use Rattle.text_records.specs.Numbers.{UpTo}

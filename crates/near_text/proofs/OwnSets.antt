@@ -1,5 +1,5 @@
 -- The reader of a set that has its own customer reads exactly the texts of such sets.
-use Rattle.std.proofs.Common.{◌≡◌, ◌≢◌, ◌∙◌, inl, inr, ℕ, zero, suc, ◌+◌, ◌<◌, ◌≤◌, Bool, true, false, ◌||◌, ◌&&◌, List, [], ◌∷◌, ◌++◌, Option, None, Some, codes, decimal, length, length-append, length-drop, nat_eq, Result, Ok, Err, refl, sym, ap, subst, append_assoc, append-nil, arith, if◌then◌else◌}
+use Rattle.std.proofs.Common.{◌≡◌, ◌∙◌, inl, inr, ℕ, zero, suc, ◌+◌, ◌≤◌, Bool, true, false, ◌||◌, ◌&&◌, List, [], ◌∷◌, ◌++◌, Option, None, Some, decimal, length, length-append, length-drop, nat_eq, Result, Ok, Err, refl, sym, ap, subst, append_assoc, append-nil, arith, if◌then◌else◌}
 use Rattle.std.specs.List.{All}
 use Rattle.std.proofs.lemmas.Bool.{false≢true, ne_eqb}
 use Rattle.std.proofs.lemmas.List.Elements.{All-cons, All-nil}
@@ -7,7 +7,7 @@ use Rattle.customer_sets.specs.CustSet.{has}
 use Rattle.ev_model.specs.Network.{Network}
 use Rattle.ev_text.specs.Readers.{optional_at}
 use Rattle.ev_text.specs.Scans.{and_then, past, rest_of, word_at}
-use Rattle.ev_text.specs.Texts.{AllFrom, Begins, IsNoEnd, IsTextOf, StandsUnlessLonger, fault_place, marked_texts}
+use Rattle.ev_text.specs.Texts.{AllFrom, Begins, IsNoEnd, IsTextOf, StandsUnlessLonger, fault_place}
 use Rattle.ev_text.specs.declared.TextFault.{TextFault}
 use Rattle.ev_text.specs.declared.TextFault.TheVariants.{End, TooLarge}
 use Rattle.ev_text.proofs.ChoiceLaws.{BeginsOtherwise, keeps-optional, optional_is_left, optional_is_none, optional_left, optional_never_fails, optional_stands, optional_taken}
@@ -48,23 +48,23 @@ or_none true = refl
 or_none false = refl
 
 module _ (g : Network) (own : ℕ) where
-  member : (last : Option ℕ) → Reads StandsUnlessLonger (customer_at g last) (λ n. decimal n) (MemberIs g last) (UpTo greatest_number) NoDigit
+  pub member : (last : Option ℕ) → Reads StandsUnlessLonger (customer_at g last) (λ n. decimal n) (MemberIs g last) (UpTo greatest_number) NoDigit
   member last = ranged greatest_number (λ n. is_customer_node g n && is_above last n) (omega arith)
 
-  abbrev now : Bool → ℕ → Bool
+  abbrev pub now : Bool → ℕ → Bool
   now had n = had || nat_eq n own
 
-  abbrev by_mark : ℕ → Bool → ℕ → ℕ → Bool × (List ℕ × ℕ) → Result (List ℕ × (List ℕ × ℕ)) TextFault
+  abbrev pub by_mark : ℕ → Bool → ℕ → ℕ → Bool × (List ℕ × ℕ) → Result (List ℕ × (List ℕ × ℕ)) TextFault
   by_mark most had at before marked = if marked.0 then few_own g own most had (Some before) marked.1 else own_end had at marked.1
 
   -- what stands behind a member
   abbrev pub own_behind : ℕ → Bool → ℕ → ℕ → List ℕ × ℕ → Result (List ℕ × (List ℕ × ℕ)) TextFault
   own_behind most had at before s = and_then (optional_at (44 ∷ []) s) (by_mark most had at before)
 
-  abbrev in_front_of : ℕ → List ℕ × (List ℕ × ℕ) → Result (List ℕ × (List ℕ × ℕ)) TextFault
+  abbrev pub in_front_of : ℕ → List ℕ × (List ℕ × ℕ) → Result (List ℕ × (List ℕ × ℕ)) TextFault
   in_front_of n others = Ok (n ∷ others.0, others.1)
 
-  abbrev onward : ℕ → Bool → ℕ → ℕ × (List ℕ × ℕ) → Result (List ℕ × (List ℕ × ℕ)) TextFault
+  abbrev pub onward : ℕ → Bool → ℕ → ℕ × (List ℕ × ℕ) → Result (List ℕ × (List ℕ × ℕ)) TextFault
   onward most had at first = and_then (own_behind most (now had first.0) at first.0 first.1) (in_front_of first.0)
 
   -- customers in rising order, one at least, with the own one among them or before
@@ -84,9 +84,6 @@ module _ (g : Network) (own : ℕ) where
 
   others_fit : (had : Bool) (last : Option ℕ) (n m : ℕ) (ms : List ℕ) → FewFit had last (n ∷ m ∷ ms) → FewFit (now had n) (Some n) (m ∷ ms)
   others_fit had last n m ms fits = (fits.0.1, sym (or_more had (nat_eq n own) (has (m ∷ ms) own)) ∙ fits.1)
-
-  Stands : Bool → Option ℕ → List ℕ × ℕ → List ℕ × (List ℕ × ℕ) → Type 0
-  Stands had last s found = FewFit had last found.0 × (rest_of s ≡ own_text found.0 ++ rest_of found.1)
 
   more_text_of : (had : Bool) (last : Option ℕ) (n : ℕ) (ns rest : List ℕ) → FewFit had last ns → decimal n ++ (44 ∷ (own_text ns ++ rest)) ≡ own_text (n ∷ ns) ++ rest
   more_text_of had last n [] rest fits = absurd fits

@@ -1,5 +1,5 @@
 -- The readers of the parts of a near proof read exactly their texts.
-use Rattle.std.proofs.Common.{◌≡◌, ℕ, ◌+◌, ◌^◌, ◌<◌, ◌≤◌, List, [], ◌∷◌, ◌++◌, codes, decimal, length, nat_lt, refl, append_assoc, arith}
+use Rattle.std.proofs.Common.{◌≡◌, ℕ, ◌^◌, ◌<◌, ◌≤◌, List, [], ◌∷◌, ◌++◌, codes, decimal, length, nat_lt, refl, append_assoc, arith}
 use Rattle.std.specs.List.{All}
 use Rattle.ev_model.specs.Network.{Network, node_count, scaled_limit}
 use Rattle.ev_text.specs.Readers.{so_many}
@@ -14,7 +14,6 @@ use Rattle.text_records.proofs.Numbers.{Anything, ranged, upto}
 use Rattle.text_records.proofs.Records.{parts-behind, parts-last, parts-own, parts-then, reads-record}
 use Rattle.std.proofs.lemmas.List.Elements.{All-nil}
 use Rattle.route_plan.specs.Limits.{greatest_number}
-use Rattle.route_plan.specs.declared.plan.RoutePlan.{RoutePlan}
 use Rattle.certificate_parts.specs.Limits.{greatest_bound}
 use Rattle.certificate_parts.specs.Ranges.{ColumnFits, customer_count}
 use Rattle.certificate_parts.specs.Texts.{point_text, set_text}

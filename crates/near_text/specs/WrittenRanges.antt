@@ -1,7 +1,7 @@
 -- Which near proofs, as they are written, have a text on a network. And the wider language of what
 -- may begin such a text: each number is in its range by itself, without the rules over several
 -- numbers.
-use Rattle.std.specs.Prelude.{◌≡◌, ℕ, ◌+◌, ◌≤◌, true, List, [], ◌∷◌, length, nat_lt}
+use Rattle.std.specs.Prelude.{◌≡◌, ℕ, ◌+◌, ◌≤◌, true, List, length, nat_lt}
 use Rattle.std.specs.List.{All}
 use Rattle.customer_sets.specs.CustSet.{has}
 use Rattle.ev_model.specs.Network.{Network, node_count}

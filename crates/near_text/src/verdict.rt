@@ -7,9 +7,7 @@ ghost use Rattle.near_text.specs.VerdictText.{near_bound_text, near_verdict_text
 
 use instance_reader::Instance;
 use near_proof::{NearProof, NearVerdict};
-use report_lines::{
-    push_infeasible, push_number_line, push_numbered, push_scaled_line, push_word,
-};
+use report_lines::{push_infeasible, push_number_line, push_numbered, push_scaled_line, push_word};
 use std::alloc::{AllocError, Global};
 
 /// Appends what is told of a verdict on a near proof: that it is accepted, and the proof's scaled
@@ -55,12 +53,7 @@ fn push_accepted(
 }
 
 /// Appends that a step leads to a state that is not covered.
-fn push_step(
-    alloc: Global,
-    out: &mut Vec<u8>,
-    label: usize,
-    node: usize,
-) -> Result<(), AllocError>
+fn push_step(alloc: Global, out: &mut Vec<u8>, label: usize, node: usize) -> Result<(), AllocError>
     ensures ok { OnOk result (out.new.items ≡ out.old.items
         ++ rejected_line (codes "2 label " ++ decimal label ++ codes " node " ++ decimal node)) }
     ensures err { OnErr result (IsPrefixOf out.old.items out.new.items) }
