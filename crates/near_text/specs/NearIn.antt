@@ -1,5 +1,5 @@
--- The near proof of bytes, or why they are none: too many bytes, another version, or the first fault
--- from the left.
+-- The near proof of bytes, or why they are none: too many bytes, another version, or the first
+-- fault from the left.
 use Rattle.std.specs.Prelude.{◌≡◌, ℕ, ◌≤◌, Bool, List, Result, codes, length}
 use Rattle.std.specs.List.{All}
 use Rattle.customer_sets.specs.CustSet.{IsCustomerSet}

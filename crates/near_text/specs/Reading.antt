@@ -22,8 +22,8 @@ abbrev pub price_row : ℕ → Reader (List ℕ)
 price_row zero = behind_word (10 ∷ []) (answer [])
 price_row (suc count) =
     then_reads (whole_at greatest_near_price) (λ first.
-    then_reads (exactly_from {S = Unit {0}} (codes " ") (10 ∷ []) price_at (λ none price. none) count
-    (tt {0})) (λ others. answer (first ∷ others)))
+    then_reads (exactly_from {S = Unit {0}} (codes " ") (10 ∷ []) price_at (λ none price. none)
+    count (tt {0})) (λ others. answer (first ∷ others)))
 
 -- a price for each customer; none depends on another
 abbrev pub prices_at : Network → Reader (List ℕ)

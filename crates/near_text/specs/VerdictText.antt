@@ -1,5 +1,5 @@
--- The lines of a verdict on a near proof: that it is accepted, and its bound, or the first rule that
--- it breaks.
+-- The lines of a verdict on a near proof: that it is accepted, and its bound, or the first rule
+-- that it breaks.
 use Rattle.std.specs.Prelude.{ℕ, ◌++◌, ◌∷◌, [], List, Option, None, Some, decimal, codes}
 use Rattle.report_lines.specs.Lines.{infeasible_line, scaled_line}
 use Rattle.near_proof.specs.declared.verdict.NearVerdict.{NearVerdict}
