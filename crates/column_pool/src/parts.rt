@@ -1,6 +1,6 @@
-//! The master problem by parts: of the pool's routes those that earn most at the present prices come
-//! first (partial pricing over a pool: Desaulniers, Desrosiers, Solomon 2005). What is told here is
-//! a guide, and nothing rests on it.
+//! The master problem by parts: of the pool's routes those that earn most at the present prices
+//! come first (partial pricing over a pool: Desaulniers, Desrosiers, Solomon 2005). What is told
+//! here is a guide, and nothing rests on it.
 
 ghost use Rattle.std.specs.Prelude.{◌≡◌, ◌≤◌, length};
 ghost use Rattle.instance_reader.specs.Instance.{customer_nodes};
