@@ -1,5 +1,5 @@
 -- How often customers stand in plans, and the sets that tell it.
-use Rattle.std.proofs.Common.{◌≡◌, ◌∙◌, ℕ, suc, ◌+◌, ◌<◌, Bool, true, false, not, List, [], ◌∷◌, ◌++◌, Some, length, drop, take, get_or, min, set, slice_get, nat_eq, nat_lt, refl, subst, sym, ap, arith, inl, inr, append_assoc, if◌then◌else◌}
+use Rattle.std.proofs.Common.{◌≡◌, ◌∙◌, ℕ, suc, ◌+◌, ◌<◌, Bool, true, false, not, List, [], ◌∷◌, ◌++◌, Option, Some, length, drop, map, take, get_or, min, set, slice_get, nat_eq, nat_lt, refl, subst, sym, ap, arith, inl, inr, append_assoc, if◌then◌else◌}
 use Rattle.std.specs.Prelude.{slice_index}
 use Rattle.std.specs.List.{AllPairs, find, range_with_len}
 use Rattle.std.proofs.lemmas.Bool.{cases_eq, cases_order, eq-eqb, ne_eqb}
@@ -15,6 +15,7 @@ use Rattle.instance_reader.specs.Instance.{customer_nodes}
 use Rattle.route_plan.specs.declared.plan.RoutePlan.{RoutePlan}
 use Rattle.plan_check.specs.FirstFaults.{first_twice, first_unserved}
 use Rattle.plan_check.specs.FleetRules.{stops_of, times_served}
+use Rattle.plan_check.specs.LaterRules.{plans_by}
 use Rattle.plan_check.specs.Tallies.{Tallies, first_again, first_missed}
 
 pub times_in-append : (xs ys : List ℕ) (x : ℕ) → times_in (xs ++ ys) x ≡ times_in xs x + times_in ys x
@@ -26,11 +27,20 @@ all_customers-append g [] ys = refl
 all_customers-append g (x ∷ xs) ys = ap (λ l. customers_of g x ++ l) (all_customers-append g xs ys) ∙ sym (append_assoc (customers_of g x) (all_customers g xs) (all_customers g ys))
 
 -- the customers of one route more
-pub all_customers-more : (g : Network) (plans : List RoutePlan) (i : ℕ) (p : RoutePlan) → i < length plans → p ≡ get_or plans i p →
-    all_customers g (stops_of (take (i + 1) plans)) ≡ all_customers g (stops_of (take i plans)) ++ customers_of g p.stops
-all_customers-more g plans i p within is =
-    let more : take (i + 1) plans ≡ take i plans ++ p ∷ [] = take_more plans i p within ∙ ap (λ (q : RoutePlan). take i plans ++ q ∷ []) (sym is) in
+pub all_customers-more : {R : Type 0} (g : Network) (stops : R → List Stop) (routes : List R) (i : ℕ) (r : R) → i < length routes → r ≡ get_or routes i r →
+    all_customers g (map stops (take (i + 1) routes)) ≡ all_customers g (map stops (take i routes)) ++ customers_of g (stops r)
+all_customers-more {R} g stops routes i r within is =
+    let more : take (i + 1) routes ≡ take i routes ++ r ∷ [] = take_more routes i r within ∙ ap (λ (q : R). take i routes ++ q ∷ []) (sym is) in
     rw (more, map-append, all_customers-append, append-nil) refl
+
+-- routes as plans by their stops, and their stops again
+pub stops_by : {R : Type 0} (stops : R → List Stop) (routes : List R) → stops_of (plans_by stops routes) ≡ map stops routes
+stops_by stops [] = refl
+stops_by stops (r ∷ rs) = ap (λ (l : List (List Stop)). stops r ∷ l) (stops_by stops rs)
+
+pub plans_by_own : (plans : List RoutePlan) → plans_by (λ p. p.stops) plans ≡ plans
+plans_by_own [] = refl
+plans_by_own (p ∷ ps) = ap (λ (l : List RoutePlan). p ∷ l) (plans_by_own ps)
 
 -- customers rise with their numbers
 customers_rise : (g : Network) → AllPairs (λ x y. x < y) (customer_nodes g)
@@ -141,3 +151,14 @@ first_again-twice g visits plans tallies = first_again-find (λ x. nat_lt 1 (tim
 pub first_missed-unserved : (g : Network) (visits : List ℕ) (plans : List RoutePlan) → Tallies g visits (all_customers g (stops_of plans)) → first_missed visits 0 (customer_nodes g) ≡ first_unserved g plans
 first_missed-unserved g visits plans tallies = first_missed-find (λ x. not (nat_lt 0 (times_served g plans x))) visits 0 (customer_nodes g)
     (λ i x at. let same : 0 + i ≡ i = omega arith in rw same (is_none (times_served g plans x) (slice_index visits i) (tallies.counts i x at)))
+
+-- the same of routes of which no more is told than their stops
+module _ {R : Type 0} (g : Network) (visits : List ℕ) (stops : R → List Stop) (routes : List R) (tallies : Tallies g visits (all_customers g (map stops routes))) where
+  tallies_by : Tallies g visits (all_customers g (stops_of (plans_by stops routes)))
+  tallies_by = subst (λ (l : List (List Stop)). Tallies g visits (all_customers g l)) (sym (stops_by stops routes)) tallies
+
+  pub twice_by : (found : Option ℕ) → found ≡ first_again visits 0 (customer_nodes g) → first_twice g (plans_by stops routes) ≡ found
+  twice_by found is = sym (first_again-twice g visits (plans_by stops routes) tallies_by) ∙ sym is
+
+  pub unserved_by : (found : Option ℕ) → found ≡ first_missed visits 0 (customer_nodes g) → first_unserved g (plans_by stops routes) ≡ found
+  unserved_by found is = sym (first_missed-unserved g visits (plans_by stops routes) tallies_by) ∙ sym is

@@ -7,3 +7,5 @@ pub mod Routes
 pub mod Firsts
 pub mod FleetPlans
 pub mod CustomersOnce
+pub mod LaterFaults
+pub mod KnownRoutes

@@ -1,26 +1,26 @@
 //! How often the routes of a plan serve each customer.
 
-ghost use Rattle.std.specs.Prelude.{◌≡◌, ◌<◌, ◌≤◌, ◌++◌, [], ◌∷◌, ℕ, List, length, slice_get, slice_index, Some};
+ghost use Rattle.std.specs.Prelude.{◌≡◌, ◌<◌, ◌≤◌, ◌++◌, [], ◌∷◌, ℕ, List, length, map, slice_get, Some};
 ghost use Rattle.ev_model.specs.Fleet.{all_customers, customers_of};
 ghost use Rattle.ev_model.specs.Network.{node_count};
 ghost use Rattle.instance_reader.specs.Instance.{customer_nodes};
-ghost use Rattle.plan_check.specs.FleetRules.{stops_of};
+ghost use Rattle.plan_check.specs.LaterRules.{plans_by};
 ghost use Rattle.plan_check.specs.Tallies.{AllKnown, AreKnown, Tallies};
 
+use crate::has_stops::HasStops;
 use ev_model::Stop;
 use instance_reader::Instance;
-use route_plan::RoutePlan;
 
 /// Counts how often the routes serve each customer, by the customers' numbers; a count ends at 255.
 /// It takes no memory.
-pub(crate) fn count_visits(inst: &Instance, routes: &[RoutePlan], visits: &mut [u8])
+pub(crate) fn count_visits<R: HasStops>(inst: &Instance, routes: &[R], visits: &mut [u8])
     requires room { length (customer_nodes inst.now) ≤ length visits.old }
-    requires known { AllKnown inst.now routes.now }
-    ensures { Tallies inst.now visits.new (all_customers inst.now (stops_of routes.now)) }
+    requires known { AllKnown inst.now (plans_by R.stops_of routes.now) }
+    ensures { Tallies inst.now visits.new (all_customers inst.now (map R.stops_of routes.now)) }
 {
     visits.fill(0);
     for plan in routes {
-        count_route(inst, plan.stops.as_slice(), visits);
+        count_route(inst, plan.stops(), visits);
     }
 }
 

@@ -1,7 +1,10 @@
-use Rattle.std.proofs.Common.{◌≡◌, ◌∙◌, Err, Ok, arith, sym}
+use Rattle.std.proofs.Common.{◌≡◌, ◌∙◌, List, None, Some, Err, Ok, arith, sym, subst}
 use Rattle.std.proofs.lemmas.Result.{err_from_is_err_and}
-use Rattle.plan_check.specs.FirstFaults.{cost_from}
-use Rattle.plan_check.proofs.Firsts.{later_first, none_broken, walk_first}
+use Rattle.route_plan.specs.declared.plan.RoutePlan.{RoutePlan}
+use Rattle.plan_check.specs.FirstFaults.{cost_from, later_fault}
+use Rattle.plan_check.specs.Tallies.{AllKnown}
+use Rattle.plan_check.proofs.Counting.{plans_by_own}
+use Rattle.plan_check.proofs.Firsts.{first_of_all, later_first, none_broken, none_later, walk_first}
 use Rattle.plan_check.proofs.FleetPlans.{unbroken_is_fleet_plan}
 use Rattle.plan_check.proofs.Walks.{all_known, cost_from-Ok}
 use Rattle.plan_check.proofs.judge.judge.Goals as goal
@@ -20,18 +23,23 @@ returns-in_err-cost-clause-broken c =
 
 pub later_fault-requires-clause-known : goal.later_fault-requires-clause-known
 later_fault-requires-clause-known c =
-    all_known c.args.inst.now c.in_ok-cost.cost c.args.routes.now (sym c.cost_of_routes.ensures ∙ c.in_ok-cost.was)
+    subst (λ (l : List RoutePlan). AllKnown c.args.inst.now l) (sym (plans_by_own c.args.routes.now))
+    (all_known c.args.inst.now c.in_ok-cost.cost c.args.routes.now (sym c.cost_of_routes.ensures ∙ c.in_ok-cost.was))
 
 pub returns-in-Some-clause-broken : goal.returns-in-Some-clause-broken
 returns-in-Some-clause-broken c =
-    later_first c.args.inst.now c.args.routes.now c.in_ok-cost.cost c.in-Some.fault (walks (goal.at.returns-in-Some-clause-broken c).In_ok-cost)
-    (sym c.later_fault.ensures ∙ c.in-Some.is)
+    let g = c.args.inst.now in
+    let routes = c.args.routes.now in
+    let found : later_fault g routes ≡ Some c.in-Some.fault =
+    subst (λ (l : List RoutePlan). later_fault g l ≡ Some c.in-Some.fault) (plans_by_own routes) (sym c.later_fault.ensures ∙ c.in-Some.is) in
+    first_of_all g routes c.in_ok-cost.cost c.in-Some.fault (walks (goal.at.returns-in-Some-clause-broken c).In_ok-cost) (later_first g routes c.in-Some.fault found)
 
 pub returns-in-None-clause-valid : goal.returns-in-None-clause-valid
 returns-in-None-clause-valid c =
-    unbroken_is_fleet_plan c.args.inst.now c.args.routes.now
-    (none_broken c.args.inst.now c.args.routes.now c.in_ok-cost.cost (walks (goal.at.returns-in-None-clause-valid c).In_ok-cost)
-    (sym c.later_fault.ensures ∙ c.in-None.is))
+    let g = c.args.inst.now in
+    let routes = c.args.routes.now in
+    let found : later_fault g routes ≡ None = subst (λ (l : List RoutePlan). later_fault g l ≡ None) (plans_by_own routes) (sym c.later_fault.ensures ∙ c.in-None.is) in
+    unbroken_is_fleet_plan g routes (none_broken g routes c.in_ok-cost.cost (walks (goal.at.returns-in-None-clause-valid c).In_ok-cost) (none_later g routes found))
 
 pub returns-in-None-clause-cost : goal.returns-in-None-clause-cost
 returns-in-None-clause-cost c =

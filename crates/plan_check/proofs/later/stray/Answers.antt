@@ -1,0 +1,6 @@
+use Rattle.plan_check.proofs.KnownRoutes.{known_at}
+use Rattle.plan_check.proofs.later.stray.Goals as goal
+
+pub stray_stop-requires : goal.stray_stop-requires
+stray_stop-requires g c =
+    known_at c.args.inst.now g.R.HasStops.stops_of c.args.routes.now c.loop-route.route c.index-routes-route.result c.stops.result.now c.loop-route-test.true c.index-routes-route.is c.stops.ensures c.requires
