@@ -15,6 +15,3 @@ pub use laws::{
 };
 pub use node::{Node, NodeState, child_pairs};
 pub use tree::Tree;
-
-#[cfg(test)]
-mod tests;

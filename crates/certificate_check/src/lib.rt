@@ -21,6 +21,3 @@ pub use laws::{
     accepted_bounds_are_true, accepted_where_no_rule_is_broken, exact_roots_are_least_covers,
 };
 pub use verdict::Verdict;
-
-#[cfg(test)]
-mod tests;

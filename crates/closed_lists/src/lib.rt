@@ -18,6 +18,3 @@ pub use fault::ClosedFault;
 pub use paid::{margin, price_sum};
 pub use ranges::is_label_of;
 pub use section::Section;
-
-#[cfg(test)]
-mod tests;

@@ -24,6 +24,3 @@ pub use bounds::RouteBounds;
 pub use reaching::reachable_states;
 pub use route_steps::station_nodes;
 pub use solve::{Solved, solve_route, solve_with_labels};
-
-#[cfg(test)]
-mod tests;

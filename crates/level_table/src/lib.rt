@@ -21,6 +21,3 @@ mod walk;
 
 pub use fault::LevelFault;
 pub use solve::solve_levels;
-
-#[cfg(test)]
-mod tests;

@@ -15,6 +15,8 @@ mod several_nodes;
 #[cfg(test)]
 mod told;
 #[cfg(test)]
+mod tree;
+#[cfg(test)]
 mod watched;
 #[cfg(test)]
 mod worked;

@@ -3,6 +3,8 @@
 #![tactic(auto)]
 
 #[cfg(test)]
+mod closed;
+#[cfg(test)]
 mod drawn;
 #[cfg(test)]
 mod equal_prices;

@@ -12,6 +12,8 @@ mod judging;
 #[cfg(test)]
 mod levels;
 #[cfg(test)]
+mod plans;
+#[cfg(test)]
 mod proving;
 #[cfg(test)]
 mod worked;

@@ -9,6 +9,8 @@ mod certificates;
 #[cfg(test)]
 mod instances;
 #[cfg(test)]
+mod judged;
+#[cfg(test)]
 mod near_texts;
 #[cfg(test)]
 mod proof_texts;

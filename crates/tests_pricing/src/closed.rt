@@ -1,7 +1,9 @@
+//! A worked list of labels, closed and not.
+
 ghost use Rattle.std.specs.Prelude.{All, IfSome};
 ghost use Rattle.closed_lists.specs.Sections.{IsLabelOf};
 
-use crate::{ClosedFault, check_closed, is_label_of};
+use closed_lists::{ClosedFault, check_closed, is_label_of};
 use customer_sets::{CustSet, Pairs};
 use instance_reader::{Instance, read_instance};
 use piece_fn::{Label, PieceFn};

@@ -2,8 +2,8 @@
 
 ghost use Rattle.branching.specs.Nodes.{HasNode, IsLive, IsTaken};
 
-use crate::Tree;
 use bound_certificate::TreeLine;
+use branching::Tree;
 use customer_sets::Pairs;
 use std::process::Abort;
 

@@ -1,5 +1,7 @@
-use crate::{Verdict, check_certificate};
+//! Worked certificates, accepted and broken.
+
 use bound_certificate::read_certificate;
+use certificate_check::{Verdict, check_certificate};
 use instance_reader::read_instance;
 use std::alloc::Global;
 use worked_instances::{ONE_STATION, TWO_CUSTOMERS};
