@@ -1,47 +1,23 @@
 -- What is answered is in the ranges of proofs.
-use Rattle.std.proofs.Common.{◌≡◌, ℕ, ◌*◌, ◌≤◌, List, [], ◌∷◌, Option, Some, None, ap, arith, map}
+use Rattle.std.proofs.Common.{ℕ, ◌≤◌, List, [], ◌∷◌, Option, Some, None, arith, map}
 use Rattle.std.specs.Prelude.{MatchOption}
 use Rattle.std.specs.List.{All}
 use Rattle.std.proofs.lemmas.List.Elements.{All-cons, All-head, All-nil, All-tail}
 use Rattle.charge_curve.specs.Points.{ArePoints, last_level, time_on}
 use Rattle.dominance.proofs.Pieces.{time_on-before, time_on-later}
 use Rattle.ev_model.specs.Fastest.{HasNoPlan, IsFastest}
-use Rattle.ev_model.specs.Feasible.{IsFeasible}
-use Rattle.ev_model.specs.Levels.{KeepsBatteryFrom, leaving_level}
 use Rattle.ev_model.specs.Network.{IsNetwork, Network, scaled_limit}
-use Rattle.ev_model.specs.Plan.{AreStopsFrom}
-use Rattle.ev_model.specs.declared.Stop.{Stop}
 use Rattle.piece_fn.proofs.Levels.{first_is_least, is_level, time_at-level_times}
 use Rattle.piece_fn.specs.PieceFn.{first_level}
 use Rattle.certificate_parts.specs.Ranges.{PointFits}
 use Rattle.frvcp_labels.specs.Listing.{IsStateOnWay}
-use Rattle.route_plan.specs.PlanTexts.{FitsText, IsSmallStop}
 use Rattle.route_plan.specs.declared.plan.RoutePlan.{RoutePlan}
 use Rattle.route_proof.specs.Closed.{IsTrue}
 use Rattle.route_proof.specs.Ranges.{ListedPlanFits, RouteLabelFits}
 use Rattle.route_steps.specs.Trips.{Journey}
 use Rattle.route_steps.specs.declared.state.State.{State}
+use Rattle.feasible_texts.proofs.Fitting.{feasible_fits}
 use Rattle.fixed_certificate.specs.Labels.{label_of}
-
-small_stops : (g : Network) (from level : ℕ) (stops : List Stop) → IsNetwork g → AreStopsFrom g from stops → KeepsBatteryFrom g 1 from level stops → All IsSmallStop stops
-small_stops g from level [] network are keeps = All-nil IsSmallStop
-small_stops g from level (s ∷ ss) network are keeps =
-    let few = network.few_nodes in
-    let full = network.small_capacity in
-    let small : IsSmallStop s = record { node = omega (arith, are.1.known, few); added = omega (arith, keeps.1, full) } in
-    All-cons IsSmallStop s ss small (small_stops g s.node (leaving_level g 1 from level s) ss network are.2 keeps.2)
-
--- a feasible plan may stand in a text
-feasible_fits : (g : Network) (start : ℕ) (stops : List Stop) → IsNetwork g → IsFeasible g 1 start stops → FitsText stops
-feasible_fits g start [] network feasible = absurd feasible.plan
-feasible_fits g start (first ∷ stops) network feasible =
-    let node : first.node ≡ 0 = ap (λ (s : Stop). s.node) feasible.plan.1 in
-    let added : first.added ≡ 0 = ap (λ (s : Stop). s.added) feasible.plan.1 in
-    let small : IsSmallStop first = record { node = omega (arith, node); added = omega (arith, added) } in
-    record {
-      some = λ e. cc;
-      small = All-cons IsSmallStop first stops small (small_stops g first.node (1 * start) stops network feasible.plan.3 feasible.battery.0);
-    }
 
 -- what a solver answers is what a proof of it is to show
 pub is_true : (t : Journey) (plan : Option RoutePlan) → MatchOption plan (HasNoPlan t.network t.route t.start) (λ p. IsFastest t.network t.route t.start p.stops) → IsTrue t plan

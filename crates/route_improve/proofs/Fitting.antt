@@ -1,6 +1,6 @@
 -- The plan that is answered may stand in a text: its numbers are small, and it has no more routes
 -- than there are nodes.
-use Rattle.std.proofs.Common.{◌≡◌, ◌≢◌, ℕ, ◌*◌, ◌<◌, List, [], ◌∷◌, length, map, refl, ap, arith}
+use Rattle.std.proofs.Common.{◌≡◌, ◌≢◌, ℕ, ◌<◌, List, [], ◌∷◌, length, map, refl, ap, arith}
 use Rattle.std.specs.Prelude.{Some}
 use Rattle.std.specs.List.{All}
 use Rattle.std.specs.List.Sorted.{IsStrictlyIncreasing}
@@ -8,46 +8,26 @@ use Rattle.std.proofs.lemmas.List.{length-map}
 use Rattle.std.proofs.lemmas.Map.Keys.{sorted_from_strictly_increasing}
 use Rattle.std.proofs.lemmas.Map.Views.{length-le_from_below}
 use Rattle.std.proofs.lemmas.List.Elements.{All-cons, All-head, All-nil, All-tail}
-use Rattle.ev_model.specs.Feasible.{IsFeasible}
 use Rattle.ev_model.specs.Fleet.{customers_of}
-use Rattle.ev_model.specs.Levels.{KeepsBatteryFrom, leaving_level}
 use Rattle.ev_model.specs.Network.{IsNetwork, Network, node_count}
-use Rattle.ev_model.specs.Plan.{AreStopsFrom}
-use Rattle.ev_model.specs.declared.Stop.{Stop}
 use Rattle.plan_check.specs.FleetRules.{IsCustomer}
-use Rattle.route_plan.specs.PlanTexts.{FitsFile, FitsText, IsSmallStop}
+use Rattle.route_plan.specs.PlanTexts.{FitsFile, FitsText}
 use Rattle.route_plan.specs.declared.plan.RoutePlan.{RoutePlan}
+use Rattle.feasible_texts.proofs.Fitting.{feasible_fits}
 use Rattle.route_improve.specs.Arranged.{first_or_depot}
 use Rattle.route_improve.specs.Finished.{ArePlansOf}
 use Rattle.route_improve.specs.Orders.{orders_of}
 use Rattle.route_improve.specs.Routes.{lists_of}
 use Rattle.route_improve.specs.declared.route.Route.{Route}
 
--- ---- the numbers of a feasible plan are small
-
-small_stops : (g : Network) (from level : ℕ) (stops : List Stop) → IsNetwork g → AreStopsFrom g from stops → KeepsBatteryFrom g 1 from level stops → All IsSmallStop stops
-small_stops g from level [] network are keeps = All-nil IsSmallStop
-small_stops g from level (s ∷ ss) network are keeps =
-    let small : IsSmallStop s = record { node = omega (arith, are.1.known, network.few_nodes); added = omega (arith, keeps.1, network.small_capacity) } in
-    All-cons IsSmallStop s ss small (small_stops g s.node (leaving_level g 1 from level s) ss network are.2 keeps.2)
-
-feasible_fits : (g : Network) (stops : List Stop) → IsNetwork g → IsFeasible g 1 g.capacity stops → FitsText stops
-feasible_fits g [] network feasible = absurd feasible.plan
-feasible_fits g (first ∷ stops) network feasible =
-    let node : first.node ≡ 0 = ap (λ (s : Stop). s.node) feasible.plan.1 in
-    let added : first.added ≡ 0 = ap (λ (s : Stop). s.added) feasible.plan.1 in
-    let small : IsSmallStop first = record { node = omega (arith, node); added = omega (arith, added) } in
-    record {
-      some = λ none. cc;
-      small = All-cons IsSmallStop first stops small (small_stops g first.node (1 * g.capacity) stops network feasible.plan.3 feasible.battery.0);
-    }
+-- ---- the plans of routes
 
 plans_fit : (g : Network) (routes : List Route) (plans : List RoutePlan) → IsNetwork g → ArePlansOf g routes plans → All (λ p. FitsText p.stops) plans
 plans_fit g [] [] network are = All-nil (λ (p : RoutePlan). FitsText p.stops)
 plans_fit g [] (p ∷ ps) network are = absurd are
 plans_fit g (r ∷ rs) [] network are = absurd are
 plans_fit g (r ∷ rs) (p ∷ ps) network are =
-    All-cons (λ (q : RoutePlan). FitsText q.stops) p ps (feasible_fits g p.stops network are.0.feasible) (plans_fit g rs ps network are.1)
+    All-cons (λ (q : RoutePlan). FitsText q.stops) p ps (feasible_fits g g.capacity p.stops network are.0.feasible) (plans_fit g rs ps network are.1)
 
 -- ---- there are not more routes than nodes
 
