@@ -5,11 +5,12 @@ ghost use Rattle.instance_reader.specs.Instance.{customer_nodes};
 ghost use Rattle.pricing.specs.Answers.{IsPriced};
 ghost use Rattle.pricing.specs.Tree.{IsSearch};
 
-use crate::completion::Completion;
+use crate::completion::table_of;
 use crate::coverage::Care;
 use crate::priced::{Priced, PricedRoute, Prices};
 use crate::search::Search;
 use closed_lists::{Section, check_closed};
+use completion_bounds::Completion;
 use customer_sets::Pairs;
 use instance_reader::Instance;
 use std::alloc::{AllocError, Global};
@@ -48,7 +49,7 @@ pub fn price(
 {
     let of = prices.of.as_slice();
     let terms = Section::new(alloc, inst, pairs, prices.weight, of, &[])?;
-    let table = Completion::new(alloc, &terms)?;
+    let table = table_of(alloc, &terms)?;
     let mut quick = Search::new(alloc, &terms, &table, Care::Quick)?;
     quick.run(alloc, &terms)?;
     if !quick.routes.is_empty() {

@@ -9,8 +9,6 @@ mod completion;
 mod coverage;
 mod found;
 mod groups;
-mod legs;
-mod needs;
 mod priced;
 mod route;
 mod search;

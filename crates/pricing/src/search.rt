@@ -12,7 +12,6 @@ ghost use Rattle.pricing.specs.Answers.{HasPoints, IsInRange};
 ghost use Rattle.pricing.specs.Tree.{AreCopies, AreSteps, HasOrigin, IsFurther, IsGrown, IsMended, IsSearch, IsTree};
 ghost use Rattle.pricing.specs.declared.found.Found.{Found};
 
-use crate::completion::Completion;
 use crate::coverage::{Asked, Care};
 use crate::found::Tree;
 use crate::groups::Gap;
@@ -20,6 +19,7 @@ use crate::priced::PricedRoute;
 use crate::route::route_of;
 use crate::steps::{Target, target_at, values_at};
 use closed_lists::{ClosedFault, Section, price_sum};
+use completion_bounds::Completion;
 use customer_sets::CustSet;
 use dominance::LabelValue;
 use index_links::IndexHeap;
@@ -206,7 +206,7 @@ impl<'a> Search<'a> {
         };
         let paid = paid_at(terms, found.paid, node);
         let table = self.table;
-        if table.leaves_out(terms, budget, label.node, node, target.set, paid) {
+        if table.leaves_out(budget, label.node, node, target.set, paid) {
             return Ok(());
         }
         let values = values_at(alloc, terms, label, node)?;
@@ -248,10 +248,7 @@ impl<'a> Search<'a> {
     {
         let paid = price_sum(terms.prices(), label.set);
         let budget = self.table.budget(&label.value);
-        if self
-            .table
-            .is_beyond(terms, budget, label.node, label.set, paid)
-        {
+        if self.table.is_beyond(budget, label.node, label.set, paid) {
             return Ok(());
         }
         let asked = Asked {

@@ -19,7 +19,3 @@ add_all-requires-clause-steps c = record {
   leads = c.in-Some.ensures.leads;
   left = c.in_ok-values.ensures.left;
 }
-
-pub leaves_out-requires-clause-left : goal.leaves_out-requires-clause-left
-leaves_out-requires-clause-left c =
-    (c.requires.search.labels.labels c.args.from c.index-found.result.now (read c.args.self.now.tree.found.items c.args.from c.index-found.result.now c.requires.known c.index-found.ensures)).range.node
