@@ -21,7 +21,7 @@ use Rattle.pricing.specs.Better.{IsBetter}
 use Rattle.bound_certificate.specs.Limits.{most_items}
 use Rattle.bound_certificate.specs.Ranges.{IsPrice}
 use Rattle.column_pool.specs.Columns.{IsNodeRoute}
-use Rattle.column_pool.specs.Pool.{full_time, IsColumn}
+use Rattle.route_pool.specs.Pool.{full_time, IsColumn}
 use Rattle.column_pool.specs.Rising.{Earns, IsSectionAt, NoneEarns, worth}
 use Rattle.column_pool.proofs.Sections.{asked, closed_section}
 

@@ -19,7 +19,7 @@ use Rattle.fleet_model.proofs.Plans.{filtered}
 use Rattle.master_simplex.specs.Answer.{cost_of_shares, covered}
 use Rattle.route_plan.specs.declared.plan.RoutePlan.{RoutePlan}
 use Rattle.column_pool.specs.Columns.{column_of, HasPlan, set_of, share_of}
-use Rattle.column_pool.specs.Pool.{full_time}
+use Rattle.route_pool.specs.Pool.{full_time}
 
 -- ---- the set of some customers
 swapped : (a b c : Bool) → ((a || b) || c) ≡ (b || (a || c))

@@ -20,7 +20,7 @@ use Rattle.pricing.specs.declared.priced.PricedRoute.{PricedRoute}
 use Rattle.closed_lists.specs.Questions.{Question}
 use Rattle.route_plan.specs.declared.plan.RoutePlan.{RoutePlan}
 use Rattle.column_pool.specs.Columns.{AreNodeRoutes, column_of, IsFilled, IsMaster, IsNodeRoute}
-use Rattle.column_pool.specs.Pool.{IsColumn, IsPool}
+use Rattle.route_pool.specs.Pool.{IsColumn, IsPool}
 use Rattle.column_pool.specs.declared.master.Master.{Master}
 use Rattle.column_pool.proofs.Sections.{asked}
 

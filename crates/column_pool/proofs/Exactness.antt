@@ -22,7 +22,7 @@ use Rattle.column_pool.specs.Columns.{AreNodeRoutes, HasPlan, IsMaster, IsNodeRo
 use Rattle.column_pool.specs.declared.master.Master.{Master}
 use Rattle.column_pool.proofs.Covering.{cost_is, cover_is, many_columns, sum_is_right}
 use Rattle.column_pool.proofs.Filling.{all_mapped}
-use Rattle.column_pool.proofs.Fitting.{feasible_fits}
+use Rattle.feasible_texts.proofs.Fitting.{feasible_fits}
 
 -- ---- what holds of a share of a route
 pub record IsShareOf (g : Network) (p : ForbiddenPairs) (over : ℕ) (x : RouteShare) : Type 0 where

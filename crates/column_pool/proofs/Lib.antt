@@ -1,14 +1,9 @@
-mod Putting
-mod Placing
-mod Growing
-mod Alone
 mod Known
 mod Alike
 mod ColumnPast
 mod Independent
 mod Filling
 mod Covering
-mod Fitting
 mod Sections
 mod Exactness
 mod Refused

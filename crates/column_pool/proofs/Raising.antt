@@ -13,7 +13,7 @@ use Rattle.fleet_model.proofs.Counts.{numbers_once}
 use Rattle.fleet_model.proofs.Plans.{filtered}
 use Rattle.instance_reader.specs.Instance.{customer_nodes}
 use Rattle.column_pool.specs.Columns.{IsNodeRoute}
-use Rattle.column_pool.specs.Pool.{full_time}
+use Rattle.route_pool.specs.Pool.{full_time}
 use Rattle.column_pool.specs.Rising.{AreFixed, Earns, IsFixed, NoneEarns, StandsNowhere, worth}
 
 -- ---- worth by prices

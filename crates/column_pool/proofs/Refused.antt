@@ -20,7 +20,7 @@ use Rattle.master_simplex.specs.Phase.{IsReached, IsRefused}
 use Rattle.route_plan.specs.declared.plan.RoutePlan.{RoutePlan}
 use Rattle.column_pool.specs.Columns.{column_of, IsMaster, set_of}
 use Rattle.column_pool.specs.Faults.{IsPastBasis}
-use Rattle.column_pool.specs.Pool.{full_time}
+use Rattle.route_pool.specs.Pool.{full_time}
 use Rattle.column_pool.specs.declared.master.Master.{Master}
 use Rattle.column_pool.proofs.Alike.{alike_same, AreAlike, IsAlike, past_alike}
 use Rattle.column_pool.proofs.ColumnPast.{column_past}

@@ -30,7 +30,7 @@ use Rattle.column_pool.specs.TooWide.{entry_of, IsNodeBoundAt, IsPastAmong, IsTo
 use Rattle.column_pool.specs.declared.bound.NodeBound.{NodeBound}
 use Rattle.column_pool.specs.declared.bound.NodeBound.TheVariants.{Exact, Empty, Wide}
 use Rattle.column_pool.proofs.Dependent.{none_follow}
-use Rattle.column_pool.proofs.Fitting.{feasible_fits}
+use Rattle.feasible_texts.proofs.Fitting.{feasible_fits}
 use Rattle.column_pool.proofs.Independent.{columns_differ, some_customer}
 
 too_wide : (body cost n : ℕ) (routes entries : List Column) → IsPast body cost n (helpers n ++ routes) entries → IsTooWideAt body cost n routes entries

@@ -12,7 +12,7 @@ use Rattle.fleet_model.specs.Places.{numbers_of}
 use Rattle.instance_reader.specs.Instance.{customer_nodes}
 use Rattle.master_table.specs.Tableau.{size}
 use Rattle.route_plan.specs.declared.plan.RoutePlan.{RoutePlan}
-use Rattle.column_pool.specs.Pool.{full_time}
+use Rattle.route_pool.specs.Pool.{full_time}
 use Rattle.column_pool.specs.declared.master.Master.{Master}
 
 -- a feasible plan from full that serves no customer twice and keeps the pairs

@@ -1,5 +1,3 @@
-pub mod Pool
-pub mod Placed
 pub mod Columns
 pub mod Faults
 pub mod Bounds

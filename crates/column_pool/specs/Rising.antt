@@ -10,7 +10,7 @@ use Rattle.instance_reader.specs.Instance.{customer_nodes}
 use Rattle.bound_certificate.specs.declared.certificate.Section.{Section}
 use Rattle.column_pool.specs.Bounds.{IsEmpty, IsNodeSection}
 use Rattle.column_pool.specs.Columns.{IsNodeRoute}
-use Rattle.column_pool.specs.Pool.{full_time}
+use Rattle.route_pool.specs.Pool.{full_time}
 use Rattle.column_pool.specs.declared.rising.Risen.{Risen}
 use Rattle.column_pool.specs.declared.rising.Risen.TheVariants.{Priced, Nowhere}
 

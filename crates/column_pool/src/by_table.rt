@@ -5,17 +5,16 @@ ghost use Rattle.instance_reader.specs.Instance.{customer_nodes};
 ghost use Rattle.master_table.specs.RowView.{limits_of};
 ghost use Rattle.column_pool.specs.Bounds.{IsNodeBound};
 ghost use Rattle.column_pool.specs.Faults.{IsNodeFault};
-ghost use Rattle.column_pool.specs.Pool.{IsGrown, IsPool};
+ghost use Rattle.route_pool.specs.Pool.{IsGrown, IsPool};
 
 use crate::bound::NodeBound;
 use crate::fault::{MasterFault, NodeFault};
 use crate::master::Master;
-use crate::own::put_own_routes;
-use crate::pool::ColumnPool;
 use crate::rounds::price_out;
 use customer_sets::Pairs;
 use instance_reader::Instance;
 use master_table::Caps;
+use route_pool::{ColumnPool, put_own_routes};
 use std::alloc::Global;
 
 /// The bound of a node by the simplex method on a table with these caps, which begins with the

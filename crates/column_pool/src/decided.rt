@@ -9,11 +9,9 @@ ghost use Rattle.fleet_model.specs.Places.{customer_number};
 ghost use Rattle.instance_reader.specs.Instance.{customer_nodes};
 ghost use Rattle.column_pool.specs.Bounds.{IsBoundOfDecided, IsNodeBound};
 ghost use Rattle.column_pool.specs.Chains.{AreChains, HasChains, IsChainThrough, is_served, lone_price, serves};
-ghost use Rattle.column_pool.specs.Pool.{IsGrown, IsPool};
+ghost use Rattle.route_pool.specs.Pool.{IsGrown, IsPool};
 
 use crate::bound::NodeBound;
-use crate::pool::{ColumnPool, full_time};
-use crate::taking::copy_of;
 use bound_certificate::{Section, Share};
 use customer_sets::Pairs;
 use ev_list::Listed;
@@ -22,6 +20,7 @@ use instance_reader::Instance;
 use piece_fn::Label;
 use pricing::{Priced, Prices, price};
 use route_plan::RoutePlan;
+use route_pool::{ColumnPool, copy_of, full_time};
 use std::alloc::{AllocError, Global};
 
 /// What serves a customer.
@@ -235,9 +234,9 @@ fn section_of(pairs: &Pairs, prices: Prices, labels: Vec<Label>) -> Section
 mod tests {
     use super::bound_of_decided;
     use crate::bound::NodeBound;
-    use crate::pool::ColumnPool;
     use customer_sets::Pairs;
     use instance_reader::read_instance;
+    use route_pool::ColumnPool;
     use std::alloc::Global;
     use worked_instances::{NO_STATION, THREE_CUSTOMERS, TWO_CUSTOMERS};
 

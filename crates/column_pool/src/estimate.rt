@@ -2,17 +2,15 @@
 
 ghost use Rattle.std.specs.Prelude.{◌≡◌, ◌≤◌, length};
 ghost use Rattle.instance_reader.specs.Instance.{customer_nodes};
-ghost use Rattle.column_pool.specs.Pool.{IsColumn, IsPool};
+ghost use Rattle.route_pool.specs.Pool.{IsColumn, IsPool};
 
-use crate::keeping::keeps_pairs;
 use crate::master::set_of;
-use crate::parts::{earning, kept_places};
-use crate::pool::{ColumnPool, full_time};
 use customer_sets::Pairs;
 use instance_reader::Instance;
 use master_simplex::{Lp, LpFault, solve};
 use master_table::{Caps, Table, TableFault};
 use route_plan::RoutePlan;
+use route_pool::{ColumnPool, earning, full_time, keeps_pairs, kept_places};
 use std::alloc::{AllocError, Global};
 
 /// What it costs at least to cover the customers by fractions of the pool's routes that keep the
@@ -44,7 +42,7 @@ pub fn estimate_node(
         let Some(lp) = optimum(alloc, &mut table)? else {
             return Ok(None);
         };
-        let further = earning(alloc, inst, pool, &places, &lp)?;
+        let further = earning(alloc, inst, pool, &places, lp.weight, &lp.prices)?;
         if !add_at(inst, pairs, pool, &mut table, &further)? {
             return Ok(cost_of(&lp));
         }

@@ -11,7 +11,6 @@ ghost use Rattle.column_pool.specs.Columns.{AreNodeRoutes, HasPlan, IsMaster, sh
 
 use crate::bound::NodeBound;
 use crate::master::Master;
-use crate::taking::copy_of;
 use bound_certificate::{Section, Share};
 use customer_sets::Pairs;
 use ev_list::Listed;
@@ -19,6 +18,7 @@ use instance_reader::Instance;
 use master_simplex::Lp;
 use piece_fn::Label;
 use route_plan::RoutePlan;
+use route_pool::copy_of;
 use std::alloc::{AllocError, Global};
 
 /// The shares of added columns, with the plans of these; the first `helpers` columns are helpers.

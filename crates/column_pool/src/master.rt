@@ -8,14 +8,14 @@ ghost use Rattle.instance_reader.specs.Instance.{customer_nodes};
 ghost use Rattle.master_table.specs.RowView.{limits_of};
 ghost use Rattle.column_pool.specs.Columns.{IsFilled, IsMaster, set_of};
 ghost use Rattle.column_pool.specs.Faults.{IsMasterFault};
-ghost use Rattle.column_pool.specs.Pool.{IsColumn};
+ghost use Rattle.route_pool.specs.Pool.{IsColumn};
 
 use crate::fault::MasterFault;
-use crate::pool::full_time;
 use customer_sets::CustSet;
 use instance_reader::Instance;
 use master_table::{Caps, Table, TableFault};
 use route_plan::RoutePlan;
+use route_pool::full_time;
 use std::alloc::{AllocError, Global};
 
 /// The table of a node's master problem, and the plans of its added columns, in order.

@@ -4,17 +4,17 @@ ghost use Rattle.std.specs.Prelude.{◌≡◌, ◌≤◌, IfOk, length};
 ghost use Rattle.customer_sets.specs.Pairs.{IsDecided};
 ghost use Rattle.instance_reader.specs.Instance.{customer_nodes};
 ghost use Rattle.column_pool.specs.Bounds.{IsBoundOfDecided, IsNodeBound};
-ghost use Rattle.column_pool.specs.Pool.{IsGrown, IsPool};
+ghost use Rattle.route_pool.specs.Pool.{IsGrown, IsPool};
 
 use crate::bound::NodeBound;
 use crate::by_table::bound_by_table;
 use crate::decided::bound_of_decided;
 use crate::fault::NodeFault;
-use crate::pool::ColumnPool;
 use crate::wide::wide_bound;
 use customer_sets::Pairs;
 use instance_reader::Instance;
 use master_table::Caps;
+use route_pool::ColumnPool;
 use std::alloc::{AllocError, Global};
 
 /// The bound of the node whose forbidden pairs these are: a section with exactly these pairs and

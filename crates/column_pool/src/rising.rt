@@ -6,16 +6,16 @@ ghost use Rattle.ev_model.specs.Feasible.{IsFeasible};
 ghost use Rattle.ev_model.specs.Network.{is_customer, node_count, scaled_limit};
 ghost use Rattle.fleet_model.specs.Places.{customer_number};
 ghost use Rattle.instance_reader.specs.Instance.{customer_nodes};
-ghost use Rattle.column_pool.specs.Pool.{full_time, IsColumn};
+ghost use Rattle.route_pool.specs.Pool.{full_time, IsColumn};
 ghost use Rattle.column_pool.specs.Rising.{AreFixed, Earns, IsRisen, IsSectionAt, NoneEarns, StandsNowhere, worth};
 
-use crate::pool::full_time;
 use bound_certificate::Section;
 use customer_sets::Pairs;
 use ev_list::Listed;
 use instance_reader::Instance;
 use pricing::{Priced, Prices, price};
 use route_plan::RoutePlan;
+use route_pool::full_time;
 use std::alloc::{AllocError, Global};
 
 /// What comes of raising the prices of customers one by one.

@@ -6,20 +6,20 @@ ghost use Rattle.master_simplex.specs.Answer.{IsAnswer, IsLpWithin};
 ghost use Rattle.column_pool.specs.Bounds.{IsNodeBound};
 ghost use Rattle.column_pool.specs.Columns.{AreNodeRoutes, IsMaster};
 ghost use Rattle.column_pool.specs.Faults.{IsMasterFault};
-ghost use Rattle.column_pool.specs.Pool.{IsGrown, IsPool};
+ghost use Rattle.route_pool.specs.Pool.{IsGrown, IsPool};
 ghost use Rattle.column_pool.specs.Rounds.{HasMore};
 
+use crate::basis::basis_places;
 use crate::bound::NodeBound;
 use crate::exact::bound_of;
 use crate::fault::MasterFault;
 use crate::master::Master;
-use crate::parts::{basis_places, earning, kept_places};
-use crate::pool::ColumnPool;
 use crate::taking::{add_at, take_all, take_in};
 use customer_sets::Pairs;
 use instance_reader::Instance;
 use master_simplex::{Lp, LpFault, solve};
 use pricing::{Priced, Prices, price};
+use route_pool::{ColumnPool, earning, kept_places};
 use std::alloc::{AllocError, Global};
 
 /// The prices of an answer of the simplex method.
@@ -126,7 +126,7 @@ fn fill(
 {
     for _ in places {
         let lp = solve_master(alloc, inst, master)?;
-        let further = earning(alloc, inst, pool, places, &lp)?;
+        let further = earning(alloc, inst, pool, places, lp.weight, &lp.prices)?;
         if further.is_empty() {
             return Ok(());
         }

@@ -4,18 +4,16 @@ ghost use Rattle.std.specs.Prelude.{◌≡◌, ◌++◌, ◌∷◌, ◌≤◌, [
 ghost use Rattle.instance_reader.specs.Instance.{customer_nodes};
 ghost use Rattle.column_pool.specs.Columns.{AreNodeRoutes, IsFilled, IsMaster};
 ghost use Rattle.column_pool.specs.Faults.{IsMasterFault};
-ghost use Rattle.column_pool.specs.Pool.{IsColumn, IsGrown, IsPool};
+ghost use Rattle.route_pool.specs.Pool.{IsColumn, IsGrown, IsPool};
 
 use crate::fault::MasterFault;
-use crate::keeping::keeps_pairs;
 use crate::master::Master;
-use crate::pool::ColumnPool;
 use customer_sets::Pairs;
-use ev_list::Listed;
 use instance_reader::Instance;
 use pricing::PricedRoute;
 use route_plan::RoutePlan;
-use std::alloc::{AllocError, Global};
+use route_pool::{ColumnPool, copy_of, keeps_pairs};
+use std::alloc::Global;
 
 /// Adds the routes at the places of the pool that keep the pairs as columns.
 pub(crate) fn add_at(
@@ -74,18 +72,6 @@ fn add_if_kept(
     }
     let copy = copy_of(alloc, plan)?;
     master.add(alloc, inst, order, copy)
-}
-
-/// A plan with the same stops.
-pub(crate) fn copy_of(alloc: Global, plan: &RoutePlan) -> Result<RoutePlan, AllocError>
-    ensures { IfOk result (λ copy. copy ≡ plan.now) }
-{
-    let stops = plan.stops.as_slice();
-    let mut copy = Vec::with_capacity(alloc, stops.len())?;
-    copy.extend_from_slice(stops)?;
-    Ok(RoutePlan {
-        stops: Listed::from_vec(copy),
-    })
 }
 
 /// Takes a route into the pool, and as a column.

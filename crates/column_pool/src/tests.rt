@@ -1,17 +1,17 @@
 //! Worked instances: the bound of a node by a table and by rising prices, and its estimate.
 
 ghost use Rattle.std.specs.Prelude.{IfSome};
-ghost use Rattle.column_pool.specs.Pool.{IsPool};
+ghost use Rattle.route_pool.specs.Pool.{IsPool};
 
 use crate::by_table::bound_by_table;
 use crate::fault::NodeFault;
-use crate::own::put_own_route;
 use crate::rising::{Risen, rising_section};
 use crate::wide::wide_bound;
 use crate::{ColumnPool, NodeBound, bound_node, estimate_node};
 use customer_sets::Pairs;
 use instance_reader::{Instance, read_instance};
 use master_table::Caps;
+use route_pool::put_own_route;
 use std::alloc::Global;
 use worked_instances::{DEPOT_ALONE, ONE_STATION, THREE_CUSTOMERS, TWO_CUSTOMERS};
 

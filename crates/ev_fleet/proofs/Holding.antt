@@ -1,46 +1,21 @@
 -- A fleet plan whose routes are in rising order may be held: it may be written as text.
-use Rattle.std.proofs.Common.{◌≡◌, ◌≢◌, ℕ, zero, suc, ◌+◌, ◌*◌, ◌<◌, ◌≤◌, List, [], ◌∷◌, length, get_or, map, refl, ap, arith, add-one}
+use Rattle.std.proofs.Common.{◌≡◌, ◌≢◌, ℕ, zero, suc, ◌+◌, ◌<◌, ◌≤◌, List, [], ◌∷◌, length, get_or, map, refl, ap, arith, add-one}
 use Rattle.std.specs.Prelude.{slice_index}
 use Rattle.std.specs.List.{All}
 use Rattle.std.specs.List.Sorted.{IsStrictlyIncreasing}
 use Rattle.std.proofs.lemmas.List.{length-map}
-use Rattle.std.proofs.lemmas.List.Elements.{All-cons, All-map, All-nil}
+use Rattle.std.proofs.lemmas.List.Elements.{All-map}
 use Rattle.ev_model.specs.Feasible.{IsFeasible}
 use Rattle.ev_model.specs.Fleet.{IsFleetPlan, customers_of}
-use Rattle.ev_model.specs.Levels.{KeepsBatteryFrom, leaving_level}
 use Rattle.ev_model.specs.Network.{IsNetwork, Network, node_count}
-use Rattle.ev_model.specs.Plan.{AreStopsFrom}
-use Rattle.ev_model.specs.declared.Stop.{Stop}
 use Rattle.fleet_model.proofs.Fleets.{plan_below}
 use Rattle.fleet_model.proofs.Weighed.{AreBelow}
 use Rattle.plan_check.specs.FleetRules.{stops_of}
-use Rattle.route_plan.specs.PlanTexts.{FitsText, IsSmallStop}
 use Rattle.route_plan.specs.declared.plan.FleetPlan.{FleetPlan}
 use Rattle.route_plan.specs.declared.plan.RoutePlan.{RoutePlan}
+use Rattle.feasible_texts.proofs.Fitting.{feasible_fits}
 use Rattle.ev_fleet.specs.Plans.{IsHeld, first_customer, first_or_depot}
 use Rattle.ev_fleet.proofs.FirstCustomers.{at_route}
-
--- ---- the numbers of a feasible plan are small
-
-stops_small : (g : Network) (from level : ℕ) (ss : List Stop) → IsNetwork g → AreStopsFrom g from ss → KeepsBatteryFrom g 1 from level ss → All IsSmallStop ss
-stops_small g from level [] network are keeps = All-nil IsSmallStop
-stops_small g from level (s ∷ ss) network are keeps =
-    let here : IsSmallStop s = record {
-      node = omega (arith, are.1.known, network.few_nodes);
-      added = omega (arith, keeps.1, network.small_capacity);
-    } in
-    All-cons IsSmallStop s ss here (stops_small g s.node (leaving_level g 1 from level s) ss network are.2 keeps.2)
-
-plan_fits : (g : Network) (stops : List Stop) → IsNetwork g → IsFeasible g 1 g.capacity stops → FitsText stops
-plan_fits g [] network feasible = absurd feasible.plan
-plan_fits g (first ∷ ss) network feasible =
-    let node : first.node ≡ 0 = ap (λ (s : Stop). s.node) feasible.plan.1 in
-    let added : first.added ≡ 0 = ap (λ (s : Stop). s.added) feasible.plan.1 in
-    let here : IsSmallStop first = record { node = omega (arith, node); added = omega (arith, added) } in
-    record {
-      some = λ none. cc;
-      small = All-cons IsSmallStop first ss here (stops_small g first.node (1 * g.capacity) ss network feasible.plan.3 feasible.battery.0);
-    }
 
 -- ---- there are not more routes than nodes
 
@@ -78,6 +53,6 @@ may_hold g plan network fleet order =
       order = order;
       text = (
         omega (arith, routes, network.few_nodes),
-        λ k d within. plan_fits g (get_or plan.routes k d).stops network (at_route (IsFeasible g 1 g.capacity) plan.routes k d within fleet.feasible),
+        λ k d within. feasible_fits g g.capacity (get_or plan.routes k d).stops network (at_route (IsFeasible g 1 g.capacity) plan.routes k d within fleet.feasible),
       );
     }

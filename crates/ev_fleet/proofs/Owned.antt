@@ -17,7 +17,7 @@ use Rattle.instance_reader.specs.Instance.{customer_nodes}
 use Rattle.plan_check.specs.FleetRules.{stops_of}
 use Rattle.route_plan.specs.declared.plan.FleetPlan.{FleetPlan}
 use Rattle.route_plan.specs.declared.plan.RoutePlan.{RoutePlan}
-use Rattle.column_pool.specs.Pool.{IsColumn}
+use Rattle.route_pool.specs.Pool.{IsColumn}
 use Rattle.ev_fleet.specs.OwnRoutes.{AreFastestOwn, HasNoOwn, IsFastestOwn, LacksOwn, own_route}
 use Rattle.ev_fleet.specs.Plans.{AreOwnRoutes, CostsNoMoreThanOwn, IsHeld, first_customer}
 use Rattle.ev_fleet.proofs.Holding.{may_hold}

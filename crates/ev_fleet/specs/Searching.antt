@@ -15,7 +15,7 @@ use Rattle.branching.specs.Nodes.{node_at, IsLeastBound, IsNext, IsOpen}
 use Rattle.branching.specs.SearchTree.{HasPairs, IsRoot, IsSearchTree, SearchTree, with_node}
 use Rattle.branching.specs.declared.node.Node.{Node}
 use Rattle.column_pool.specs.Bounds.{IsNodeBound}
-use Rattle.column_pool.specs.Pool.{IsPool}
+use Rattle.route_pool.specs.Pool.{IsPool}
 use Rattle.ev_fleet.specs.Answers.{answer_of, shares_in}
 use Rattle.ev_fleet.specs.Bounds.{HasSection, IsAtMost, IsBoundOf}
 use Rattle.ev_fleet.specs.Held.{MayHold, cost_at}

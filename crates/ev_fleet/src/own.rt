@@ -3,7 +3,7 @@
 ghost use Rattle.std.specs.Prelude.{◌≡◌, ◌<◌, true, IfOk, IfSome, MatchOption};
 ghost use Rattle.ev_model.specs.Network.{is_customer, node_count};
 ghost use Rattle.instance_reader.specs.Instance.{customer_nodes};
-ghost use Rattle.column_pool.specs.Pool.{IsPool};
+ghost use Rattle.route_pool.specs.Pool.{IsPool};
 ghost use Rattle.ev_fleet.specs.OwnRoutes.{AreFastestOwn, HasNoOwn, IsFastestOwn, LacksOwn};
 ghost use Rattle.ev_fleet.specs.Plans.{CostsNoMoreThanOwn, IsHeld};
 

@@ -4,7 +4,7 @@ ghost use Rattle.std.specs.Prelude.{◌≡◌, ◌⊎◌, ◌<◌, ◌≤◌, �
 ghost use Rattle.std.specs.List.{All};
 ghost use Rattle.instance_reader.specs.Instance.{customer_nodes};
 ghost use Rattle.branching.specs.Nodes.{HasNode, IsLive};
-ghost use Rattle.column_pool.specs.Pool.{IsPool};
+ghost use Rattle.route_pool.specs.Pool.{IsPool};
 ghost use Rattle.ev_fleet.specs.Splitting.{CanSplit, CannotSplit, CannotSplitTo, IsChoice, MayChoose};
 
 use crate::strong::{Gap, strongest};

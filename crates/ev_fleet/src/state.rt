@@ -4,7 +4,7 @@ ghost use Rattle.std.specs.Prelude.{◌≡◌, ◌<◌, ◌≤◌, IfOk, IfSome,
 ghost use Rattle.branching.specs.Nodes.{NoneIsOpen};
 ghost use Rattle.branching.specs.Work.{work_left};
 ghost use Rattle.instance_reader.specs.Instance.{customer_nodes};
-ghost use Rattle.column_pool.specs.Pool.{IsPool};
+ghost use Rattle.route_pool.specs.Pool.{IsPool};
 ghost use Rattle.ev_fleet.specs.Bounds.{IsAtMost};
 ghost use Rattle.ev_fleet.specs.Held.{MayHold, cost_at};
 ghost use Rattle.ev_fleet.specs.Plans.{IsHeld, cost_held};

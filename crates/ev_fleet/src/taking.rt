@@ -7,7 +7,7 @@ ghost use Rattle.branching.specs.Work.{work_left};
 ghost use Rattle.ev_model.specs.Fleet.{IsFleetPlan};
 ghost use Rattle.instance_reader.specs.Instance.{customer_nodes};
 ghost use Rattle.column_pool.specs.Bounds.{IsNodeBound, plans_of};
-ghost use Rattle.column_pool.specs.Pool.{IsPool};
+ghost use Rattle.route_pool.specs.Pool.{IsPool};
 ghost use Rattle.ev_fleet.specs.Answers.{answer_of, shares_in};
 ghost use Rattle.ev_fleet.specs.Bounds.{IsAtMost};
 ghost use Rattle.ev_fleet.specs.Greedy.{TakesGreedy, routes_at};

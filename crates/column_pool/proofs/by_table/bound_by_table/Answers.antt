@@ -1,4 +1,4 @@
-use Rattle.column_pool.proofs.Growing.{grown_further}
+use Rattle.route_pool.proofs.Growing.{grown_further}
 use Rattle.column_pool.proofs.by_table.bound_by_table.Goals as goal
 
 pub returns-in-Ok-clause-grown : goal.returns-in-Ok-clause-grown

@@ -1,5 +1,5 @@
 use Rattle.column_pool.specs.Chains.{AreChains}
-use Rattle.column_pool.specs.Pool.{IsGrown, IsPool}
+use Rattle.route_pool.specs.Pool.{IsGrown, IsPool}
 use Rattle.column_pool.proofs.decided.bound_of_decided.Given as goal
 
 abbrev pub invariant-loop-number : goal.invariant-loop-number

@@ -1,5 +1,5 @@
 use Rattle.std.proofs.Common.{ℕ, List, subst, sym}
-use Rattle.column_pool.specs.Pool.{IsColumn}
+use Rattle.route_pool.specs.Pool.{IsColumn}
 use Rattle.column_pool.proofs.estimate.add_at.Goals as goal
 
 pub add_if_kept-requires-clause-column : goal.add_if_kept-requires-clause-column

@@ -1,4 +1,4 @@
-use Rattle.column_pool.proofs.Known.{column_customers, column_known}
+use Rattle.route_pool.proofs.Known.{column_customers, column_known}
 use Rattle.column_pool.proofs.estimate.add_if_kept.Goals as goal
 
 pub keeps_pairs-requires-clause-known : goal.keeps_pairs-requires-clause-known

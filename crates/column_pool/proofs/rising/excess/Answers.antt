@@ -1,4 +1,4 @@
-use Rattle.column_pool.proofs.Known.{column_customers, column_known}
+use Rattle.route_pool.proofs.Known.{column_customers, column_known}
 use Rattle.column_pool.proofs.rising.excess.Goals as goal
 
 pub worth-requires-clause-known : goal.worth-requires-clause-known

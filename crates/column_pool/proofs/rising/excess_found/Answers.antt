@@ -5,7 +5,7 @@ use Rattle.pricing.specs.Answers.{IsBetterRoute, IsPriced}
 use Rattle.pricing.specs.declared.priced.Priced.{Priced}
 use Rattle.pricing.specs.declared.priced.PricedRoute.{PricedRoute}
 use Rattle.fleet_model.specs.Places.{customer_number}
-use Rattle.column_pool.specs.Pool.{full_time}
+use Rattle.route_pool.specs.Pool.{full_time}
 use Rattle.column_pool.specs.Rising.{NoneEarns, worth}
 use Rattle.column_pool.proofs.Closing.{better_earns, none_earns}
 use Rattle.column_pool.proofs.Sections.{asked}

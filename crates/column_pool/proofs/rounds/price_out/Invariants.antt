@@ -1,6 +1,6 @@
 use Rattle.std.proofs.Common.{◌≡◌, ◌-◌, ◌^◌, length}
 use Rattle.column_pool.specs.Columns.{AreNodeRoutes, IsMaster}
-use Rattle.column_pool.specs.Pool.{IsGrown, IsPool}
+use Rattle.route_pool.specs.Pool.{IsGrown, IsPool}
 use Rattle.column_pool.proofs.rounds.price_out.Given as goal
 
 abbrev pub invariant-loop-places : goal.invariant-loop-places

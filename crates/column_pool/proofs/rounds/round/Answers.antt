@@ -1,5 +1,5 @@
 use Rattle.column_pool.proofs.Earning.{all_taken, first_taken}
-use Rattle.column_pool.proofs.Growing.{grown_further}
+use Rattle.route_pool.proofs.Growing.{grown_further}
 use Rattle.column_pool.proofs.rounds.round.Goals as goal
 
 pub returns-in_err-take_in-in-Better-clause-routes : goal.returns-in_err-take_in-in-Better-clause-routes

@@ -1,7 +1,7 @@
 use Rattle.std.proofs.Common.{ℕ, IfErr, List, rules, subst, sym}
 use Rattle.master_table.specs.Tableau.{Limits}
 use Rattle.column_pool.specs.Faults.{IsMasterFault}
-use Rattle.column_pool.specs.Pool.{IsColumn}
+use Rattle.route_pool.specs.Pool.{IsColumn}
 use Rattle.column_pool.proofs.taking.add_at.Goals as goal
 
 pub add_if_kept-requires-clause-column : goal.add_if_kept-requires-clause-column

@@ -1,6 +1,7 @@
 use Rattle.std.proofs.Common.{ap}
 use Rattle.route_plan.specs.declared.plan.RoutePlan.{RoutePlan}
-use Rattle.column_pool.proofs.Known.{column_known, kept_alone}
+use Rattle.route_pool.proofs.Known.{column_known}
+use Rattle.column_pool.proofs.Known.{kept_alone}
 use Rattle.column_pool.proofs.taking.add_if_kept.Goals as goal
 
 pub keeps_pairs-requires-clause-known : goal.keeps_pairs-requires-clause-known

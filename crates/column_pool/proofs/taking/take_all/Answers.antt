@@ -3,7 +3,7 @@ use Rattle.master_table.specs.Tableau.{Limits}
 use Rattle.column_pool.specs.Faults.{IsMasterFault}
 use Rattle.pricing.specs.declared.priced.PricedRoute.{PricedRoute}
 use Rattle.column_pool.proofs.Filling.{filled_further, filled_same, plan_step}
-use Rattle.column_pool.proofs.Growing.{grown_further, grown_same}
+use Rattle.route_pool.proofs.Growing.{grown_further, grown_same}
 use Rattle.column_pool.proofs.taking.take_all.Goals as goal
 
 pub loop-route-init : goal.loop-route-init

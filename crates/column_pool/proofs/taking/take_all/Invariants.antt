@@ -1,7 +1,7 @@
 use Rattle.std.proofs.Common.{◌≡◌, ◌++◌, map, drop}
 use Rattle.pricing.specs.declared.priced.PricedRoute.{PricedRoute}
 use Rattle.column_pool.specs.Columns.{IsFilled, IsMaster}
-use Rattle.column_pool.specs.Pool.{IsGrown, IsPool}
+use Rattle.route_pool.specs.Pool.{IsGrown, IsPool}
 use Rattle.column_pool.proofs.taking.take_all.Given as goal
 
 abbrev pub invariant-loop-route : goal.invariant-loop-route

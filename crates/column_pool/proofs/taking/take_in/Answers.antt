@@ -1,7 +1,7 @@
-use Rattle.column_pool.proofs.Growing.{grown_put, grown_same}
+use Rattle.route_pool.proofs.Growing.{grown_put, grown_same}
 use Rattle.std.proofs.Common.{List, subst, sym}
 use Rattle.pricing.specs.declared.priced.PricedRoute.{PricedRoute}
-use Rattle.column_pool.specs.Pool.{IsGrown}
+use Rattle.route_pool.specs.Pool.{IsGrown}
 use Rattle.column_pool.proofs.taking.take_in.Goals as goal
 
 pub returns-in_err-put-clause-grown : goal.returns-in_err-put-clause-grown

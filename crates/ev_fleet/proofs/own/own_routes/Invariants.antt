@@ -1,5 +1,5 @@
 use Rattle.std.proofs.Common.{take}
-use Rattle.column_pool.specs.Pool.{IsPool}
+use Rattle.route_pool.specs.Pool.{IsPool}
 use Rattle.ev_fleet.specs.OwnRoutes.{AreFastestOwn}
 use Rattle.ev_fleet.proofs.own.own_routes.Given as goal
 

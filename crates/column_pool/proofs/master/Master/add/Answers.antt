@@ -5,7 +5,7 @@ use Rattle.master_table.specs.declared.caps.TableFault.{TableFault}
 use Rattle.route_plan.specs.declared.plan.RoutePlan.{RoutePlan}
 use Rattle.column_pool.specs.Faults.{IsPastBasis}
 use Rattle.column_pool.proofs.Filling.{filled_by}
-use Rattle.column_pool.proofs.Known.{column_customers, column_known}
+use Rattle.route_pool.proofs.Known.{column_customers, column_known}
 use Rattle.column_pool.proofs.Refused.{made_column, refused_column}
 use Rattle.column_pool.proofs.master.Master.add.Goals as goal
 

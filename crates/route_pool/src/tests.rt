@@ -1,0 +1,116 @@
+//! A worked instance: which routes of a pool keep pairs, which of them earn, and where they stand.
+
+ghost use Rattle.std.specs.Prelude.{◌≡◌, ◌≤◌, IfSome, length};
+ghost use Rattle.instance_reader.specs.Instance.{customer_nodes};
+ghost use Rattle.route_pool.specs.Pool.{IsPool};
+
+use crate::{ColumnPool, copy_of, earning, kept_places, put_own_routes};
+use customer_sets::Pairs;
+use instance_reader::{Instance, read_instance};
+use std::alloc::Global;
+use worked_instances::THREE_CUSTOMERS;
+
+/// The instance of three customers, each of whom is 8 by a route of his own.
+fn instance(alloc: Global) -> Option<Instance>
+    ensures { IfSome result (λ inst. length (customer_nodes inst) ≤ 128) }
+{
+    let inst = read_instance(alloc, THREE_CUSTOMERS.as_bytes()).ok()?;
+    if inst.customers().len() > 128 {
+        return None;
+    }
+    Some(inst)
+}
+
+/// The pool of the customers' own routes.
+fn own_routes(alloc: Global, inst: &Instance) -> Option<ColumnPool>
+    ensures { IfSome result (IsPool inst.now) }
+{
+    let mut pool = ColumnPool::new(alloc);
+    put_own_routes(alloc, inst, &mut pool).ok()?;
+    Some(pool)
+}
+
+/// Whether the places of the routes that keep the pairs are these, where one pair may be forbidden.
+fn keeps(alloc: Global, pair: Option<(usize, usize)>, places: &[usize]) -> Option<bool> {
+    let inst = instance(alloc)?;
+    let pool = own_routes(alloc, &inst)?;
+    let customers = inst.customers().len();
+    let mut pairs = Pairs::new(customers);
+    if let Some((i, j)) = pair {
+        if i > customers || j > customers || i == j {
+            return None;
+        }
+        pairs.forbid(i, j);
+    }
+    let kept = kept_places(alloc, &inst, &pairs, &pool).ok()?;
+    Some(kept.as_slice() == places)
+}
+
+#[test]
+fn own_routes_keep_the_pairs_without_the_depot(rt: HostRuntime) {
+    let alloc = rt.alloc();
+    for (pair, places) in [
+        (None, [0usize, 1, 2].as_slice()),
+        (Some((1usize, 2usize)), [0, 1, 2].as_slice()),
+        (Some((0, 2)), [0, 2].as_slice()),
+        (Some((3, 0)), [0, 1].as_slice()),
+    ] {
+        assert_eq!(rt; keeps(alloc, pair, places), Some(true));
+    }
+}
+
+/// Whether the places whose routes earn at the weight and prices are these, of three and of one
+/// where there is no route.
+fn earns(alloc: Global, weight: u64, prices: &[i128], places: &[usize]) -> Option<bool> {
+    let inst = instance(alloc)?;
+    let pool = own_routes(alloc, &inst)?;
+    let found = earning(alloc, &inst, &pool, &[0, 1, 2, 7], weight, prices).ok()?;
+    Some(found.as_slice() == places)
+}
+
+#[test]
+fn routes_that_earn_most_come_last(rt: HostRuntime) {
+    let alloc = rt.alloc();
+    for (weight, prices, places) in [
+        (1u64, [8i128, 8, 8].as_slice(), [].as_slice()),
+        (1, [8, 9, 8].as_slice(), [1usize].as_slice()),
+        (2, [30, 16, 20].as_slice(), [2, 0].as_slice()),
+        (0, [2, 3, 1].as_slice(), [2, 0, 1].as_slice()),
+        (1, [i128::MAX, 9, -1].as_slice(), [1, 0].as_slice()),
+    ] {
+        assert_eq!(rt; earns(alloc, weight, prices, places), Some(true));
+    }
+}
+
+/// The place of the route over the nodes, and whether the places that were noted are told.
+fn told(alloc: Global, order: &[usize]) -> Option<(Option<usize>, bool)> {
+    let inst = instance(alloc)?;
+    let mut pool = own_routes(alloc, &inst)?;
+    let mut noted = Vec::new(alloc);
+    noted.push(2usize).ok()?;
+    noted.push(0).ok()?;
+    pool.note_recent(noted);
+    Some((pool.place(order), pool.recent() == [2, 0].as_slice()))
+}
+
+#[test]
+fn places_are_told_and_noted(rt: HostRuntime) {
+    let alloc = rt.alloc();
+    assert_eq!(rt; told(alloc, &[3]), Some((Some(2), true)));
+    assert_eq!(rt; told(alloc, &[1, 3]), Some((None, true)));
+}
+
+/// Whether the plan at the place is the copy of itself.
+fn copies(alloc: Global, at: usize) -> Option<bool> {
+    let inst = instance(alloc)?;
+    let pool = own_routes(alloc, &inst)?;
+    let (_, plan) = pool.route_at(at)?;
+    let copy = copy_of(alloc, plan).ok()?;
+    Some(copy.stops.as_slice() == plan.stops.as_slice())
+}
+
+#[test]
+fn a_copy_has_the_same_stops(rt: HostRuntime) {
+    assert_eq!(rt; copies(rt.alloc(), 1), Some(true));
+    assert_eq!(rt; copies(rt.alloc(), 3), None);
+}
