@@ -1,0 +1,9 @@
+use Rattle.std.proofs.Common.{List, ℕ, subst, sym}
+use Rattle.price_loop.specs.Rising.{AreFixed}
+use Rattle.price_loop.proofs.Final.{none_fixed}
+use Rattle.price_loop.proofs.rising.rise.Goals as goal
+
+pub loop-customer-init : goal.loop-customer-init
+loop-customer-init g c =
+    let q = g.E.Earners.problem c.args.earners.now in
+    subst (λ (xs : List ℕ). AreFixed q xs 0) (sym c.in_ok-of.ensures) (none_fixed q c.customers-customers.result c.customers-customers.ensures.value)

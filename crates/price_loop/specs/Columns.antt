@@ -1,0 +1,17 @@
+-- Routes as columns of a master problem.
+use Rattle.std.specs.Prelude.{ℕ, List, [], ◌∷◌, ◌++◌, map}
+use Rattle.customer_sets.specs.CustSet.{with_customer}
+use Rattle.fleet_model.specs.Equations.{Column, helpers, route}
+
+-- the set with further customers
+abbrev pub set_of : List ℕ → List ℕ → List ℕ
+set_of set [] = set
+set_of set (c ∷ cs) = set_of (with_customer c set) cs
+
+-- the column of a route: the set of the customers whom it serves, and what it costs
+abbrev pub column : List ℕ → ℕ → Column
+column served cost = route (set_of [] served) cost
+
+-- the columns of a master problem of n customers: their helpers, then the routes
+abbrev pub columns : {R : Type 0} → ℕ → (R → Column) → List R → List Column
+columns n of routes = helpers n ++ map of routes

@@ -1,0 +1,5 @@
+pub mod Columns
+pub mod Problems
+pub mod Masters
+pub mod Endings
+pub mod Rising

@@ -1,0 +1,20 @@
+//! The loop of column generation: a master problem over routes that each have a set of customers
+//! and a cost, and whoever finds further ones that earn at its prices, or shows that none does
+//! (Desaulniers, Desrosiers, Solomon 2005). Where its numbers grow too wide, prices that rise
+//! customer by customer bound it all the same.
+#![tactic(auto)]
+
+mod earners;
+mod ended;
+mod fault;
+mod master;
+mod rising;
+mod rounds;
+
+pub use earners::{Earned, Earners};
+pub use ended::Ended;
+pub use rising::{Risen, rise};
+pub use rounds::price_out;
+
+#[cfg(test)]
+mod tests;
