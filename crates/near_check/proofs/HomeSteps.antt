@@ -15,17 +15,17 @@ use Rattle.near_proof.specs.Covered.{IsNearCovered}
 use Rattle.near_proof.specs.States.{near_at, near_start}
 use Rattle.near_proof.specs.Steps.{IsNearHomeStep}
 use Rattle.near_proof.specs.declared.proof.NearLabel.{NearLabel}
-use Rattle.near_proof.specs.declared.proof.NearProof.{NearProof}
 use Rattle.near_proof.proofs.Steps.{covered_by}
+use Rattle.near_check.specs.Faults.{Judged}
 use Rattle.near_check.specs.Judging.{TellsHome}
 use Rattle.near_check.specs.Targets.{covers, state_at}
 use Rattle.near_check.specs.declared.coverage.Target.{Target}
 use Rattle.near_check.proofs.LabelSteps.{asked_of, later}
 
-module _ (g : Network) (p : NearProof) (l : NearLabel) where
+module _ (g : Network) (weight : ℕ) (l : NearLabel) where
   module _ (w : List (ℕ × ℕ)) (t : ℕ) (arrival : IsArrival (energy g l.node 0) (drive_time g l.node 0) (scaled_limit g) (max g.reserve g.home_level) (level_times l.value) (level_times w))
       (valid : IsValue (level_times w)) (is : t ≡ value_time (level_times w) (level_times w).first) where
-    earning : 0 < node_count g → 0 ≢ l.node → p.weight * t < l.earned → EarnsHome g p.weight l
+    earning : 0 < node_count g → 0 ≢ l.node → weight * t < l.earned → EarnsHome g weight l
     earning known moves less =
         let e = energy g l.node 0 in
         let a = (level_times w).first in
@@ -38,9 +38,9 @@ module _ (g : Network) (p : NearProof) (l : NearLabel) where
           in_time = omega (arith, at.2);
         } in
         let same : t ≡ time_at g (near_at l (a + e)).state 0 = is ∙ omega (arith, time) in
-        (a + e, at.0, step, subst (λ k. p.weight * k < l.earned) same less)
+        (a + e, at.0, step, subst (λ k. weight * k < l.earned) same less)
 
-    not_earning : (p.weight * t < l.earned → ⊥) → EarnsHome g p.weight l → ⊥
+    not_earning : (weight * t < l.earned → ⊥) → EarnsHome g weight l → ⊥
     not_earning free earns =
         let e = energy g l.node 0 in
         let v = level_times l.value in
@@ -52,15 +52,15 @@ module _ (g : Network) (p : NearProof) (l : NearLabel) where
         let time : value_time (level_times w) (y - e) ≡ value_time v y + (drive_time g l.node 0) = arrival.later (y - e) level ∙ ap (λ k. value_time v k + (drive_time g l.node 0)) back in
         let rises = valid.rising ((level_times w).first - (level_times w).first) (y - e - (level_times w).first) 0 (omega arith) (omega (arith, level.0, level.1)) in
         let late : t ≤ time_at g (near_at l y).state 0 = omega (arith, is, rises, time) in
-        let scaled : p.weight * t ≤ p.weight * time_at g (near_at l y).state 0 = mul-le-mul_left p.weight late in
+        let scaled : weight * t ≤ weight * time_at g (near_at l y).state 0 = mul-le-mul_left weight late in
         free (omega (arith, scaled, earns.3))
 
-    pub home_told : (earns : Bool) → 0 < node_count g → 0 ≢ l.node → (IsTrue earns ↔ (p.weight * t < l.earned)) → TellsHome g p l earns
+    pub home_told : (earns : Bool) → 0 < node_count g → 0 ≢ l.node → (IsTrue earns ↔ (weight * t < l.earned)) → TellsHome g weight l earns
     home_told true known moves tells = earning known moves (tells.0 refl)
     home_told false known moves tells = not_earning (λ less. false≢true (tells.1 less))
 
   -- where there is no step home
-  pub nothing_home : NoArrival (energy g l.node 0) (drive_time g l.node 0) (scaled_limit g) (max g.reserve g.home_level) (level_times l.value) → EarnsHome g p.weight l → ⊥
+  pub nothing_home : NoArrival (energy g l.node 0) (drive_time g l.node 0) (scaled_limit g) (max g.reserve g.home_level) (level_times l.value) → EarnsHome g weight l → ⊥
   nothing_home none earns =
       let past = none earns.0 earns.1 (omega (arith, earns.2.step.reaches, earns.2.home)) in
       omega (arith, past, earns.2.in_time)
@@ -78,20 +78,20 @@ pub record IsStartTarget (t : Target) : Type 0 where
   pub count : t.count ≡ 0
   pub earned : t.earned ≡ 0
 
-module _ (g : Network) (p : NearProof) (t : Target) (full : ℕ) (value : List (ℕ × ℕ)) (is : IsStartTarget t) (same : full ≡ g.capacity) (point : value ≡ (full, 0) ∷ []) where
-  pub start_covered : IsCoveredAll (covers (asked_of p t)) (level_times value) → IsNearCovered p.weight p.labels (near_start g)
+module _ (g : Network) (j : Judged) (t : Target) (full : ℕ) (value : List (ℕ × ℕ)) (is : IsStartTarget t) (same : full ≡ g.capacity) (point : value ≡ (full, 0) ∷ []) where
+  pub start_covered : IsCoveredAll (covers (asked_of j t)) (level_times value) → IsNearCovered j.terms.weight j.labels (near_start g)
   start_covered all =
-      let here : IsCoveredAll (covers (asked_of p t)) (level_times ((full, 0) ∷ [])) = subst (λ v. IsCoveredAll (covers (asked_of p t)) (level_times v)) point all in
+      let here : IsCoveredAll (covers (asked_of j t)) (level_times ((full, 0) ∷ [])) = subst (λ v. IsCoveredAll (covers (asked_of j t)) (level_times v)) point all in
       let level = is_level ((full, 0) ∷ []) full tt (omega arith) (omega arith) in
       let time = value_time (level_times ((full, 0) ∷ [])) full in
-      covered_by p.weight p.labels (state_at t full time) (near_start g) (here full level) (omega (arith, is.count))
-      (later p.weight (state_at t full time).state (near_start g).state refl is.node (rw (is.memory) (λ c h. h)) (omega (arith, same)) (omega (arith, point_time full full level)) (ap (λ (e : ℕ). pos e) is.earned))
+      covered_by j.terms.weight j.labels (state_at t full time) (near_start g) (here full level) (omega (arith, is.count))
+      (later j.terms.weight (state_at t full time).state (near_start g).state refl is.node (rw (is.memory) (λ c h. h)) (omega (arith, same)) (omega (arith, point_time full full level)) (ap (λ (e : ℕ). pos e) is.earned))
 
-  pub start_missed : IsMissed (covers (asked_of p t)) (level_times value) → IsNearCovered p.weight p.labels (near_start g) → ⊥
+  pub start_missed : IsMissed (covers (asked_of j t)) (level_times value) → IsNearCovered j.terms.weight j.labels (near_start g) → ⊥
   start_missed missed covered =
-      let here : IsMissed (covers (asked_of p t)) (level_times ((full, 0) ∷ [])) = subst (λ v. IsMissed (covers (asked_of p t)) (level_times v)) point missed in
+      let here : IsMissed (covers (asked_of j t)) (level_times ((full, 0) ∷ [])) = subst (λ v. IsMissed (covers (asked_of j t)) (level_times v)) point missed in
       let y = here.0 in
       let at = point_level full y here.1 in
       let time = value_time (level_times ((full, 0) ∷ [])) y in
-      here.2 (covered_by p.weight p.labels (near_start g) (state_at t y time) covered (omega arith)
-      (later p.weight (near_start g).state (state_at t y time).state refl (sym is.node) (λ c h. absurd (grind (arith, h))) (omega (arith, same, at)) (omega arith) (ap (λ (e : ℕ). pos e) (sym is.earned))))
+      here.2 (covered_by j.terms.weight j.labels (near_start g) (state_at t y time) covered (omega arith)
+      (later j.terms.weight (near_start g).state (state_at t y time).state refl (sym is.node) (λ c h. absurd (grind (arith, h))) (omega (arith, same, at)) (omega arith) (ap (λ (e : ℕ). pos e) (sym is.earned))))

@@ -17,8 +17,8 @@ use Rattle.near_proof.specs.Covered.{IsNearCovered}
 use Rattle.near_proof.specs.States.{near_at}
 use Rattle.near_proof.specs.Steps.{at_near_station, IsNearStationStep}
 use Rattle.near_proof.specs.declared.proof.NearLabel.{NearLabel}
-use Rattle.near_proof.specs.declared.proof.NearProof.{NearProof}
 use Rattle.near_proof.proofs.Steps.{covered_by}
+use Rattle.near_check.specs.Faults.{Judged}
 use Rattle.near_check.specs.Judging.{AreStepsCovered, IsUncovered, TellsStep}
 use Rattle.near_check.specs.Targets.{Asking, covers, state_at, TellsEach}
 use Rattle.near_check.specs.declared.coverage.Target.{Target}
@@ -49,7 +49,7 @@ some_points : (o : Option (List (ℕ × ℕ))) → IsSome o → (points : List (
 some_points None some = absurd (grind (arith, some))
 some_points (Some points) some = (points, refl)
 
-module _ (g : Network) (p : NearProof) (l : NearLabel) (x : ℕ) (t : Target) (is : IsStationTarget l x t) (station : IsSome (curve_at g x)) where
+module _ (g : Network) (j : Judged) (l : NearLabel) (x : ℕ) (t : Target) (is : IsStationTarget l x t) (station : IsSome (curve_at g x)) where
   -- the time of a step, by that of the arc and that of the charge
   step_time : (y z : ℕ) → level_at g (near_at l y).state x ≤ z →
       (at_near_station g (near_at l y) x z).state.time ≡ value_time (level_times l.value) y + drive_time g l.node x + charge_time_at g x (y - energy g l.node x) (z - (y - energy g l.node x))
@@ -57,20 +57,20 @@ module _ (g : Network) (p : NearProof) (l : NearLabel) (x : ℕ) (t : Target) (i
       let parts = charge_between g x (y - energy g l.node x) z low in
       omega (arith, parts)
 
-  to_step : (y z level time : ℕ) → z ≤ level → time ≤ (at_near_station g (near_at l y) x z).state.time → IsNearCovered p.weight p.labels (state_at t level time) → IsNearCovered p.weight p.labels (at_near_station g (near_at l y) x z)
+  to_step : (y z level time : ℕ) → z ≤ level → time ≤ (at_near_station g (near_at l y) x z).state.time → IsNearCovered j.terms.weight j.labels (state_at t level time) → IsNearCovered j.terms.weight j.labels (at_near_station g (near_at l y) x z)
   to_step y z level time high early covered =
-      covered_by p.weight p.labels (state_at t level time) (at_near_station g (near_at l y) x z) covered (omega (arith, is.count))
-      (later p.weight (state_at t level time).state (at_near_station g (near_at l y) x z).state refl is.node (rw (is.memory) (λ c h. h)) high early (ap (λ (e : ℕ). pos e) is.earned))
+      covered_by j.terms.weight j.labels (state_at t level time) (at_near_station g (near_at l y) x z) covered (omega (arith, is.count))
+      (later j.terms.weight (state_at t level time).state (at_near_station g (near_at l y) x z).state refl is.node (rw (is.memory) (λ c h. h)) high early (ap (λ (e : ℕ). pos e) is.earned))
 
-  from_step : (y z level time : ℕ) → level ≤ z → (at_near_station g (near_at l y) x z).state.time ≤ time → IsNearCovered p.weight p.labels (at_near_station g (near_at l y) x z) → IsNearCovered p.weight p.labels (state_at t level time)
+  from_step : (y z level time : ℕ) → level ≤ z → (at_near_station g (near_at l y) x z).state.time ≤ time → IsNearCovered j.terms.weight j.labels (at_near_station g (near_at l y) x z) → IsNearCovered j.terms.weight j.labels (state_at t level time)
   from_step y z level time low late covered =
-      covered_by p.weight p.labels (at_near_station g (near_at l y) x z) (state_at t level time) covered (omega (arith, is.count))
-      (later p.weight (at_near_station g (near_at l y) x z).state (state_at t level time).state refl (sym is.node) (rw (is.memory) (λ c h. h)) low late (ap (λ (e : ℕ). pos e) (sym is.earned)))
+      covered_by j.terms.weight j.labels (at_near_station g (near_at l y) x z) (state_at t level time) covered (omega (arith, is.count))
+      (later j.terms.weight (at_near_station g (near_at l y) x z).state (state_at t level time).state refl (sym is.node) (rw (is.memory) (λ c h. h)) low late (ap (λ (e : ℕ). pos e) (sym is.earned)))
 
   module _ (w : List (ℕ × ℕ)) (arrival : ArrivesAs g l.value l.node x g.reserve (Some w)) (values : List (List (ℕ × ℕ))) where
     -- where each value on leaving is covered, so is each step
-    pub station_covered : CoverCharges g x w values → ((k : ℕ) (v : List (ℕ × ℕ)) → slice_get values k ≡ Some v → IsCoveredAll (covers (asked_of p t)) (level_times v)) → AreStepsCovered g p l x
-    station_covered charges all = let points = some_points (curve_at g x) station in station_alone g p l x points.0 points.1 (λ y z level step.
+    pub station_covered : CoverCharges g x w values → ((k : ℕ) (v : List (ℕ × ℕ)) → slice_get values k ≡ Some v → IsCoveredAll (covers (asked_of j t)) (level_times v)) → AreStepsCovered g j l x
+    station_covered charges all = let points = some_points (curve_at g x) station in station_alone g j l x points.0 points.1 (λ y z level step.
         let v = level_times l.value in
         let a = y - energy g l.node x in
         let drive = drive_time g l.node x in
@@ -86,7 +86,7 @@ module _ (g : Network) (p : NearProof) (l : NearLabel) (x : ℕ) (t : Target) (i
     module _ (known : x < node_count g) (moves : x ≢ l.node) where
       -- a charge, or none, that leads to a state that is not covered
       step_missed : (a z time : ℕ) → IsLevel (level_times w) a → a ≤ z → z ≤ g.capacity → value_time (level_times w) a + charge_time_at g x a (z - a) ≤ time → time ≤ scaled_limit g
-          → (IsNearCovered p.weight p.labels (state_at t z time) → ⊥) → IsUncovered g p l x
+          → (IsNearCovered j.terms.weight j.labels (state_at t z time) → ⊥) → IsUncovered g j l x
       step_missed a z time level low full no_later in_time missed =
           let e = energy g l.node x in
           let at = (arrival.left a).0 level in
@@ -105,10 +105,10 @@ module _ (g : Network) (p : NearProof) (l : NearLabel) (x : ℕ) (t : Target) (i
           (a + e, at.0, inr (z, step, λ covered. missed (from_step (a + energy g l.node x) z z time (omega arith) (omega (arith, parts, charge, value, no_later)) covered)))
 
       -- so is a step where some value on leaving is not covered
-      pub station_missed : AreLeft g x w values → IsWithin g w → (k : ℕ) (v : List (ℕ × ℕ)) → slice_get values k ≡ Some v → IsMissed (covers (asked_of p t)) (level_times v) → IsUncovered g p l x
+      pub station_missed : AreLeft g x w values → IsWithin g w → (k : ℕ) (v : List (ℕ × ℕ)) → slice_get values k ≡ Some v → IsMissed (covers (asked_of j t)) (level_times v) → IsUncovered g j l x
       station_missed left within zero v here missed =
           let same : v ≡ w = left.passing v here in
-          let own : IsMissed (covers (asked_of p t)) (level_times w) = subst (λ u. IsMissed (covers (asked_of p t)) (level_times u)) same missed in
+          let own : IsMissed (covers (asked_of j t)) (level_times w) = subst (λ u. IsMissed (covers (asked_of j t)) (level_times u)) same missed in
           let nothing : own.0 - own.0 ≡ 0 = omega arith in
           let none : charge_time_at g x own.0 (own.0 - own.0) ≡ 0 = ap (λ k. charge_time_at g x own.0 k) nothing ∙ passing_time g x own.0 in
           step_missed own.0 own.0 (value_time (level_times w) own.0) own.1 (omega arith) (within.levels own.0 own.1) (omega (arith, none)) (within.times own.0 own.1) own.2
@@ -117,6 +117,6 @@ module _ (g : Network) (p : NearProof) (l : NearLabel) (x : ℕ) (t : Target) (i
           let from = plugged.from missed.0 missed.1 in
           step_missed (level_times v).first missed.0 (value_time (level_times v) missed.0) from.0 from.1 from.2 (plugged.no_later missed.0 missed.1) (plugged.in_time missed.0 missed.1) missed.2
 
-    pub station_told : x < node_count g → x ≢ l.node → AreLeft g x w values → CoverCharges g x w values → IsWithin g w → (covered : Bool) → TellsEach (asked_of p t) values covered → TellsStep g p l x covered
+    pub station_told : x < node_count g → x ≢ l.node → AreLeft g x w values → CoverCharges g x w values → IsWithin g w → (covered : Bool) → TellsEach (asked_of j t) values covered → TellsStep g j l x covered
     station_told known moves left charges within true all = station_covered charges all
     station_told known moves left charges within false some = station_missed known moves left within some.0 some.1 some.2 some.3

@@ -6,19 +6,20 @@ use Rattle.std.proofs.lemmas.Option.{same_Some, slice_get_within}
 use Rattle.ev_model.specs.Network.{is_customer, Network}
 use Rattle.fleet_model.specs.Places.{customer_number}
 use Rattle.near_proof.specs.Accepted.{HasTight}
-use Rattle.near_proof.specs.Broken.{at_home, EarnsHome, IsBroken}
+use Rattle.near_proof.specs.Broken.{at_home, EarnsHome}
 use Rattle.near_proof.specs.declared.proof.NearLabel.{NearLabel}
 use Rattle.near_proof.specs.declared.proof.NearProof.{NearProof}
+use Rattle.near_check.specs.Faults.{IsFault, Judged}
 use Rattle.near_check.specs.Judging.{AreStepsCovered, IsUncovered, TellsBadEnd, TellsBadStep, TellsFirst}
 use Rattle.near_check.proofs.LabelSteps.{not_uncovered}
 
 -- the steps from the labels before one are covered
-abbrev pub CoveredBefore : Network → NearProof → ℕ → Type 0
-CoveredBefore g p n = (m x : ℕ) (l : NearLabel) → m < n → slice_get p.labels m ≡ Some l → AreStepsCovered g p l x
+abbrev pub CoveredBefore : Network → Judged → ℕ → Type 0
+CoveredBefore g j n = (m x : ℕ) (l : NearLabel) → m < n → slice_get j.labels m ≡ Some l → AreStepsCovered g j l x
 
 -- no step home from them earns more than it takes
-abbrev pub FreeBefore : Network → NearProof → ℕ → Type 0
-FreeBefore g p n = (m : ℕ) → m < n → IsBroken g p (at_home m) → ⊥
+abbrev pub FreeBefore : Network → Judged → ℕ → Type 0
+FreeBefore g j n = (m : ℕ) → m < n → IsFault g j (at_home m) → ⊥
 
 -- the customers at the nodes before one have tight routes
 abbrev pub TightBefore : Network → NearProof → ℕ → Type 0
@@ -31,34 +32,35 @@ module _ (g : Network) (p : NearProof) where
     | inr other ↦ before x (omega (arith, low, other)) is
   ]
 
-  module _ (n : ℕ) (l : NearLabel) (is : slice_get p.labels n ≡ Some l) where
-    same_label : (k : NearLabel) (m : ℕ) → m ≡ n → slice_get p.labels m ≡ Some k → l ≡ k
-    same_label k m same at = same_Some l k (sym is ∙ subst (λ j. slice_get p.labels j ≡ Some k) same at)
+module _ (g : Network) (j : Judged) where
+  module _ (n : ℕ) (l : NearLabel) (is : slice_get j.labels n ≡ Some l) where
+    same_label : (k : NearLabel) (m : ℕ) → m ≡ n → slice_get j.labels m ≡ Some k → l ≡ k
+    same_label k m same at = same_Some l k (sym is ∙ subst (λ a. slice_get j.labels a ≡ Some k) same at)
 
-    pub steps_more : TellsFirst g p l None → CoveredBefore g p n → CoveredBefore g p (n + 1)
+    pub steps_more : TellsFirst g j l None → CoveredBefore g j n → CoveredBefore g j (n + 1)
     steps_more told before m x k low at = elim (cases_eq m n) [
-      | inl same ↦ subst (λ (j : NearLabel). AreStepsCovered g p j x) (same_label k m same at) (told x)
+      | inl same ↦ subst (λ (a : NearLabel). AreStepsCovered g j a x) (same_label k m same at) (told x)
       | inr other ↦ before m x k (omega (arith, low, other)) at
     ]
 
-    pub step_told : (node : ℕ) → TellsFirst g p l (Some node) → CoveredBefore g p n → TellsBadStep g p (Some (n, node))
+    pub step_told : (node : ℕ) → TellsFirst g j l (Some node) → CoveredBefore g j n → TellsBadStep g j (Some (n, node))
     step_told node told before = (
       (l, is, told.0),
-      λ m x low broken. not_uncovered g p broken.0 x (before m x broken.0 low broken.1) broken.2,
-      λ x low broken. told.1 x low (subst (λ (j : NearLabel). IsUncovered g p j x) (same_Some broken.0 l (sym broken.1 ∙ is)) broken.2),
+      λ m x low broken. not_uncovered g j broken.0 x (before m x broken.0 low broken.1) broken.2,
+      λ x low broken. told.1 x low (subst (λ (a : NearLabel). IsUncovered g j a x) (same_Some broken.0 l (sym broken.1 ∙ is)) broken.2),
     )
 
-    pub ends_more : (EarnsHome g p.weight l → ⊥) → FreeBefore g p n → FreeBefore g p (n + 1)
+    pub ends_more : (EarnsHome g j.terms.weight l → ⊥) → FreeBefore g j n → FreeBefore g j (n + 1)
     ends_more free before m low broken = elim (cases_eq m n) [
-      | inl same ↦ free (subst (λ (j : NearLabel). EarnsHome g p.weight j) (sym (same_label broken.0 m same broken.1)) broken.2)
+      | inl same ↦ free (subst (λ (a : NearLabel). EarnsHome g j.terms.weight a) (sym (same_label broken.0 m same broken.1)) broken.2)
       | inr other ↦ before m (omega (arith, low, other)) broken
     ]
 
-    pub end_told : EarnsHome g p.weight l → FreeBefore g p n → TellsBadEnd g p (Some n)
+    pub end_told : EarnsHome g j.terms.weight l → FreeBefore g j n → TellsBadEnd g j (Some n)
     end_told earns before = ((l, is, earns), before)
 
-  pub no_bad_step : (n : ℕ) → length p.labels ≤ n → CoveredBefore g p n → TellsBadStep g p None
-  no_bad_step n all before m x l at = before m x l (let less = slice_get_within p.labels m l at in omega (arith, less, all)) at
+  pub no_bad_step : (n : ℕ) → length j.labels ≤ n → CoveredBefore g j n → TellsBadStep g j None
+  no_bad_step n all before m x l at = before m x l (let less = slice_get_within j.labels m l at in omega (arith, less, all)) at
 
-  pub no_bad_end : (n : ℕ) → length p.labels ≤ n → FreeBefore g p n → TellsBadEnd g p None
-  no_bad_end n all before m broken = before m (let less = slice_get_within p.labels m broken.0 broken.1 in omega (arith, less, all)) broken
+  pub no_bad_end : (n : ℕ) → length j.labels ≤ n → FreeBefore g j n → TellsBadEnd g j None
+  no_bad_end n all before m broken = before m (let less = slice_get_within j.labels m broken.0 broken.1 in omega (arith, less, all)) broken

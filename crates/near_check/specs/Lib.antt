@@ -1,5 +1,6 @@
 pub mod Links
 pub mod Targets
 pub mod AskedInside
+pub mod Faults
 pub mod Judging
 pub mod NearSets

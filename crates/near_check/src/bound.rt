@@ -5,6 +5,7 @@ ghost use Rattle.near_proof.specs.Accepted.{BoundHolds};
 ghost use Rattle.near_proof.specs.Terms.{price_total};
 
 use near_proof::NearProof;
+use near_services::price_total;
 
 /// Whether the bound is the price sum at weight 1; where there is none, whether the weight is 0,
 /// some price is above 0 and no tight route is listed.
@@ -17,16 +18,4 @@ pub(crate) fn bound_holds(proof: &NearProof) -> bool
         Some(bound) => proof.weight == 1 && bound == total,
         None => proof.weight == 0 && total > 0 && proof.tight.is_empty(),
     }
-}
-
-/// The sum of all prices.
-fn price_total(prices: &[u64]) -> u128
-    requires few { length prices.now ≤ 128 }
-    ensures { result ≡ price_total prices.now }
-{
-    let mut total = 0;
-    for price in prices {
-        total += u128::from(*price);
-    }
-    total
 }

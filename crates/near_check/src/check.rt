@@ -8,11 +8,11 @@ ghost use Rattle.near_proof.specs.Ranges.{NearFits};
 ghost use Rattle.near_proof.specs.Truth.{IsTrue as IsTrueProof};
 ghost use Rattle.near_proof.specs.Verdicts.{IsVerdict};
 ghost use Rattle.near_proof.specs.declared.verdict.NearVerdict.TheVariants.{Accepted};
-ghost use Rattle.near_check.specs.Judging.{IsJudge, TellsBadEnd, TellsBadStep, TellsLoose, TellsTight};
+ghost use Rattle.near_check.specs.Faults.{TellsFault};
+ghost use Rattle.near_check.specs.Judging.{TellsLoose, TellsTight, as_verdict, judged_in};
 
 use crate::bound::bound_holds;
-use crate::judge::Judge;
-use crate::links::entries;
+use crate::faults::{LabelFault, NearTerms, first_fault};
 use crate::tight::is_tight;
 use instance_reader::Instance;
 use near_proof::{NearProof, NearVerdict};
@@ -67,20 +67,8 @@ fn verdict_on(alloc: Global, inst: &Instance, proof: &NearProof) -> Result<NearV
     requires fits { NearFits inst.now proof.now }
     ensures { IfOk result (IsVerdict inst.now proof.now) }
 {
-    let entries = entries(alloc, proof.labels.as_slice())?;
-    let judge = Judge {
-        inst,
-        proof,
-        entries: entries.as_slice(),
-    };
-    if !judge.covers_start(alloc) {
-        return Ok(NearVerdict::Start);
-    }
-    if let Some((label, node)) = judge.bad_step(alloc)? {
-        return Ok(NearVerdict::Step { label, node });
-    }
-    if let Some(label) = judge.bad_end()? {
-        return Ok(NearVerdict::End { label });
+    if let Some(fault) = fault_of(alloc, inst, proof)? {
+        return Ok(verdict_by(fault));
     }
     if !bound_holds(proof) {
         return Ok(NearVerdict::Bound);
@@ -94,35 +82,33 @@ fn verdict_on(alloc: Global, inst: &Instance, proof: &NearProof) -> Result<NearV
     }
 }
 
-impl Judge<'_> {
-    /// The first step to a customer or a station that leads to a state that is not covered, by its
-    /// label's number and the node.
-    fn bad_step(&self, alloc: Global) -> Result<Option<(usize, usize)>, AllocError>
-        requires { IsJudge self.now }
-        ensures { IfOk result (TellsBadStep self.now.inst.now self.now.proof.now) }
-    {
-        let labels = self.proof.labels.as_slice();
-        for (number, label) in labels.iter().enumerate() {
-            if let Some(node) = self.uncovered_node(alloc, label)? {
-                return Ok(Some((number, node)));
-            }
-        }
-        Ok(None)
+/// The verdict on a near proof whose labels are not closed.
+fn verdict_by(fault: LabelFault) -> NearVerdict
+    ensures { result ≡ as_verdict fault }
+{
+    match fault {
+        LabelFault::Start => NearVerdict::Start,
+        LabelFault::Step { label, node } => NearVerdict::Step { label, node },
+        LabelFault::End { label } => NearVerdict::End { label },
     }
+}
 
-    /// The number of the first label from which a step home earns more than it takes.
-    fn bad_end(&self) -> Result<Option<usize>, AllocError>
-        requires { IsJudge self.now }
-        ensures { IfOk result (TellsBadEnd self.now.inst.now self.now.proof.now) }
-    {
-        let labels = self.proof.labels.as_slice();
-        for (number, label) in labels.iter().enumerate() {
-            if self.earns_at_home(label)? {
-                return Ok(Some(number));
-            }
-        }
-        Ok(None)
-    }
+/// The first place where the labels of a near proof are not closed.
+fn fault_of(
+    alloc: Global,
+    inst: &Instance,
+    proof: &NearProof,
+) -> Result<Option<LabelFault>, AllocError>
+    requires few { length (customer_nodes inst.now) ≤ 128 }
+    requires fits { NearFits inst.now proof.now }
+    ensures { IfOk result (TellsFault inst.now (judged_in proof.now)) }
+{
+    let terms = NearTerms {
+        weight: proof.weight,
+        prices: proof.prices.as_slice(),
+        sets: proof.sets.as_slice(),
+    };
+    first_fault(alloc, inst, terms, proof.labels.as_slice())
 }
 
 /// The first node whose customer has no tight route.

@@ -8,7 +8,7 @@ ghost use Rattle.near_check.specs.Links.{AreEntries};
 ghost use Rattle.near_check.specs.Targets.{covers_by};
 
 use crate::links::{Entry, first, is_in_time};
-use crate::margin::margin;
+use crate::margins::margin;
 use customer_sets::CustSet;
 use dominance::LabelValue;
 use label_steps::Covering;

@@ -1,36 +1,33 @@
-//! A near proof under judgement.
+//! Labels under judgement.
 
 ghost use Rattle.std.specs.Prelude.{◌≡◌};
 ghost use Rattle.near_check.specs.Judging.{IsJudge};
 
 use crate::coverage::{Asked, Target};
+use crate::faults::NearTerms;
 use crate::links::Entry;
 use instance_reader::Instance;
-use near_proof::NearProof;
+use near_proof::NearLabel;
 
-/// A near proof on an instance, with the entries of its labels.
+/// Labels on an instance, with their entries and what near routes are judged by.
 #[derive(Clone, Copy)]
 pub(crate) struct Judge<'a> {
     pub(crate) inst: &'a Instance,
-    pub(crate) proof: &'a NearProof,
+    pub(crate) terms: NearTerms<'a>,
+    pub(crate) labels: &'a [NearLabel],
     pub(crate) entries: &'a [Entry],
 }
 
 impl<'a> Judge<'a> {
-    /// The states of a target, asked of the proof's labels.
+    /// The states of a target, asked of the labels.
     pub(crate) fn asked(&self, target: Target) -> Asked<'a>
         requires { IsJudge self.now }
         ensures { result ≡ record {
-          weight = self.now.proof.now.weight;
-          labels = self.now.proof.now.labels;
+          weight = self.now.terms.weight;
+          labels = self.now.labels.now;
           target = target;
         } }
     {
-        Asked::new(
-            self.proof.weight,
-            self.proof.labels.as_slice(),
-            self.entries,
-            target,
-        )
+        Asked::new(self.terms.weight, self.labels, self.entries, target)
     }
 }

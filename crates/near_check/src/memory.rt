@@ -6,7 +6,7 @@ ghost use Rattle.customer_sets.specs.CustSet.{has};
 use customer_sets::CustSet;
 
 /// The customer, and those remembered before who are in the customer's near set.
-pub(crate) fn remembered(memory: CustSet, near: CustSet, customer: usize) -> CustSet
+pub fn remembered(memory: CustSet, near: CustSet, customer: usize) -> CustSet
     requires { customer < 128 }
     ensures { (c : ℕ) → has result c ≡ (nat_eq customer c || (has memory c && has near c)) }
 {

@@ -4,7 +4,7 @@ ghost use Rattle.std.specs.Prelude.{◌≡◌, ◌≢◌, ◌<◌, IfOk, IsSome,
 ghost use Rattle.ev_model.specs.Network.{curve_at, node_count};
 ghost use Rattle.instance_reader.specs.Instance.{IsCustomerNumber, customer_nodes};
 ghost use Rattle.near_proof.specs.Ranges.{NearLabelFits};
-ghost use Rattle.near_check.specs.Judging.{IsJudge, IsServed, TellsFirst, TellsStep};
+ghost use Rattle.near_check.specs.Judging.{IsJudge, IsServed, TellsFirst, TellsStep, judged};
 ghost use Rattle.near_check.specs.Targets.{TellsEach};
 
 use crate::coverage::{Asked, Target};
@@ -21,10 +21,10 @@ impl Judge<'_> {
         requires judge { IsJudge self.now }
         requires label { NearLabelFits self.now.inst.now label.now }
         requires listed { customer < length (customer_nodes self.now.inst.now) }
-        ensures { IsServed self.now.proof.now label.now node customer result }
+        ensures { IsServed (judged self.now).terms label.now node customer result }
     {
-        let near = self.proof.sets.as_slice()[customer];
-        let price = self.proof.prices.as_slice()[customer];
+        let near = self.terms.sets[customer];
+        let price = self.terms.prices[customer];
         Target {
             node,
             memory: remembered(label.memory, near, customer),
@@ -46,7 +46,7 @@ impl Judge<'_> {
         requires known { node < node_count self.now.inst.now }
         requires customer { IsCustomerNumber self.now.inst.now node (Some customer) }
         requires listed { customer < length (customer_nodes self.now.inst.now) }
-        ensures { IfOk result (TellsStep self.now.inst.now self.now.proof.now label.now node) }
+        ensures { IfOk result (TellsStep self.now.inst.now (judged self.now) label.now node) }
     {
         if label.memory.has(customer) {
             return Ok(true);
@@ -75,7 +75,7 @@ impl Judge<'_> {
         requires moves { node ≢ label.now.node }
         requires known { node < node_count self.now.inst.now }
         requires station { IsSome (curve_at self.now.inst.now node) }
-        ensures { IfOk result (TellsStep self.now.inst.now self.now.proof.now label.now node) }
+        ensures { IfOk result (TellsStep self.now.inst.now (judged self.now) label.now node) }
     {
         let least = self.inst.min_q();
         let Some(arrived) = arrival(self.inst, &label.value, label.node, node, least)? else {
@@ -101,7 +101,7 @@ impl Judge<'_> {
         requires judge { IsJudge self.now }
         requires label { NearLabelFits self.now.inst.now label.now }
         requires known { node < node_count self.now.inst.now }
-        ensures { IfOk result (TellsStep self.now.inst.now self.now.proof.now label.now node) }
+        ensures { IfOk result (TellsStep self.now.inst.now (judged self.now) label.now node) }
     {
         if node == label.node {
             return Ok(true);
@@ -123,7 +123,7 @@ impl Judge<'_> {
     ) -> Result<Option<usize>, AllocError>
         requires judge { IsJudge self.now }
         requires label { NearLabelFits self.now.inst.now label.now }
-        ensures { IfOk result (TellsFirst self.now.inst.now self.now.proof.now label.now) }
+        ensures { IfOk result (TellsFirst self.now.inst.now (judged self.now) label.now) }
     {
         for node in 0..self.inst.nodes() {
             if !self.step_is_covered(alloc, label, node)? {

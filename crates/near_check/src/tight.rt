@@ -18,6 +18,7 @@ use crate::memory::remembered;
 use customer_sets::CustSet;
 use instance_reader::Instance;
 use near_proof::NearProof;
+use near_services::{earned_by, numbers_of, times_in};
 use route_plan::{Stop, walk};
 use std::alloc::{AllocError, Global};
 
@@ -54,54 +55,6 @@ pub(crate) fn is_tight(
     }
     let earned = earned_by(proof.prices.as_slice(), &numbers);
     Ok(u128::from(end.time) < earned + visits as u128)
-}
-
-/// The numbers of the customers whom the stops serve, in order.
-fn numbers_of(alloc: Global, inst: &Instance, stops: &[Stop]) -> Result<Vec<usize>, AllocError>
-    requires known { AreKnown inst.now stops.now }
-    ensures value { IfOk result (λ numbers. numbers.items ≡ numbers_of inst.now stops.now) }
-    ensures within { IfOk result (λ numbers.
-        All (λ c. c < length (customer_nodes inst.now)) numbers.items) }
-{
-    let mut numbers = Vec::new(alloc);
-    for stop in stops {
-        if stop.via {
-            continue;
-        }
-        let Some(number) = inst.customer_number(stop.node) else {
-            continue;
-        };
-        numbers.push(number)?;
-    }
-    Ok(numbers)
-}
-
-/// How often a number stands among others.
-fn times_in(numbers: &[usize], number: usize) -> usize
-    ensures value { result ≡ times_in numbers.now number }
-    ensures within { result ≤ length numbers.now }
-{
-    let mut times = 0;
-    for other in numbers {
-        if *other == number {
-            times += 1;
-        }
-    }
-    times
-}
-
-/// What is earned by serving customers, each as often as it is served.
-fn earned_by(prices: &[u64], customers: &[usize]) -> u128
-    requires known { All (λ c. c < length prices.now) customers.now }
-    requires few { length customers.now ≤ 128 }
-    ensures value { result ≡ earned_by prices.now customers.now }
-    ensures small { result ≤ 2 ^ 80 }
-{
-    let mut earned = 0;
-    for customer in customers {
-        earned += u128::from(prices[*customer]);
-    }
-    earned
 }
 
 /// Whether nobody is served who is remembered.

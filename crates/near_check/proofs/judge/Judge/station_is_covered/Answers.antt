@@ -8,6 +8,7 @@ use Rattle.near_check.specs.Targets.{Asking, TellsEach}
 use Rattle.near_check.specs.declared.coverage.Target.{Target}
 use Rattle.near_check.proofs.LabelSteps.{asked_of, nobody_arrives}
 use Rattle.near_check.proofs.StationSteps.{IsStationTarget, station_told}
+use Rattle.near_check.specs.Judging.{judged}
 use Rattle.near_check.proofs.judge.Judge.station_is_covered.Goals as goal
 
 pub arrival-requires-clause-levels : goal.arrival-requires-clause-levels
@@ -16,7 +17,7 @@ arrival-requires-clause-levels c = label_within_full c.args.self.now.inst.now c.
 pub returns-in_default : goal.returns-in_default
 returns-in_default c =
     let none : ArrivesAs c.args.self.now.inst.now c.args.label.now.value c.args.label.now.node c.args.node c.min_q-least.result None = subst (λ (o : Option (List (ℕ × ℕ))). ArrivesAs c.args.self.now.inst.now c.args.label.now.value c.args.label.now.node c.args.node c.min_q-least.result o) c.in_default.is c.in_ok-arrived.ensures.left in
-    nobody_arrives c.args.self.now.inst.now c.args.self.now.proof.now c.args.label.now c.args.node (subst (λ r. NoArrival (energy c.args.self.now.inst.now c.args.label.now.node c.args.node) (drive_time c.args.self.now.inst.now c.args.label.now.node c.args.node) (scaled_limit c.args.self.now.inst.now) r (level_times c.args.label.now.value)) c.min_q-least.ensures.value none)
+    nobody_arrives c.args.self.now.inst.now (judged c.args.self.now) c.args.label.now c.args.node (subst (λ r. NoArrival (energy c.args.self.now.inst.now c.args.label.now.node c.args.node) (drive_time c.args.self.now.inst.now c.args.label.now.node c.args.node) (scaled_limit c.args.self.now.inst.now) r (level_times c.args.label.now.value)) c.min_q-least.ensures.value none)
 
 pub departures-requires-clause-levels : goal.departures-requires-clause-levels
 departures-requires-clause-levels c =
@@ -26,7 +27,7 @@ departures-requires-clause-levels c =
 pub returns : goal.returns
 returns c =
     let g = c.args.self.now.inst.now in
-    let p = c.args.self.now.proof.now in
+    let j = (judged c.args.self.now) in
     let l = c.args.label.now in
     let x = c.args.node in
     let within : IsWithin c.args.self.now.inst.now c.in-Some.arrived = subst (λ (o : Option (List (ℕ × ℕ))). IfSome o (IsWithin c.args.self.now.inst.now)) c.in-Some.is c.in_ok-arrived.ensures.within in
@@ -34,5 +35,5 @@ returns c =
     let arrival = subst (λ r. ArrivesAs c.args.self.now.inst.now c.args.label.now.value c.args.label.now.node c.args.node r (Some c.in-Some.arrived)) c.min_q-least.ensures.value named in
     let t : Target = record { node = c.args.node; memory = c.args.label.now.memory; count = c.args.label.now.count; earned = c.args.label.now.earned } in
     let target : IsStationTarget l t.node t = record { node = refl; memory = refl; count = refl; earned = refl } in
-    station_told g p l x t target c.requires.station c.in-Some.arrived arrival c.in_ok-values.values.items c.requires.known c.requires.moves c.in_ok-values.ensures.left c.in_ok-values.ensures.covers within c.covers_each.result
-    (subst (λ (vs : List (List (ℕ × ℕ))). TellsEach (asked_of c.args.self.now.proof.now t) vs c.covers_each.result) c.deref.ensures.value (subst (λ (a : Asking). TellsEach a c.deref.result.now c.covers_each.result) c.asked.ensures c.covers_each.ensures))
+    station_told g j l x t target c.requires.station c.in-Some.arrived arrival c.in_ok-values.values.items c.requires.known c.requires.moves c.in_ok-values.ensures.left c.in_ok-values.ensures.covers within c.covers_each.result
+    (subst (λ (vs : List (List (ℕ × ℕ))). TellsEach (asked_of (judged c.args.self.now) t) vs c.covers_each.result) c.deref.ensures.value (subst (λ (a : Asking). TellsEach a c.deref.result.now c.covers_each.result) c.asked.ensures c.covers_each.ensures))

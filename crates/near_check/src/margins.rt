@@ -5,7 +5,7 @@ ghost use Rattle.fleet_model.specs.Margins.{IsMargin};
 
 /// The least number of time units that, times the weight, make up for what is earned less; `None`
 /// where none below 2^64 does.
-pub(crate) fn margin(weight: u64, own: u128, theirs: u128) -> Option<u64>
+pub fn margin(weight: u64, own: u128, theirs: u128) -> Option<u64>
     requires { weight ≤ 1 }
     ensures some { IfSome result (IsMargin weight (pos own) (pos theirs)) }
     ensures none { IfNone result ((other : ℕ) → pos theirs ≤ℤ (pos own +ℤ pos (other * weight)) →

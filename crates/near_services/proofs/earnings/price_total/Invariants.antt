@@ -1,6 +1,6 @@
 use Rattle.std.proofs.Common.{◌≡◌, ◌+◌, ◌*◌, ◌≤◌, ◌^◌, drop}
 use Rattle.near_proof.specs.Terms.{price_total}
-use Rattle.near_check.proofs.bound.price_total.Given as goal
+use Rattle.near_services.proofs.earnings.price_total.Given as goal
 
 abbrev pub invariant-loop-price : goal.invariant-loop-price
 invariant-loop-price l = record {

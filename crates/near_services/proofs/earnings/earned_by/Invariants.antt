@@ -1,6 +1,6 @@
 use Rattle.std.proofs.Common.{◌≡◌, ◌+◌, ◌*◌, ◌≤◌, ◌^◌, drop}
 use Rattle.near_proof.specs.Terms.{earned_by}
-use Rattle.near_check.proofs.tight.earned_by.Given as goal
+use Rattle.near_services.proofs.earnings.earned_by.Given as goal
 
 abbrev pub invariant-loop-customer : goal.invariant-loop-customer
 invariant-loop-customer l = record {

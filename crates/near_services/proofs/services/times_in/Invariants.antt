@@ -1,6 +1,6 @@
 use Rattle.std.proofs.Common.{◌≡◌, ◌+◌, ◌≤◌, drop}
 use Rattle.ev_model.specs.Fleet.{times_in}
-use Rattle.near_check.proofs.tight.times_in.Given as goal
+use Rattle.near_services.proofs.services.times_in.Given as goal
 
 abbrev pub invariant-loop-other : goal.invariant-loop-other
 invariant-loop-other l = record {

@@ -2,7 +2,7 @@ use Rattle.std.proofs.Common.{◌≡◌, ◌<◌, ◌++◌, drop, length}
 use Rattle.std.specs.List.{All}
 use Rattle.fleet_model.specs.Places.{numbers_of}
 use Rattle.instance_reader.specs.Instance.{customer_nodes}
-use Rattle.near_check.proofs.tight.numbers_of.Given as goal
+use Rattle.near_services.proofs.services.numbers_of.Given as goal
 
 abbrev pub invariant-loop-stop : goal.invariant-loop-stop
 invariant-loop-stop l = record {
