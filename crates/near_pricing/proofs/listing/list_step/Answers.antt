@@ -1,0 +1,23 @@
+use Rattle.std.proofs.Common.{ap, sym, subst, arith}
+use Rattle.ev_model.specs.Network.{Network, node_count}
+use Rattle.near_proof.specs.Ranges.{NearLabelFits}
+use Rattle.near_proof.specs.declared.proof.NearLabel.{NearLabel}
+use Rattle.near_pricing.proofs.Searching.{left_within, listed_placed, step_memory}
+use Rattle.near_pricing.proofs.listing.list_step.Goals as goal
+
+pub target_at-requires-clause-label : goal.target_at-requires-clause-label
+target_at-requires-clause-label c =
+    listed_placed c.args.pricing.now.network c.index-from.result.now (subst (λ (l : NearLabel). NearLabelFits c.args.pricing.now.network l) (sym c.index-from.ensures) (c.requires.fit c.args.number c.index-from.result.now (let few = c.if-number-count.false in omega (arith, few, c.len-count.ensures))))
+
+pub values_at-requires-clause-label : goal.values_at-requires-clause-label
+values_at-requires-clause-label c =
+    listed_placed c.args.pricing.now.network c.index-from.result.now (subst (λ (l : NearLabel). NearLabelFits c.args.pricing.now.network l) (sym c.index-from.ensures) (c.requires.fit c.args.number c.index-from.result.now (let few = c.if-number-count.false in omega (arith, few, c.len-count.ensures))))
+
+pub list_values-requires-clause-memory : goal.list_values-requires-clause-memory
+list_values-requires-clause-memory c =
+    let fits : NearLabelFits c.args.pricing.now.network c.index-from.result.now = (subst (λ (l : NearLabel). NearLabelFits c.args.pricing.now.network l) (sym c.index-from.ensures) (c.requires.fit c.args.number c.index-from.result.now (let few = c.if-number-count.false in omega (arith, few, c.len-count.ensures)))) in
+    step_memory c.args.pricing.now c.index-from.result.now c.args.node c.in-Some.target (let low = c.if-node-nodes.false in let nodes = c.nodes.ensures.value in let same = ap (λ (g : Network). node_count g) c.instance.ensures.same in omega (arith, low, nodes, same)) fits.memory c.in-Some.ensures.leads
+
+pub list_values-requires-clause-values : goal.list_values-requires-clause-values
+list_values-requires-clause-values c =
+    left_within c.args.pricing.now.network c.index-from.result.now c.args.node c.in_ok-values.values.items c.in_ok-values.ensures.left

@@ -1,0 +1,13 @@
+use Rattle.std.proofs.Common.{◌+◌, ◌≤◌, length}
+use Rattle.near_pricing.specs.Tree.{AreSteps, IsSearch}
+use Rattle.near_pricing.proofs.search.Search.force_all.Given as goal
+
+abbrev pub invariant-loop-value : goal.invariant-loop-value
+invariant-loop-value l = record {
+  search : IsSearch l.pricing l.self;
+  listed : length l.fn.self.listed.items + length l.fn.values.items ≤ length l.self.listed.items + length l.values.items;
+  steps : AreSteps l.pricing l.self.tree.found.items l.from l.node l.target l.values.items;
+}
+
+abbrev pub decreases-loop-value : goal.decreases-loop-value
+decreases-loop-value l = length l.values.items

@@ -1,0 +1,17 @@
+use Rattle.near_pricing.proofs.Growing.{read}
+use Rattle.near_pricing.proofs.Searching.{label_placed}
+use Rattle.near_pricing.proofs.search.Search.go.Goals as goal
+
+pub target_at-requires-clause-label : goal.target_at-requires-clause-label
+target_at-requires-clause-label c = label_placed c.args.pricing.now c.index.result.now.label c.requires.search.question (c.requires.search.labels.labels c.args.from c.index.result.now (read c.args.self.now.tree.found.items c.args.from c.index.result.now c.requires.known c.index.ensures)).range
+
+pub values_at-requires-clause-label : goal.values_at-requires-clause-label
+values_at-requires-clause-label c = label_placed c.args.pricing.now c.index.result.now.label c.requires.search.question (c.requires.search.labels.labels c.args.from c.index.result.now (read c.args.self.now.tree.found.items c.args.from c.index.result.now c.requires.known c.index.ensures)).range
+
+pub add_all-requires-clause-steps : goal.add_all-requires-clause-steps
+add_all-requires-clause-steps c = record {
+  from = c.index.result.now;
+  here = read c.args.self.now.tree.found.items c.args.from c.index.result.now c.requires.known c.index.ensures;
+  leads = c.in-Some.ensures.leads;
+  left = c.in_ok-values.ensures.left;
+}

@@ -1,0 +1,7 @@
+pub mod Answers
+pub mod Questions
+pub mod PricingInside
+pub mod Better
+pub mod Steps
+pub mod Placed
+pub mod Tree

@@ -1,0 +1,92 @@
+//! What pricing of near routes is asked.
+
+ghost use Rattle.std.specs.Prelude.{◌≡◌, ◌≤◌, IfOk, length};
+ghost use Rattle.std.specs.List.{All};
+ghost use Rattle.instance_reader.specs.Instance.{customer_nodes};
+ghost use Rattle.near_check.specs.Faults.{TellsFault, terms_in};
+ghost use Rattle.near_proof.specs.Ranges.{NearLabelFits, SetsFit};
+ghost use Rattle.near_pricing.specs.Questions.{IsQuestion, most_price};
+
+use completion_bounds::Completion;
+use instance_reader::Instance;
+use near_check::{LabelFault, NearTerms, first_fault};
+use near_hopeless::hopeless_labels;
+use near_proof::NearLabel;
+use std::alloc::{AllocError, Global};
+use std::marker::Model;
+
+/// What near routes are judged by, on an instance. Contracts see these.
+#[derive(Drop)]
+pub(crate) struct Pricing<'a> {
+    inst: &'a Instance,
+    terms: NearTerms<'a>,
+}
+
+impl<'a> Model for Pricing<'a> {
+    ghost use Rattle.near_pricing.specs.Questions.{Question};
+    ghost use Rattle.near_pricing.specs.PricingInside.{IsPricing, question};
+
+    ghost Value = { Question };
+
+    ghost view = { question };
+
+    ghost invariant = { IsPricing };
+}
+
+impl<'a> Pricing<'a> {
+    /// The question.
+    pub(crate) fn new(inst: &'a Instance, terms: NearTerms<'a>) -> Pricing<'a>
+        requires few { length (customer_nodes inst.now) ≤ 128 }
+        requires weight { terms.weight ≤ 1 }
+        requires one_price { length terms.prices.now ≡ length (customer_nodes inst.now) }
+        requires sets { SetsFit (length (customer_nodes inst.now)) terms.sets.now }
+        requires small { All (λ price. price ≤ most_price) terms.prices.now }
+        ensures { result ≡ record { network = inst.now; terms = terms_in terms.entry } }
+    {
+        // That the instance's network is one is told by its calls.
+        let _nodes = inst.nodes();
+        Pricing { inst, terms }
+    }
+
+    /// The instance.
+    pub(crate) fn instance(&self) -> &'a Instance
+        ensures same { result.now ≡ self.now.network }
+        ensures question { IsQuestion self.now }
+    {
+        self.inst
+    }
+
+    /// The weight of time, prices and near sets.
+    pub(crate) fn terms(&self) -> NearTerms<'a>
+        ensures same { terms_in result ≡ self.now.terms }
+        ensures question { IsQuestion self.now }
+    {
+        self.terms
+    }
+
+    /// Labels that stand for all states that a table leaves out.
+    pub(crate) fn hopeless(
+        &self,
+        alloc: Global,
+        table: &Completion,
+    ) -> Result<Vec<NearLabel>, AllocError>
+        ensures { IfOk result (λ labels. All (NearLabelFits self.now.network) labels.items) }
+    {
+        hopeless_labels(alloc, self.inst, table)
+    }
+
+    /// The first place where labels are not closed.
+    pub(crate) fn first_fault(
+        &self,
+        alloc: Global,
+        labels: &[NearLabel],
+    ) -> Result<Option<LabelFault>, AllocError>
+        requires { All (NearLabelFits self.now.network) labels.now }
+        ensures { IfOk result (TellsFault self.now.network (record {
+          terms = self.now.terms;
+          labels = labels.now;
+        })) }
+    {
+        first_fault(alloc, self.inst, self.terms, labels)
+    }
+}

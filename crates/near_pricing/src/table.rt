@@ -1,0 +1,56 @@
+//! The table of what near routes can still earn.
+
+use crate::asked::Pricing;
+use completion_bounds::{Completion, Terms};
+use customer_sets::CustSet;
+use instance_reader::Instance;
+use label_steps::scaled_limit;
+use near_proof::NearLabel;
+use std::alloc::{AllocError, Global};
+
+/// About so many layers has the table.
+const LAYERS: u64 = 100;
+
+/// The table of a question. A search leaves out what can't earn by it; no promise rests on it.
+pub(crate) fn completion_of(
+    alloc: Global,
+    pricing: &Pricing<'_>,
+) -> Result<Completion, AllocError> {
+    let terms = pricing.terms();
+    let mut prices = Vec::new(alloc);
+    for price in terms.prices {
+        prices.push(i128::from(*price))?;
+    }
+    table_of(alloc, pricing.instance(), terms.weight, &prices, terms.sets)
+}
+
+/// The table of an instance by a weight, prices and near sets.
+fn table_of<'a>(
+    alloc: Global,
+    inst: &'a Instance,
+    weight: u64,
+    prices: &'a [i128],
+    sets: &'a [CustSet],
+) -> Result<Completion, AllocError> {
+    let terms = Terms {
+        inst,
+        weight,
+        prices,
+        sets,
+        turns: None,
+        horizon: scaled_limit(inst),
+        layers: LAYERS,
+    };
+    Completion::new(alloc, &terms)
+}
+
+/// Whether no way home earns from a label, by the table.
+pub(crate) fn is_beyond(table: &Completion, label: &NearLabel) -> bool {
+    let budget = table.budget(&label.value);
+    table.is_beyond(budget, label.node, label.memory, signed(label.earned))
+}
+
+/// A number with a sign, the greatest one at the most.
+pub(crate) fn signed(number: u128) -> i128 {
+    i128::try_from(number).unwrap_or(i128::MAX)
+}
