@@ -1,0 +1,5 @@
+pub mod Earnings
+pub mod Alone
+pub mod Limiting
+pub mod Risen
+pub mod Bounding

@@ -1,0 +1,4 @@
+pub mod Rising
+pub mod NearBound
+pub mod Met
+pub mod Fixing

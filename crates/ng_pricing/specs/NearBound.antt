@@ -1,0 +1,21 @@
+-- The bound of an instance by near routes.
+use Rattle.std.specs.Prelude.{◌≡◌, ◌↔◌, ℕ, ◌<◌, IfSome, None}
+use Rattle.ev_model.specs.Network.{Network}
+use Rattle.fleet_model.specs.Places.{customer_count}
+use Rattle.near_check.specs.NearSets.{AreNearSets}
+use Rattle.near_proof.specs.Accepted.{IsAccepted}
+use Rattle.near_proof.specs.Ranges.{NearFits}
+use Rattle.near_proof.specs.Truth.{IsTrue}
+use Rattle.near_proof.specs.declared.proof.NearProof.{NearProof}
+use Rattle.ng_pricing.specs.Rising.{AreGreatest, StandsOnNone}
+
+-- a proof that is accepted and true, with the near sets of the instance: it has no bound exactly
+-- where some customer stands on no near route, and else the prices that are the greatest one by one
+pub record IsNearBound (g : Network) (near : ℕ) (p : NearProof) : Type 0 where
+  pub sets : AreNearSets g near p.sets
+  pub fits : NearFits g p
+  pub accepted : IsAccepted g p
+  pub shows : IsTrue g p
+  pub none : (p.bound ≡ None)
+      ↔ ((c : ℕ) × (c < customer_count g) × StandsOnNone g p.sets c)
+  pub prices : IfSome p.bound (λ bound. AreGreatest g p.sets p.prices)

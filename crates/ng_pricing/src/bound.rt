@@ -1,0 +1,69 @@
+//! The bound of an instance by near routes.
+
+ghost use Rattle.std.specs.Prelude.{◌≡◌, ◌≤◌, IfOk, length};
+ghost use Rattle.instance_reader.specs.Instance.{customer_nodes};
+ghost use Rattle.ng_pricing.specs.Fixing.{proof_of, proof_of_none};
+ghost use Rattle.ng_pricing.specs.NearBound.{IsNearBound};
+
+use crate::raising::{Raised, Rising};
+use crate::setting::{ClosedAt, Setting};
+use customer_sets::CustSet;
+use ev_list::Listed;
+use instance_reader::Instance;
+use near_check::near_sets;
+use near_proof::NearProof;
+use near_services::price_total;
+use std::alloc::{AllocError, Global};
+
+/// A proof of a lower bound on the cost of fleet plans, one that is accepted; its near sets are
+/// those of [`crate::near_sets`], with `near` other customers.
+///
+/// The bound is `None` exactly where some customer stands on no near route: then there is no fleet
+/// plan. Else it is the sum of the prices, which are fixed customer by customer, in rising order:
+/// each is the greatest whole number for which, with the earlier prices as they are fixed and the
+/// later ones 0, every near route takes at least what it earns. The only `Err` is want of memory.
+pub fn near_bound(alloc: Global, inst: &Instance, near: usize) -> Result<NearProof, AllocError>
+    requires few { length (customer_nodes inst.now) ≤ 128 }
+    ensures { IfOk result (IsNearBound inst.now near) }
+{
+    // That the instance's network is one is told by its calls.
+    let _nodes = inst.nodes();
+    let sets = near_sets(alloc, inst, near)?;
+    let setting = Setting {
+        inst,
+        sets: sets.as_slice(),
+    };
+    match setting.raised(alloc)? {
+        Raised::Priced { rising } => Ok(proof_of(sets, rising)),
+        Raised::Nowhere { at } => Ok(proof_of_none(alloc, sets, at)),
+    }
+}
+
+/// The proof by prices that are all fixed.
+fn proof_of(sets: Vec<CustSet>, rising: Rising) -> NearProof
+    requires few { length rising.prices.items ≤ 128 }
+    ensures { result ≡ proof_of sets.items rising }
+{
+    NearProof {
+        bound: Some(price_total(&rising.prices)),
+        weight: 1,
+        prices: Listed::from_vec(rising.prices),
+        sets: Listed::from_vec(sets),
+        labels: rising.labels,
+        tight: Listed::from_vec(rising.tight),
+    }
+}
+
+/// The proof by closed labels that some customer stands on no near route.
+fn proof_of_none(alloc: Global, sets: Vec<CustSet>, at: ClosedAt) -> NearProof
+    ensures { result ≡ proof_of_none sets.items at }
+{
+    NearProof {
+        bound: None,
+        weight: 0,
+        prices: at.prices,
+        sets: Listed::from_vec(sets),
+        labels: at.labels,
+        tight: Listed::new(alloc),
+    }
+}

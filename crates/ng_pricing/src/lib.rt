@@ -1,0 +1,16 @@
+//! Lower bounds on fleets by near routes (the ng-route relaxation: Baldacci, Mingozzi, Roberti
+//! 2011), each with a proof: the prices of customers are raised one by one. It hands on the calls
+//! for such proofs: near sets, pricing, the judge and the text.
+#![tactic(auto)]
+
+mod bound;
+mod limits;
+mod met;
+mod raising;
+mod setting;
+
+pub use bound::near_bound;
+pub use near_check::{check_near, near_sets};
+pub use near_pricing::{NearPriced, Prices, near_price};
+pub use near_proof::{NearLabel, NearProof, NearVerdict};
+pub use near_text::{CertText, push_near, push_near_bound, push_near_verdict, read_near};
