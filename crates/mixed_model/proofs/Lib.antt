@@ -1,0 +1,10 @@
+pub mod Agreeing
+pub mod Known
+pub mod Whole
+pub mod Copies
+pub mod Pays
+pub mod Plans
+pub mod Sections
+pub mod Truths
+pub mod Rules
+pub mod OneKind

@@ -1,0 +1,10 @@
+pub mod Kinds
+pub mod Plans
+pub mod Covers
+pub mod Meaning
+pub mod Accepted
+pub mod Broken
+pub mod Verdicts
+pub mod Ranges
+pub mod Truth
+pub mod Examples
