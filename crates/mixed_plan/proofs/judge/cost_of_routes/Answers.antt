@@ -1,0 +1,19 @@
+use Rattle.std.proofs.Common.{arith}
+use Rattle.mixed_plan.proofs.Walks.{cost_more, walked_more}
+use Rattle.mixed_plan.proofs.judge.cost_of_routes.Goals as goal
+
+pub loop-route-preserved : goal.loop-route-preserved
+loop-route-preserved c =
+    let kinds = c.args.kinds.now in
+    let plan = c.args.plan.now in
+    let i = c.loop-route.route in
+    let r = c.index-plan-route.result in
+    let more = cost_more kinds plan i r c.loop-route-test.true c.index-plan-route.is in
+    let small = c.loop-route.invariant.small in
+    let sum = c.loop-route.invariant.sum in
+    let time = c.in-Ok.ensures.time in
+    record {
+      small = omega (arith, small);
+      walked = walked_more kinds plan i r c.loop-route-test.true c.index-plan-route.is c.loop-route.invariant.walked c.in-Ok.ensures.feasible;
+      sum = omega (arith, more, sum, time);
+    }

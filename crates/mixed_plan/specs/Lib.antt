@@ -1,0 +1,4 @@
+pub mod Agreement
+pub mod MixedRules
+pub mod MixedTexts
+pub mod MixedReading

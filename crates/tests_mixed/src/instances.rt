@@ -1,0 +1,52 @@
+//! The kinds of vehicles that the tests drive, and their routes.
+
+ghost use Rattle.std.specs.Prelude.{◌≡◌, IfOk};
+
+use ev_list::Listed;
+use ev_model::Stop;
+use mixed_plan::MixedRoute;
+use route_plan::RoutePlan;
+use std::alloc::{AllocError, Global};
+
+/// Two customers as in [`worked_instances::TWO_CUSTOMERS`], with other times: customer 1 is nearer
+/// and customer 2 is farther.
+pub(crate) const OTHER_TIMES: &str =
+    r#"{"max_q":10,"css":[],"breakpoints_by_type":[],"process_times":[0,0,0],"energy_matrix":[[0,1,1],[1,0,1],[1,1,0]],"time_matrix":[[0,3,6],[3,0,5],[6,5,0]]}"#;
+
+/// The same nodes with a station in place of customer 2.
+pub(crate) const OTHER_CUSTOMERS: &str =
+    r#"{"max_q":10,"css":[{"node_id":2,"cs_type":"fast"}],"breakpoints_by_type":[{"cs_type":"fast","time":[0,10],"charge":[0,10]}],"process_times":[0,0,0],"energy_matrix":[[0,1,1],[1,0,1],[1,1,0]],"time_matrix":[[0,4,4],[4,0,5],[4,5,0]]}"#;
+
+/// A depot, a customer and a station, where a unit of charge takes one unit of time.
+pub(crate) const WHOLE_SLOPE: &str =
+    r#"{"max_q":10,"css":[{"node_id":2,"cs_type":"fast"}],"breakpoints_by_type":[{"cs_type":"fast","time":[0,10],"charge":[0,10]}],"process_times":[0,0,0],"energy_matrix":[[0,6,3],[6,0,2],[5,2,0]],"time_matrix":[[0,10,8],[10,0,3],[8,3,0]]}"#;
+
+/// A stop that was not inserted and charges nothing.
+pub(crate) const fn at(node: usize) -> Stop {
+    Stop {
+        node,
+        added: 0,
+        via: false,
+    }
+}
+
+/// An inserted stop.
+pub(crate) const fn via(node: usize, added: u64) -> Stop {
+    Stop {
+        node,
+        added,
+        via: true,
+    }
+}
+
+/// A route of a kind over these stops.
+pub(crate) fn route_of(alloc: Global, kind: usize, stops: &[Stop]) -> Result<MixedRoute, AllocError>
+    ensures kind { IfOk result (λ r. r.kind ≡ kind) }
+    ensures stops { IfOk result (λ r. r.plan.stops ≡ stops.now) }
+{
+    let stops = Listed::from_vec(Vec::from_slice(alloc, stops)?);
+    Ok(MixedRoute {
+        kind,
+        plan: RoutePlan { stops },
+    })
+}
