@@ -2,7 +2,7 @@
 use Rattle.std.proofs.Common.{◌≡◌, ◌≢◌, List, [], ◌∷◌, length, None, refl}
 use Rattle.std.specs.Borrow.{Bor}
 use Rattle.clap.specs.Walk.{Row, Text, texts}
-use Rattle.command_line.specs.Words.{check_of, convert_of, fixed_of, fleet_of, improve_of, make_of, proof_of}
+use Rattle.command_line.specs.Words.{bound_of, check_bound_of, check_of, convert_of, fixed_of, fleet_of, improve_of, make_of, proof_of}
 
 pub no_fixed : (rest : List (Bor Text)) (rows : List Row) → length rest ≢ 2 → None ≡ fixed_of (texts rest) rows
 no_fixed [] rows other = refl
@@ -29,6 +29,18 @@ no_convert [] rows other = refl
 no_convert (a ∷ []) rows other = refl
 no_convert (a ∷ b ∷ []) rows other = absurd (other refl)
 no_convert (a ∷ b ∷ c ∷ rest) rows other = refl
+
+pub no_bound : (rest : List (Bor Text)) (rows : List Row) → length rest ≢ 2 → None ≡ bound_of (texts rest) rows
+no_bound [] rows other = refl
+no_bound (a ∷ []) rows other = refl
+no_bound (a ∷ b ∷ []) rows other = absurd (other refl)
+no_bound (a ∷ b ∷ c ∷ rest) rows other = refl
+
+pub no_check_bound : (rest : List (Bor Text)) (rows : List Row) → length rest ≢ 2 → None ≡ check_bound_of (texts rest) rows
+no_check_bound [] rows other = refl
+no_check_bound (a ∷ []) rows other = refl
+no_check_bound (a ∷ b ∷ []) rows other = absurd (other refl)
+no_check_bound (a ∷ b ∷ c ∷ rest) rows other = refl
 
 pub no_make : (rest : List (Bor Text)) (rows : List Row) → length rest ≢ 4 → None ≡ make_of (texts rest) rows
 no_make [] rows other = refl

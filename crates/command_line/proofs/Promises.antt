@@ -6,7 +6,7 @@ use Rattle.std.specs.Prelude.{if◌then◌else◌, option_and_then, option_map}
 use Rattle.std.specs.Str.{bytes_eq}
 use Rattle.clap.specs.Words.{Row, Text, first_of}
 use Rattle.command_line.specs.JobValue.{IsJob, job_value}
-use Rattle.command_line.specs.Words.{CheckPlan, CheckRoute, ConvertFile, FixedRoute, ImprovePlan, Job, MakeInstance, PlanFleet, ProofJob, ProveRoute, are_different, at_least_one, charge_in, check_of, check_route_of, check_with, convert_of, convert_with, energy_digits_in, fixed_of, fixed_with, fleet_of, fleet_with, gives_only, improve_of, improve_with, is_listed, job_in, job_of_command, limit_in, make_of, make_with, most_count, most_seed, most_value, nodes_in, number_of, optional_number, proof_of, prove_of, rest_in, time_digits_in}
+use Rattle.command_line.specs.Words.{BoundFleets, CheckBound, CheckPlan, CheckRoute, ConvertFile, FixedRoute, ImprovePlan, Job, MakeInstance, PlanFleet, ProofJob, ProveRoute, are_different, at_least_one, bound_of, bound_with, charge_in, check_bound_of, check_bound_with, check_of, check_route_of, check_with, convert_of, convert_with, energy_digits_in, fixed_of, fixed_with, fleet_of, fleet_with, gives_only, improve_of, improve_with, is_listed, job_in, job_of_command, limit_in, make_of, make_with, most_count, most_seed, most_value, near_in, nodes_in, number_of, optional_number, proof_of, prove_of, rest_in, time_digits_in}
 use Rattle.command_line.specs.declared.Job as values
 use Rattle.command_line.specs.declared.Job.TheVariants as value
 
@@ -19,6 +19,8 @@ Looks (FixedRoute job) = Unit {0}
 Looks (CheckPlan job) = Unit {0}
 Looks (ConvertFile job) = Unit {0}
 Looks (MakeInstance job) = Unit {0}
+Looks (BoundFleets job) = Unit {0}
+Looks (CheckBound job) = Unit {0}
 Looks (ProveRoute job) = Unit {0}
 Looks (CheckRoute job) = Unit {0}
 Looks (ImprovePlan job) = Unit {0}
@@ -88,6 +90,17 @@ convert_with_looks file outfile None energy = tt
 convert_with_looks file outfile (Some t) None = tt
 convert_with_looks file outfile (Some t) (Some e) = tt
 
+bound_with_looks : (file cert : Text) (near : Option ℕ) (limit : Option (Option ℕ)) → IfSome (bound_with file cert near limit) Looks
+unfolding Looks
+bound_with_looks file cert None limit = tt
+bound_with_looks file cert (Some n) None = tt
+bound_with_looks file cert (Some n) (Some l) = tt
+
+check_bound_with_looks : (file cert : Text) (limit : Option (Option ℕ)) → IfSome (check_bound_with file cert limit) Looks
+unfolding Looks
+check_bound_with_looks file cert None = tt
+check_bound_with_looks file cert (Some l) = tt
+
 make_with_looks : (seed customers stations : Option ℕ) (outfile : Text) → IfSome (make_with seed customers stations outfile) Looks
 unfolding Looks
 make_with_looks None customers stations outfile = tt
@@ -135,6 +148,18 @@ convert_looks (a ∷ b ∷ []) rows =
     (convert_with_looks a b (time_digits_in rows) (energy_digits_in rows)) tt
 convert_looks (a ∷ b ∷ c ∷ rest) rows = tt
 
+bound_looks : (rest : List Text) (rows : List Row) → IfSome (bound_of rest rows) Looks
+bound_looks [] rows = tt
+bound_looks (a ∷ []) rows = tt
+bound_looks (a ∷ b ∷ []) rows = if_looks _ (bound_with a b (near_in rows) (limit_in rows)) None (bound_with_looks a b (near_in rows) (limit_in rows)) tt
+bound_looks (a ∷ b ∷ c ∷ rest) rows = tt
+
+check_bound_looks : (rest : List Text) (rows : List Row) → IfSome (check_bound_of rest rows) Looks
+check_bound_looks [] rows = tt
+check_bound_looks (a ∷ []) rows = tt
+check_bound_looks (a ∷ b ∷ []) rows = if_looks _ (check_bound_with a b (limit_in rows)) None (check_bound_with_looks a b (limit_in rows)) tt
+check_bound_looks (a ∷ b ∷ c ∷ rest) rows = tt
+
 make_looks : (rest : List Text) (rows : List Row) → IfSome (make_of rest rows) Looks
 make_looks [] rows = tt
 make_looks (a ∷ []) rows = tt
@@ -162,9 +187,11 @@ command_looks command rest rows =
     (if_looks (bytes_eq command (codes "check")) (check_of rest rows) _ (check_looks rest rows)
     (if_looks (bytes_eq command (codes "convert")) (convert_of rest rows) _ (convert_looks rest rows)
     (if_looks (bytes_eq command (codes "make")) (make_of rest rows) _ (make_looks rest rows)
+    (if_looks (bytes_eq command (codes "bound")) (bound_of rest rows) _ (bound_looks rest rows)
+    (if_looks (bytes_eq command (codes "check-bound")) (check_bound_of rest rows) _ (check_bound_looks rest rows)
     (if_looks (bytes_eq command (codes "prove")) (prove_of rest rows) _ (prove_looks (proof_of rest rows))
     (if_looks (bytes_eq command (codes "check-route")) (check_route_of rest rows) _ (check_route_looks (proof_of rest rows))
-    (if_looks (bytes_eq command (codes "improve")) (improve_of rest rows) None (improve_looks rest rows) tt)))))))
+    (if_looks (bytes_eq command (codes "improve")) (improve_of rest rows) None (improve_looks rest rows) tt)))))))))
 
 and_then_looks : (command : Option Text) (rows : List Row) → IfSome (option_and_then (λ c. job_of_command c (rest_in rows) rows) command) Looks
 and_then_looks None rows = tt
@@ -178,6 +205,8 @@ value_looks (Some (value.Fleet w)) h = record { files = h.0; nodes = h.1 }
 value_looks (Some (value.Check w)) h = tt
 value_looks (Some (value.Convert w)) h = tt
 value_looks (Some (value.Make w)) h = tt
+value_looks (Some (value.Bound w)) h = tt
+value_looks (Some (value.CheckBound w)) h = tt
 value_looks (Some (value.Prove w)) h = tt
 value_looks (Some (value.CheckRoute w)) h = tt
 value_looks (Some (value.Improve w)) h = tt

@@ -1,5 +1,5 @@
--- The command that reads the words: its name, two positionals, and five options of one value each. It has no flag
--- for help and none for a version.
+-- The command that reads the words: its name, two positionals, and six options of one value each.
+-- It has no flag for help and none for a version.
 use Rattle.std.specs.Prelude.{◌-◌, ◌^◌, Some, codes, true}
 use Rattle.clap.specs.Simple.{on_top}
 use Rattle.clap.specs.Words.{App, Rule, Text, new_app, new_rule, with_rule}
@@ -37,5 +37,9 @@ with_digits app =
     with_rule (with_rule app (option_rule (codes "time-digits")))
     (option_rule (codes "energy-digits"))
 
+-- the option for the size of near sets
+abbrev pub with_near : App → App
+with_near app = with_rule app (option_rule (codes "near"))
+
 unfoldable pub evroute : App
-evroute = with_digits (with_bounds (with_positionals without_arguments))
+evroute = with_near (with_digits (with_bounds (with_positionals without_arguments)))

@@ -1,11 +1,11 @@
 -- The job that a value of the program stands for.
 use Rattle.std.specs.Prelude.{◌≡◌, ◌≢◌, ◌≤◌, IfOk, IfSome, Option, Result, option_map, string_bytes}
-use Rattle.command_line.specs.Words.{FixedRoute, PlanFleet, CheckPlan, ConvertFile, MakeInstance, ImprovePlan, ProofJob, ProveRoute, check_job_of, convert_job_of, fleet_job_of, improve_job_of, job_with, make_job_of, proof_job_of}
+use Rattle.command_line.specs.Words.{BoundFleets, FixedRoute, PlanFleet, CheckPlan, ConvertFile, MakeInstance, ImprovePlan, ProofJob, ProveRoute, bound_check_job_of, bound_job_of, check_job_of, convert_job_of, fleet_job_of, improve_job_of, job_with, make_job_of, proof_job_of}
 use Rattle.command_line.specs.Words as words
 use Rattle.command_line.specs.declared.FleetWords.{FleetWords}
 use Rattle.command_line.specs.declared.Job.{Job}
 use Rattle.command_line.specs.declared.ProofWords.{ProofWords}
-use Rattle.command_line.specs.declared.Job.TheVariants.{Fixed, Fleet, Check, CheckRoute, Convert, Make, Improve, Prove}
+use Rattle.command_line.specs.declared.Job.TheVariants.{Bound, Fixed, Fleet, Check, CheckBound, CheckRoute, Convert, Make, Improve, Prove}
 
 -- the job of proving, or of judging a proof
 abbrev pub proof_value : ProofWords → ProofJob
@@ -24,6 +24,10 @@ job_value (Convert w) =
     w.time_digits w.energy_digits)
 job_value (Make w) =
     MakeInstance (make_job_of w.seed w.customers w.stations (string_bytes w.outfile))
+job_value (Bound w) =
+    BoundFleets (bound_job_of (string_bytes w.file) (string_bytes w.cert) w.near w.limit)
+job_value (CheckBound w) =
+    words.CheckBound (bound_check_job_of (string_bytes w.file) (string_bytes w.cert) w.limit)
 job_value (Prove w) = ProveRoute (proof_value w)
 job_value (CheckRoute w) = words.CheckRoute (proof_value w)
 job_value (Improve w) =

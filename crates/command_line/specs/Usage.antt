@@ -8,6 +8,8 @@ usage_text =
     ++ codes "evroute check FILE PLAN CERT [--limit N]\n"
     ++ codes "evroute convert FILE OUTFILE --time-digits N --energy-digits N\n"
     ++ codes "evroute make SEED CUSTOMERS STATIONS OUTFILE\n"
+    ++ codes "evroute bound FILE CERT --near N [--limit N]\n"
+    ++ codes "evroute check-bound FILE CERT [--limit N]\n"
     ++ codes "evroute prove FILE ROUTE CERT [--limit N] [--charge N]\n"
     ++ codes "evroute check-route FILE ROUTE CERT [--limit N] [--charge N]\n"
     ++ codes "evroute improve FILE PLAN OUTFILE [--limit N]\n"

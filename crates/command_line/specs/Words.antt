@@ -45,6 +45,20 @@ pub record MakeJob : Type 0 where
   pub stations : ℕ
   pub outfile : Text
 
+-- the job of bounding the cost of fleet plans by near routes: the names of its files, how many
+-- other customers stand in a near set at most, and the limit where one is given
+pub record BoundJob : Type 0 where
+  pub file : Text
+  pub cert : Text
+  pub near : ℕ
+  pub limit : Option ℕ
+
+-- the job of judging such a bound: the names of its files, and the limit where one is given
+pub record BoundCheckJob : Type 0 where
+  pub file : Text
+  pub cert : Text
+  pub limit : Option ℕ
+
 -- the job of proving that a charge of a route is a fastest one, or of judging such a proof: the
 -- names of its files, the word of its route, and its options
 pub record ProofJob : Type 0 where
@@ -67,6 +81,8 @@ pub data Job : Type 0 where
   CheckPlan : CheckJob → Job
   ConvertFile : ConvertJob → Job
   MakeInstance : MakeJob → Job
+  BoundFleets : BoundJob → Job
+  CheckBound : BoundCheckJob → Job
   ProveRoute : ProofJob → Job
   CheckRoute : ProofJob → Job
   ImprovePlan : ImproveJob → Job
@@ -78,6 +94,10 @@ most_value = 10 ^ 18
 -- the greatest number of digits
 abbrev pub most_digits : ℕ
 most_digits = 10 ^ 9
+
+-- the most other customers of a near set
+abbrev pub most_near : ℕ
+most_near = 10 ^ 9
 
 -- the greatest number that an instance is made from
 abbrev pub most_seed : ℕ
@@ -125,7 +145,7 @@ rest_in rows = unwrap_or (all_of (codes "rest") rows) []
 abbrev pub option_names : List Text
 option_names =
     codes "limit" ∷ codes "charge" ∷ codes "nodes"
-    ∷ codes "time-digits" ∷ codes "energy-digits" ∷ []
+    ∷ codes "time-digits" ∷ codes "energy-digits" ∷ codes "near" ∷ []
 
 -- of these options none is given that is not a command's own
 abbrev pub gives_own : List Text → List Row → List Text → Bool
@@ -155,6 +175,9 @@ time_digits_in rows = digits_in (codes "time-digits") rows
 
 abbrev pub energy_digits_in : List Row → Option ℕ
 energy_digits_in rows = digits_in (codes "energy-digits") rows
+
+abbrev pub near_in : List Row → Option ℕ
+near_in rows = required_number most_near (first_of (codes "near") rows)
 
 -- the job of these words with these options
 abbrev pub job_with : Text → Text → Options → FixedJob
@@ -249,6 +272,40 @@ make_of (seed ∷ customers ∷ stations ∷ outfile ∷ []) rows =
     else None
 make_of rest rows = None
 
+-- the job of these words with this size of near sets and this limit
+abbrev pub bound_job_of : Text → Text → ℕ → Option ℕ → BoundJob
+bound_job_of file cert near limit =
+    record { file = file; cert = cert; near = near; limit = limit }
+
+-- `bound FILE CERT --near N [--limit N]`
+abbrev pub bound_with : Text → Text → Option ℕ → Option (Option ℕ) → Option Job
+bound_with file cert (Some near) (Some limit) =
+    Some (BoundFleets (bound_job_of file cert near limit))
+bound_with file cert near limit = None
+
+abbrev pub bound_of : List Text → List Row → Option Job
+bound_of (file ∷ cert ∷ []) rows =
+    if gives_only (codes "near" ∷ codes "limit" ∷ []) rows && are_different (file ∷ cert ∷ [])
+    then bound_with file cert (near_in rows) (limit_in rows)
+    else None
+bound_of rest rows = None
+
+-- the job of these words with this limit
+abbrev pub bound_check_job_of : Text → Text → Option ℕ → BoundCheckJob
+bound_check_job_of file cert limit = record { file = file; cert = cert; limit = limit }
+
+-- `check-bound FILE CERT [--limit N]`
+abbrev pub check_bound_with : Text → Text → Option (Option ℕ) → Option Job
+check_bound_with file cert limit =
+    option_map (λ n. CheckBound (bound_check_job_of file cert n)) limit
+
+abbrev pub check_bound_of : List Text → List Row → Option Job
+check_bound_of (file ∷ cert ∷ []) rows =
+    if gives_only (codes "limit" ∷ []) rows && are_different (file ∷ cert ∷ [])
+    then check_bound_with file cert (limit_in rows)
+    else None
+check_bound_of rest rows = None
+
 -- the job of these words with these options
 abbrev pub proof_job_of : Text → Text → Text → Options → ProofJob
 proof_job_of file route cert options =
@@ -300,6 +357,8 @@ job_of_command command rest rows =
     else if bytes_eq command (codes "check") then check_of rest rows
     else if bytes_eq command (codes "convert") then convert_of rest rows
     else if bytes_eq command (codes "make") then make_of rest rows
+    else if bytes_eq command (codes "bound") then bound_of rest rows
+    else if bytes_eq command (codes "check-bound") then check_bound_of rest rows
     else if bytes_eq command (codes "prove") then prove_of rest rows
     else if bytes_eq command (codes "check-route") then check_route_of rest rows
     else if bytes_eq command (codes "improve") then improve_of rest rows

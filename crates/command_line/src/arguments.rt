@@ -3,7 +3,7 @@
 ghost use Rattle.std.specs.Prelude.{◌≡◌, ◌∷◌, false, IfOk, map, codes, string_bytes};
 ghost use Rattle.clap.specs.Words.{app_of, rule_of, with_rule};
 ghost use Rattle.clap.specs.Walk.{texts};
-ghost use Rattle.command_line.specs.Command.{command_rule, evroute, option_rule, rest_rule, with_bounds, with_digits, with_positionals, without_arguments};
+ghost use Rattle.command_line.specs.Command.{command_rule, evroute, option_rule, rest_rule, with_bounds, with_digits, with_near, with_positionals, without_arguments};
 ghost use Rattle.command_line.specs.Matches.{IsMatched};
 ghost use Rattle.command_line.specs.Words.{named};
 
@@ -73,6 +73,13 @@ fn with_digits<'a>(alloc: Global, command: Command<'a>) -> Result<Command<'a>, A
     with_option(alloc, command, "energy-digits")
 }
 
+/// The command and the option for the size of near sets.
+fn with_near<'a>(alloc: Global, command: Command<'a>) -> Result<Command<'a>, AllocError>
+    ensures { IfOk result (λ c. app_of c ≡ with_near (app_of command.entry)) }
+{
+    with_option(alloc, command, "near")
+}
+
 /// The command.
 #[tactic(auto, unfolding(crate::specs::Command::evroute))]
 fn evroute<'a>(alloc: Global) -> Result<Command<'a>, AllocError>
@@ -80,7 +87,8 @@ fn evroute<'a>(alloc: Global) -> Result<Command<'a>, AllocError>
 {
     let command = with_positionals(alloc, without_arguments(alloc))?;
     let command = with_bounds(alloc, command)?;
-    with_digits(alloc, command)
+    let command = with_digits(alloc, command)?;
+    with_near(alloc, command)
 }
 
 /// The program's name, and then the words.

@@ -7,6 +7,7 @@ ghost use Rattle.command_line.specs.Usage.{usage_text};
 ghost use Rattle.command_line.specs.Words.{job_of};
 
 mod arguments;
+mod bound;
 mod check;
 mod convert;
 mod fixed;
@@ -95,6 +96,26 @@ pub struct ImproveWords {
     pub limit: Option<u64>,
 }
 
+/// The words of the job `bound`: the file of the instance, another one into which the proof is
+/// written, how many other customers stand in the near set of a customer at most, and the limit on
+/// the time of each route in place of the instance's, in units of time.
+#[derive(Debug, Drop, PartialEq, Eq)]
+pub struct BoundWords {
+    pub file: String,
+    pub cert: String,
+    pub near: u32,
+    pub limit: Option<u64>,
+}
+
+/// The words of the job `check-bound`: the file of the instance, another one with the proof, and
+/// the limit on the time of each route in place of the instance's, in units of time.
+#[derive(Debug, Drop, PartialEq, Eq)]
+pub struct BoundCheckWords {
+    pub file: String,
+    pub cert: String,
+    pub limit: Option<u64>,
+}
+
 /// The words of the jobs `prove` and `check-route`: the file of the instance, the word of the
 /// route, another file for the proof, which `prove` writes and `check-route` reads, and the
 /// options.
@@ -119,6 +140,10 @@ pub enum Job {
     Convert(ConvertWords),
     /// An instance is made from a number.
     Make(MakeWords),
+    /// What no fleet plan costs less than is found by near routes, and its proof is written.
+    Bound(BoundWords),
+    /// What shows that no fleet plan costs less than a bound is judged.
+    CheckBound(BoundCheckWords),
     /// A route is charged, and what shows that none is faster is written.
     Prove(ProofWords),
     /// What shows that a charge of a route is a fastest one is judged.
@@ -130,15 +155,16 @@ pub enum Job {
 /// The job of the words, which stand behind the program's name, read by one `clap` command: `fixed
 /// FILE ROUTE [--limit N] [--charge N]`, `fleet FILE PLAN CERT [--limit N] [--nodes N]`, `check
 /// FILE PLAN CERT [--limit N]`, `convert FILE OUTFILE --time-digits N --energy-digits N`, `make
-/// SEED CUSTOMERS STATIONS OUTFILE`, `prove FILE ROUTE CERT [--limit N] [--charge N]`, `check-route
-/// FILE ROUTE CERT [--limit N] [--charge N]` or `improve FILE PLAN OUTFILE [--limit N]`. `None`
-/// comes exactly where the words are no such job.
+/// SEED CUSTOMERS STATIONS OUTFILE`, `bound FILE CERT --near N [--limit N]`, `check-bound FILE CERT
+/// [--limit N]`, `prove FILE ROUTE CERT [--limit N] [--charge N]`, `check-route FILE ROUTE CERT
+/// [--limit N] [--charge N]` or `improve FILE PLAN OUTFILE [--limit N]`. `None` comes exactly where
+/// the words are no such job.
 ///
 /// Options stand anywhere before a word `--`, each at most once; the value is the next word or
 /// follows a `=`. A name that begins with `-` and has more behind it is given after `--`. Numbers
 /// are written without leading zeros: at most 10^18 for a limit, a charge or nodes, 10^9 for
-/// digits, 2^64 - 1 for a seed, 2^32 - 1 for counts. The nodes are at least 1. The names of files
-/// are different texts. No words at all are no job, and take no memory.
+/// digits and near sets, 2^64 - 1 for a seed, 2^32 - 1 for counts. The nodes are at least 1. The
+/// names of files are different texts. No words at all are no job, and take no memory.
 pub fn job_words(alloc: Global, words: &[String]) -> Result<Option<Job>, AllocError>
     ensures job { IfOk result
         (λ job. option_map job_value job ≡ job_of (map string_bytes words.now)) }
@@ -165,10 +191,9 @@ pub fn usage() -> &'static str
      evroute check FILE PLAN CERT [--limit N]\n\
      evroute convert FILE OUTFILE --time-digits N --energy-digits N\n\
      evroute make SEED CUSTOMERS STATIONS OUTFILE\n\
+     evroute bound FILE CERT --near N [--limit N]\n\
+     evroute check-bound FILE CERT [--limit N]\n\
      evroute prove FILE ROUTE CERT [--limit N] [--charge N]\n\
      evroute check-route FILE ROUTE CERT [--limit N] [--charge N]\n\
      evroute improve FILE PLAN OUTFILE [--limit N]\n"
 }
-
-#[cfg(test)]
-mod tests;

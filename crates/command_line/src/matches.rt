@@ -5,9 +5,10 @@ ghost use Rattle.clap.specs.Words.{first_of};
 ghost use Rattle.clap.specs.Walk.{texts};
 ghost use Rattle.command_line.specs.JobValue.{AnswersJob};
 ghost use Rattle.command_line.specs.Matches.{rows_in};
-ghost use Rattle.command_line.specs.Words.{charge_in, digits_in, gives_only, gives_own, job_in, job_of_command, limit_in, nodes_in, rest_in};
+ghost use Rattle.command_line.specs.Words.{charge_in, digits_in, gives_only, gives_own, job_in, job_of_command, limit_in, near_in, nodes_in, rest_in};
 
 use crate::Job;
+use crate::bound::{bound_job, check_bound_job};
 use crate::check::check_job;
 use crate::convert::convert_job;
 use crate::fixed::fixed_job;
@@ -15,12 +16,21 @@ use crate::fleet::fleet_job;
 use crate::improve::improve_job;
 use crate::make::make_job;
 use crate::proof::{check_route_job, prove_job};
-use crate::words::{GREATEST_DIGITS, GREATEST_VALUE, is_listed, number_of, optional_number};
+use crate::words::{
+    GREATEST_DIGITS, GREATEST_NEAR, GREATEST_VALUE, is_listed, optional_number, required_number,
+};
 use clap::ArgMatches;
 use std::alloc::{AllocError, Global};
 
 /// The options of all commands.
-const OPTIONS: [&str; 5] = ["limit", "charge", "nodes", "time-digits", "energy-digits"];
+const OPTIONS: [&str; 6] = [
+    "limit",
+    "charge",
+    "nodes",
+    "time-digits",
+    "energy-digits",
+    "near",
+];
 
 /// The first value of an argument.
 fn first_of<'a>(matches: &ArgMatches<'a>, name: &str) -> Option<&'a str>
@@ -80,8 +90,15 @@ pub(crate) fn nodes_in(matches: &ArgMatches<'_>) -> Option<Option<u64>>
 pub(crate) fn digits_in(matches: &ArgMatches<'_>, name: &str) -> Option<u32>
     ensures { result ≡ digits_in name.now (rows_in matches.now) }
 {
-    let word = first_of(matches, name)?;
-    let number = number_of(word, GREATEST_DIGITS)?;
+    let number = required_number(first_of(matches, name), GREATEST_DIGITS)?;
+    Some(number as u32)
+}
+
+/// How many other customers stand in a near set at most, which has to be given.
+pub(crate) fn near_in(matches: &ArgMatches<'_>) -> Option<u32>
+    ensures { result ≡ near_in (rows_in matches.now) }
+{
+    let number = required_number(first_of(matches, "near"), GREATEST_NEAR)?;
     Some(number as u32)
 }
 
@@ -114,6 +131,8 @@ fn job_of_command(
         "check" => check_job(alloc, rest, matches),
         "convert" => convert_job(alloc, rest, matches),
         "make" => make_job(alloc, rest, matches),
+        "bound" => bound_job(alloc, rest, matches),
+        "check-bound" => check_bound_job(alloc, rest, matches),
         "prove" => prove_job(alloc, rest, matches),
         "check-route" => check_route_job(alloc, rest, matches),
         "improve" => improve_job(alloc, rest, matches),

@@ -2,7 +2,7 @@
 
 ghost use Rattle.std.specs.Prelude.{◌≡◌, ◌≤◌, IfSome, option_map};
 ghost use Rattle.clap.specs.Walk.{texts};
-ghost use Rattle.command_line.specs.Words.{are_different, is_listed, number_of, optional_number};
+ghost use Rattle.command_line.specs.Words.{are_different, is_listed, number_of, optional_number, required_number};
 
 use ev_text::Scan;
 
@@ -11,6 +11,9 @@ pub(crate) const GREATEST_VALUE: u64 = 1_000_000_000_000_000_000;
 
 /// The greatest number of digits.
 pub(crate) const GREATEST_DIGITS: u64 = 1_000_000_000;
+
+/// The most other customers of a near set.
+pub(crate) const GREATEST_NEAR: u64 = 1_000_000_000;
 
 /// The greatest number that an instance is made from.
 pub(crate) const GREATEST_SEED: u64 = u64::MAX;
@@ -46,6 +49,16 @@ pub(crate) fn optional_number(word: Option<&str>, most: u64) -> Option<Option<u6
         Some(number) => Some(Some(number)),
         None => None,
     }
+}
+
+/// The number of an option that has to be given; `None` where it isn't, or where its value is no
+/// number of at most `most`.
+pub(crate) fn required_number(word: Option<&str>, most: u64) -> Option<u64>
+    ensures number { result
+        ≡ required_number most (option_map (λ text. text.now) word.entry) }
+    ensures within { IfSome result (λ number. number ≤ most) }
+{
+    number_of(word?, most)
 }
 
 /// Whether a text is one of the names.
