@@ -21,14 +21,12 @@ use Rattle.route_plan.proofs.PlanLaws.{fleet_plan_is_spelled}
 use Rattle.route_plan.specs.PlanTexts.{SpellsFleetPlan}
 use Rattle.route_plan.specs.declared.plan.FleetPlan.{FleetPlan}
 use Rattle.evroute_run.proofs.Accepting.{accepted_is_no_rejection, accepted_same}
-use Rattle.evroute_run.proofs.Instances.{one_limited, refused_has_none}
+use Rattle.evroute_run.proofs.Instances.{one_limited, refused_has_none, same_fleet}
 use Rattle.evroute_run.proofs.OneCertificate.{AreSame, one_certificate}
-use Rattle.evroute_run.specs.CheckAnswer.{BreaksFirst, CheckAnswers, HasFleetNetwork, Holds, IsCertificateOf, IsCheckRefused, IsRejection, IsValid, PutsAccepted, PutsRejected, check_answers, check_task, customer_count}
+use Rattle.evroute_run.specs.CheckAnswer.{BreaksFirst, CheckAnswers, Holds, IsCertificateOf, IsCheckRefused, IsRejection, IsValid, PutsAccepted, PutsRejected, check_answers, check_task}
+use Rattle.evroute_run.specs.FleetNetwork.{customer_count}
 use Rattle.job_frame.specs.declared.status.Status.{Status}
 use Rattle.job_frame.specs.declared.status.Status.TheVariants as status
-
-same_fleet : (limit : Option ℕ) (bytes : List ℕ) (g h : Network) → HasFleetNetwork limit bytes g → HasFleetNetwork limit bytes h → g ≡ h
-same_fleet limit bytes g h p q = one_limited limit bytes g h p.network q.network
 
 pub same_plan : (bytes : List ℕ) (p q : Option FleetPlan) → SpellsFleetPlan bytes p → SpellsFleetPlan bytes q → p ≡ q
 same_plan bytes p q is other = Ok-injective p q (sym ((fleet_plan_is_spelled bytes p).1 is) ∙ (fleet_plan_is_spelled bytes q).1 other)

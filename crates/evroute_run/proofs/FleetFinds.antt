@@ -3,8 +3,9 @@ use Rattle.std.proofs.Common.{◌≡◌, ◌≢◌, ℕ, Bool, true, false, List
 use Rattle.command_line.specs.Words.{FleetJob}
 use Rattle.ev_model.specs.Network.{Network}
 use Rattle.ev_outside.specs.Shelf.{Files}
+use Rattle.evroute_run.proofs.Refused.{puts_fleet_refusal}
 use Rattle.evroute_run.specs.Caps.{most_bytes}
-use Rattle.evroute_run.specs.CheckAnswer.{HasFleetNetwork}
+use Rattle.evroute_run.specs.FleetNetwork.{HasFleetNetwork}
 use Rattle.evroute_run.specs.Ended.{IsFleetEnded}
 use Rattle.evroute_run.specs.FleetAnswer.{FleetAnswers, IsFound, PutsFound, fleet_task, search_status}
 use Rattle.evroute_run.specs.declared.answer.Ended.{Ended}
@@ -21,13 +22,11 @@ use Rattle.plan_writer.specs.declared.refusal.Refusal.{Refusal}
 pub fleet_refused : (job : FleetJob) (files : Option Files) (bytes given : List ℕ) (ended : Ended) (refusal : Refusal) → AreReadUpTo most_bytes files job.file bytes → given ≡ bytes
     → ended ≡ Refused refusal → IsFleetEnded job.limit given ended
     → Answers (fleet_task job) files (record { status = status.Refused; writes = []; text = refusal_text refusal })
-fleet_refused job files bytes given ended refusal read same is refused =
-    let first = subst (λ (e : Ended). IsFleetEnded job.limit bytes e) is (subst (λ (bs : List ℕ). IsFleetEnded job.limit bs ended) same refused) in
-    record {
-      bytes = bytes ∷ [];
-      read = (read, tt);
-      answer = record { refusal = refusal; rule = first.0; refused = first.1; none = refl; text_is = refl };
-    }
+fleet_refused job files bytes given ended refusal read same is refused = record {
+  bytes = bytes ∷ [];
+  read = (read, tt);
+  answer = puts_fleet_refusal job.limit bytes given ended refusal same is refused;
+}
 
 -- ---- the status of what was found
 

@@ -1,33 +1,15 @@
 -- The files that `fleet` leaves tell its status, and a budget alone stops it.
-use Rattle.std.proofs.Common.{◌≡◌, ◌≢◌, ◌∙◌, ℕ, ◌⊎◌, List, [], ◌∷◌, Option, None, Some, length, ap, arith, inl, inr, refl, subst, sym}
+use Rattle.std.proofs.Common.{◌≡◌, ◌≢◌, ◌∙◌, ℕ, ◌⊎◌, List, [], ◌∷◌, Option, None, Some, length, inl, inr, refl, subst, sym}
 use Rattle.command_line.specs.Words.{FleetJob}
-use Rattle.ev_model.specs.Network.{Network}
 use Rattle.job_frame.proofs.Performed.{AreWrittenAlike, IsLawful}
 use Rattle.job_frame.specs.Task.{Outcome}
 use Rattle.job_frame.specs.Writes.{Written}
-use Rattle.plan_writer.specs.RefusalText.{IsRule}
-use Rattle.plan_writer.specs.declared.refusal.Refusal.{Refusal}
-use Rattle.plan_writer.specs.declared.refusal.Refusal.TheVariants as refusal
-use Rattle.evroute_run.proofs.Instances.{one_limited, refused_has_none}
+use Rattle.evroute_run.proofs.Instances.{fleet_refused_not}
 use Rattle.evroute_run.proofs.OneSearch.{same_search}
-use Rattle.evroute_run.specs.CheckAnswer.{HasFleetNetwork, customer_count}
-use Rattle.evroute_run.specs.FleetAnswer.{FleetAnswers, IsFleetRefused, PutsFleetRefusal, PutsFound, fleet_answers, fleet_task}
+use Rattle.evroute_run.specs.FleetAnswer.{FleetAnswers, PutsFound, fleet_answers, fleet_task}
+use Rattle.evroute_run.specs.FleetNetwork.{PutsFleetRefusal}
 use Rattle.job_frame.specs.declared.status.Status.{Status}
 use Rattle.job_frame.specs.declared.status.Status.TheVariants as status
-
-fleet_refused_not : (limit : Option ℕ) (bytes : List ℕ) (g : Network) (r : Refusal) → HasFleetNetwork limit bytes g → IsRule r → IsFleetRefused limit bytes r → ⊥
-fleet_refused_not limit bytes g (refusal.Instance e) has rule first = refused_has_none limit bytes (refusal.Instance e) g rule first has.network
-fleet_refused_not limit bytes g (refusal.Limit given) has rule past = refused_has_none limit bytes (refusal.Limit given) g rule past has.network
-fleet_refused_not limit bytes g (refusal.Customers count) has rule (h, network, is, many) =
-    let same : h ≡ g = one_limited limit bytes h g network has.network in
-    let counts : count ≡ customer_count g = is ∙ ap (λ (x : Network). customer_count x) same in
-    omega (arith, counts, many, has.few)
-fleet_refused_not limit bytes g (refusal.Charge level) has rule is = absurd is
-fleet_refused_not limit bytes g (refusal.Route e) has rule is = absurd is
-fleet_refused_not limit bytes g (refusal.Plan e) has rule is = absurd is
-fleet_refused_not limit bytes g (refusal.Certificate e) has rule is = absurd is
-fleet_refused_not limit bytes g (refusal.Literal e) has rule is = absurd is
-fleet_refused_not limit bytes g refusal.Maker has rule is = absurd is
 
 some_is_not_none : (budget : Option ℕ) (n : ℕ) → budget ≡ Some n → budget ≢ None
 some_is_not_none None n is none = absurd (cc)
@@ -40,10 +22,10 @@ stopped_has_budget job bytes ws text p =
 -- an answer is what was found, or a refusal
 FoundOrRefused : FleetJob → List ℕ → Outcome → Type 0
 FoundOrRefused job bytes o =
-    PutsFound job bytes o.status o.writes o.text ⊎ ((o.status ≡ status.Refused) × PutsFleetRefusal job bytes o.writes o.text)
+    PutsFound job bytes o.status o.writes o.text ⊎ ((o.status ≡ status.Refused) × PutsFleetRefusal job.limit bytes o.writes o.text)
 
 found_or_refused : (job : FleetJob) (bytes : List ℕ) (s : Status) (ws : List Written) (text : List ℕ) → FleetAnswers job bytes s ws text →
-    PutsFound job bytes s ws text ⊎ ((s ≡ status.Refused) × PutsFleetRefusal job bytes ws text)
+    PutsFound job bytes s ws text ⊎ ((s ≡ status.Refused) × PutsFleetRefusal job.limit bytes ws text)
 found_or_refused job bytes status.Done ws text p = inl p
 found_or_refused job bytes status.Negative ws text p = inl p
 found_or_refused job bytes status.Stopped ws text p = inl p

@@ -25,5 +25,10 @@ pub mod ProveLaw
 pub mod ProveFinds
 pub mod CheckRouteLaw
 pub mod CheckRouteFinds
+pub mod NearSetsLaw
+pub mod BoundLaw
+pub mod BoundFinds
+pub mod CheckBoundLaw
+pub mod CheckBoundFinds
 pub mod Performed
 pub mod NeverFails

@@ -30,7 +30,7 @@ use Rattle.job_frame.specs.Task.{Outcome as Answered}
 use Rattle.job_frame.specs.Writes.{HoldsAll, Written as NewFile}
 use Rattle.evroute_run.proofs.Instances.{one_limited}
 use Rattle.evroute_run.proofs.SearchReports.{held_fits}
-use Rattle.evroute_run.specs.CheckAnswer.{customer_count, most_customers}
+use Rattle.evroute_run.specs.FleetNetwork.{customer_count, most_customers}
 use Rattle.evroute_run.specs.FleetAnswer.{IsFound, PutsFound, search_status}
 use Rattle.job_frame.specs.declared.status.Status.{Status}
 

@@ -4,10 +4,12 @@ use Rattle.std.proofs.lemmas.List.{append-nil}
 use Rattle.std.specs.Option.{option_map}
 use Rattle.command_line.specs.JobValue.{job_value}
 use Rattle.command_line.specs.Usage.{usage_text}
-use Rattle.command_line.specs.Words.{CheckPlan, CheckRoute, ConvertFile, FixedRoute, ImprovePlan, Job, MakeInstance, PlanFleet, ProveRoute}
+use Rattle.command_line.specs.Words.{BoundFleets, CheckBound, CheckPlan, CheckRoute, ConvertFile, FixedRoute, ImprovePlan, Job, MakeInstance, PlanFleet, ProveRoute}
 use Rattle.command_line.specs.declared.Job as values
 use Rattle.ev_outside.specs.Shelf.{ShelfState}
 use Rattle.ev_outside.specs.Sink.{AddsPrefix, SinkState}
+use Rattle.evroute_run.proofs.BoundLaw.{bound_lawful}
+use Rattle.evroute_run.proofs.CheckBoundLaw.{check_bound_lawful}
 use Rattle.evroute_run.proofs.CheckLaw.{check_lawful}
 use Rattle.evroute_run.proofs.CheckRouteLaw.{check_route_lawful}
 use Rattle.evroute_run.proofs.ConvertLaw.{convert_lawful}
@@ -28,6 +30,8 @@ is_lawful (PlanFleet job) = fleet_lawful job
 is_lawful (CheckPlan job) = check_lawful job
 is_lawful (ConvertFile job) = convert_lawful job
 is_lawful (MakeInstance job) = make_lawful job
+is_lawful (BoundFleets job) = bound_lawful job
+is_lawful (CheckBound job) = check_bound_lawful job
 is_lawful (ProveRoute job) = prove_lawful job
 is_lawful (CheckRoute job) = check_route_lawful job
 is_lawful (ImprovePlan job) = improve_lawful job

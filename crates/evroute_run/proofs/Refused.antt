@@ -1,7 +1,8 @@
--- The line of a refusal as an answer of `check`.
-use Rattle.std.proofs.Common.{◌≡◌, ℕ, List, Option, Result, Ok, Err, IfOk, subst, sym}
+-- The line of a refusal as an answer of `check`, and of the commands that read an instance for a fleet alone.
+use Rattle.std.proofs.Common.{◌≡◌, ℕ, List, [], Option, Result, Ok, Err, IfOk, refl, subst, sym}
 use Rattle.evroute_run.specs.CheckAnswer.{CheckAnswers, IsCheckRefused}
-use Rattle.evroute_run.specs.Ended.{IsCheckEnded}
+use Rattle.evroute_run.specs.Ended.{IsCheckEnded, IsFleetEnded}
+use Rattle.evroute_run.specs.FleetNetwork.{PutsFleetRefusal}
 use Rattle.job_frame.specs.declared.found.Answer.{Answer}
 use Rattle.evroute_run.specs.declared.answer.Ended.{Ended}
 use Rattle.evroute_run.specs.declared.answer.Ended.TheVariants.{Refused}
@@ -18,3 +19,10 @@ refused_answers limit file plan_bytes cert_bytes ended refusal (Err none) is ref
 refused_answers limit file plan_bytes cert_bytes ended refusal (Ok a) is refused answered text =
     let first : IsRule refusal × IsCheckRefused limit file plan_bytes cert_bytes refusal = subst (λ (e : Ended). IsCheckEnded limit file plan_bytes cert_bytes e) is refused in
     subst (λ (s : Status). CheckAnswers limit file plan_bytes cert_bytes s a.text.items) (sym answered) (record { refusal = refusal; rule = first.0; refused = first.1; text_is = text })
+
+-- the first broken rule of the instance, the limit or the count of customers, before anything is written
+pub puts_fleet_refusal : (limit : Option ℕ) (bytes given : List ℕ) (ended : Ended) (refusal : Refusal) → given ≡ bytes → ended ≡ Refused refusal → IsFleetEnded limit given ended
+    → PutsFleetRefusal limit bytes [] (refusal_text refusal)
+puts_fleet_refusal limit bytes given ended refusal same is refused =
+    let first = subst (λ (e : Ended). IsFleetEnded limit bytes e) is (subst (λ (bs : List ℕ). IsFleetEnded limit bs ended) same refused) in
+    record { refusal = refusal; rule = first.0; refused = first.1; none = refl; text_is = refl }

@@ -1,5 +1,5 @@
 -- What `check` answers to the bytes of its instance, of its plan file and of its certificate.
-use Rattle.std.specs.Prelude.{◌≡◌, ◌≢◌, ℕ, ◌<◌, ◌≤◌, List, [], ◌∷◌, Option, None, Some, Ok, Err, length}
+use Rattle.std.specs.Prelude.{◌≡◌, ◌≢◌, ℕ, ◌<◌, List, [], ◌∷◌, Option, None, Some, Ok, Err}
 use Rattle.std.specs.List.{All}
 use Rattle.bound_certificate.specs.CertificateIn.{certificate_in}
 use Rattle.bound_certificate.specs.Kept.{IsKept}
@@ -14,7 +14,6 @@ use Rattle.command_line.specs.Words.{CheckJob}
 use Rattle.ev_model.specs.Fleet.{cost_of, IsFleetPlan}
 use Rattle.ev_model.specs.Network.{Network}
 use Rattle.instance_reader.specs.Faults.{IsFirstFault}
-use Rattle.instance_reader.specs.Instance.{customer_nodes}
 use Rattle.plan_check.specs.FleetRules.{IsFirstBroken, stops_of}
 use Rattle.plan_check.specs.declared.fault.PlanFault.{PlanFault}
 use Rattle.plan_writer.specs.CheckText.{check_text}
@@ -27,22 +26,11 @@ use Rattle.route_plan.specs.PlanReading.{fleet_plan_in}
 use Rattle.route_plan.specs.PlanTexts.{SpellsFleetPlan}
 use Rattle.route_plan.specs.declared.plan.FleetPlan.{FleetPlan}
 use Rattle.evroute_run.specs.Caps.{certificate_read, file_read}
+use Rattle.evroute_run.specs.FleetNetwork.{HasFleetNetwork, customer_count, most_customers}
 use Rattle.evroute_run.specs.LimitedNetwork.{HasNetwork, IsPastLimit}
 use Rattle.job_frame.specs.Task.{Outcome, Task}
 use Rattle.job_frame.specs.declared.status.Status.{Status}
 use Rattle.job_frame.specs.declared.status.Status.TheVariants as status
-
--- the most customers of a fleet
-abbrev pub most_customers : ℕ
-most_customers = 128
-
-abbrev pub customer_count : Network → ℕ
-customer_count g = length (customer_nodes g)
-
--- the bytes are an instance without too many customers, and g is its network with the limit of the words
-pub record HasFleetNetwork (limit : Option ℕ) (bytes : List ℕ) (g : Network) : Type 0 where
-  pub network : HasNetwork limit bytes g
-  pub few : customer_count g ≤ most_customers
 
 -- the bytes of the instance and of the plan file break no rule: g is the network, and the file holds the plan or says
 -- that there is none

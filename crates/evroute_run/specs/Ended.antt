@@ -2,9 +2,10 @@
 use Rattle.std.specs.Prelude.{List, Option, ℕ}
 use Rattle.command_line.specs.declared.Options.{Options}
 use Rattle.evroute_run.specs.CheckAnswer.{IsCheckRefused}
+use Rattle.evroute_run.specs.CheckBoundAnswer.{IsCheckBoundRefused}
 use Rattle.evroute_run.specs.CheckRouteAnswer.{IsCheckRouteRefused}
 use Rattle.evroute_run.specs.FixedAnswer.{IsRefused}
-use Rattle.evroute_run.specs.FleetAnswer.{IsFleetRefused}
+use Rattle.evroute_run.specs.FleetNetwork.{IsFleetRefused}
 use Rattle.evroute_run.specs.ImproveAnswer.{IsImproveRefused}
 use Rattle.evroute_run.specs.LimitedNetwork.{IsNetworkRefused}
 use Rattle.plan_writer.specs.RefusalText.{IsRule}
@@ -38,13 +39,19 @@ IsCheckRouteEnded options word bytes cert_bytes (Refused refusal) =
     IsRule refusal × IsCheckRouteRefused options word bytes cert_bytes refusal
 IsCheckRouteEnded options word bytes cert_bytes Memory = Unit {0}
 
+-- of `check-bound`
+abbrev pub IsCheckBoundEnded : Option ℕ → List ℕ → List ℕ → Ended → Type 0
+IsCheckBoundEnded limit bytes cert_bytes (Refused refusal) =
+    IsRule refusal × IsCheckBoundRefused limit bytes cert_bytes refusal
+IsCheckBoundEnded limit bytes cert_bytes Memory = Unit {0}
+
 -- of `improve`
 abbrev pub IsImproveEnded : Option ℕ → List ℕ → List ℕ → Ended → Type 0
 IsImproveEnded limit bytes plan_bytes (Refused refusal) =
     IsRule refusal × IsImproveRefused limit bytes plan_bytes refusal
 IsImproveEnded limit bytes plan_bytes Memory = Unit {0}
 
--- of `fleet`
+-- of `fleet` and `bound`
 abbrev pub IsFleetEnded : Option ℕ → List ℕ → Ended → Type 0
 IsFleetEnded limit bytes (Refused refusal) = IsRule refusal × IsFleetRefused limit bytes refusal
 IsFleetEnded limit bytes Memory = Unit {0}

@@ -1,5 +1,5 @@
 -- What `fleet` writes and puts on the bytes of its instance.
-use Rattle.std.specs.Prelude.{◌≡◌, ◌≢◌, ◌↔◌, ℕ, ◌*◌, ◌<◌, Bool, true, false, List, [], ◌∷◌, Option, None, Some, length, if◌then◌else◌}
+use Rattle.std.specs.Prelude.{◌≡◌, ◌≢◌, ◌↔◌, ℕ, ◌*◌, Bool, true, false, List, [], ◌∷◌, Option, None, Some, length, if◌then◌else◌}
 use Rattle.bound_certificate.specs.CertificateTexts.{certificate_text}
 use Rattle.bound_certificate.specs.Written.{written}
 use Rattle.bound_certificate.specs.declared.certificate.Certificate.{Certificate}
@@ -14,31 +14,18 @@ use Rattle.ev_fleet.specs.declared.outcome.Outcome.{Outcome}
 use Rattle.ev_model.specs.Network.{IsNetwork, Network}
 use Rattle.fleet_model.specs.Prices.{sum_of}
 use Rattle.fleet_model.specs.Section.{Section}
-use Rattle.instance_reader.specs.Faults.{IsFirstFault}
 use Rattle.plan_writer.specs.FleetText.{IsExactLine, fleet_text}
-use Rattle.plan_writer.specs.RefusalText.{IsRule, refusal_text}
 use Rattle.plan_writer.specs.declared.fleet.Outcomes.{Outcomes}
 use Rattle.plan_writer.specs.declared.fleet.RootLine.{RootLine}
 use Rattle.plan_writer.specs.declared.fleet.RootLine.TheVariants as line
-use Rattle.plan_writer.specs.declared.refusal.Refusal.{Refusal}
-use Rattle.plan_writer.specs.declared.refusal.Refusal.TheVariants as refusal
 use Rattle.route_plan.specs.PlanTexts.{fleet_plan_text}
 use Rattle.evroute_run.specs.Caps.{file_read}
-use Rattle.evroute_run.specs.CheckAnswer.{HasFleetNetwork, customer_count, most_customers}
-use Rattle.evroute_run.specs.LimitedNetwork.{HasNetwork, IsPastLimit}
+use Rattle.evroute_run.specs.FleetNetwork.{HasFleetNetwork, PutsFleetRefusal}
 use Rattle.job_frame.specs.Task.{Task}
 use Rattle.job_frame.specs.Task as task
 use Rattle.job_frame.specs.Writes.{Written}
 use Rattle.job_frame.specs.declared.status.Status.{Status}
 use Rattle.job_frame.specs.declared.status.Status.TheVariants as status
-
--- the first broken rule: of the instance, the limit, the count of customers
-abbrev pub IsFleetRefused : Option ℕ → List ℕ → Refusal → Type 0
-IsFleetRefused limit bytes (refusal.Instance fault) = IsFirstFault bytes fault
-IsFleetRefused limit bytes (refusal.Limit given) = IsPastLimit limit bytes given
-IsFleetRefused limit bytes (refusal.Customers count) =
-    (g : Network) × HasNetwork limit bytes g × (count ≡ customer_count g) × (most_customers < count)
-IsFleetRefused limit bytes other = ⊥
 
 -- what the line of a certificate's root tells: nothing where there is no fractional cover; of an exact root the price sum of
 -- section 0 over its weight, which no fractional cover costs less than, in units of time and in lowest terms; or that the
@@ -118,21 +105,12 @@ pub record PutsFound (job : FleetJob) (bytes : List ℕ)
       ≡ record { name = job.plan; bytes = plan_bytes }
       ∷ record { name = job.cert; bytes = cert_bytes } ∷ []
 
--- the line of the first broken rule is put, and nothing is written
-pub record PutsFleetRefusal (job : FleetJob) (bytes : List ℕ)
-    (ws : List Written) (text : List ℕ) : Type 0 where
-  pub refusal : Refusal
-  pub rule : IsRule refusal
-  pub refused : IsFleetRefused job.limit bytes refusal
-  pub none : ws ≡ []
-  pub text_is : text ≡ refusal_text refusal
-
 -- the files and the text that belong to a status
 abbrev pub FleetAnswers : FleetJob → List ℕ → Status → List Written → List ℕ → Type 0
 FleetAnswers job bytes status.Done ws text = PutsFound job bytes status.Done ws text
 FleetAnswers job bytes status.Negative ws text = PutsFound job bytes status.Negative ws text
 FleetAnswers job bytes status.Stopped ws text = PutsFound job bytes status.Stopped ws text
-FleetAnswers job bytes status.Refused ws text = PutsFleetRefusal job bytes ws text
+FleetAnswers job bytes status.Refused ws text = PutsFleetRefusal job.limit bytes ws text
 FleetAnswers job bytes other ws text = ⊥
 
 abbrev pub fleet_answers : FleetJob → List (List ℕ) → task.Outcome → Type 0

@@ -1,5 +1,6 @@
 pub mod Caps
 pub mod LimitedNetwork
+pub mod FleetNetwork
 pub mod FixedAnswer
 pub mod CheckAnswer
 pub mod FleetAnswer
@@ -9,6 +10,8 @@ pub mod MakeAnswer
 pub mod ImproveAnswer
 pub mod ProveAnswer
 pub mod CheckRouteAnswer
+pub mod BoundAnswer
+pub mod CheckBoundAnswer
 pub mod Ended
 pub mod Run
 pub mod Ending

@@ -2,11 +2,13 @@
 use Rattle.std.specs.Prelude.{◌≡◌, List, map, Option, String, string_bytes}
 use Rattle.std.specs.declared.alloc.Global.{Global}
 use Rattle.command_line.specs.Usage.{usage_text}
-use Rattle.command_line.specs.Words.{CheckPlan, CheckRoute, ConvertFile, FixedRoute, ImprovePlan, Job, MakeInstance, PlanFleet, ProveRoute, job_of}
+use Rattle.command_line.specs.Words.{BoundFleets, CheckBound, CheckPlan, CheckRoute, ConvertFile, FixedRoute, ImprovePlan, Job, MakeInstance, PlanFleet, ProveRoute, job_of}
 use Rattle.ev_outside.specs.Counts.{Rose}
 use Rattle.ev_outside.specs.Shelf.{ShelfState}
 use Rattle.ev_outside.specs.Sink.{Adds, AddsPrefix, SinkState}
+use Rattle.evroute_run.specs.BoundAnswer.{bound_task}
 use Rattle.evroute_run.specs.CheckAnswer.{check_task}
+use Rattle.evroute_run.specs.CheckBoundAnswer.{check_bound_task}
 use Rattle.evroute_run.specs.CheckRouteAnswer.{check_route_task}
 use Rattle.evroute_run.specs.ConvertAnswer.{convert_task}
 use Rattle.evroute_run.specs.FixedAnswer.{fixed_task}
@@ -30,6 +32,8 @@ task_of (PlanFleet job) = fleet_task job
 task_of (CheckPlan job) = check_task job
 task_of (ConvertFile job) = convert_task job
 task_of (MakeInstance job) = make_task job
+task_of (BoundFleets job) = bound_task job
+task_of (CheckBound job) = check_bound_task job
 task_of (ProveRoute job) = prove_task job
 task_of (CheckRoute job) = check_route_task job
 task_of (ImprovePlan job) = improve_task job

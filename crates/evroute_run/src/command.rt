@@ -9,7 +9,9 @@ ghost use Rattle.job_frame.specs.Codes.{code_of};
 ghost use Rattle.job_frame.specs.Performs.{NothingFailed, Performs};
 ghost use Rattle.job_frame.specs.declared.status.Status.{Status};
 
+use crate::bound::bound;
 use crate::check::check;
+use crate::check_bound::check_bound;
 use crate::check_route::check_route;
 use crate::convert::convert;
 use crate::finish::finish;
@@ -48,6 +50,14 @@ use std::alloc::{AllocError, Global};
 /// puts how many nodes it has, its denominator and the time of a fastest plan of the route over all
 /// customers ([`Status::Done`]), or that none is feasible ([`Status::Negative`]).
 ///
+/// `bound FILE CERT --near N [--limit N]` reads FILE as an instance, writes a proof of what no
+/// fleet plan costs less than, by near routes, into CERT, and puts the bound ([`Status::Done`]), or
+/// that there is no fleet plan ([`Status::Negative`]).
+///
+/// `check-bound FILE CERT [--limit N]` reads CERT as such a proof on the instance of FILE, and puts
+/// that it is accepted, with its bound or that it has none ([`Status::Done`]), or the first rule
+/// that it breaks ([`Status::Negative`]).
+///
 /// `prove FILE ROUTE CERT [--limit N] [--charge N]` reads FILE as an instance, writes a proof that
 /// a plan of the route is a fastest one, or that none is feasible, into CERT, and puts what `fixed`
 /// puts, with its status.
@@ -65,9 +75,9 @@ use std::alloc::{AllocError, Global};
 /// All put the line of the first broken rule of their files and words ([`Status::Refused`]). Other
 /// words put the usage text ([`Status::Words`]). After [`Status::Fault`] and [`Status::Memory`] a
 /// part of such a text may have been put. No file but OUTFILE, PLAN and CERT of `fleet`, and CERT
-/// of `prove`, is written: by `convert`, `fleet` and `prove` only where no rule is broken, by
-/// `make` wherever an instance is made, by `improve` only where it is done. What it holds after a
-/// failed write isn't known.
+/// of `bound` and `prove`, is written: by `convert`, `fleet`, `bound` and `prove` only where no
+/// rule is broken, by `make` wherever an instance is made, by `improve` only where it is done. What
+/// it holds after a failed write isn't known.
 pub fn run<S: Shelf, K: Sink>(alloc: Global, words: &[String], shelf: &mut S, out: &mut K) -> Status
     ensures words { result ≡ Status.Words → IsNone (job_named words.now) }
     ensures usage { IsNone (job_named words.now)
@@ -149,6 +159,8 @@ fn perform<S: Shelf, K: Sink, W: JobWatcher>(
         Job::Check(job) => finish(check(alloc, job, shelf), shelf, out),
         Job::Convert(job) => finish(convert(alloc, job, shelf), shelf, out),
         Job::Make(job) => make(alloc, job, shelf, out),
+        Job::Bound(job) => finish(bound(alloc, job, shelf), shelf, out),
+        Job::CheckBound(job) => finish(check_bound(alloc, job, shelf), shelf, out),
         Job::Prove(job) => finish(prove(alloc, job, shelf), shelf, out),
         Job::CheckRoute(job) => finish(check_route(alloc, job, shelf), shelf, out),
         Job::Improve(job) => finish(improve(alloc, job, shelf, watcher), shelf, out),

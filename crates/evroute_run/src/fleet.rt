@@ -4,7 +4,7 @@
 ghost use Rattle.std.specs.Prelude.{◌≡◌, ◌∷◌, ◌≤◌, [], IfOk, IfSome, List, map, string_bytes, ℕ};
 ghost use Rattle.command_line.specs.JobValue.{IsFleetJob, job_value};
 ghost use Rattle.command_line.specs.declared.Job.TheVariants.{Fleet};
-ghost use Rattle.evroute_run.specs.CheckAnswer.{customer_count, most_customers};
+ghost use Rattle.evroute_run.specs.FleetNetwork.{customer_count, most_customers};
 ghost use Rattle.evroute_run.specs.FleetAnswer.{IsFound};
 ghost use Rattle.evroute_run.specs.Run.{task_of};
 ghost use Rattle.job_frame.specs.Finds.{Finds, written_by};

@@ -1,7 +1,7 @@
 //! The first steps of each job that reads an instance.
 
 ghost use Rattle.std.specs.Prelude.{◌≢◌, ℕ, IfErr, IfOk, List, Option};
-ghost use Rattle.evroute_run.specs.CheckAnswer.{HasFleetNetwork};
+ghost use Rattle.evroute_run.specs.FleetNetwork.{HasFleetNetwork};
 ghost use Rattle.evroute_run.specs.Ended.{IsCheckEnded, IsFleetEnded, IsNetworkEnded, IsRuleOrMemory};
 ghost use Rattle.evroute_run.specs.LimitedNetwork.{HasNetwork};
 ghost use Rattle.instance_reader.specs.Faults.{IsFirstFault};

@@ -2,7 +2,8 @@
 
 ghost use Rattle.std.specs.Prelude.{◌≡◌, ◌≤◌, IfErr, IfOk, List, Option, option_map, ℕ};
 ghost use Rattle.bound_certificate.specs.Ranges.{Fits};
-ghost use Rattle.evroute_run.specs.CheckAnswer.{BreaksFirst, CheckAnswers, HasFleet, IsCertificateOf, IsValid, customer_count, most_customers};
+ghost use Rattle.evroute_run.specs.CheckAnswer.{BreaksFirst, CheckAnswers, HasFleet, IsCertificateOf, IsValid};
+ghost use Rattle.evroute_run.specs.FleetNetwork.{customer_count, most_customers};
 ghost use Rattle.evroute_run.specs.Ended.{IsCheckEnded, IsRuleOrMemory};
 ghost use Rattle.evroute_run.specs.Judged.{IsJudgementOf, judged_status};
 ghost use Rattle.job_frame.specs.Task.{IsAnswered};

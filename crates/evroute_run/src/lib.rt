@@ -2,8 +2,10 @@
 #![tactic(auto)]
 
 mod answer;
+mod bound;
 mod caps;
 mod check;
+mod check_bound;
 mod check_route;
 mod command;
 mod convert;

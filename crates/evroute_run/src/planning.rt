@@ -5,7 +5,7 @@ ghost use Rattle.bound_certificate.specs.Ranges.{Fits, SectionFits};
 ghost use Rattle.certificate_check.specs.Accepted.{IsAccepted};
 ghost use Rattle.ev_fleet.specs.Outcome.{IsOutcome};
 ghost use Rattle.ev_model.specs.Network.{IsNetwork};
-ghost use Rattle.evroute_run.specs.CheckAnswer.{customer_count, most_customers};
+ghost use Rattle.evroute_run.specs.FleetNetwork.{customer_count, most_customers};
 ghost use Rattle.evroute_run.specs.FleetAnswer.{IsFound, TellsRootOf, outcomes_of, search_status};
 ghost use Rattle.fleet_model.specs.Prices.{sum_of};
 ghost use Rattle.plan_writer.specs.FleetText.{IsExactLine, IsLowestLine, fleet_text};

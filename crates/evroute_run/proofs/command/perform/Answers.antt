@@ -1,7 +1,7 @@
 use Rattle.std.proofs.Common.{subst, sym}
 use Rattle.command_line.specs.JobValue.{job_value}
 use Rattle.command_line.specs.declared.Job.{Job}
-use Rattle.command_line.specs.declared.Job.TheVariants.{Check, CheckRoute, Convert, Fixed, Fleet, Improve, Prove}
+use Rattle.command_line.specs.declared.Job.TheVariants.{Bound, Check, CheckBound, CheckRoute, Convert, Fixed, Fleet, Improve, Prove}
 use Rattle.evroute_run.specs.Run.{task_of}
 use Rattle.job_frame.specs.Performs.{Performs}
 use Rattle.evroute_run.proofs.command.perform.Goals as goal
@@ -34,6 +34,18 @@ pub returns-in-Make-clause-job : goal.returns-in-Make-clause-job
 returns-in-Make-clause-job g c =
     subst (λ (job : Job). Performs (task_of (job_value job)) (g.S.Shelf.state c.args.shelf.now) (g.S.Shelf.state c.make.new.shelf) (g.K.Sink.state c.args.out.now) (g.K.Sink.state c.make.new.out) c.make.result)
     (sym c.in-Make.is) c.make.ensures.job
+
+pub returns-in-Bound-clause-job : goal.returns-in-Bound-clause-job
+returns-in-Bound-clause-job g c =
+    let before = g.S.Shelf.state c.args.shelf.now in
+    subst (λ (job : Job). Performs (task_of (job_value job)) before (g.S.Shelf.state c.finish-in-Bound.new.shelf) (g.K.Sink.state c.args.out.now) (g.K.Sink.state c.finish-in-Bound.new.out) c.finish-in-Bound.result)
+    (sym c.in-Bound.is) (c.finish-in-Bound.ensures.job (job_value (Bound c.in-Bound.job)) before c.bound.ensures)
+
+pub returns-in-CheckBound-clause-job : goal.returns-in-CheckBound-clause-job
+returns-in-CheckBound-clause-job g c =
+    let before = g.S.Shelf.state c.args.shelf.now in
+    subst (λ (job : Job). Performs (task_of (job_value job)) before (g.S.Shelf.state c.finish-in-CheckBound.new.shelf) (g.K.Sink.state c.args.out.now) (g.K.Sink.state c.finish-in-CheckBound.new.out) c.finish-in-CheckBound.result)
+    (sym c.in-CheckBound.is) (c.finish-in-CheckBound.ensures.job (job_value (CheckBound c.in-CheckBound.job)) before c.check_bound.ensures)
 
 pub returns-in-Prove-clause-job : goal.returns-in-Prove-clause-job
 returns-in-Prove-clause-job g c =

@@ -1,0 +1,98 @@
+//! What `bound` finds: what no fleet plan on an instance costs less than, by near routes, with a
+//! proof that is written.
+
+ghost use Rattle.std.specs.Prelude.{◌≡◌, ◌≤◌, IfOk, map, string_bytes};
+ghost use Rattle.command_line.specs.JobValue.{job_value};
+ghost use Rattle.command_line.specs.declared.Job.TheVariants.{Bound};
+ghost use Rattle.evroute_run.specs.BoundAnswer.{IsBoundFound, bound_status};
+ghost use Rattle.evroute_run.specs.FleetNetwork.{customer_count, most_customers};
+ghost use Rattle.evroute_run.specs.Run.{task_of};
+ghost use Rattle.job_frame.specs.Finds.{Finds, written_by};
+ghost use Rattle.near_text.specs.NearTexts.{near_text};
+ghost use Rattle.near_text.specs.VerdictText.{near_bound_text};
+ghost use Rattle.near_text.specs.Written.{written_near};
+
+use crate::answer::{Ended, refuse_job};
+use crate::caps::MOST_BYTES;
+use crate::instance::fleet_instance;
+use command_line::BoundWords;
+use ev_outside::{Shelf, ShelfFault};
+use instance_reader::Instance;
+use job_frame::{Answer, Found, NewFile, Status, read_file};
+use ng_pricing::{NearProof, near_bound, push_near, push_near_bound};
+use std::alloc::{AllocError, Global};
+
+/// What `bound` finds: the instance is read, its fleet plans are bounded, and the proof of it is
+/// written.
+pub fn bound<S: Shelf>(alloc: Global, job: &BoundWords, shelf: &mut S) -> Result<Found, ShelfFault>
+    ensures { Finds (task_of (job_value (Bound job.now)))
+        (S.state shelf.old) (S.state shelf.new) result }
+{
+    let bytes = match read_file(alloc, job.file.as_str(), MOST_BYTES, shelf) {
+        Ok(bytes) => bytes,
+        Err(fault) => return Err(fault),
+    };
+    match fleet_instance(alloc, bytes.as_slice(), job.limit) {
+        Ok(inst) => match bound_on(alloc, &inst, job) {
+            Ok(found) => Ok(found),
+            Err(AllocError) => Err(ShelfFault::Memory),
+        },
+        Err(Ended::Refused(refusal)) => refuse_job(alloc, refusal),
+        Err(Ended::Memory) => Err(ShelfFault::Memory),
+    }
+}
+
+/// What `bound` finds on the instance of its file: a bound with the text of its proof.
+fn bound_on(alloc: Global, inst: &Instance, job: &BoundWords) -> Result<Found, AllocError>
+    requires { customer_count inst.now ≤ most_customers }
+    ensures { IfOk result (λ f.
+        IsBoundFound inst.now job.now.near (string_bytes job.now.cert)
+        f.answer.status (map written_by f.files.items) f.answer.text.items) }
+{
+    let proof = near_bound(alloc, inst, job.near as usize)?;
+    let answer = tell(alloc, inst, proof.bound)?;
+    let file = proof_file(alloc, inst, job.cert.as_str(), &proof)?;
+    Found::with_file(alloc, answer, file)
+}
+
+/// The line of a bound, or that there is no fleet plan.
+fn tell(alloc: Global, inst: &Instance, bound: Option<u128>) -> Result<Answer, AllocError>
+    ensures status { IfOk result (λ a. a.status ≡ bound_status bound) }
+    ensures text { IfOk result
+        (λ a. a.text.items ≡ near_bound_text inst.now.denominator bound) }
+{
+    let mut text = Vec::new(alloc);
+    push_near_bound(alloc, &mut text, inst, bound)?;
+    Ok(Answer {
+        status: bound_status(bound),
+        text,
+    })
+}
+
+/// The status beside a bound.
+fn bound_status(bound: Option<u128>) -> Status
+    ensures { result ≡ bound_status bound }
+{
+    match bound {
+        Some(_) => Status::Done,
+        None => Status::Negative,
+    }
+}
+
+/// The file that holds a proof.
+fn proof_file(
+    alloc: Global,
+    inst: &Instance,
+    cert: &str,
+    proof: &NearProof,
+) -> Result<NewFile, AllocError>
+    requires { customer_count inst.now ≤ most_customers }
+    ensures { IfOk result (λ f. written_by f ≡ record {
+      name = cert.now;
+      bytes = near_text (written_near inst.now proof.now);
+    }) }
+{
+    let mut bytes = Vec::new(alloc);
+    push_near(alloc, &mut bytes, inst, proof)?;
+    NewFile::new(alloc, cert, bytes)
+}

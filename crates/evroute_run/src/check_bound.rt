@@ -1,0 +1,126 @@
+//! What `check-bound` finds: a proof of what no fleet plan costs less than is judged.
+
+ghost use Rattle.std.specs.Prelude.{◌≡◌, ◌≤◌, IfErr, IfOk, List, Option, string_bytes, ℕ};
+ghost use Rattle.command_line.specs.JobValue.{job_value};
+ghost use Rattle.command_line.specs.declared.Job.TheVariants.{CheckBound};
+ghost use Rattle.evroute_run.specs.Caps.{most_bytes};
+ghost use Rattle.evroute_run.specs.CheckBoundAnswer.{CheckBoundAnswers, HasNear, verdict_status};
+ghost use Rattle.evroute_run.specs.Ended.{IsCheckBoundEnded, IsRuleOrMemory};
+ghost use Rattle.evroute_run.specs.FleetNetwork.{HasFleetNetwork, customer_count, most_customers};
+ghost use Rattle.evroute_run.specs.Run.{task_of};
+ghost use Rattle.job_frame.specs.Finds.{Finds};
+ghost use Rattle.job_frame.specs.Task.{AreReadUpTo, IsAnswered};
+ghost use Rattle.near_proof.specs.Ranges.{NearFits};
+
+use crate::answer::{Ended, refuse, refuse_job};
+use crate::caps::{MOST_BYTES, MOST_CERTIFICATE_BYTES};
+use crate::instance::fleet_instance;
+use command_line::BoundCheckWords;
+use ev_outside::{Shelf, ShelfFault};
+use instance_reader::Instance;
+use job_frame::{Answer, Found, Status, read_file};
+use ng_pricing::{CertText, NearProof, NearVerdict, check_near, push_near_verdict, read_near};
+use plan_writer::Refusal;
+use std::alloc::{AllocError, Global};
+
+/// What `check-bound` finds: the instance is read, then the proof; and then this is judged.
+pub fn check_bound<S: Shelf>(
+    alloc: Global,
+    job: &BoundCheckWords,
+    shelf: &mut S,
+) -> Result<Found, ShelfFault>
+    ensures { Finds (task_of (job_value (CheckBound job.now)))
+        (S.state shelf.old) (S.state shelf.new) result }
+{
+    let bytes = match read_file(alloc, job.file.as_str(), MOST_BYTES, shelf) {
+        Ok(bytes) => bytes,
+        Err(fault) => return Err(fault),
+    };
+    match fleet_instance(alloc, bytes.as_slice(), job.limit) {
+        Ok(inst) => check_on(alloc, &inst, job, shelf),
+        Err(Ended::Refused(refusal)) => refuse_job(alloc, refusal),
+        Err(Ended::Memory) => Err(ShelfFault::Memory),
+    }
+}
+
+/// What `check-bound` finds on the instance of its file: the proof is read, and judged.
+fn check_on<S: Shelf>(
+    alloc: Global,
+    inst: &Instance,
+    job: &BoundCheckWords,
+    shelf: &mut S,
+) -> Result<Found, ShelfFault>
+    requires { customer_count inst.now ≤ most_customers }
+    ensures { (bytes : List ℕ)
+        → AreReadUpTo most_bytes (S.state shelf.old).files (string_bytes job.now.file) bytes
+        → HasFleetNetwork job.now.limit bytes inst.now
+        → Finds (task_of (job_value (CheckBound job.now)))
+        (S.state shelf.old) (S.state shelf.new) result }
+{
+    let bytes = match read_file(alloc, job.cert.as_str(), MOST_CERTIFICATE_BYTES, shelf) {
+        Ok(bytes) => bytes,
+        Err(fault) => return Err(fault),
+    };
+    match judge_text(alloc, inst, bytes.as_slice()) {
+        Ok(answer) => Ok(Found::alone(alloc, answer)),
+        Err(AllocError) => Err(ShelfFault::Memory),
+    }
+}
+
+/// The answer to the bytes of a proof: they are read, and judged.
+fn judge_text(alloc: Global, inst: &Instance, bytes: &[u8]) -> Result<Answer, AllocError>
+    requires { customer_count inst.now ≤ most_customers }
+    ensures answered { IfOk result (λ a. IsAnswered a.status) }
+    ensures answers { (limit : Option ℕ) (file : List ℕ) → HasFleetNetwork limit file inst.now
+        → IfOk result (λ a. CheckBoundAnswers limit file bytes.now a.status a.text.items) }
+{
+    match proof_of(alloc, inst, bytes) {
+        Ok(proof) => judge(alloc, inst, &proof),
+        Err(Ended::Refused(refusal)) => refuse(alloc, refusal),
+        Err(Ended::Memory) => Err(AllocError),
+    }
+}
+
+/// The proof of a file.
+fn proof_of(alloc: Global, inst: &Instance, bytes: &[u8]) -> Result<NearProof, Ended>
+    requires { customer_count inst.now ≤ most_customers }
+    ensures has { IfOk result (HasNear inst.now bytes.now) }
+    ensures fits { IfOk result (NearFits inst.now) }
+    ensures rule { IfErr result IsRuleOrMemory }
+    ensures ended { (limit : Option ℕ) (file : List ℕ) → HasFleetNetwork limit file inst.now
+        → IfErr result (IsCheckBoundEnded limit file bytes.now) }
+{
+    match read_near(alloc, inst, bytes) {
+        Ok(proof) => Ok(proof),
+        Err(CertText::Memory) => Err(Ended::Memory),
+        Err(fault) => Err(Ended::Refused(Refusal::Certificate(fault))),
+    }
+}
+
+/// The answer to a proof: it is accepted, with its bound, or breaks a rule.
+fn judge(alloc: Global, inst: &Instance, proof: &NearProof) -> Result<Answer, AllocError>
+    requires few { customer_count inst.now ≤ most_customers }
+    requires fits { NearFits inst.now proof.now }
+    ensures answered { IfOk result (λ a. IsAnswered a.status) }
+    ensures answers { (limit : Option ℕ) (file bytes : List ℕ)
+        → HasFleetNetwork limit file inst.now → HasNear inst.now bytes proof.now
+        → IfOk result (λ a. CheckBoundAnswers limit file bytes a.status a.text.items) }
+{
+    let verdict = check_near(alloc, inst, proof)?;
+    let mut text = Vec::new(alloc);
+    push_near_verdict(alloc, &mut text, inst, proof, &verdict)?;
+    Ok(Answer {
+        status: verdict_status(verdict),
+        text,
+    })
+}
+
+/// The status of a verdict.
+fn verdict_status(verdict: NearVerdict) -> Status
+    ensures { result ≡ verdict_status verdict }
+{
+    match verdict {
+        NearVerdict::Accepted => Status::Done,
+        _ => Status::Negative,
+    }
+}
