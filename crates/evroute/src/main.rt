@@ -2,11 +2,11 @@
 #![tactic(auto)]
 
 use ev_outside::{FileShelf, OutSink};
-use evroute_run::{LastFailure, SystemDiagnostics, run_to_end};
+use evroute_run::{LastFailure, run_to_end};
 pub use evroute_run::{Status, exit_code, run};
 use plain_words::{
-    Failed, HeardSink, ToldProgress, broken_json, in_words, left_behind, long_certificate,
-    out_of_reach, unwritable, wants_progress,
+    Failed, HeardSink, PlainDiagnostics, ToldProgress, broken_json, in_words, left_behind,
+    long_certificate, out_of_reach, unwritable, wants_progress,
 };
 use std::alloc::{AllocError, Global};
 use std::process::ExitCode;
@@ -16,7 +16,7 @@ fn main(rt: HostRuntime) -> ExitCode {
     let alloc = rt.alloc();
     let mut shelf = FileShelf::new(alloc, &rt);
     let mut out = HeardSink::over(OutSink::new(&rt));
-    let mut people = SystemDiagnostics::new(&rt);
+    let mut people = PlainDiagnostics::new(alloc, &rt);
     let mut progress = ToldProgress::new(&rt, wants_progress(&rt));
     tell_unwritable(&rt);
     let words = words_of(&rt);

@@ -45,6 +45,12 @@ const ENERGY_DIGITS: NumberOption = NumberOption {
     is_required: true,
 };
 
+const NEAR: NumberOption = NumberOption {
+    word: "--near",
+    most: 1_000_000_000,
+    is_required: true,
+};
+
 /// The command of a word.
 pub(crate) fn command_of(word: &str) -> Option<Command> {
     match word {
@@ -67,6 +73,14 @@ pub(crate) fn command_of(word: &str) -> Option<Command> {
         "make" => Some(Command {
             names: &["SEED", "CUSTOMERS", "STATIONS", "OUTFILE"],
             options: &[],
+        }),
+        "bound" => Some(Command {
+            names: &["FILE", "CERT"],
+            options: &[NEAR, LIMIT],
+        }),
+        "check-bound" => Some(Command {
+            names: &["FILE", "CERT"],
+            options: &[LIMIT],
         }),
         "prove" | "check-route" => Some(Command {
             names: &["FILE", "ROUTE", "CERT"],

@@ -25,6 +25,7 @@ pub fn left_behind(
         ["fleet", _, files @ ..] => files,
         ["improve", _, _, files @ ..] => files,
         ["prove", _, _, files @ ..] => files,
+        ["bound", _, files @ ..] => files,
         ["convert", _, files @ ..] => files,
         ["make", _, _, _, files @ ..] => files,
         _ => return Ok(None),

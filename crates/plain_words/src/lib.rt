@@ -16,6 +16,7 @@ mod progress;
 mod reach;
 mod refused;
 mod rejected;
+mod taken;
 mod told;
 mod writing;
 mod wrong_words;
@@ -27,6 +28,7 @@ pub use length::long_certificate;
 use names::{name_at, names_of};
 pub use reach::out_of_reach;
 use std::alloc::{AllocError, Global};
+pub use taken::{OutOfMemory, PlainDiagnostics, most_memory};
 pub use told::{ToldProgress, wants_progress};
 pub use writing::unwritable;
 

@@ -10,10 +10,10 @@ use std::alloc::{AllocError, Global};
 /// The most bytes of an instance.
 pub(crate) const MOST_BYTES: usize = 1 << 26;
 
-/// What is said where `fleet` printed that there is no fleet plan: a customer whom no route of its
-/// own serves, the first in order of nodes. There is one, since routes of their own for all
-/// customers are a fleet plan. `None` for other commands and lines, and where the instance can't be
-/// read again.
+/// What is said where `fleet` or `bound` printed that there is no fleet plan: a customer whom no
+/// route of its own serves, the first in order of nodes. There is one, since routes of their own
+/// for all customers are a fleet plan. `None` for other commands and lines, and where the instance
+/// can't be read again.
 pub fn out_of_reach<S: Shelf>(
     alloc: Global,
     shelf: &mut S,
@@ -21,7 +21,7 @@ pub fn out_of_reach<S: Shelf>(
     line: &str,
 ) -> Result<Option<String>, AllocError> {
     let names = names_of(alloc, words)?;
-    let ["fleet", file, ..] = names.as_slice() else {
+    let ["fleet" | "bound", file, ..] = names.as_slice() else {
         return Ok(None);
     };
     if line != "infeasible" {

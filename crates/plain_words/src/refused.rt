@@ -23,7 +23,7 @@ pub(crate) fn in_words(
         )?)),
         ["route", rule @ ..] => route(alloc, name_at(names, 2), rule),
         ["plan", rule @ ..] => plan(alloc, name_at(names, 2), rule),
-        ["certificate", rule @ ..] => certificate(alloc, kind(names), name_at(names, 3), rule),
+        ["certificate", rule @ ..] => certificate(alloc, kind(names), certificate_of(names), rule),
         ["literal", rule @ ..] => literal(alloc, file, rule),
         ["maker", ..] => Ok(Some(format!(in alloc;
             "SEED is from 1 to 2147483646, and there are 1 to 399 customers and stations, at \
@@ -125,11 +125,21 @@ fn plan(alloc: Global, file: &str, rule: &[&str]) -> Result<Option<String>, Allo
     }
 }
 
-/// What the file of a certificate holds for a command: the proof of a route for `check-route`.
+/// What the file of a certificate holds for a command: the proof of a route for `check-route`, that
+/// of a bound for `check-bound`.
 fn kind(names: &[&str]) -> &'static str {
     match names.first() {
         Some(command) if *command == "check-route" => "a proof",
+        Some(command) if *command == "check-bound" => "a proof of a bound",
         _ => "a certificate",
+    }
+}
+
+/// The name of that file.
+fn certificate_of<'a>(names: &[&'a str]) -> &'a str {
+    match names.first() {
+        Some(command) if *command == "check-bound" => name_at(names, 2),
+        _ => name_at(names, 3),
     }
 }
 

@@ -13,6 +13,7 @@ pub(crate) fn in_words(
         ["plan", rule @ ..] => plan(alloc, name_at(names, 2), rule),
         ["certificate", rule @ ..] => certificate(alloc, name_at(names, 3), rule),
         ["proof", rule @ ..] => proof(alloc, name_at(names, 3), rule),
+        ["near", rule @ ..] => near(alloc, name_at(names, 2), rule),
         _ => Ok(None),
     }
 }
@@ -81,6 +82,29 @@ fn proof(alloc: Global, file: &str, rule: &[&str]) -> Result<Option<String>, All
         ["5", "label", label] => Ok(Some(format!(in alloc;
             "{file}: from label {label} a vehicle comes home sooner than the plan, or within the \
              limit where there is none"
+        )?)),
+        _ => Ok(None),
+    }
+}
+
+/// What a broken rule of a proof of a bound means.
+fn near(alloc: Global, file: &str, rule: &[&str]) -> Result<Option<String>, AllocError> {
+    match rule {
+        ["1"] => Ok(Some(format!(in alloc;
+            "{file}: no listed label covers a vehicle that starts"
+        )?)),
+        ["2", "label", label, "node", node] => Ok(Some(format!(in alloc;
+            "{file}: the step from label {label} to node {node} leads to no listed label"
+        )?)),
+        ["3", "label", label] => Ok(Some(format!(in alloc;
+            "{file}: from label {label} a vehicle comes home for less than its services' prices"
+        )?)),
+        ["4"] => Ok(Some(format!(in alloc;
+            "{file}: the bound is not the sum of the prices, or none is shown"
+        )?)),
+        ["5", "customer", node] => Ok(Some(format!(in alloc;
+            "{file}: the route listed for customer {node} doesn't show that its price can't be \
+             higher"
         )?)),
         _ => Ok(None),
     }

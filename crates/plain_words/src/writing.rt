@@ -7,9 +7,9 @@ use std::io::ErrorKind;
 use std::path::Path;
 use std::rt::Files;
 
-/// Which file that `fleet`, `improve` or `prove` would write behind its search can't be written,
-/// and why, as far as the system tells without a change: where a folder has its name, or its folder
-/// isn't there. `None` for other commands, which take no time.
+/// Which file that `fleet`, `improve`, `bound` or `prove` would write behind its search can't be
+/// written, and why, as far as the system tells without a change: where a folder has its name, or
+/// its folder isn't there. `None` for other commands, which take no time.
 pub fn unwritable<R: Files>(
     alloc: Global,
     files: &R,
@@ -23,6 +23,7 @@ pub fn unwritable<R: Files>(
         },
         ["improve", _, _, outfile] => told_of(alloc, files, outfile),
         ["prove", _, _, cert] => told_of(alloc, files, cert),
+        ["bound", _, cert] => told_of(alloc, files, cert),
         _ => Ok(None),
     }
 }
