@@ -308,7 +308,12 @@ fn a_fleet_has_no_more_than_128_customers(rt: HostRuntime) {
     let mut shelf = shelf_with(alloc, ONE_STATION, CHARGED, &[]).expect(&rt, "memory");
     let made = run_with(alloc, "make 1 129 0 W", &mut shelf, &[]).expect(&rt, "memory");
     assert_eq!(rt; made.0, Status::Negative);
-    for line in ["fleet W P Q", "check W P Q"] {
+    for line in [
+        "fleet W P Q",
+        "check W P Q",
+        "bound W Q --near 2",
+        "check-bound W Q",
+    ] {
         let ended = run_with(alloc, line, &mut shelf, &[]).expect(&rt, "memory");
         assert_eq!(rt; ended.0, Status::Refused, "{line}");
         assert_eq!(rt; ended.1.as_slice(), "refused customers 129\n".as_bytes());

@@ -3,6 +3,8 @@
 #![tactic(auto)]
 
 #[cfg(test)]
+mod bounds;
+#[cfg(test)]
 mod certificates;
 #[cfg(test)]
 mod commands;
@@ -14,6 +16,8 @@ mod files;
 mod fleets;
 #[cfg(test)]
 mod improved;
+#[cfg(test)]
+mod jobs;
 #[cfg(test)]
 mod long_files;
 #[cfg(test)]

@@ -1,7 +1,7 @@
 //! What people are told beside the output.
 
 use ev_outside::MemoryShelf;
-use plain_words::{Failed, broken_json, in_words, left_behind};
+use plain_words::{Failed, OutOfMemory, broken_json, in_words, left_behind, most_memory};
 use std::alloc::{AllocError, Global};
 use std::test::Fail;
 
@@ -58,6 +58,38 @@ fn refusals_are_told_with_the_file(rt: HostRuntime) -> Result<(), Fail> {
             "rejected proof 4 label 0 via 2",
             "c: the step from label 0 to the station at node 2 leads to no listed label",
         ),
+        (
+            "check-bound a c",
+            "refused certificate 3",
+            "c: a proof of a bound of another version",
+        ),
+        (
+            "check-bound a c --limit 3",
+            "rejected near 1",
+            "c: no listed label covers a vehicle that starts",
+        ),
+        (
+            "check-bound a c",
+            "rejected near 2 label 1 node 7",
+            "c: the step from label 1 to node 7 leads to no listed label",
+        ),
+        (
+            "check-bound a c",
+            "rejected near 3 label 4",
+            "c: from label 4 a vehicle comes home for less than its services' prices",
+        ),
+        (
+            "check-bound a c",
+            "rejected near 4",
+            "c: the bound is not the sum of the prices, or none is shown",
+        ),
+        (
+            "check-bound a c",
+            "rejected near 5 customer 3",
+            "c: the route listed for customer 3 doesn't show that its price can't be higher",
+        ),
+        ("check-bound a c", "bound none", ""),
+        ("bound a c --near 3", "bound 14/1", ""),
         (
             "fixed a 0,1",
             "refused route 4",
@@ -122,6 +154,21 @@ fn a_wrong_word_is_named(rt: HostRuntime) -> Result<(), Fail> {
         (
             "convert a b --time-digits 1",
             "convert needs --energy-digits N",
+        ),
+        ("bound a b", "bound needs --near N"),
+        (
+            "bound a b --near 1.5",
+            "--near 1.5: no whole number of at most 1000000000",
+        ),
+        (
+            "bound a b --near 1000000001",
+            "--near 1000000001: no whole number of at most 1000000000",
+        ),
+        ("bound a a --near 1", "a is named twice"),
+        ("fleet a b c --near 1", "--near is no option of fleet"),
+        (
+            "check-bound a b --near 1",
+            "--near is no option of check-bound",
         ),
         (
             "check a b",
@@ -208,6 +255,18 @@ fn what_a_failure_leaves_is_told(rt: HostRuntime) -> Result<(), Fail> {
             "c may hold a part, and is to be written again",
         ),
         ("improve a b c", Failed::File("b"), ""),
+        (
+            "bound a c --near 2",
+            Failed::File("c"),
+            "c may hold a part, and is to be written again",
+        ),
+        (
+            "bound --near 2 a c",
+            Failed::Output("bound 14/1"),
+            "c is whole",
+        ),
+        ("bound a c --near 2", Failed::File("a"), ""),
+        ("check-bound a c", Failed::File("c"), ""),
         ("make 1 1 0 c", Failed::Output("nodes 2"), "c is whole"),
         ("improve a b c", Failed::Output("alone 1"), ""),
         (
@@ -223,6 +282,37 @@ fn what_a_failure_leaves_is_told(rt: HostRuntime) -> Result<(), Fail> {
         match told {
             Some(told) => assert_eq!(rt; told.as_str(), want, "{words}"),
             None => assert_eq!(rt; "", want, "{words}"),
+        }
+    }
+    Ok(())
+}
+
+#[test]
+fn the_most_memory_is_read_and_told(rt: HostRuntime) -> Result<(), Fail> {
+    let alloc = rt.alloc();
+    for (status, want) in [
+        (
+            "Name:\tevroute\nVmPeak:\t    5120 kB\nVmHWM:\t 1263616 kB\nVmRSS:\t    1024 kB\n",
+            Some((1_263_616, "evroute: out of memory after 1,234 MB")),
+        ),
+        (
+            "VmHWM:\t    3072 kB",
+            Some((3072, "evroute: out of memory after 3 MB")),
+        ),
+        (
+            "VmHWM: 1024000 kB",
+            Some((1_024_000, "evroute: out of memory after 1,000 MB")),
+        ),
+        ("VmHWM:\t kB\nVmHWM: 7 kB\n", None),
+        ("Name:\tevroute\nVmRSS:\t    1024 kB\n", None),
+        ("VmHWM:", None),
+        ("", None),
+    ] {
+        let found = most_memory(status.as_bytes());
+        assert_eq!(rt; found, want.map(|(kilobytes, _)| kilobytes), "{status}");
+        if let Some((kilobytes, line)) = want {
+            let told = format!(in alloc; "{}", OutOfMemory { kilobytes })?;
+            assert_eq!(rt; told.as_str(), line);
         }
     }
     Ok(())
