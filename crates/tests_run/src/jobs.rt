@@ -78,9 +78,9 @@ fn proof_text(alloc: Global, command: &str, job: &ProofWords) -> Result<String, 
 }
 
 #[test]
-fn words_name_jobs(rt: HostRuntime) {
+fn words_name_jobs_on_one_route(rt: HostRuntime) {
     let alloc = rt.alloc();
-    let cases = [
+    for (line, wanted) in [
         ("fixed A 0,1,0", "fixed A 0,1,0 None None"),
         (
             "--limit 22 fixed A --charge=0 0,1,0",
@@ -103,6 +103,21 @@ fn words_name_jobs(rt: HostRuntime) {
         ("fixed A 0,1,0 --lim 1", "none"),
         ("fixed -A 0,1,0", "none"),
         ("fixed A", "none"),
+        ("fixed A 0,1,0 --near 2", "none"),
+        ("--help", "none"),
+        ("fixed A 0,1,0 -h", "none"),
+        ("help", "none"),
+        ("", "none"),
+    ] {
+        let job = job_text(alloc, line).expect(&rt, "memory");
+        assert_eq!(rt; job.as_str(), wanted, "{line}");
+    }
+}
+
+#[test]
+fn words_name_jobs_that_check_a_plan(rt: HostRuntime) {
+    let alloc = rt.alloc();
+    for (line, wanted) in [
         ("check A P Q", "check A P Q None"),
         ("check A --limit 3 P Q", "check A P Q Some(3)"),
         ("check A P Q --charge 3", "none"),
@@ -111,6 +126,18 @@ fn words_name_jobs(rt: HostRuntime) {
         ("check A P P", "none"),
         ("check A P", "none"),
         ("check A P Q R", "none"),
+        ("check A P Q --nodes 1", "none"),
+        ("check A P Q --near 2", "none"),
+    ] {
+        let job = job_text(alloc, line).expect(&rt, "memory");
+        assert_eq!(rt; job.as_str(), wanted, "{line}");
+    }
+}
+
+#[test]
+fn words_name_jobs_that_plan_a_fleet(rt: HostRuntime) {
+    let alloc = rt.alloc();
+    for (line, wanted) in [
         ("fleet A P Q", "fleet A P Q None None"),
         (
             "fleet --nodes 1000000000000000000 A P --limit=0 Q",
@@ -128,7 +155,17 @@ fn words_name_jobs(rt: HostRuntime) {
         ("fleet A P P", "none"),
         ("fleet A P", "none"),
         ("fleet A P Q R", "none"),
-        ("check A P Q --nodes 1", "none"),
+        ("fleet A P Q --near 2", "none"),
+    ] {
+        let job = job_text(alloc, line).expect(&rt, "memory");
+        assert_eq!(rt; job.as_str(), wanted, "{line}");
+    }
+}
+
+#[test]
+fn words_name_jobs_that_convert_and_make(rt: HostRuntime) {
+    let alloc = rt.alloc();
+    for (line, wanted) in [
         (
             "convert A W --time-digits 2 --energy-digits 0 --nodes 1",
             "none",
@@ -153,6 +190,17 @@ fn words_name_jobs(rt: HostRuntime) {
         ("make 1 1 00 M", "none"),
         ("make 1 1 0 M --limit 1", "none"),
         ("make 1 1 0", "none"),
+        ("make 1 1 0 M --near 2", "none"),
+    ] {
+        let job = job_text(alloc, line).expect(&rt, "memory");
+        assert_eq!(rt; job.as_str(), wanted, "{line}");
+    }
+}
+
+#[test]
+fn words_name_jobs_on_a_bound(rt: HostRuntime) {
+    let alloc = rt.alloc();
+    for (line, wanted) in [
         ("bound A C --near 2", "bound A C 2 None"),
         ("bound --limit=7 A --near 0 C", "bound A C 0 Some(7)"),
         ("bound A C --near 1000000000", "bound A C 1000000000 None"),
@@ -171,11 +219,16 @@ fn words_name_jobs(rt: HostRuntime) {
         ("check-bound A C --near 2", "none"),
         ("check-bound A A", "none"),
         ("check-bound A", "none"),
-        ("check A P Q --near 2", "none"),
-        ("fixed A 0,1,0 --near 2", "none"),
-        ("fleet A P Q --near 2", "none"),
-        ("improve A P O --near 2", "none"),
-        ("make 1 1 0 M --near 2", "none"),
+    ] {
+        let job = job_text(alloc, line).expect(&rt, "memory");
+        assert_eq!(rt; job.as_str(), wanted, "{line}");
+    }
+}
+
+#[test]
+fn words_name_jobs_on_a_proof_of_a_route(rt: HostRuntime) {
+    let alloc = rt.alloc();
+    for (line, wanted) in [
         ("prove A 0,1,0 C --near 2", "none"),
         ("prove A 0,1,0 C", "prove A 0,1,0 C None None"),
         (
@@ -188,6 +241,17 @@ fn words_name_jobs(rt: HostRuntime) {
         ("check-route A 0,1,0 A", "none"),
         ("prove A 0,1,0", "none"),
         ("prove A 0,1,0 C --nodes 3", "none"),
+    ] {
+        let job = job_text(alloc, line).expect(&rt, "memory");
+        assert_eq!(rt; job.as_str(), wanted, "{line}");
+    }
+}
+
+#[test]
+fn words_name_jobs_that_improve_a_plan(rt: HostRuntime) {
+    let alloc = rt.alloc();
+    for (line, wanted) in [
+        ("improve A P O --near 2", "none"),
         ("improve A P O", "improve A P O None"),
         ("improve A --limit 3 P O", "improve A P O Some(3)"),
         ("improve A P O --nodes 3", "none"),
@@ -196,14 +260,13 @@ fn words_name_jobs(rt: HostRuntime) {
         ("improve A P P", "none"),
         ("improve A P", "none"),
         ("improve A P O Q", "none"),
-        ("--help", "none"),
-        ("fixed A 0,1,0 -h", "none"),
-        ("help", "none"),
-        ("", "none"),
-    ];
-    for (line, wanted) in cases {
+    ] {
         let job = job_text(alloc, line).expect(&rt, "memory");
         assert_eq!(rt; job.as_str(), wanted, "{line}");
     }
+}
+
+#[test]
+fn the_usage_text_begins_with_one_route(rt: HostRuntime) {
     assert!(rt; usage().starts_with("evroute fixed FILE ROUTE"));
 }
