@@ -7,6 +7,7 @@ use Rattle.customer_sets.specs.CustSet.{has, IsCustomerSet, IsWithin}
 use Rattle.near_proof.specs.Routes.{KeepsMemory}
 use Rattle.near_proof.specs.Terms.{near_set, remembered}
 use Rattle.near_proof.proofs.Memories.{remembers_fewer}
+use Rattle.near_check.specs.Members.{AreMembers}
 use Rattle.near_check.proofs.LabelSteps.{is_remembered, remembers}
 
 small_has : (set : List ℕ) (c : ℕ) → All (λ x. x < 128) set → has set c ≡ true → c < 128
@@ -54,6 +55,19 @@ all_members both one other to set high is x = elim (cases_Bool (has one x)) [
       is x ∙ ap (λ b. b && (has one x && has other x)) low
   | inr none ↦ let parts = is x in grind (arith, parts, none)
 ]
+
+-- the members of a set below a number, none of whom is left out
+pub are_members : (members set : List ℕ) (to : ℕ) → IsCustomerSet set → 128 ≤ to → ((x : ℕ) → has members x ≡ (nat_lt x to && has set x)) → All (λ x. x < 128) members → AreMembers members set
+are_members members set to is high first small = record {
+  same = λ x. elim (cases_Bool (has set x)) [
+    | inl there ↦
+        let less : x < 128 = small_has set x is.small there in
+        let low : nat_lt x to ≡ true = lt-ltb x to (omega (arith, less, high)) in
+        first x ∙ ap (λ b. b && has set x) low
+    | inr none ↦ let parts = first x in grind (arith, parts, none)
+  ];
+  small = small;
+}
 
 -- only who is remembered counts, not in which order
 pub keeps_same : (sets : List (List ℕ)) (a b cs : List ℕ) → IsWithin a b → KeepsMemory sets b cs → KeepsMemory sets a cs

@@ -4,3 +4,4 @@ pub mod AskedInside
 pub mod Faults
 pub mod Judging
 pub mod NearSets
+pub mod Members

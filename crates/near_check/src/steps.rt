@@ -5,11 +5,12 @@ ghost use Rattle.ev_model.specs.Network.{curve_at, node_count};
 ghost use Rattle.instance_reader.specs.Instance.{IsCustomerNumber, customer_nodes};
 ghost use Rattle.near_proof.specs.Ranges.{NearLabelFits};
 ghost use Rattle.near_check.specs.Judging.{IsJudge, IsServed, TellsFirst, TellsStep, judged};
+ghost use Rattle.near_check.specs.Members.{AreMembers};
 ghost use Rattle.near_check.specs.Targets.{TellsEach};
 
 use crate::coverage::{Asked, Target};
 use crate::judge::Judge;
-use crate::memory::remembered;
+use crate::memory::{members_of, remembered_among};
 use label_steps::{arrival, covers_all, departures};
 use near_proof::NearLabel;
 use piece_fn::PieceFn;
@@ -17,9 +18,16 @@ use std::alloc::{AllocError, Global};
 
 impl Judge<'_> {
     /// What is common to the states after serving a customer.
-    fn after_service(&self, label: &NearLabel, node: usize, customer: usize) -> Target
+    fn after_service(
+        &self,
+        label: &NearLabel,
+        members: &[usize],
+        node: usize,
+        customer: usize,
+    ) -> Target
         requires judge { IsJudge self.now }
         requires label { NearLabelFits self.now.inst.now label.now }
+        requires members { AreMembers members.now label.now.memory }
         requires listed { customer < length (customer_nodes self.now.inst.now) }
         ensures { IsServed (judged self.now).terms label.now node customer result }
     {
@@ -27,7 +35,7 @@ impl Judge<'_> {
         let price = self.terms.prices[customer];
         Target {
             node,
-            memory: remembered(label.memory, near, customer),
+            memory: remembered_among(label.memory, members, near, customer),
             count: label.count + 1,
             earned: label.earned + u128::from(price),
         }
@@ -37,11 +45,13 @@ impl Judge<'_> {
     fn customer_is_covered(
         &self,
         label: &NearLabel,
+        members: &[usize],
         node: usize,
         customer: usize,
     ) -> Result<bool, AllocError>
         requires judge { IsJudge self.now }
         requires label { NearLabelFits self.now.inst.now label.now }
+        requires members { AreMembers members.now label.now.memory }
         requires moves { node ≢ label.now.node }
         requires known { node < node_count self.now.inst.now }
         requires customer { IsCustomerNumber self.now.inst.now node (Some customer) }
@@ -58,7 +68,7 @@ impl Judge<'_> {
         let Some(value) = arrival(self.inst, &label.value, label.node, node, least)? else {
             return Ok(true);
         };
-        let target = self.after_service(label, node, customer);
+        let target = self.after_service(label, members, node, customer);
         Ok(covers_all(&self.asked(target), &value))
     }
 
@@ -96,10 +106,12 @@ impl Judge<'_> {
         &self,
         alloc: Global,
         label: &NearLabel,
+        members: &[usize],
         node: usize,
     ) -> Result<bool, AllocError>
         requires judge { IsJudge self.now }
         requires label { NearLabelFits self.now.inst.now label.now }
+        requires members { AreMembers members.now label.now.memory }
         requires known { node < node_count self.now.inst.now }
         ensures { IfOk result (TellsStep self.now.inst.now (judged self.now) label.now node) }
     {
@@ -110,7 +122,7 @@ impl Judge<'_> {
             return self.station_is_covered(alloc, label, node);
         }
         match self.inst.customer_number(node) {
-            Some(customer) => self.customer_is_covered(label, node, customer),
+            Some(customer) => self.customer_is_covered(label, members, node, customer),
             None => Ok(true),
         }
     }
@@ -125,8 +137,9 @@ impl Judge<'_> {
         requires label { NearLabelFits self.now.inst.now label.now }
         ensures { IfOk result (TellsFirst self.now.inst.now (judged self.now) label.now) }
     {
+        let members = members_of(alloc, label.memory)?;
         for node in 0..self.inst.nodes() {
-            if !self.step_is_covered(alloc, label, node)? {
+            if !self.step_is_covered(alloc, label, &members, node)? {
                 return Ok(Some(node));
             }
         }

@@ -22,6 +22,13 @@ use near_check::NearTerms;
 use near_proof::NearLabel;
 use std::alloc::{AllocError, Global};
 
+/// A list is mended so often at the most, where a table tells what can still earn.
+const MOST_MENDS: usize = 100;
+
+/// Without a table only the count ends many ways, and labels of count 0 are seldom closed: a list
+/// is mended so often at the most.
+const FEW_MENDS: usize = 3;
+
 /// A near route that earns more by the prices of its services, each as often as it is made, than
 /// it takes, times the weight; or labels that are closed, which shows that there is none.
 ///
@@ -69,9 +76,18 @@ pub fn near_price(
     }
     let mut labels = pricing.hopeless(alloc, &table)?;
     list_all(&pricing, &mut labels, exact.labels(alloc, &pricing)?)?;
-    match closed_with(alloc, &pricing, labels)? {
+    match closed_with(alloc, &pricing, labels, most_mends(&table))? {
         Some(labels) => Ok(closed_by(&pricing, labels)),
         None => certain(alloc, &pricing),
+    }
+}
+
+/// How often a list is mended at the most.
+fn most_mends(table: &Completion) -> usize {
+    if table.legs().is_empty() {
+        FEW_MENDS
+    } else {
+        MOST_MENDS
     }
 }
 

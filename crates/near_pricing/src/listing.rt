@@ -19,18 +19,16 @@ use near_proof::NearLabel;
 use piece_fn::PieceFn;
 use std::alloc::{AllocError, Global};
 
-/// A list is mended so often at the most.
-const MOST_MENDS: usize = 100;
-
 /// No label has earned more: the most that a proof may say.
 const MOST_EARNED: u128 = 1 << 96;
 
-/// Closed labels, by listing what the labels lack; `None` where that would be too much, or a step
-/// home earns more than it takes.
+/// Closed labels, by listing what the labels lack, so often at the most; `None` where that isn't
+/// enough, or would be too much, or a step home earns more than it takes.
 pub(crate) fn closed_with(
     alloc: Global,
     pricing: &Pricing<'_>,
     mut labels: Vec<NearLabel>,
+    most: usize,
 ) -> Result<Option<Vec<NearLabel>>, AllocError>
     requires fit { All (NearLabelFits pricing.now.network) labels.items }
     ensures closed { IfOk result (λ answer. IfSome answer (λ all.
@@ -38,7 +36,7 @@ pub(crate) fn closed_with(
     ensures fit { IfOk result (λ answer. IfSome answer (λ all.
         All (NearLabelFits pricing.now.network) all.items)) }
 {
-    for _ in 0..MOST_MENDS {
+    for _ in 0..most {
         let Some(fault) = pricing.first_fault(alloc, &labels)? else {
             return Ok(Some(labels));
         };

@@ -17,7 +17,7 @@ use crate::gain::gain_at_home;
 use crate::groups::Gap;
 use crate::route::route_of;
 use crate::steps::{Target, target_at, values_at};
-use crate::table::{is_beyond, signed};
+use crate::table::{is_beyond, is_left_out, signed};
 use completion_bounds::Completion;
 use customer_sets::CustSet;
 use dominance::LabelValue;
@@ -220,6 +220,9 @@ impl<'a> Search<'a> {
         ensures listed { OnOk result (self.new.listed.items ≡ self.old.listed.items) }
     {
         let label = &self.tree.found[from].label;
+        if is_left_out(pricing, self.table, label, node, budget) {
+            return Ok(());
+        }
         let Some(target) = target_at(pricing, label, node) else {
             return Ok(());
         };

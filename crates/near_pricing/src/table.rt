@@ -1,5 +1,8 @@
 //! The table of what near routes can still earn.
 
+ghost use Rattle.std.specs.Prelude.{◌<◌};
+ghost use Rattle.ev_model.specs.Network.{node_count};
+
 use crate::asked::Pricing;
 use completion_bounds::{Completion, Terms};
 use customer_sets::CustSet;
@@ -48,6 +51,29 @@ fn table_of<'a>(
 pub(crate) fn is_beyond(table: &Completion, label: &NearLabel) -> bool {
     let budget = table.budget(&label.value);
     table.is_beyond(budget, label.node, label.memory, signed(label.earned))
+}
+
+/// Whether no way home earns from behind the arc from a label with a budget to a customer, by the
+/// table, whoever else is remembered there. It spares most steps the look at who is.
+pub(crate) fn is_left_out(
+    pricing: &Pricing<'_>,
+    table: &Completion,
+    from: &NearLabel,
+    node: usize,
+    budget: u64,
+) -> bool
+    requires { node < node_count pricing.now.network }
+{
+    let Some(customer) = pricing.instance().customer_number(node) else {
+        return false;
+    };
+    if customer >= 128 {
+        return false;
+    }
+    let price = pricing.terms().prices.get(customer).copied().unwrap_or(0);
+    let earned = from.earned.saturating_add(u128::from(price));
+    let memory = CustSet::empty().with(customer);
+    table.leaves_out(budget, from.node, node, memory, signed(earned))
 }
 
 /// A number with a sign, the greatest one at the most.
