@@ -20,8 +20,23 @@ const SMALL_INSTANCES: u64 = 8;
 const CURVE: &str =
     r#""breakpoints_by_type":[{"cs_type":"fast","time":[0,3,9],"charge":[0,6,12],"plug_time":1}]"#;
 
+/// What the text of a drawn instance has besides.
+#[derive(Clone, Copy)]
+pub(crate) struct Extras<'a> {
+    /// Least levels, each with a comma behind it.
+    pub(crate) levels: &'a str,
+    /// Further stations, each with a comma behind it.
+    pub(crate) stations: &'a str,
+}
+
+/// Nothing besides.
+const NOTHING: Extras<'static> = Extras {
+    levels: "",
+    stations: "",
+};
+
 /// A number below `count`.
-fn below(words: &mut Pcg32, count: u64) -> u64
+pub(crate) fn below(words: &mut Pcg32, count: u64) -> u64
     requires { 0 < count }
     ensures { result < count }
 {
@@ -56,13 +71,21 @@ fn matrix(
 }
 
 /// The text of an instance of so many customers and a station. Arcs may take no time and no energy.
-fn text(alloc: Global, words: &mut Pcg32, customers: u64) -> Result<String, AllocError> {
+fn text(
+    alloc: Global,
+    words: &mut Pcg32,
+    customers: u64,
+    extras: Extras<'_>,
+) -> Result<String, AllocError> {
+    let (levels, others) = (extras.levels, extras.stations);
     let station = customers.saturating_add(1);
     let nodes = customers.saturating_add(2);
     let full = below(words, 5).saturating_add(7);
     let limit = below(words, 60).saturating_add(10);
-    let head = format!(in alloc; "\"max_q\":{full},\"t_max\":{limit}")?;
-    let stations = format!(in alloc; "\"css\":[{{\"node_id\":{station},\"cs_type\":\"fast\"}}]")?;
+    let head = format!(in alloc; "{levels}\"max_q\":{full},\"t_max\":{limit}")?;
+    let stations = format!(in alloc;
+        "\"css\":[{others}{{\"node_id\":{station},\"cs_type\":\"fast\"}}]"
+    )?;
     let visits = numbers(alloc, words, nodes, 3)?;
     let energies = matrix(alloc, words, nodes, 5)?;
     let times = matrix(alloc, words, nodes, 12)?;
@@ -70,10 +93,20 @@ fn text(alloc: Global, words: &mut Pcg32, customers: u64) -> Result<String, Allo
     format!(in alloc; "{{{head},{stations},{CURVE},\"process_times\":{visits:?},{arcs}}}")
 }
 
-/// The instance that a number draws: so many customers, and a station.
-fn drawn(alloc: Global, number: u64, customers: u64) -> Option<Instance> {
+/// The text of the instance that a number draws: so many customers, and a station.
+pub(crate) fn drawn_text(
+    alloc: Global,
+    number: u64,
+    customers: u64,
+    extras: Extras<'_>,
+) -> Result<String, AllocError> {
     let mut words = Pcg32::new(number, 1);
-    let text = text(alloc, &mut words, customers).ok()?;
+    text(alloc, &mut words, customers, extras)
+}
+
+/// The instance that a number draws.
+fn drawn(alloc: Global, number: u64, customers: u64) -> Option<Instance> {
+    let text = drawn_text(alloc, number, customers, NOTHING).ok()?;
     read_instance(alloc, text.as_bytes()).ok()
 }
 

@@ -49,7 +49,7 @@ fn allowed(order: &Order, prices: &[u128], customer: usize) -> Option<u128> {
 
 /// Whether nobody is served who is remembered: whoever was served, is remembered while each one
 /// served later has them in its near set.
-fn keeps_memory(numbers: &[usize], sets: &[CustSet]) -> Option<bool> {
+pub(crate) fn keeps_memory(numbers: &[usize], sets: &[CustSet]) -> Option<bool> {
     for (place, customer) in numbers.iter().enumerate() {
         for (before, other) in numbers.iter().enumerate() {
             if before < place && other == customer && is_remembered(numbers, sets, before, place)? {
@@ -64,7 +64,7 @@ fn keeps_memory(numbers: &[usize], sets: &[CustSet]) -> Option<bool> {
 fn is_remembered(numbers: &[usize], sets: &[CustSet], before: usize, place: usize) -> Option<bool> {
     let customer = *numbers.get(before)?;
     for (at, other) in numbers.iter().enumerate() {
-        if before < at && at < place && !has(*sets.get(*other)?, customer)? {
+        if before < at && at < place && !has(*sets.get(*other)?, customer) {
             return Some(false);
         }
     }
@@ -72,12 +72,8 @@ fn is_remembered(numbers: &[usize], sets: &[CustSet], before: usize, place: usiz
 }
 
 /// Whether the customer is in the set.
-fn has(set: CustSet, customer: usize) -> Option<bool> {
-    if customer < 128 {
-        Some(set.has(customer))
-    } else {
-        None
-    }
+pub(crate) fn has(set: CustSet, customer: usize) -> bool {
+    customer < 128 && set.has(customer)
 }
 
 /// The least cost of a fleet plan over so many customers, `None` inside where there is none.

@@ -1,8 +1,10 @@
 //! Tests of bounds by near routes: worked instances, edges, and drawn instances beside a plain
-//! enumeration of all near routes. They stand here so that what they run isn't proved once more
-//! with them.
+//! enumeration of all near routes; and of the judge of their proofs beside a look at each level of
+//! each label. They stand here so that what they run isn't proved once more with them.
 #![tactic(auto)]
 
+#[cfg(test)]
+mod changes;
 #[cfg(test)]
 mod drawn;
 #[cfg(test)]
@@ -10,7 +12,13 @@ mod edges;
 #[cfg(test)]
 mod enumerated;
 #[cfg(test)]
+mod judging;
+#[cfg(test)]
+mod levels;
+#[cfg(test)]
 mod orders;
+#[cfg(test)]
+mod tightness;
 #[cfg(test)]
 mod told;
 #[cfg(test)]
