@@ -7,6 +7,7 @@ ghost use Rattle.ng_pricing.specs.NearBound.{IsNearBound};
 
 use crate::raising::{Raised, Rising};
 use crate::setting::{ClosedAt, Setting};
+use crate::watcher::{Nobody, PriceWatcher};
 use customer_sets::CustSet;
 use ev_list::Listed;
 use instance_reader::Instance;
@@ -26,6 +27,19 @@ pub fn near_bound(alloc: Global, inst: &Instance, near: usize) -> Result<NearPro
     requires few { length (customer_nodes inst.now) ≤ 128 }
     ensures { IfOk result (IsNearBound inst.now near) }
 {
+    near_bound_watched(alloc, inst, near, &mut Nobody {})
+}
+
+/// The same as [`near_bound`], where a watcher is told behind each customer how far the bound is.
+pub fn near_bound_watched<W: PriceWatcher>(
+    alloc: Global,
+    inst: &Instance,
+    near: usize,
+    watcher: &mut W,
+) -> Result<NearProof, AllocError>
+    requires few { length (customer_nodes inst.now) ≤ 128 }
+    ensures { IfOk result (IsNearBound inst.now near) }
+{
     // That the instance's network is one is told by its calls.
     let _nodes = inst.nodes();
     let sets = near_sets(alloc, inst, near)?;
@@ -33,7 +47,7 @@ pub fn near_bound(alloc: Global, inst: &Instance, near: usize) -> Result<NearPro
         inst,
         sets: sets.as_slice(),
     };
-    match setting.raised(alloc)? {
+    match setting.raised(alloc, watcher)? {
         Raised::Priced { rising } => Ok(proof_of(sets, rising)),
         Raised::Nowhere { at } => Ok(proof_of_none(alloc, sets, at)),
     }

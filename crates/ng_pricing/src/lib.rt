@@ -8,9 +8,11 @@ mod limits;
 mod met;
 mod raising;
 mod setting;
+mod watcher;
 
-pub use bound::near_bound;
+pub use bound::{near_bound, near_bound_watched};
 pub use near_check::{check_near, near_sets};
 pub use near_pricing::{NearPriced, Prices, near_price};
 pub use near_proof::{NearLabel, NearProof, NearVerdict};
 pub use near_text::{CertText, push_near, push_near_bound, push_near_verdict, read_near};
+pub use watcher::{PriceProgress, PriceWatcher};

@@ -11,6 +11,7 @@ ghost use Rattle.ng_pricing.specs.Rising.{terms_at};
 use crate::limits::First;
 use crate::met::{Limit, MetRoute, copy_of};
 use crate::setting::{ClosedAt, Setting, no_prices, prices_with};
+use crate::watcher::{PriceWatcher, progress_of};
 use ev_list::Listed;
 use near_pricing::{NearPriced, Prices, near_price};
 use near_proof::NearLabel;
@@ -47,8 +48,13 @@ pub(crate) enum Raised {
 }
 
 impl Setting<'_> {
-    /// Raises the prices of the customers one by one, in rising order.
-    pub(crate) fn raised(&self, alloc: Global) -> Result<Raised, AllocError>
+    /// Raises the prices of the customers one by one, in rising order. The watcher is told behind
+    /// each.
+    pub(crate) fn raised<W: PriceWatcher>(
+        &self,
+        alloc: Global,
+        watcher: &mut W,
+    ) -> Result<Raised, AllocError>
         requires { IsSetting self.now }
         ensures { IfOk result (IsRaised self.now.inst.now self.now.sets.now) }
     {
@@ -57,6 +63,7 @@ impl Setting<'_> {
             if let Some(at) = self.fix(alloc, &mut rising, customer)? {
                 return Ok(Raised::Nowhere { at });
             }
+            watcher.watch_prices(progress_of(&rising.prices, customer + 1));
         }
         Ok(Raised::Priced { rising })
     }

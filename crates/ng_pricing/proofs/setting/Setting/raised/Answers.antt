@@ -4,7 +4,7 @@ use Rattle.ng_pricing.specs.Fixing.{IsRising}
 use Rattle.ng_pricing.proofs.setting.Setting.raised.Goals as goal
 
 pub returns : goal.returns
-returns c =
+returns g c =
     let e = ap length c.customers-customer-end.ensures.value in
     let over = c.loop-customer-test.false in
     let within = c.loop-customer.auto.customer-end in
