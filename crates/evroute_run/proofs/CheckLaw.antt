@@ -21,7 +21,8 @@ use Rattle.route_plan.proofs.PlanLaws.{fleet_plan_is_spelled}
 use Rattle.route_plan.specs.PlanTexts.{SpellsFleetPlan}
 use Rattle.route_plan.specs.declared.plan.FleetPlan.{FleetPlan}
 use Rattle.evroute_run.proofs.Accepting.{accepted_is_no_rejection, accepted_same}
-use Rattle.evroute_run.proofs.Instances.{one_limited, refused_has_none, same_fleet}
+use Rattle.evroute_run.proofs.Instances.{same_fleet}
+use Rattle.job_steps.proofs.LimitedNetworks.{one_limited, refused_has_none}
 use Rattle.evroute_run.proofs.OneCertificate.{AreSame, one_certificate}
 use Rattle.evroute_run.specs.CheckAnswer.{BreaksFirst, CheckAnswers, Holds, IsCertificateOf, IsCheckRefused, IsRejection, IsValid, PutsAccepted, PutsRejected, check_answers, check_task}
 use Rattle.evroute_run.specs.FleetNetwork.{customer_count}

@@ -20,12 +20,12 @@ use Rattle.route_proof.specs.Verdicts.{IsVerdict}
 use Rattle.route_proof.specs.declared.proof.RouteProof.{RouteProof}
 use Rattle.route_proof.specs.declared.verdict.RouteVerdict.{RouteVerdict}
 use Rattle.route_proof.specs.declared.verdict.RouteVerdict.TheVariants as verdict
-use Rattle.evroute_run.specs.Caps.{certificate_read, file_read, most_bytes, most_certificate_bytes}
+use Rattle.job_steps.specs.Caps.{certificate_read, file_read, most_bytes, most_certificate_bytes}
 use Rattle.evroute_run.specs.CheckRouteAnswer.{CheckRouteAnswers, IsCheckRouteRefused, check_route_task, listed_time}
 use Rattle.evroute_run.specs.Ended.{IsCheckRouteEnded, IsEnded}
 use Rattle.evroute_run.specs.FixedAnswer.{IsRefused, IsTask, start_of}
-use Rattle.evroute_run.specs.declared.answer.Ended.{Ended}
-use Rattle.evroute_run.specs.declared.answer.Ended.TheVariants.{Memory, Refused}
+use Rattle.job_steps.specs.declared.answer.Ended.{Ended}
+use Rattle.job_steps.specs.declared.answer.Ended.TheVariants.{Memory, Refused}
 
 -- ---- the answer to a proof that was read
 

@@ -8,13 +8,14 @@ use Rattle.ev_model.specs.Network.{Network}
 use Rattle.ev_outside.specs.Shelf.{CountsNeverFall, CountsStay, Files, ShelfState}
 use Rattle.ev_outside.specs.declared.shelf.ShelfFault.{ShelfFault}
 use Rattle.ev_outside.specs.declared.shelf.ShelfFault.TheVariants as shelf
-use Rattle.evroute_run.specs.Caps.{file_read, most_bytes}
+use Rattle.job_steps.specs.Caps.{file_read, most_bytes}
 use Rattle.evroute_run.specs.CheckAnswer.{BreaksFirst, IsValid}
-use Rattle.evroute_run.specs.Ended.{IsImproveEnded, IsNetworkEnded}
+use Rattle.evroute_run.specs.Ended.{IsImproveEnded}
+use Rattle.job_steps.specs.Ended.{IsNetworkEnded}
 use Rattle.evroute_run.specs.ImproveAnswer.{HasPlan, ImproveAnswers, PutsAlone, PutsBrokenPlan, improve_task, routes_of}
-use Rattle.evroute_run.specs.LimitedNetwork.{HasNetwork}
-use Rattle.evroute_run.specs.declared.answer.Ended.{Ended}
-use Rattle.evroute_run.specs.declared.answer.Ended.TheVariants.{Refused, Memory}
+use Rattle.job_steps.specs.LimitedNetwork.{HasNetwork}
+use Rattle.job_steps.specs.declared.answer.Ended.{Ended}
+use Rattle.job_steps.specs.declared.answer.Ended.TheVariants.{Refused, Memory}
 use Rattle.job_frame.proofs.FileReads.{finds, some_read}
 use Rattle.job_frame.specs.Faults.{FailsReading, HasFailedRead}
 use Rattle.job_frame.specs.Finds.{Finds, outcome_of, written_by}

@@ -14,7 +14,7 @@ use Rattle.route_improve.specs.Improved.{CostsNoMore, IsFirstAlone}
 use Rattle.route_plan.proofs.PlanLaws.{fleet_plan_is_spelled}
 use Rattle.route_plan.specs.declared.plan.FleetPlan.{FleetPlan}
 use Rattle.evroute_run.proofs.CheckLaw.{same_plan, valid_breaks_none}
-use Rattle.evroute_run.proofs.Instances.{one_limited, refused_has_none}
+use Rattle.job_steps.proofs.LimitedNetworks.{one_limited, refused_has_none}
 use Rattle.evroute_run.specs.CheckAnswer.{BreaksFirst}
 use Rattle.evroute_run.specs.ImproveAnswer.{HoldsPlan, ImproveAnswers, IsImproveRefused, PutsAlone, PutsBrokenPlan, PutsImproved, improve_answers, improve_task, routes_of}
 use Rattle.job_frame.specs.declared.status.Status.{Status}

@@ -8,7 +8,6 @@ pub mod Making
 pub mod SearchStatus
 pub mod SearchReports
 pub mod OneSearch
-pub mod ReadRules
 pub mod FixedLaw
 pub mod FixedFinds
 pub mod CheckLaw

@@ -28,7 +28,7 @@ use Rattle.route_plan.specs.declared.plan.FleetPlan.{FleetPlan}
 use Rattle.job_frame.proofs.Performed.{AreWrittenAlike}
 use Rattle.job_frame.specs.Task.{Outcome as Answered}
 use Rattle.job_frame.specs.Writes.{HoldsAll, Written as NewFile}
-use Rattle.evroute_run.proofs.Instances.{one_limited}
+use Rattle.job_steps.proofs.LimitedNetworks.{one_limited}
 use Rattle.evroute_run.proofs.SearchReports.{held_fits}
 use Rattle.evroute_run.specs.FleetNetwork.{customer_count, most_customers}
 use Rattle.evroute_run.specs.FleetAnswer.{IsFound, PutsFound, search_status}

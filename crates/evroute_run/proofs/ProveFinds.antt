@@ -23,12 +23,12 @@ use Rattle.route_proof.specs.Closed.{HasGoodPlan, IsAccepted, IsTrue}
 use Rattle.route_proof.specs.Ranges.{ProofFits}
 use Rattle.route_proof.specs.declared.proof.RouteProof.{RouteProof}
 use Rattle.route_steps.specs.Trips.{Journey}
-use Rattle.evroute_run.specs.Caps.{most_bytes}
+use Rattle.job_steps.specs.Caps.{most_bytes}
 use Rattle.evroute_run.specs.Ended.{IsEnded}
 use Rattle.evroute_run.specs.FixedAnswer.{IsTask, start_of}
 use Rattle.evroute_run.specs.ProveAnswer.{ProveAnswers, PutsProved, fixed_status, prove_task, timed_plan}
-use Rattle.evroute_run.specs.declared.answer.Ended.{Ended}
-use Rattle.evroute_run.specs.declared.answer.Ended.TheVariants.{Refused}
+use Rattle.job_steps.specs.declared.answer.Ended.{Ended}
+use Rattle.job_steps.specs.declared.answer.Ended.TheVariants.{Refused}
 
 -- a listed plan is feasible
 pub good_is_feasible : (t : Journey) (plan : Option RoutePlan) → HasGoodPlan t plan → IfSome plan (λ p. IsFeasible t.network 1 t.start p.stops)

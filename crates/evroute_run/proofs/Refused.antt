@@ -4,8 +4,8 @@ use Rattle.evroute_run.specs.CheckAnswer.{CheckAnswers, IsCheckRefused}
 use Rattle.evroute_run.specs.Ended.{IsCheckEnded, IsFleetEnded}
 use Rattle.evroute_run.specs.FleetNetwork.{PutsFleetRefusal}
 use Rattle.job_frame.specs.declared.found.Answer.{Answer}
-use Rattle.evroute_run.specs.declared.answer.Ended.{Ended}
-use Rattle.evroute_run.specs.declared.answer.Ended.TheVariants.{Refused}
+use Rattle.job_steps.specs.declared.answer.Ended.{Ended}
+use Rattle.job_steps.specs.declared.answer.Ended.TheVariants.{Refused}
 use Rattle.job_frame.specs.declared.status.Status.{Status}
 use Rattle.job_frame.specs.declared.status.Status.TheVariants as status
 use Rattle.plan_writer.specs.RefusalText.{IsRule, refusal_text}

@@ -7,7 +7,7 @@ use Rattle.near_text.specs.NearTexts.{near_text}
 use Rattle.near_text.specs.VerdictText.{near_bound_text}
 use Rattle.near_text.specs.Written.{written_near}
 use Rattle.ng_pricing.specs.NearBound.{IsNearBound}
-use Rattle.evroute_run.specs.Caps.{file_read}
+use Rattle.job_steps.specs.Caps.{file_read}
 use Rattle.evroute_run.specs.FleetNetwork.{HasFleetNetwork, PutsFleetRefusal}
 use Rattle.job_frame.specs.Task.{Outcome, Task}
 use Rattle.job_frame.specs.Writes.{Written}

@@ -25,9 +25,9 @@ use Rattle.plan_writer.specs.declared.refusal.Refusal.TheVariants as refusal
 use Rattle.route_plan.specs.PlanReading.{fleet_plan_in}
 use Rattle.route_plan.specs.PlanTexts.{SpellsFleetPlan}
 use Rattle.route_plan.specs.declared.plan.FleetPlan.{FleetPlan}
-use Rattle.evroute_run.specs.Caps.{certificate_read, file_read}
+use Rattle.job_steps.specs.Caps.{certificate_read, file_read}
 use Rattle.evroute_run.specs.FleetNetwork.{HasFleetNetwork, customer_count, most_customers}
-use Rattle.evroute_run.specs.LimitedNetwork.{HasNetwork, IsPastLimit}
+use Rattle.job_steps.specs.LimitedNetwork.{HasNetwork, IsPastLimit}
 use Rattle.job_frame.specs.Task.{Outcome, Task}
 use Rattle.job_frame.specs.declared.status.Status.{Status}
 use Rattle.job_frame.specs.declared.status.Status.TheVariants as status

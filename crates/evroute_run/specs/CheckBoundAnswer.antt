@@ -14,7 +14,7 @@ use Rattle.near_text.specs.Written.{written_near}
 use Rattle.plan_writer.specs.RefusalText.{IsRule, refusal_text}
 use Rattle.plan_writer.specs.declared.refusal.Refusal.{Refusal}
 use Rattle.plan_writer.specs.declared.refusal.Refusal.TheVariants as refusal
-use Rattle.evroute_run.specs.Caps.{certificate_read, file_read}
+use Rattle.job_steps.specs.Caps.{certificate_read, file_read}
 use Rattle.evroute_run.specs.FleetNetwork.{HasFleetNetwork, IsFleetRefused}
 use Rattle.job_frame.specs.Task.{Outcome, Task}
 use Rattle.job_frame.specs.declared.status.Status.{Status}

@@ -15,7 +15,7 @@ use Rattle.route_proof.specs.Verdicts.{IsVerdict}
 use Rattle.route_proof.specs.declared.proof.RouteProof.{RouteProof}
 use Rattle.route_proof.specs.declared.verdict.RouteVerdict.{RouteVerdict}
 use Rattle.route_proof.specs.declared.verdict.RouteVerdict.TheVariants as verdict
-use Rattle.evroute_run.specs.Caps.{certificate_read, file_read}
+use Rattle.job_steps.specs.Caps.{certificate_read, file_read}
 use Rattle.evroute_run.specs.FixedAnswer.{IsRefused, IsTask, start_of}
 use Rattle.evroute_run.specs.ProveAnswer.{journey_of}
 use Rattle.job_frame.specs.Task.{Outcome, Task}

@@ -1,4 +1,4 @@
--- Why a step of a job is the last: the first rule is broken, or memory was refused.
+-- Why a step of a job is the last, job by job: the first rule is broken, or memory was refused.
 use Rattle.std.specs.Prelude.{List, Option, ℕ}
 use Rattle.command_line.specs.declared.Options.{Options}
 use Rattle.evroute_run.specs.CheckAnswer.{IsCheckRefused}
@@ -7,20 +7,9 @@ use Rattle.evroute_run.specs.CheckRouteAnswer.{IsCheckRouteRefused}
 use Rattle.evroute_run.specs.FixedAnswer.{IsRefused}
 use Rattle.evroute_run.specs.FleetNetwork.{IsFleetRefused}
 use Rattle.evroute_run.specs.ImproveAnswer.{IsImproveRefused}
-use Rattle.evroute_run.specs.LimitedNetwork.{IsNetworkRefused}
 use Rattle.plan_writer.specs.RefusalText.{IsRule}
-use Rattle.evroute_run.specs.declared.answer.Ended.{Ended}
-use Rattle.evroute_run.specs.declared.answer.Ended.TheVariants.{Refused, Memory}
-
--- a step that is the last by a refusal names a rule
-abbrev pub IsRuleOrMemory : Ended → Type 0
-IsRuleOrMemory (Refused refusal) = IsRule refusal
-IsRuleOrMemory Memory = Unit {0}
-
--- of the steps that each job has
-abbrev pub IsNetworkEnded : Option ℕ → List ℕ → Ended → Type 0
-IsNetworkEnded limit bytes (Refused refusal) = IsRule refusal × IsNetworkRefused limit bytes refusal
-IsNetworkEnded limit bytes Memory = Unit {0}
+use Rattle.job_steps.specs.declared.answer.Ended.{Ended}
+use Rattle.job_steps.specs.declared.answer.Ended.TheVariants.{Refused, Memory}
 
 -- of `fixed`
 abbrev pub IsEnded : Options → List ℕ → List ℕ → Ended → Type 0

@@ -19,7 +19,7 @@ use Rattle.plan_writer.specs.declared.fleet.Outcomes.{Outcomes}
 use Rattle.plan_writer.specs.declared.fleet.RootLine.{RootLine}
 use Rattle.plan_writer.specs.declared.fleet.RootLine.TheVariants as line
 use Rattle.route_plan.specs.PlanTexts.{fleet_plan_text}
-use Rattle.evroute_run.specs.Caps.{file_read}
+use Rattle.job_steps.specs.Caps.{file_read}
 use Rattle.evroute_run.specs.FleetNetwork.{HasFleetNetwork, PutsFleetRefusal}
 use Rattle.job_frame.specs.Task.{Task}
 use Rattle.job_frame.specs.Task as task

@@ -6,7 +6,7 @@ use Rattle.instance_reader.specs.Instance.{customer_nodes}
 use Rattle.plan_writer.specs.RefusalText.{IsRule, refusal_text}
 use Rattle.plan_writer.specs.declared.refusal.Refusal.{Refusal}
 use Rattle.plan_writer.specs.declared.refusal.Refusal.TheVariants as refusal
-use Rattle.evroute_run.specs.LimitedNetwork.{HasNetwork, IsPastLimit}
+use Rattle.job_steps.specs.LimitedNetwork.{HasNetwork, IsPastLimit}
 use Rattle.job_frame.specs.Writes.{Written}
 
 -- the most customers of a fleet

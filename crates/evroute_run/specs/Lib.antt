@@ -1,5 +1,3 @@
-pub mod Caps
-pub mod LimitedNetwork
 pub mod FleetNetwork
 pub mod FixedAnswer
 pub mod CheckAnswer

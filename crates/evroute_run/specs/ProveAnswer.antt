@@ -14,7 +14,7 @@ use Rattle.route_proof.specs.Closed.{IsAccepted, IsTrue}
 use Rattle.route_proof.specs.Ranges.{ProofFits}
 use Rattle.route_proof.specs.declared.proof.RouteProof.{RouteProof}
 use Rattle.route_steps.specs.Trips.{Journey}
-use Rattle.evroute_run.specs.Caps.{file_read}
+use Rattle.job_steps.specs.Caps.{file_read}
 use Rattle.evroute_run.specs.FixedAnswer.{IsRefused, IsTask, start_of}
 use Rattle.job_frame.specs.Task.{Outcome, Task}
 use Rattle.job_frame.specs.Writes.{Written}

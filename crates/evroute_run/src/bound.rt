@@ -12,19 +12,24 @@ ghost use Rattle.near_text.specs.NearTexts.{near_text};
 ghost use Rattle.near_text.specs.VerdictText.{near_bound_text};
 ghost use Rattle.near_text.specs.Written.{written_near};
 
-use crate::answer::{Ended, refuse_job};
-use crate::caps::MOST_BYTES;
 use crate::instance::fleet_instance;
+use crate::watcher::JobWatcher;
 use command_line::BoundWords;
 use ev_outside::{Shelf, ShelfFault};
 use instance_reader::Instance;
 use job_frame::{Answer, Found, NewFile, Status, read_file};
-use ng_pricing::{NearProof, near_bound, push_near, push_near_bound};
+use job_steps::{Ended, MOST_BYTES, refuse_job};
+use ng_pricing::{NearProof, near_bound_watched, push_near, push_near_bound};
 use std::alloc::{AllocError, Global};
 
 /// What `bound` finds: the instance is read, its fleet plans are bounded, and the proof of it is
 /// written.
-pub fn bound<S: Shelf>(alloc: Global, job: &BoundWords, shelf: &mut S) -> Result<Found, ShelfFault>
+pub fn bound<S: Shelf, W: JobWatcher>(
+    alloc: Global,
+    job: &BoundWords,
+    shelf: &mut S,
+    watcher: &mut W,
+) -> Result<Found, ShelfFault>
     ensures { Finds (task_of (job_value (Bound job.now)))
         (S.state shelf.old) (S.state shelf.new) result }
 {
@@ -33,7 +38,7 @@ pub fn bound<S: Shelf>(alloc: Global, job: &BoundWords, shelf: &mut S) -> Result
         Err(fault) => return Err(fault),
     };
     match fleet_instance(alloc, bytes.as_slice(), job.limit) {
-        Ok(inst) => match bound_on(alloc, &inst, job) {
+        Ok(inst) => match bound_on(alloc, &inst, job, watcher) {
             Ok(found) => Ok(found),
             Err(AllocError) => Err(ShelfFault::Memory),
         },
@@ -43,13 +48,19 @@ pub fn bound<S: Shelf>(alloc: Global, job: &BoundWords, shelf: &mut S) -> Result
 }
 
 /// What `bound` finds on the instance of its file: a bound with the text of its proof.
-fn bound_on(alloc: Global, inst: &Instance, job: &BoundWords) -> Result<Found, AllocError>
+fn bound_on<W: JobWatcher>(
+    alloc: Global,
+    inst: &Instance,
+    job: &BoundWords,
+    watcher: &mut W,
+) -> Result<Found, AllocError>
     requires { customer_count inst.now ≤ most_customers }
     ensures { IfOk result (λ f.
         IsBoundFound inst.now job.now.near (string_bytes job.now.cert)
         f.answer.status (map written_by f.files.items) f.answer.text.items) }
 {
-    let proof = near_bound(alloc, inst, job.near as usize)?;
+    watcher.begin(inst.denominator());
+    let proof = near_bound_watched(alloc, inst, job.near as usize, watcher)?;
     let answer = tell(alloc, inst, proof.bound)?;
     let file = proof_file(alloc, inst, job.cert.as_str(), &proof)?;
     Found::with_file(alloc, answer, file)

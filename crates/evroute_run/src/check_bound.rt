@@ -3,22 +3,22 @@
 ghost use Rattle.std.specs.Prelude.{◌≡◌, ◌≤◌, IfErr, IfOk, List, Option, string_bytes, ℕ};
 ghost use Rattle.command_line.specs.JobValue.{job_value};
 ghost use Rattle.command_line.specs.declared.Job.TheVariants.{CheckBound};
-ghost use Rattle.evroute_run.specs.Caps.{most_bytes};
+ghost use Rattle.job_steps.specs.Caps.{most_bytes};
 ghost use Rattle.evroute_run.specs.CheckBoundAnswer.{CheckBoundAnswers, HasNear, verdict_status};
-ghost use Rattle.evroute_run.specs.Ended.{IsCheckBoundEnded, IsRuleOrMemory};
+ghost use Rattle.evroute_run.specs.Ended.{IsCheckBoundEnded};
+ghost use Rattle.job_steps.specs.Ended.{IsRuleOrMemory};
 ghost use Rattle.evroute_run.specs.FleetNetwork.{HasFleetNetwork, customer_count, most_customers};
 ghost use Rattle.evroute_run.specs.Run.{task_of};
 ghost use Rattle.job_frame.specs.Finds.{Finds};
 ghost use Rattle.job_frame.specs.Task.{AreReadUpTo, IsAnswered};
 ghost use Rattle.near_proof.specs.Ranges.{NearFits};
 
-use crate::answer::{Ended, refuse, refuse_job};
-use crate::caps::{MOST_BYTES, MOST_CERTIFICATE_BYTES};
 use crate::instance::fleet_instance;
 use command_line::BoundCheckWords;
 use ev_outside::{Shelf, ShelfFault};
 use instance_reader::Instance;
 use job_frame::{Answer, Found, Status, read_file};
+use job_steps::{Ended, MOST_BYTES, MOST_CERTIFICATE_BYTES, refuse, refuse_job};
 use ng_pricing::{CertText, NearProof, NearVerdict, check_near, push_near_verdict, read_near};
 use plan_writer::Refusal;
 use std::alloc::{AllocError, Global};

@@ -101,7 +101,7 @@ pub fn run<S: Shelf, K: Sink>(alloc: Global, words: &[String], shelf: &mut S, ou
     run_watched(alloc, words, shelf, out, &mut Nobody {})
 }
 
-/// The same as [`run`], where a watcher is told how far a search or an improvement is.
+/// The same as [`run`], where a watcher is told how far a search, a bound or an improvement is.
 pub fn run_watched<S: Shelf, K: Sink, W: JobWatcher>(
     alloc: Global,
     words: &[String],
@@ -159,7 +159,7 @@ fn perform<S: Shelf, K: Sink, W: JobWatcher>(
         Job::Check(job) => finish(check(alloc, job, shelf), shelf, out),
         Job::Convert(job) => finish(convert(alloc, job, shelf), shelf, out),
         Job::Make(job) => make(alloc, job, shelf, out),
-        Job::Bound(job) => finish(bound(alloc, job, shelf), shelf, out),
+        Job::Bound(job) => finish(bound(alloc, job, shelf, watcher), shelf, out),
         Job::CheckBound(job) => finish(check_bound(alloc, job, shelf), shelf, out),
         Job::Prove(job) => finish(prove(alloc, job, shelf), shelf, out),
         Job::CheckRoute(job) => finish(check_route(alloc, job, shelf), shelf, out),

@@ -6,12 +6,11 @@ ghost use Rattle.command_line.specs.declared.Job.TheVariants.{Convert};
 ghost use Rattle.evroute_run.specs.Run.{task_of};
 ghost use Rattle.job_frame.specs.Finds.{Finds, written_by};
 
-use crate::answer::refuse_job;
-use crate::caps::MOST_BYTES;
 use command_line::ConvertWords;
 use decimal_import::ImportFault;
 use ev_outside::{Shelf, ShelfFault};
 use job_frame::{Answer, Found, NewFile, Status, read_file};
+use job_steps::{MOST_BYTES, refuse_job};
 use plan_writer::Refusal;
 use std::alloc::{AllocError, Global};
 

@@ -14,14 +14,13 @@ ghost use Rattle.job_frame.specs.Finds.{Finds};
 ghost use Rattle.job_frame.specs.Task.{IsAnswered};
 ghost use Rattle.plan_writer.specs.FixedText.{fixed_text};
 
-use crate::answer::{Ended, refuse};
-use crate::caps::MOST_BYTES;
 use crate::trip::trip_of;
 use command_line::{FixedWords, Options};
 use ev_outside::{Shelf, ShelfFault};
 use frvcp_labels::solve_route;
 use instance_reader::Instance;
 use job_frame::{Answer, Found, Status, read_file};
+use job_steps::{Ended, MOST_BYTES, refuse};
 use plan_writer::push_fixed;
 use route_plan::{RoutePlan, walk};
 use std::alloc::{AllocError, Global};

@@ -9,8 +9,6 @@ ghost use Rattle.evroute_run.specs.FleetAnswer.{IsFound};
 ghost use Rattle.evroute_run.specs.Run.{task_of};
 ghost use Rattle.job_frame.specs.Finds.{Finds, written_by};
 
-use crate::answer::{Ended, refuse_job};
-use crate::caps::MOST_BYTES;
 use crate::instance::fleet_instance;
 use crate::planning::{Planned, plan_all};
 use crate::watcher::JobWatcher;
@@ -18,6 +16,7 @@ use command_line::FleetWords;
 use ev_outside::{Shelf, ShelfFault};
 use instance_reader::Instance;
 use job_frame::{Found, NewFile, read_file};
+use job_steps::{Ended, MOST_BYTES, refuse_job};
 use std::alloc::{AllocError, Global};
 
 /// What `fleet` finds: the instance is read, a fleet is planned on it, and its plan and a

@@ -4,16 +4,17 @@ ghost use Rattle.std.specs.Prelude.{◌≡◌, ◌≤◌, IfErr, IfOk, List, Opt
 ghost use Rattle.bound_certificate.specs.Ranges.{Fits};
 ghost use Rattle.evroute_run.specs.CheckAnswer.{BreaksFirst, CheckAnswers, HasFleet, IsCertificateOf, IsValid};
 ghost use Rattle.evroute_run.specs.FleetNetwork.{customer_count, most_customers};
-ghost use Rattle.evroute_run.specs.Ended.{IsCheckEnded, IsRuleOrMemory};
+ghost use Rattle.evroute_run.specs.Ended.{IsCheckEnded};
+ghost use Rattle.job_steps.specs.Ended.{IsRuleOrMemory};
 ghost use Rattle.evroute_run.specs.Judged.{IsJudgementOf, judged_status};
 ghost use Rattle.job_frame.specs.Task.{IsAnswered};
 ghost use Rattle.plan_writer.specs.CheckText.{IsJudged, check_text};
 
-use crate::answer::{Ended, refuse};
 use bound_certificate::{CertText, Certificate, read_certificate};
 use certificate_check::{Verdict, check_certificate};
 use instance_reader::Instance;
 use job_frame::{Answer, Status};
+use job_steps::{Ended, refuse};
 use plan_check::{PlanFault, check_fleet};
 use plan_writer::{Judgement, Refusal, push_check_report};
 use route_plan::FleetPlan;

@@ -1,9 +1,7 @@
 //! What `evroute` does: its words become a job, which is done over any files and any output.
 #![tactic(auto)]
 
-mod answer;
 mod bound;
-mod caps;
 mod check;
 mod check_bound;
 mod check_route;
@@ -32,6 +30,7 @@ pub use ending::{LastFailure, run_to_end};
 pub use ev_fleet::{Progress, Watcher};
 pub use job_frame::Status;
 pub use message::Message;
+pub use ng_pricing::{PriceProgress, PriceWatcher};
 pub use route_improve::{MoveProgress, MoveWatcher};
 pub use sure::run_surely;
 pub use watcher::{JobWatcher, Nobody};

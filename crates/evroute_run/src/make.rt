@@ -16,7 +16,6 @@ ghost use Rattle.job_frame.specs.Task.{IsAnswered};
 ghost use Rattle.job_frame.specs.Writes.{Leaves, Written};
 ghost use Rattle.plan_writer.specs.MakeText.{make_text};
 
-use crate::answer::refuse_job;
 use crate::finish::finish;
 use command_line::MakeWords;
 use ev_outside::{Shelf, ShelfFault, Sink};
@@ -24,6 +23,7 @@ use frvcp_labels::solve_route;
 use instance_maker::MakerFault;
 use instance_reader::Instance;
 use job_frame::{Answer, Status, put_answer};
+use job_steps::refuse_job;
 use made_instances::made_instance;
 use plan_writer::{Refusal, push_make_report};
 use route_plan::{RoutePlan, walk};

@@ -14,8 +14,6 @@ ghost use Rattle.job_frame.specs.Finds.{Finds, written_by};
 ghost use Rattle.plan_writer.specs.FixedText.{fixed_text};
 ghost use Rattle.proof_text.specs.ProofTexts.{proof_text};
 
-use crate::answer::{Ended, refuse_job};
-use crate::caps::MOST_BYTES;
 use crate::fixed::{infeasible, report_plan};
 use crate::trip::trip_of;
 use command_line::{Options, ProofWords};
@@ -23,6 +21,7 @@ use ev_outside::{Shelf, ShelfFault};
 use fixed_certificate::prove_route;
 use instance_reader::Instance;
 use job_frame::{Answer, Found, NewFile, read_file};
+use job_steps::{Ended, MOST_BYTES, refuse_job};
 use proof_text::push_proof;
 use route_plan::RoutePlan;
 use route_proof::RouteProof;

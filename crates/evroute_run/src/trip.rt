@@ -3,16 +3,16 @@
 ghost use Rattle.std.specs.Prelude.{◌≡◌, ◌≤◌, IfErr, IfOk, List, length, ℕ};
 ghost use Rattle.command_line.specs.declared.Options.{Options};
 ghost use Rattle.ev_model.specs.Route.{IsRoute};
-ghost use Rattle.evroute_run.specs.Ended.{IsEnded, IsRuleOrMemory};
+ghost use Rattle.evroute_run.specs.Ended.{IsEnded};
+ghost use Rattle.job_steps.specs.Ended.{IsRuleOrMemory};
 ghost use Rattle.evroute_run.specs.FixedAnswer.{HasStart, IsTask, start_of};
-ghost use Rattle.evroute_run.specs.LimitedNetwork.{HasNetwork};
+ghost use Rattle.job_steps.specs.LimitedNetwork.{HasNetwork};
 ghost use Rattle.route_plan.specs.Limits.{most_route_nodes};
 ghost use Rattle.route_plan.specs.RouteWords.{SpellsRoute};
 
-use crate::answer::Ended;
-use crate::instance::limited_instance;
 use command_line::Options;
 use instance_reader::Instance;
+use job_steps::{Ended, limited_instance};
 use plan_writer::Refusal;
 use route_plan::{RouteFault, read_route};
 use std::alloc::Global;

@@ -1,6 +1,6 @@
-//! How far a search or an improvement is, in a line.
+//! How far a search, a bound or an improvement is, in a line.
 
-use evroute_run::{MoveProgress, Progress};
+use evroute_run::{MoveProgress, PriceProgress, Progress};
 use std::fmt::{self, Display, Formatter};
 
 /// How far a search is, with its times scaled by the denominator.
@@ -54,6 +54,28 @@ impl Display for SearchLine {
             Some(gap) => write!(f, ", gap {}.{:02} %", gap / 100, gap % 100),
             None => Ok(()),
         }
+    }
+}
+
+/// How far a bound is, with its times scaled by the denominator.
+#[derive(Clone, Copy, Drop)]
+pub(crate) struct PricesLine {
+    pub(crate) progress: PriceProgress,
+    pub(crate) denominator: u64,
+}
+
+impl Display for PricesLine {
+    fn fmt<W: fmt::Write>(&self, f: &mut Formatter<W>) -> fmt::Result {
+        let PriceProgress {
+            customers,
+            fixed,
+            bound,
+        } = self.progress;
+        write!(
+            f,
+            "evroute: prices {fixed} of {customers}, bound {bound}/{}",
+            self.denominator
+        )
     }
 }
 

@@ -1,8 +1,10 @@
 //! Who tells people how far a long job is.
 
 use crate::pace::Pace;
-use crate::progress::{MovesLine, SearchLine};
-use evroute_run::{JobWatcher, MoveProgress, MoveWatcher, Progress, Watcher};
+use crate::progress::{MovesLine, PricesLine, SearchLine};
+use evroute_run::{
+    JobWatcher, MoveProgress, MoveWatcher, PriceProgress, PriceWatcher, Progress, Watcher,
+};
 use std::env;
 use std::io::Eprint;
 use std::rt::{Clock, Env};
@@ -48,6 +50,17 @@ impl<'a, R: Clock + Eprint> Watcher for ToldProgress<'a, R> {
     fn watch(&mut self, progress: Progress) {
         if self.is_due() {
             let _ = self.rt.eprintln(SearchLine {
+                progress,
+                denominator: self.denominator,
+            });
+        }
+    }
+}
+
+impl<'a, R: Clock + Eprint> PriceWatcher for ToldProgress<'a, R> {
+    fn watch_prices(&mut self, progress: PriceProgress) {
+        if self.is_due() {
+            let _ = self.rt.eprintln(PricesLine {
                 progress,
                 denominator: self.denominator,
             });

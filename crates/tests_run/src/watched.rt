@@ -161,6 +161,10 @@ fn a_watched_job_ends_as_any(rt: HostRuntime) {
             "8000 ms: evroute: nodes 1, open 2, bound 17/1, plan held 19/1, gap 10.53 %\n",
         ),
         (
+            "bound A O --near 2 --limit 11",
+            "8000 ms: evroute: prices 1 of 3, bound 8/1\n",
+        ),
+        (
             "improve A P O --limit 11",
             "8000 ms: evroute: moves 0, cost 24/1\n",
         ),

@@ -3,7 +3,7 @@ use Rattle.std.specs.Prelude.{string_bytes}
 use Rattle.command_line.specs.Words.{BoundJob, bound_job_of}
 use Rattle.evroute_run.proofs.BoundFinds.{bound_found, bound_refused, found_is_answered, found_writes_one}
 use Rattle.evroute_run.specs.BoundAnswer.{bound_task}
-use Rattle.evroute_run.specs.Caps.{file_read, most_bytes}
+use Rattle.job_steps.specs.Caps.{file_read, most_bytes}
 use Rattle.job_frame.proofs.FileReads.{fails_at_once, finds, finds_alone, finds_none, named_failed, named_read, ok_is_no_error}
 use Rattle.job_frame.specs.Finds.{outcome_of}
 use Rattle.job_frame.specs.declared.status.Status.TheVariants as status

@@ -3,7 +3,7 @@ use Rattle.std.specs.Option.{option_map}
 use Rattle.std.specs.Prelude.{string_bytes}
 use Rattle.command_line.specs.Words.{CheckJob, check_job_of}
 use Rattle.evroute_run.proofs.CheckFinds.{plan_fails, refused_by_plan}
-use Rattle.evroute_run.specs.Caps.{most_bytes}
+use Rattle.job_steps.specs.Caps.{most_bytes}
 use Rattle.evroute_run.specs.CheckAnswer.{check_task}
 use Rattle.job_frame.proofs.FileReads.{finds_alone, finds_none, finds_since, named_failed, named_read, ok_is_no_error, read_still}
 use Rattle.job_frame.specs.declared.status.Status.TheVariants as status

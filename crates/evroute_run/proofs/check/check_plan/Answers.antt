@@ -3,7 +3,7 @@ use Rattle.std.specs.Option.{option_map}
 use Rattle.std.specs.Prelude.{string_bytes}
 use Rattle.command_line.specs.Words.{CheckJob, check_job_of}
 use Rattle.evroute_run.proofs.CheckFinds.{certificate_fails, check_found}
-use Rattle.evroute_run.specs.Caps.{most_certificate_bytes}
+use Rattle.job_steps.specs.Caps.{most_certificate_bytes}
 use Rattle.evroute_run.specs.CheckAnswer.{check_task}
 use Rattle.job_frame.proofs.FileReads.{finds_alone, finds_none, named_failed, named_read, ok_is_no_error}
 use Rattle.evroute_run.proofs.check.check_plan.Goals as goal

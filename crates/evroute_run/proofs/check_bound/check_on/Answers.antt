@@ -2,7 +2,7 @@ use Rattle.std.proofs.Common.{ap}
 use Rattle.std.specs.Prelude.{string_bytes}
 use Rattle.command_line.specs.Words.{BoundCheckJob, bound_check_job_of}
 use Rattle.evroute_run.proofs.CheckBoundFinds.{check_bound_found, proof_fails}
-use Rattle.evroute_run.specs.Caps.{most_certificate_bytes}
+use Rattle.job_steps.specs.Caps.{most_certificate_bytes}
 use Rattle.evroute_run.specs.CheckBoundAnswer.{check_bound_task}
 use Rattle.job_frame.proofs.FileReads.{finds_alone, finds_none, named_failed, named_read, ok_is_no_error}
 use Rattle.evroute_run.proofs.check_bound.check_on.Goals as goal

@@ -2,7 +2,7 @@ use Rattle.std.proofs.Common.{List, [], ◌∷◌, ℕ, refl, subst}
 use Rattle.std.specs.Prelude.{string_bytes}
 use Rattle.command_line.specs.Words.{ProofJob, proof_job_of}
 use Rattle.evroute_run.proofs.CheckRouteFinds.{refused_early}
-use Rattle.evroute_run.specs.Caps.{certificate_read, file_read, most_bytes}
+use Rattle.job_steps.specs.Caps.{certificate_read, file_read, most_bytes}
 use Rattle.evroute_run.specs.CheckRouteAnswer.{check_route_task}
 use Rattle.evroute_run.specs.FixedAnswer.{IsTask}
 use Rattle.job_frame.proofs.FileReads.{fails_at_once, finds_alone, finds_none, finds_since, named_failed, named_read, ok_is_no_error, read_still}

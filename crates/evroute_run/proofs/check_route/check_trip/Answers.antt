@@ -2,7 +2,7 @@ use Rattle.std.proofs.Common.{List, ℕ, ap, subst, sym}
 use Rattle.std.specs.Prelude.{string_bytes}
 use Rattle.command_line.specs.Words.{ProofJob, proof_job_of}
 use Rattle.evroute_run.proofs.CheckRouteFinds.{check_route_found, proof_fails}
-use Rattle.evroute_run.specs.Caps.{most_certificate_bytes}
+use Rattle.job_steps.specs.Caps.{most_certificate_bytes}
 use Rattle.evroute_run.specs.CheckRouteAnswer.{check_route_task}
 use Rattle.evroute_run.specs.FixedAnswer.{IsTask}
 use Rattle.job_frame.proofs.FileReads.{finds_alone, finds_none, named_failed, named_read, ok_is_no_error}

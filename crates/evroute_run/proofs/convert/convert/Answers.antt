@@ -3,7 +3,7 @@ use Rattle.std.specs.Prelude.{string_bytes}
 use Rattle.command_line.specs.Words.{ConvertJob, convert_job_of}
 use Rattle.decimal_import.specs.declared.fault.ImportFault.TheVariants as faults
 use Rattle.evroute_run.proofs.ConvertFinds.{convert_becomes, convert_refused}
-use Rattle.evroute_run.specs.Caps.{file_read, most_bytes}
+use Rattle.job_steps.specs.Caps.{file_read, most_bytes}
 use Rattle.evroute_run.specs.ConvertAnswer.{convert_task}
 use Rattle.job_frame.proofs.FileReads.{fails_at_once, finds_alone, finds_as, finds_none, named_failed, named_read, ok_is_no_error}
 use Rattle.job_frame.specs.Finds.{written_by}

@@ -2,7 +2,7 @@ use Rattle.std.proofs.Common.{List, [], ℕ, ap, refl, subst}
 use Rattle.std.specs.Prelude.{string_bytes}
 use Rattle.command_line.specs.Words.{FixedJob, job_with}
 use Rattle.evroute_run.proofs.FixedFinds.{fixed_found}
-use Rattle.evroute_run.specs.Caps.{file_read, most_bytes}
+use Rattle.job_steps.specs.Caps.{file_read, most_bytes}
 use Rattle.evroute_run.specs.FixedAnswer.{FixedAnswers, fixed_task}
 use Rattle.job_frame.proofs.FileReads.{fails_at_once, finds_alone, finds_none, named_failed, named_read, ok_is_no_error}
 use Rattle.evroute_run.proofs.fixed.fixed.Goals as goal

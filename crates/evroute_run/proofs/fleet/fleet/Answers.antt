@@ -2,7 +2,7 @@ use Rattle.std.proofs.Common.{◌≡◌, IfOk, [], refl, rules}
 use Rattle.std.specs.Prelude.{string_bytes}
 use Rattle.command_line.specs.Words.{FleetJob, fleet_job_of}
 use Rattle.evroute_run.proofs.FleetFinds.{both_differ, fleet_found, fleet_refused, found_is_answered}
-use Rattle.evroute_run.specs.Caps.{file_read, most_bytes}
+use Rattle.job_steps.specs.Caps.{file_read, most_bytes}
 use Rattle.evroute_run.specs.FleetAnswer.{fleet_task}
 use Rattle.job_frame.proofs.FileReads.{fails_at_once, finds, finds_alone, finds_none, named_failed, named_read, ok_is_no_error}
 use Rattle.job_frame.specs.Finds.{outcome_of}

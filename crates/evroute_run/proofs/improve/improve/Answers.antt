@@ -2,9 +2,9 @@ use Rattle.std.proofs.Common.{List, [], ◌∷◌, ℕ, refl, subst}
 use Rattle.std.specs.Prelude.{string_bytes}
 use Rattle.command_line.specs.Words.{ImproveJob, improve_job_of}
 use Rattle.evroute_run.proofs.ImproveFinds.{refused_at_instance}
-use Rattle.evroute_run.specs.Caps.{file_read, most_bytes}
+use Rattle.job_steps.specs.Caps.{file_read, most_bytes}
 use Rattle.evroute_run.specs.ImproveAnswer.{improve_task}
-use Rattle.evroute_run.specs.LimitedNetwork.{HasNetwork}
+use Rattle.job_steps.specs.LimitedNetwork.{HasNetwork}
 use Rattle.job_frame.proofs.FileReads.{fails_at_once, finds_alone, finds_none, finds_since, named_failed, named_read, ok_is_no_error, read_still}
 use Rattle.job_frame.specs.declared.status.Status.TheVariants as status
 use Rattle.plan_writer.specs.RefusalText.{refusal_text}

@@ -1,7 +1,7 @@
 use Rattle.std.specs.Prelude.{string_bytes}
 use Rattle.command_line.specs.Words.{ImproveJob, improve_job_of}
 use Rattle.evroute_run.proofs.ImproveFinds.{finds_improved, improve_found, plan_read_fails}
-use Rattle.evroute_run.specs.Caps.{most_bytes}
+use Rattle.job_steps.specs.Caps.{most_bytes}
 use Rattle.evroute_run.specs.ImproveAnswer.{improve_task}
 use Rattle.job_frame.proofs.FileReads.{finds_none, named_failed, named_read, ok_is_no_error}
 use Rattle.evroute_run.proofs.improve.improve_on.Goals as goal

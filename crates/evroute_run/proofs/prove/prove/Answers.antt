@@ -2,7 +2,7 @@ use Rattle.std.proofs.Common.{[], refl}
 use Rattle.std.specs.Prelude.{string_bytes}
 use Rattle.command_line.specs.Words.{ProofJob, proof_job_of}
 use Rattle.evroute_run.proofs.ProveFinds.{finds_proved, prove_found}
-use Rattle.evroute_run.specs.Caps.{file_read, most_bytes}
+use Rattle.job_steps.specs.Caps.{file_read, most_bytes}
 use Rattle.evroute_run.specs.ProveAnswer.{prove_task}
 use Rattle.job_frame.proofs.FileReads.{fails_at_once, finds_none, named_failed, named_read, ok_is_no_error}
 use Rattle.evroute_run.proofs.prove.prove.Goals as goal

@@ -1,4 +1,4 @@
-use Rattle.evroute_run.proofs.instance.limited_instance.Goals as goal
+use Rattle.job_steps.proofs.instance.limited_instance.Goals as goal
 
 pub returns-in-Err-clause-rule : goal.returns-in-Err-clause-rule
 returns-in-Err-clause-rule c = c.unread.ensures.rule c.args.bytes.now c.in-Err.ensures.fault

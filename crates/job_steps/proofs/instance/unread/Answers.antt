@@ -1,5 +1,5 @@
-use Rattle.evroute_run.proofs.ReadRules.{first_faults_are_rules}
-use Rattle.evroute_run.proofs.instance.unread.Goals as goal
+use Rattle.job_steps.proofs.ReadRules.{first_faults_are_rules}
+use Rattle.job_steps.proofs.instance.unread.Goals as goal
 
 pub returns-in_default : goal.returns-in_default
 returns-in_default c = record {
