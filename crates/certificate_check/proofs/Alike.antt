@@ -5,11 +5,7 @@ use Rattle.std.specs.Int.{◌∣◌}
 use Rattle.fleet_model.specs.Basis.{AreIndependent, covering, IsBasis, IsBody, IsShareWeight, MakesSharesWhole, Pays, PaysLeast}
 use Rattle.fleet_model.specs.Equations.{Column, column_at, cost_of, entry, help_of, helper, helpers, right_side, route, serves, total}
 use Rattle.fleet_model.specs.Wide.{Follow, IsBodyPast, IsHelperListPast, IsPast, IsPastAt, IsPriceListPast, IsShareWeightPast, IsTooWide}
-
-pub record AreAlike (a b : Column) : Type 0 where
-  pub serve : (c : ℕ) → serves a c ≡ serves b c
-  pub cost : cost_of a ≡ cost_of b
-  pub help : help_of a ≡ help_of b
+use Rattle.certificate_check.specs.Columns.{AreAlike}
 
 pub alike_self : (a : Column) → AreAlike a a
 alike_self a = record { serve = λ c. refl; cost = refl; help = refl }

@@ -1,8 +1,7 @@
 -- The exact test of wide bases, on the columns of a certificate.
-use Rattle.std.proofs.Common.{◌≡◌, ◌∙◌, ℕ, zero, suc, ◌+◌, ◌<◌, ◌≤◌, Bool, true, false, List, [], ◌∷◌, ◌++◌, Option, Some, Result, Ok, Err, length, get_or, map, take, refl, sym, ap, subst, arith, inr}
+use Rattle.std.proofs.Common.{◌≡◌, ◌∙◌, ℕ, zero, suc, ◌+◌, ◌<◌, Bool, true, false, List, [], ◌∷◌, ◌++◌, Option, Some, Result, Ok, Err, length, map, refl, sym, ap, subst, arith, inr}
 use Rattle.std.specs.List.{All, range_with_len}
 use Rattle.std.specs.Prelude.{IfOk, option_map}
-use Rattle.std.proofs.lemmas.List.{take_all}
 use Rattle.std.proofs.lemmas.List.Elements.{All-cons, All-head, All-nil, All-tail}
 use Rattle.ev_model.specs.Network.{Network}
 use Rattle.fleet_model.specs.Cover.{IsFleetRoute}
@@ -16,16 +15,24 @@ use Rattle.certificate_parts.specs.declared.entry.BasisEntry.{BasisEntry}
 use Rattle.certificate_parts.specs.declared.entry.BasisEntry.TheVariants.{Column, Helper}
 use Rattle.wide_bases.specs.Listed.{listed_columns, route_columns as listed_routes}
 use Rattle.wide_bases.specs.declared.listed.ListedRoute.{ListedRoute}
-use Rattle.certificate_check.specs.Columns.{AreListed, entry_number, TellsColumns, TellsWide}
+use Rattle.certificate_check.specs.Columns.{AreAlike, AreListed, entry_number, StandFor, TellsColumns, TellsTooWide, TellsWide}
 use Rattle.certificate_check.specs.Routes.{IsListedRoute}
-use Rattle.certificate_check.proofs.Alike.{alike_at, alike_self, all_back, AllAlike, AreAlike, too_wide}
+use Rattle.certificate_check.proofs.Zips.{zip_left}
+use Rattle.certificate_check.proofs.Alike.{alike_at, alike_self, all_back, AllAlike, too_wide}
 
--- a listed route as a column is alike that of its plan
-pub routes_alike : (g : Network) (plans : List RoutePlan) (routes : List ListedRoute) → AreListed g plans routes → AllAlike (listed_routes routes) (route_columns g plans)
-routes_alike g [] [] are = tt
-routes_alike g [] (r ∷ routes) are = are
-routes_alike g (p ∷ plans) [] are = are
-routes_alike g (p ∷ plans) (r ∷ routes) are = (record { serve = are.0.set; cost = are.0.time; help = refl }, routes_alike g plans routes are.1)
+-- columns that stand for listed routes
+pub alike_of : (columns : List TableColumn) (routes : List ListedRoute) → StandFor columns routes → AllAlike (listed_routes routes) columns
+alike_of [] [] stand = tt
+alike_of [] (r ∷ routes) stand = stand
+alike_of (c ∷ columns) [] stand = stand
+alike_of (c ∷ columns) (r ∷ routes) stand = (stand.0, alike_of columns routes stand.1)
+
+-- those of plans stand for the listed routes that the plans are
+pub stand_for : (g : Network) (plans : List RoutePlan) (routes : List ListedRoute) → AreListed g plans routes → StandFor (route_columns g plans) routes
+stand_for g [] [] are = tt
+stand_for g [] (r ∷ routes) are = are
+stand_for g (p ∷ plans) [] are = are
+stand_for g (p ∷ plans) (r ∷ routes) are = (record { serve = are.0.set; cost = are.0.time; help = refl }, stand_for g plans routes are.1)
 
 -- the columns by number: the helpers, and then the routes
 at_helper : (n a j : ℕ) (rest : List TableColumn) → j < n → column_at (map helper (range_with_len a n) ++ rest) j ≡ helper (a + j)
@@ -53,39 +60,9 @@ entries_alike n xs ys al [] fit = tt
 entries_alike n xs ys al (e ∷ es) fit =
     (entry_alike n xs ys al e (All-head (EntryFits n (length xs)) e es fit), entries_alike n xs ys al es (All-tail (EntryFits n (length xs)) e es fit))
 
-pub same_many : (g : Network) (plans : List RoutePlan) (routes : List ListedRoute) → AreListed g plans routes → length routes ≡ length plans
-same_many g [] [] are = refl
-same_many g [] (r ∷ routes) are = absurd are
-same_many g (p ∷ plans) [] are = absurd are
-same_many g (p ∷ plans) (r ∷ routes) are = ap suc (same_many g plans routes are.1)
-
-listed_one : (g : Network) (ps : List RoutePlan) (i : ℕ) (p d : RoutePlan) (rs : List ListedRoute) (r : ListedRoute) → i < length ps → get_or ps i d ≡ p → IsListedRoute g p.stops r → AreListed g (take i ps) rs
-    → AreListed g (take (suc i) ps) (rs ++ r ∷ [])
-listed_one g [] i p d rs r less is listed are = absurd (omega (arith, less))
-listed_one g (q ∷ ps) zero p d [] r less is listed are = (subst (λ (x : RoutePlan). IsListedRoute g x.stops r) (sym is) listed, tt)
-listed_one g (q ∷ ps) zero p d (x ∷ rs) r less is listed are = absurd are
-listed_one g (q ∷ ps) (suc i) p d [] r less is listed are = absurd are
-listed_one g (q ∷ ps) (suc i) p d (x ∷ rs) r less is listed are = (are.0, listed_one g ps i p d rs r (omega (arith, less)) is listed are.1)
-
--- one plan more, and all of them
-pub listed_more : (g : Network) (ps : List RoutePlan) (i : ℕ) (p : RoutePlan) (rs : List ListedRoute) (r : ListedRoute) → i < length ps → p ≡ get_or ps i p → IsListedRoute g p.stops r → AreListed g (take i ps) rs
-    → AreListed g (take (i + 1) ps) (rs ++ r ∷ [])
-listed_more g ps i p rs r less is listed are =
-    let next : suc i ≡ i + 1 = omega arith in
-    subst (λ k. AreListed g (take k ps) (rs ++ r ∷ [])) next (listed_one g ps i p p rs r less (sym is) listed are)
-
-pub listed_all : (g : Network) (ps : List RoutePlan) (i : ℕ) (rs : List ListedRoute) → length ps ≤ i → AreListed g (take i ps) rs → AreListed g ps rs
-listed_all g ps i rs past are = subst (λ qs. AreListed g qs rs) (take_all i ps past) are
-
 many_columns : (routes : List ListedRoute) → length (listed_routes routes) ≡ length routes
 many_columns [] = refl
 many_columns (r ∷ routes) = ap suc (many_columns routes)
-
-all_routes : (g : Network) (plans : List RoutePlan) (routes : List ListedRoute) → AreListed g plans routes → All (λ (p : RoutePlan). IsFleetRoute g 1 p.stops) plans
-all_routes g [] [] are = All-nil (λ (p : RoutePlan). IsFleetRoute g 1 p.stops)
-all_routes g [] (r ∷ routes) are = absurd are
-all_routes g (p ∷ plans) [] are = absurd are
-all_routes g (p ∷ plans) (r ∷ routes) are = All-cons (λ (q : RoutePlan). IsFleetRoute g 1 q.stops) p plans are.0.route (all_routes g plans routes are.1)
 
 pub numbers_small : (n k : ℕ) (es : List BasisEntry) → All (EntryFits n k) es → All (λ j. j < n + k) (map (entry_number n) es)
 numbers_small n k [] fit = All-nil (λ j. j < n + k)
@@ -95,34 +72,44 @@ numbers_small n k (e ∷ es) fit = All-cons (λ j. j < n + k) (entry_number n e)
     small (Helper c) fits = omega (arith, fits)
     small (Column j) fits = omega (arith, fits)
 
--- what the test answers is told of the root
-module _ (g : Network) (plans : List RoutePlan) (basis : List BasisEntry) (routes : List ListedRoute) (entries : List ℕ) (n : ℕ) (listed : AreListed g plans routes)
-    (numbered : entries ≡ map (entry_number n) basis) (count : n ≡ customer_count g) (fit : All (EntryFits n (length plans)) basis) where
-  columns_al : AllAlike (listed_routes routes) (route_columns g plans)
-  columns_al = routes_alike g plans routes listed
+-- what the test answers is told of all columns that stand for the routes
+module _ (n : ℕ) (routes : List ListedRoute) (entries : List ℕ) (basis : List BasisEntry) (numbered : entries ≡ map (entry_number n) basis) (fit : All (EntryFits n (length routes)) basis) where
+  module _ (columns : List TableColumn) (stand : StandFor columns routes) where
+    columns_al : AllAlike (listed_routes routes) columns
+    columns_al = alike_of columns routes stand
 
-  basis_al : AllAlike (listed_columns n routes entries) (basis_columns g plans basis)
-  basis_al =
-      subst (λ es. AllAlike (listed_columns n routes es) (basis_columns g plans basis)) (sym numbered)
-      (entries_alike n (listed_routes routes) (route_columns g plans) columns_al basis
-      (subst (λ k. All (EntryFits n k) basis) (sym (many_columns routes ∙ same_many g plans routes listed)) fit))
+    basis_al : AllAlike (listed_columns n routes entries) (map (entry_column columns) basis)
+    basis_al =
+        subst (λ (es : List ℕ). AllAlike (listed_columns n routes es) (map (entry_column columns) basis)) (sym numbered)
+        (entries_alike n (listed_routes routes) columns columns_al basis (subst (λ (k : ℕ). All (EntryFits n k) basis) (sym (many_columns routes)) fit))
 
-  pub told_wide : (answer : Bool) → (answer ≡ true → IsTooWide n (listed_routes routes) (listed_columns n routes entries))
-      → (answer ≡ false → IsTooWide n (listed_routes routes) (listed_columns n routes entries) → ⊥) → TellsWide g plans basis answer
-  told_wide true wide narrow = record {
-    routes = all_routes g plans routes listed;
-    wide = subst (λ k. IsTooWide k (route_columns g plans) (basis_columns g plans basis)) count
-        (too_wide n (listed_routes routes) (route_columns g plans) (listed_columns n routes entries) (basis_columns g plans basis) columns_al basis_al (wide refl));
-  }
-  told_wide false wide narrow =
-      inr (λ is. narrow refl (too_wide n (route_columns g plans) (listed_routes routes) (basis_columns g plans basis) (listed_columns n routes entries)
-      (all_back (listed_routes routes) (route_columns g plans) columns_al) (all_back (listed_columns n routes entries) (basis_columns g plans basis) basis_al)
-      (subst (λ k. IsTooWide k (route_columns g plans) (basis_columns g plans basis)) (sym count) is)))
+    told_by : (answer : Bool) → (answer ≡ true → IsTooWide n (listed_routes routes) (listed_columns n routes entries))
+        → (answer ≡ false → IsTooWide n (listed_routes routes) (listed_columns n routes entries) → ⊥) → TellsTooWide n columns (map (entry_column columns) basis) answer
+    told_by true wide narrow = too_wide n (listed_routes routes) columns (listed_columns n routes entries) (map (entry_column columns) basis) columns_al basis_al (wide refl)
+    told_by false wide narrow = λ is.
+        narrow refl (too_wide n columns (listed_routes routes) (map (entry_column columns) basis) (listed_columns n routes entries)
+        (all_back (listed_routes routes) columns columns_al) (all_back (listed_columns n routes entries) (map (entry_column columns) basis) basis_al) is)
 
   pub told_result : {E : Type 0} (r : Result Bool E) → IfOk r (λ answer. answer ≡ true → IsTooWide n (listed_routes routes) (listed_columns n routes entries))
-      → IfOk r (λ answer. answer ≡ false → IsTooWide n (listed_routes routes) (listed_columns n routes entries) → ⊥) → IfOk r (TellsWide g plans basis)
-  told_result (Ok answer) wide narrow = told_wide answer wide narrow
+      → IfOk r (λ answer. answer ≡ false → IsTooWide n (listed_routes routes) (listed_columns n routes entries) → ⊥)
+      → IfOk r (λ answer. (columns : List TableColumn) → StandFor columns routes → TellsTooWide n columns (map (entry_column columns) basis) answer)
+  told_result (Ok answer) wide narrow = λ columns stand. told_by columns stand answer wide narrow
   told_result (Err e) wide narrow = tt
+
+-- and so of a wide root
+module _ (g : Network) (plans : List RoutePlan) (basis : List BasisEntry) (routes : List ListedRoute) (listed : AreListed g plans routes) where
+  root_by : (answer : Bool) → TellsTooWide (customer_count g) (route_columns g plans) (basis_columns g plans basis) answer → TellsWide g plans basis answer
+  root_by true is = record {
+    routes = zip_left (λ (p : RoutePlan) (r : ListedRoute). IsListedRoute g p.stops r) (λ (p : RoutePlan). IsFleetRoute g 1 p.stops) (λ p r is. is.route) plans routes listed;
+    wide = is;
+  }
+  root_by false is = inr is
+
+  pub told_wide : {E : Type 0} (n : ℕ) (r : Result Bool E) → n ≡ customer_count g →
+      IfOk r (λ answer. (columns : List TableColumn) → StandFor columns routes → TellsTooWide n columns (map (entry_column columns) basis) answer) → IfOk r (TellsWide g plans basis)
+  told_wide n (Ok answer) count is =
+      root_by answer (subst (λ (k : ℕ). TellsTooWide k (route_columns g plans) (basis_columns g plans basis) answer) count (is (route_columns g plans) (stand_for g plans routes listed)))
+  told_wide n (Err e) count is = tt
 
 -- where the plans are told as routes, they are listed
 pub columns_listed : {V : Type 0} (g : Network) (plans : List RoutePlan) (items : V → List ListedRoute) (o : Option V) (v : V) → o ≡ Some v → TellsColumns g plans (option_map items o) → AreListed g plans (items v)

@@ -1,15 +1,12 @@
--- What the shares of a cover cost, against the price sum over the weight.
+-- What listed routes with shares cost, against the price sum over the weight.
 use Rattle.std.proofs.Common.{◌≡◌, ◌≢◌, ◌∙◌, ℕ, suc, ◌+◌, ◌*◌, ◌≤◌, Bool, true, false, IsTrue, refl, sym, ap, arith, ◌↔◌, inr, List, unsigned_abs}
 use Rattle.std.specs.Prelude.{ℤ, pos, negsuc, neg_ℤ, ◌*ℤ◌, ◌≤ℤ◌, ◌<ℤ◌}
 use Rattle.std.proofs.Math.IntN.{negsuc-*ℤ-pos, pos-*ℤ-pos}
 use Rattle.std.proofs.lemmas.Bool.{false≢true}
 use Rattle.std.proofs.lemmas.Int.{ints}
-use Rattle.ev_model.specs.Network.{Network}
-use Rattle.fleet_model.specs.Cover.{cost_of_shares, Share}
 use Rattle.fleet_model.specs.Prices.{sum_of}
-use Rattle.fleet_model.specs.Section.{Section}
-use Rattle.certificate_check.specs.Rules.{CostsOther}
-use Rattle.certificate_check.specs.Shares.{TellsCost}
+use Rattle.certificate_check.specs.Shares.{AreEven, CostThePrices, listed_cost, TellsCost, TellsCover}
+use Rattle.certificate_check.specs.declared.cover.SharedRoute.{SharedRoute}
 
 negative_product : (a over : ℕ) (p : ℤ) → p <ℤ pos 0 → 1 ≤ over → pos a ≢ p *ℤ pos over
 negative_product a over (pos p) less some same = omega (arith, ints, less)
@@ -28,14 +25,15 @@ same_unsigned a over (pos p) more same =
     omega (arith, ints, product)
 same_unsigned a over (negsuc p) more same = absurd (omega (arith, ints, more))
 
-pub negative_costs_other : (g : Network) (s : Section) (over : ℕ) (shares : List Share) → sum_of s.prices <ℤ pos 0 → 1 ≤ over → CostsOther g s over shares
-negative_costs_other g s over shares less some = negative_product (cost_of_shares g 1 shares * s.weight) over (sum_of s.prices) less some
+pub negative_costs_other : (weight : ℕ) (prices : List ℤ) (over : ℕ) (xs : List SharedRoute) → sum_of prices <ℤ pos 0 → 1 ≤ over → CostThePrices weight prices over xs → ⊥
+negative_costs_other weight prices over xs less some = negative_product (listed_cost xs * weight) over (sum_of prices) less some
 
-pub product_told : (g : Network) (s : Section) (over : ℕ) (shares : List Share) (b : Bool) → 1 ≤ s.weight → pos 0 ≤ℤ sum_of s.prices →
-    IsTrue b ↔ (cost_of_shares g 1 shares * s.weight ≡ unsigned_abs (sum_of s.prices) * over) → TellsCost g s over shares b
-product_told g s over shares true some more is = record {
-  some = some;
-  same = same_signed (cost_of_shares g 1 shares * s.weight) over (sum_of s.prices) more (is.0 refl);
-}
-product_told g s over shares false some more is =
-    inr (λ same. false≢true (is.1 (same_unsigned (cost_of_shares g 1 shares * s.weight) over (sum_of s.prices) more same)))
+pub product_told : (weight : ℕ) (prices : List ℤ) (over : ℕ) (xs : List SharedRoute) (b : Bool) → 1 ≤ weight → pos 0 ≤ℤ sum_of prices →
+    IsTrue b ↔ (listed_cost xs * weight ≡ unsigned_abs (sum_of prices) * over) → TellsCost weight prices over xs b
+product_told weight prices over xs true some more is = (some, same_signed (listed_cost xs * weight) over (sum_of prices) more (is.0 refl))
+product_told weight prices over xs false some more is =
+    inr (λ same. false≢true (is.1 (same_unsigned (listed_cost xs * weight) over (sum_of prices) more same)))
+
+pub cover_told : (customers weight : ℕ) (prices : List ℤ) (over : ℕ) (xs : List SharedRoute) (b : Bool) → AreEven customers over xs → TellsCost weight prices over xs b → TellsCover customers weight prices over xs b
+cover_told customers weight prices over xs true even is = record { even = even; some_weight = is.0; cost = is.1 }
+cover_told customers weight prices over xs false even is = inr is

@@ -1,20 +1,24 @@
 -- Routes of a fleet, and the test stop by stop.
-use Rattle.std.proofs.Common.{◌≡◌, ◌≢◌, ◌∙◌, ℕ, ◌<◌, ◌≤◌, Bool, true, false, ◌||◌, List, [], ◌∷◌, Option, Some, None, map, refl, sym, ap, subst, arith, ◌⊎◌, inl, inr}
-use Rattle.std.specs.Prelude.{is_some, nat_eq}
-use Rattle.std.specs.List.{list_any}
-use Rattle.std.proofs.lemmas.Bool.{cases_Bool, cases_eq, eq-eqb, false≢true, ne_eqb, or_left, or_right}
+use Rattle.std.proofs.Common.{◌≡◌, ◌≢◌, ◌∙◌, ℕ, zero, suc, ◌+◌, ◌^◌, ◌<◌, ◌≤◌, Bool, true, false, ◌||◌, List, [], ◌∷◌, Option, Some, None, map, refl, sym, ap, subst, arith, ◌⊎◌, inl, inr}
+use Rattle.std.specs.Prelude.{is_some, nat_eq, if◌then◌else◌}
+use Rattle.std.proofs.lemmas.Bool.{cases_Bool, cases_eq, cases_lt, eq-eqb, false≢true, ne_eqb, or_left, or_right}
 use Rattle.std.proofs.lemmas.List.Elements.{All-cons, All-nil}
 use Rattle.std.proofs.lemmas.Option.{same_Some}
 use Rattle.customer_sets.specs.CustSet.{has, with_customer}
 use Rattle.customer_sets.proofs.Ranges.{has-with_customer}
 use Rattle.ev_model.specs.Feasible.{IsFeasible}
 use Rattle.ev_model.specs.Fleet.{customers_of, ServesOnly, times_in}
-use Rattle.ev_model.specs.Network.{is_customer, Network, node_count}
+use Rattle.ev_model.specs.Network.{is_customer, Network, node_count, scaled_limit}
 use Rattle.ev_model.specs.Plan.{AreStopsFrom, EndsAtDepot}
+use Rattle.ev_model.specs.Route.{route_of}
+use Rattle.ev_model.specs.Time.{time_of}
 use Rattle.ev_model.specs.declared.Stop.{Stop}
 use Rattle.fleet_model.specs.Cover.{IsFleetRoute}
-use Rattle.fleet_model.specs.Places.{customer_number, numbers_of}
-use Rattle.fleet_model.proofs.Counts.{number_apart}
+use Rattle.fleet_model.specs.Places.{customer_count, customer_number, numbers_of}
+use Rattle.fleet_model.proofs.Counts.{AreCustomers, count_numbers, number_apart, number_less}
+use Rattle.fleet_model.proofs.Fleets.{plan_below}
+use Rattle.fleet_model.proofs.Plans.{filtered}
+use Rattle.fleet_model.proofs.Weighed.{AreBelow}
 use Rattle.fleet_model.proofs.Numbers.{numbered}
 use Rattle.instance_reader.specs.Instance.{IsCustomerNumber}
 use Rattle.plan_check.specs.FirstFaults.{first_stray}
@@ -22,7 +26,8 @@ use Rattle.plan_check.specs.Tallies.{AreKnown}
 use Rattle.plan_check.proofs.Served.{no_stray, serves_only}
 use Rattle.plan_check.proofs.Strays.{customers_of-inserted, customers_of-served, customers_of-stray, first_stray-None, first_stray-Some, inserted, kind_of, served, stray}
 use Rattle.route_plan.specs.FirstPlaces.{behind_first}
-use Rattle.certificate_check.specs.Routes.{IsServedBy, served_once, visits}
+use Rattle.wide_bases.specs.declared.listed.ListedRoute.{ListedRoute}
+use Rattle.certificate_check.specs.Routes.{IsRouteAmong, IsServedBy, served_once}
 
 -- ---- the nodes of a feasible plan
 
@@ -219,40 +224,62 @@ none_where_none_found g stops found is empty =
     let from = once_from g [] stops found is in
     no_numbers g (customers_of g stops) (none_has (numbers_of g stops) (λ c. sym (from.members c) ∙ ap (λ xs. has xs c) empty))
 
--- ---- stops at a node
+-- ---- how often a customer is served
 
-visited_by : (g : Network) (node : ℕ) → is_customer g node ≡ true → (s : Stop) (ss : List Stop) → list_any (visits node) (s ∷ ss) ≡ true
-    → (list_any (visits node) ss ≡ true → 1 ≤ times_in (customers_of g ss) node) → 1 ≤ times_in (customers_of g (s ∷ ss)) node
-visited_by g node is s ss any rest = elim (kind_of g s) [
-  | inserted via _ _ ↦ subst (λ cs. 1 ≤ times_in cs node) (sym (customers_of-inserted g s ss via)) (rest (rw via at any))
-  | served own customer _ _ ↦ subst (λ cs. 1 ≤ times_in cs node) (sym (customers_of-served g s ss own customer)) (elim (cases_eq s.node node) [
-    | inl same ↦ rw (eq-eqb s.node node same) (omega arith)
-    | inr other ↦ rw (ne_eqb s.node node other) (omega (arith, rest (rw (own, ne_eqb s.node node other) at any)))
-  ])
-  | stray own other _ _ ↦ subst (λ cs. 1 ≤ times_in cs node) (sym (customers_of-stray g s ss own other)) (elim (cases_eq s.node node) [
-    | inl same ↦ absurd (false≢true (sym other ∙ ap (is_customer g) same ∙ is))
-    | inr apart ↦ rest (rw (own, ne_eqb s.node node apart) at any)
-  ])
+has_none : (ns : List ℕ) (c : ℕ) → has ns c ≡ false → times_in ns c ≡ 0
+has_none [] c none = refl
+has_none (n ∷ ns) c none = elim (cases_Bool (nat_eq n c)) [
+  | inl same ↦ let yes : true ≡ false = rw same at none in absurd (cc)
+  | inr other ↦ rw other (omega (arith, has_none ns c (rw other at none)))
 ]
 
-pub visited : (g : Network) (node : ℕ) → is_customer g node ≡ true → (stops : List Stop) → list_any (visits node) stops ≡ true → 1 ≤ times_in (customers_of g stops) node
-visited g node is [] any = absurd (cc)
-visited g node is (s ∷ ss) any = visited_by g node is s ss any (visited g node is ss)
-
-unvisited_by : (g : Network) (node : ℕ) → (s : Stop) (ss : List Stop) → list_any (visits node) (s ∷ ss) ≡ false
-    → (list_any (visits node) ss ≡ false → times_in (customers_of g ss) node ≡ 0) → times_in (customers_of g (s ∷ ss)) node ≡ 0
-unvisited_by g node s ss none rest = elim (kind_of g s) [
-  | inserted via _ _ ↦ subst (λ cs. times_in cs node ≡ 0) (sym (customers_of-inserted g s ss via)) (rest (rw via at none))
-  | served own customer _ _ ↦ subst (λ cs. times_in cs node ≡ 0) (sym (customers_of-served g s ss own customer)) (elim (cases_eq s.node node) [
-    | inl same ↦ let yes : true ≡ false = rw (own, eq-eqb s.node node same) at none in absurd (cc)
-    | inr other ↦ rw (ne_eqb s.node node other) (omega (arith, rest (rw (own, ne_eqb s.node node other) at none)))
-  ])
-  | stray own other _ _ ↦ subst (λ cs. times_in cs node ≡ 0) (sym (customers_of-stray g s ss own other)) (elim (cases_eq s.node node) [
-    | inl same ↦ let yes : true ≡ false = rw (own, eq-eqb s.node node same) at none in absurd (cc)
-    | inr apart ↦ rest (rw (own, ne_eqb s.node node apart) at none)
-  ])
+has_some : (ns : List ℕ) (c : ℕ) → has ns c ≡ true → 1 ≤ times_in ns c
+has_some [] c some = absurd (cc)
+has_some (n ∷ ns) c some = elim (cases_Bool (nat_eq n c)) [
+  | inl same ↦ rw same (omega arith)
+  | inr other ↦ rw other (omega (arith, has_some ns c (rw other at some)))
 ]
 
-pub unvisited : (g : Network) (node : ℕ) → (stops : List Stop) → list_any (visits node) stops ≡ false → times_in (customers_of g stops) node ≡ 0
-unvisited g node [] none = refl
-unvisited g node (s ∷ ss) none = unvisited_by g node s ss none (unvisited g node ss)
+-- a route of a fleet serves a customer once where it has the customer's number, and else not at all
+pub serves_once : (g : Network) (stops : List Stop) → IsFleetRoute g 1 stops → (node : ℕ) → is_customer g node ≡ true → (set : List ℕ) → ((c : ℕ) → has set c ≡ has (numbers_of g stops) c) →
+    times_in (customers_of g stops) node ≡ (if has set (customer_number g node) then 1 else 0)
+serves_once g stops route node is set members =
+    let counted = count_numbers g (customers_of g stops) node (filtered g (route_of stops)) is in
+    elim (cases_Bool (has set (customer_number g node))) [
+      | inl some ↦ rw some (omega (arith, counted, route.once node is, has_some (numbers_of g stops) (customer_number g node) (sym (members (customer_number g node)) ∙ some)))
+      | inr none ↦ rw none (omega (arith, counted, has_none (numbers_of g stops) (customer_number g node) (sym (members (customer_number g node)) ∙ none)))
+    ]
+
+-- ---- some customer of so many
+
+some_of : (g : Network) (n : ℕ) (cs : List ℕ) → cs ≢ [] → AreCustomers g cs → AreBelow n cs → (c : ℕ) × (c < customer_number g n) × (has (map (customer_number g) cs) c ≡ true)
+some_of g n [] some are below = absurd (some refl)
+some_of g n (y ∷ ys) some are below = (
+  customer_number g y,
+  number_less g y n are.0 below.0,
+  or_left (nat_eq (customer_number g y) (customer_number g y)) (has (map (customer_number g) ys) (customer_number g y)) (eq-eqb (customer_number g y) (customer_number g y) refl),
+)
+
+pub among_of : (g : Network) (stops : List Stop) (r : ListedRoute) → IsFleetRoute g 1 stops → ((c : ℕ) → has r.set c ≡ has (numbers_of g stops) c) → r.time ≡ time_of g 1 g.capacity stops → scaled_limit g ≤ 10 ^ 18 → IsRouteAmong (customer_count g) r
+among_of g stops r route members time limit =
+    let some = some_of g (node_count g) (customers_of g stops) route.some (filtered g (route_of stops)) (plan_below g 1 g.capacity stops route.feasible) in
+    let in_time = route.feasible.in_time in
+    record { customer = some.0; known = some.1; served = members some.0 ∙ some.2; time = omega (arith, time, in_time, limit) }
+
+-- ---- the customer with a number
+
+pub node_of : (g : Network) (n c : ℕ) → c < customer_number g n → (node : ℕ) × (node < n) × (is_customer g node ≡ true) × (customer_number g node ≡ c)
+node_of g zero c less = absurd (omega (arith, less))
+node_of g (suc n) c less = elim (cases_lt c (customer_number g n)) [
+  | inl below ↦
+      let found = node_of g n c below in
+      (found.0, let known = found.1 in omega (arith, known), found.2, found.3)
+  | inr above ↦ elim (cases_Bool (is_customer g n)) [
+    | inl is ↦
+        let few : c < customer_number g n + 1 = rw is at less in
+        (n, omega arith, is, omega (arith, few, above))
+    | inr other ↦
+        let few : c < customer_number g n + 0 = rw other at less in
+        absurd (omega (arith, few, above))
+  ]
+]

@@ -1,3 +1,4 @@
+pub mod Zips
 pub mod Passed
 pub mod Along
 pub mod PairLaws

@@ -1,9 +1,7 @@
 -- Going along a list, of whose items each is looked at as something else.
-use Rattle.std.proofs.Common.{◌≡◌, ◌∙◌, ℕ, zero, suc, ◌+◌, ◌<◌, ◌≤◌, List, [], ◌∷◌, true, false, Option, None, Some, length, get_or, map, slice_get, refl, sym, ap, subst, arith, inl, inr}
-use Rattle.std.specs.List.{All}
-use Rattle.std.specs.Prelude.{IfNone, IfSome, is_none}
-use Rattle.std.proofs.lemmas.Bool.{cases_eq, false≢true}
-use Rattle.std.proofs.lemmas.Option.{same_Some, slice_get-get_or, slice_get_within}
+use Rattle.std.proofs.Common.{◌≡◌, ◌∙◌, ℕ, zero, suc, ◌+◌, ◌<◌, ◌≤◌, List, [], ◌∷◌, Some, length, get_or, map, slice_get, refl, sym, ap, subst, arith, inl, inr}
+use Rattle.std.proofs.lemmas.Bool.{cases_eq}
+use Rattle.std.proofs.lemmas.Option.{same_Some, slice_get_within}
 
 module _ {A B : Type 0} (f : A → B) where
   there_from : (xs : List A) (i : ℕ) (x d : A) → i < length xs → get_or xs i d ≡ x → slice_get (map f xs) i ≡ Some (f x)
@@ -30,16 +28,3 @@ module _ {A B : Type 0} (f : A → B) (P : B → Type 0) (xs : List A) (i : ℕ)
   passed_all past before m y at =
       let within = slice_get_within (map f xs) m y at in
       before m y (omega (arith, within, many f xs, past)) at
-
--- what a test of an option tells
-pub none_at : {A : Type 0} (P : Type 0) (o : Option A) → is_none o ≡ true → IfNone o P → P
-none_at P None is told = told
-none_at P (Some x) is told = absurd (false≢true is)
-
-pub some_at : {A : Type 0} (P : A → Type 0) (o : Option A) → is_none o ≡ false → IfSome o P → (x : A) × P x
-some_at P None is told = absurd (false≢true (sym is))
-some_at P (Some x) is told = (x, told)
-
--- what holds at each number holds of all
-pub all_from : {X : Type 0} (P : X → Type 0) (xs : List X) → ((n : ℕ) (x : X) → slice_get xs n ≡ Some x → P x) → All P xs
-all_from P xs each k d within = each k (get_or xs k d) (slice_get-get_or xs k d within)

@@ -1,6 +1,6 @@
 -- The bound of a section as a number, and the sum of its prices.
-use Rattle.std.proofs.Common.{◌≡◌, ◌∙◌, ℕ, suc, ◌+◌, ◌*◌, ◌<◌, ◌≤◌, ap, List, length, get_or, drop, Option, Some, None, arith, inl, inr}
-use Rattle.std.specs.Prelude.{ℤ, pos, ◌+ℤ◌, ◌≤ℤ◌}
+use Rattle.std.proofs.Common.{◌≡◌, ◌∙◌, ℕ, suc, ◌+◌, ◌*◌, ◌<◌, ◌≤◌, sym, ap, subst, List, length, get_or, drop, Option, Some, None, arith, inl, inr}
+use Rattle.std.specs.Prelude.{ℤ, pos, ◌+ℤ◌, ◌≤ℤ◌, ◌<ℤ◌}
 use Rattle.std.proofs.Math.ListN.{drop_of_length-le}
 use Rattle.std.proofs.Math.Seq.{drop-cons}
 use Rattle.std.proofs.lemmas.Int.{ints}
@@ -9,7 +9,7 @@ use Rattle.fleet_model.specs.Prices.{sum_of}
 use Rattle.fleet_model.specs.Section.{Section, ShowsNoPlan}
 use Rattle.fleet_model.specs.Tree.{IsBoundedBy}
 use Rattle.fleet_model.proofs.Bounds.{bound_rounds_up}
-use Rattle.certificate_check.specs.Bounds.{IsBoundOf}
+use Rattle.certificate_check.specs.Bounds.{HasPrices, IsBoundOf}
 
 no_more : (a b c : ℤ) → a ≤ℤ b → b ≤ℤ c → a ≤ℤ c
 no_more a b c first second = omega (arith, ints, first, second)
@@ -39,6 +39,19 @@ zero_bound s none le = (
     λ few. inr (none, omega (arith, ints, few)),
   ),
 )
+
+-- and so of each section with this weight and these prices
+module _ (weight : ℕ) (prices : List ℤ) (s : Section) (has : HasPrices weight prices s) where
+  pub rounded_for : (q : ℤ) → 0 < weight → IsCeiling (sum_of prices) weight q → IsBoundOf s (Some q)
+  rounded_for q some is =
+      rounded s q (subst (λ (w : ℕ). 0 < w) (sym has.same_weight) some)
+      (subst (λ (w : ℕ). IsCeiling (sum_of s.prices) w q) (sym has.same_weight) (subst (λ (ps : List ℤ). IsCeiling (sum_of ps) weight q) (sym has.same_prices) is))
+
+  pub none_for : weight ≡ 0 → pos 0 <ℤ sum_of prices → IsBoundOf s None
+  none_for none more = (has.same_weight ∙ none, subst (λ (ps : List ℤ). pos 0 <ℤ sum_of ps) (sym has.same_prices) more)
+
+  pub zero_for : weight ≡ 0 → sum_of prices ≤ℤ pos 0 → IsBoundOf s (Some (pos 0))
+  zero_for none few = zero_bound s (has.same_weight ∙ none) (subst (λ (ps : List ℤ). sum_of ps ≤ℤ pos 0) (sym has.same_prices) few)
 
 -- no plan is above every number
 pub above_all : (s : Section) → ShowsNoPlan s → (bound : Option ℕ) → IsBoundedBy s bound

@@ -1,13 +1,13 @@
 -- The sections of a certificate under the test of closed lists.
-use Rattle.std.proofs.Common.{◌≡◌, ◌∙◌, ℕ, zero, suc, ◌+◌, ◌-◌, ◌<◌, ◌≤◌, List, [], ◌∷◌, Option, Some, None, Result, Ok, Err, length, get_or, map, slice_get, refl, sym, ap, subst, arith, inl, inr}
+use Rattle.std.proofs.Common.{◌≡◌, ◌∙◌, ℕ, ◌+◌, ◌-◌, ◌<◌, ◌≤◌, List, [], ◌∷◌, Option, Some, None, Result, Ok, Err, length, map, refl, sym, ap, subst, arith, inl, inr}
 use Rattle.std.specs.List.{All, range_with_len}
-use Rattle.std.specs.Prelude.{IfOk, IfSome, IsSome, ℤ}
+use Rattle.std.specs.Prelude.{IfErr, IfOk, IfSome, IsSome, ℤ}
 use Rattle.std.proofs.lemmas.List.{length-map}
 use Rattle.std.proofs.lemmas.List.FromFn.{length-range_with_len}
 use Rattle.charge_curve.specs.Points.{ArePoints, last_level, time_on}
-use Rattle.std.proofs.lemmas.Bool.{cases_eq, false≢true}
+use Rattle.std.proofs.lemmas.Bool.{false≢true}
 use Rattle.std.proofs.lemmas.List.Elements.{All-head, All-tail, All-weaker}
-use Rattle.std.proofs.lemmas.Option.{same_Some, slice_get_within}
+use Rattle.customer_sets.specs.Pairs.{allows_of, ForbiddenPairs}
 use Rattle.ev_model.specs.Network.{Network, node_count}
 use Rattle.fleet_model.specs.ClosedList.{IsClosed}
 use Rattle.fleet_model.specs.Section.{Section as PricedSection}
@@ -16,13 +16,14 @@ use Rattle.piece_fn.specs.PieceFn.{first_level, level_times}
 use Rattle.piece_fn.specs.declared.label.Label.{Label}
 use Rattle.closed_lists.specs.Sections.{IsLabelOf, paid_label, section_of}
 use Rattle.closed_lists.specs.Verdicts.{IsTold}
-use Rattle.closed_lists.specs.declared.fault.ClosedFault.{ClosedFault}
+use Rattle.closed_lists.specs.declared.fault.ClosedFault.{ClosedFault as SectionFault}
 use Rattle.closed_lists.specs.declared.fault.ClosedFault.TheVariants as fault
-use Rattle.bound_certificate.specs.Meaning.{priced_label, priced_section, priced_sections}
-use Rattle.bound_certificate.specs.Ranges.{IsLast, LabelFits, PointFits, SectionFits}
+use Rattle.bound_certificate.specs.Meaning.{priced_label, priced_section}
+use Rattle.bound_certificate.specs.Ranges.{IsLast, LabelFits, PointFits}
 use Rattle.bound_certificate.specs.declared.certificate.Section.{Section}
 use Rattle.fleet_model.specs.ClosedListRules.{at_home, at_start, at_step}
-use Rattle.certificate_check.specs.Firsts.{AllHold, IsFirst, IsSectionFault, Tells, ToldAs}
+use Rattle.certificate_check.specs.Labels.{priced_labels}
+use Rattle.certificate_check.specs.Firsts.{IsSectionFault, Tells, ToldAs}
 use Rattle.certificate_check.specs.declared.verdict.Verdict.{Verdict}
 
 -- ---- a section of a certificate is that of its labels
@@ -35,11 +36,12 @@ same_labels : (prices : List ℤ) (ls : List Label) → map (paid_label prices) 
 same_labels prices [] = refl
 same_labels prices (l ∷ ls) = λ n. same_label prices l n ∷ same_labels prices ls n
 
-pub same_section : (s : Section) → section_of s.pairs s.weight s.prices s.labels ≡ priced_section s
-same_section s = ap (λ ls. let t : PricedSection = record { weight = s.weight; prices = s.prices; allows = (priced_section s).allows; labels = ls } in t) (same_labels s.prices s.labels)
+pub same_section : (pairs : ForbiddenPairs) (weight : ℕ) (prices : List ℤ) (labels : List Label) → section_of pairs weight prices labels ≡ priced_labels (allows_of pairs) weight prices labels
+same_section pairs weight prices labels =
+    ap (λ ls. let t : PricedSection = record { weight = weight; prices = prices; allows = allows_of pairs; labels = ls } in t) (same_labels prices labels)
 
 -- a fault of the labels is told as a verdict on the section
-pub fault_told : (g : Network) (n : ℕ) (s : PricedSection) (f : ClosedFault) (v : Verdict) → IsTold g s f → ToldAs n f v → IsSectionFault g n s v
+pub fault_told : (g : Network) (n : ℕ) (s : PricedSection) (f : SectionFault) (v : Verdict) → IsTold g s f → ToldAs n f v → IsSectionFault g n s v
 fault_told g n s fault.Start v told is = subst (IsSectionFault g n s) (sym is) (at_start, refl, told)
 fault_told g n s (fault.Step label node) v told is = subst (IsSectionFault g n s) (sym is) (at_step label node, refl, told)
 fault_told g n s (fault.End label) v told is = subst (IsSectionFault g n s) (sym is) (at_home label, refl, told)
@@ -70,53 +72,27 @@ label_of g l fits = record {
     by (inl depot) = let node = fits.node in omega (arith, depot, node)
     by (inr customer) = customer.0
 
-pub labels_of : (g : Network) (s : Section) → SectionFits g s → All (IsLabelOf g) s.labels
-labels_of g s fits = All-weaker (LabelFits g) (IsLabelOf g) (label_of g) s.labels fits.labels
+pub labels_of : (g : Network) (labels : List Label) → All (LabelFits g) labels → All (IsLabelOf g) labels
+labels_of g labels fit = All-weaker (LabelFits g) (IsLabelOf g) (label_of g) labels fit
+
+pub told_priced : {E : Type 0} (g : Network) (pairs : ForbiddenPairs) (weight : ℕ) (prices : List ℤ) (labels : List Label) (r : Result E SectionFault) →
+    IfErr r (IsTold g (section_of pairs weight prices labels)) → IfErr r (IsTold g (priced_labels (allows_of pairs) weight prices labels))
+told_priced g pairs weight prices labels r told = subst (λ (t : PricedSection). IfErr r (IsTold g t)) (same_section pairs weight prices labels) told
+
+pub closed_priced : {E : Type 0} (g : Network) (pairs : ForbiddenPairs) (weight : ℕ) (prices : List ℤ) (labels : List Label) (r : Result Unit E) →
+    IfOk r (λ _. IsClosed g (section_of pairs weight prices labels)) → IfOk r (λ _. IsClosed g (priced_labels (allows_of pairs) weight prices labels))
+closed_priced g pairs weight prices labels r closed = subst (λ (t : PricedSection). IfOk r (λ _. IsClosed g t)) (same_section pairs weight prices labels) closed
 
 module _ (g : Network) (s : Section) (prices : List ℤ) (labels : List Label) (p_is : prices ≡ s.prices) (l_is : labels ≡ s.labels) where
-  as_priced : section_of s.pairs s.weight prices labels ≡ priced_section s
-  as_priced = ap (λ ps. section_of s.pairs s.weight ps labels) p_is ∙ ap (λ ls. section_of s.pairs s.weight s.prices ls) l_is ∙ same_section s
+  as_priced : priced_labels (allows_of s.pairs) s.weight prices labels ≡ priced_section s
+  as_priced = ap (λ (ps : List ℤ). priced_labels (allows_of s.pairs) s.weight ps labels) p_is ∙ ap (λ (ls : List Label). priced_labels (allows_of s.pairs) s.weight s.prices ls) l_is
 
-  pub closed_told : IsClosed g (section_of s.pairs s.weight prices labels) → IsClosed g (priced_section s)
+  pub closed_told : IsClosed g (priced_labels (allows_of s.pairs) s.weight prices labels) → IsClosed g (priced_section s)
   closed_told closed = subst (IsClosed g) as_priced closed
 
-pub verdict_told : {E : Type 0} (g : Network) (n : ℕ) (s : Section) (prices : List ℤ) (labels : List Label) → prices ≡ s.prices → labels ≡ s.labels → (f : ClosedFault) (r : Result (Option Verdict) E) →
-    IfOk r (λ v. IfSome v (ToldAs n f)) → IfOk r IsSome → IsTold g (section_of s.pairs s.weight prices labels) f → IfOk r (Tells (IsClosed g) (IsSectionFault g) n (priced_section s))
+pub verdict_told : {E : Type 0} (g : Network) (n : ℕ) (s : Section) (prices : List ℤ) (labels : List Label) → prices ≡ s.prices → labels ≡ s.labels → (f : SectionFault) (r : Result (Option Verdict) E) →
+    IfOk r (λ v. IfSome v (ToldAs n f)) → IfOk r IsSome → IsTold g (priced_labels (allows_of s.pairs) s.weight prices labels) f → IfOk r (Tells (IsClosed g) (IsSectionFault g) n (priced_section s))
 verdict_told g n s prices labels p_is l_is f (Ok None) told some is = absurd (false≢true some)
 verdict_told g n s prices labels p_is l_is f (Ok (Some v)) told some is =
     fault_told g n (priced_section s) f v (subst (λ (t : PricedSection). IsTold g t f) (as_priced g s prices labels p_is l_is) is) told
 verdict_told g n s prices labels p_is l_is f (Err e) told some is = tt
-
--- ---- one section after another
-
-section_there : (ss : List Section) (i : ℕ) (s d : Section) → i < length ss → get_or ss i d ≡ s → slice_get (priced_sections ss) i ≡ Some (priced_section s)
-section_there [] i s d less is = absurd (omega (arith, less))
-section_there (x ∷ ss) zero s d less is = ap (λ y. Some (priced_section y)) is
-section_there (x ∷ ss) (suc i) s d less is = section_there ss i s d (omega (arith, less)) is
-
-many_sections : (ss : List Section) → length (priced_sections ss) ≡ length ss
-many_sections [] = refl
-many_sections (s ∷ ss) = ap suc (many_sections ss)
-
-module _ (g : Network) (ss : List Section) (i : ℕ) (s d : Section) (less : i < length ss) (is : get_or ss i d ≡ s) (before : (m : ℕ) (t : PricedSection) → m < i → slice_get (priced_sections ss) m ≡ Some t → IsClosed g t) where
-  pub one_more : IsClosed g (priced_section s) → (m : ℕ) (t : PricedSection) → m < i + 1 → slice_get (priced_sections ss) m ≡ Some t → IsClosed g t
-  one_more closed m t low at = elim (cases_eq m i) [
-    | inl same ↦
-        let here : Some (priced_section s) ≡ Some t = sym (section_there ss i s d less is) ∙ ap (slice_get (priced_sections ss)) (sym same) ∙ at in
-        subst (IsClosed g) (same_Some (priced_section s) t here) closed
-    | inr other ↦ before m t (omega (arith, low, other)) at
-  ]
-
-  pub first_broken : (v : Verdict) → IsSectionFault g i (priced_section s) v → IsFirst (IsClosed g) (IsSectionFault g) (priced_sections ss) v
-  first_broken v broken = record {
-    number = i;
-    item = priced_section s;
-    there = section_there ss i s d less is;
-    broken = broken;
-    before = before;
-  }
-
-pub all_closed : (g : Network) (ss : List Section) (i : ℕ) → length ss ≤ i → ((m : ℕ) (t : PricedSection) → m < i → slice_get (priced_sections ss) m ≡ Some t → IsClosed g t) → AllHold (IsClosed g) (priced_sections ss)
-all_closed g ss i past before m t at =
-    let within = slice_get_within (priced_sections ss) m t at in
-    before m t (omega (arith, within, many_sections ss, past)) at

@@ -7,6 +7,11 @@ use Rattle.bound_certificate.specs.declared.certificate.Root.{Root}
 use Rattle.certificate_check.specs.Accepted.{AllowsAll, IsRootOf}
 use Rattle.certificate_check.specs.Rules.{IsKindBroken}
 
+-- a section with this weight and these prices
+pub record HasPrices (weight : ℕ) (prices : List ℤ) (s : Section) : Type 0 where
+  pub same_weight : s.weight ≡ weight
+  pub same_prices : s.prices ≡ prices
+
 -- the bound of a section: none where it shows that there is no plan, and else a number
 abbrev pub IsBoundOf : Section → Option ℤ → Type 0
 IsBoundOf s None = ShowsNoPlan s

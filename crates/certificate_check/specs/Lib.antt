@@ -5,6 +5,7 @@ pub mod Verdicts
 pub mod Firsts
 pub mod Bounds
 pub mod Routes
+pub mod Labels
 pub mod Shares
 pub mod Columns
 pub mod Truth

@@ -1,13 +1,11 @@
--- Routes of a fleet, tested stop by stop, and the shares of a customer.
-use Rattle.std.specs.Prelude.{◌≡◌, ℕ, ◌+◌, Bool, true, false, ◌&&◌, not, nat_eq, List, [], ◌∷◌, Option, None, Some, if◌then◌else◌}
-use Rattle.std.specs.List.{list_any}
+-- Routes of a fleet, tested stop by stop.
+use Rattle.std.specs.Prelude.{◌≡◌, ℕ, ◌^◌, ◌<◌, ◌≤◌, true, false, List, [], ◌∷◌, Option, None, Some, if◌then◌else◌}
 use Rattle.customer_sets.specs.CustSet.{has, with_customer}
 use Rattle.ev_model.specs.Network.{Network}
 use Rattle.ev_model.specs.Time.{time_of}
 use Rattle.ev_model.specs.declared.Stop.{Stop}
 use Rattle.fleet_model.specs.Cover.{IsFleetRoute}
 use Rattle.fleet_model.specs.Places.{customer_number, numbers_of}
-use Rattle.bound_certificate.specs.declared.certificate.Share.{Share}
 use Rattle.wide_bases.specs.declared.listed.ListedRoute.{ListedRoute}
 use Rattle.plan_check.specs.FirstFaults.{serves}
 
@@ -30,19 +28,9 @@ pub record IsListedRoute (g : Network) (stops : List Stop) (r : ListedRoute) : T
   pub set : (c : ℕ) → has r.set c ≡ has (numbers_of g stops) c
   pub time : r.time ≡ time_of g 1 g.capacity stops
 
--- some stop that was not inserted is at the node
-abbrev pub visits : ℕ → Stop → Bool
-visits node s = not s.via && nat_eq s.node node
-
--- the share where the route visits a node, and else 0
-abbrev pub share_at : ℕ → Share → ℕ
-share_at node x = if list_any (visits node) x.plan.stops then x.share else 0
-
--- the shares of the routes that visit a node
-abbrev pub shares_at : ℕ → List Share → ℕ
-shares_at node [] = 0
-shares_at node (x ∷ xs) = share_at node x + shares_at node xs
-
--- the shares of a node don't add up to the weight of all
-abbrev pub is_uneven : ℕ → List Share → ℕ → Bool
-is_uneven over shares node = not (nat_eq (shares_at node shares) over)
+-- a route that serves one of so many customers, at least, in a time up to the greatest limit
+pub record IsRouteAmong (customers : ℕ) (r : ListedRoute) : Type 0 where
+  pub customer : ℕ
+  pub known : customer < customers
+  pub served : has r.set customer ≡ true
+  pub time : r.time ≤ 10 ^ 18

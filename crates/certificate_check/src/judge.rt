@@ -41,8 +41,8 @@ use std::alloc::{AllocError, Global};
 /// root is `Exact`, its shares are one that costs just that, and where it is `None`, there is none.
 ///
 /// Beside what [`closed_lists::check_closed`] takes for one section at a time, a tree takes about
-/// 2,100 bytes for each of its subtrees that are open at once, and a wide root takes a set and a
-/// time for each column.
+/// 2,100 bytes for each of its subtrees that are open at once, and an exact or a wide root takes a
+/// set and a time for each of its routes.
 pub fn check_certificate(
     alloc: Global,
     inst: &Instance,

@@ -94,7 +94,7 @@ fn fault_at(leaf: usize, pairs: &Pairs, section: &Section, bound: Option<u128>) 
     if !allows_each(section, pairs) {
         return Some(Verdict::Pairs { leaf });
     }
-    if !is_bounded(section, bound) {
+    if !is_bounded(section.weight, section.prices.as_slice(), bound) {
         return Some(Verdict::Bound { leaf });
     }
     None

@@ -3,8 +3,11 @@
 //! breaks.
 #![tactic(auto)]
 
+mod basis;
 mod bound;
+mod cover;
 mod judge;
+mod labels;
 mod laws;
 mod leaves;
 mod product;
@@ -15,9 +18,14 @@ mod shares;
 mod verdict;
 mod wide;
 
-pub use bound::price_total;
+pub use basis::is_wide_basis;
+pub use bound::{bound_of, is_bounded, price_total};
+pub use cover::{SharedRoute, cover_exactly};
 pub use judge::check_certificate;
+pub use labels::check_labels;
 pub use laws::{
     accepted_bounds_are_true, accepted_where_no_rule_is_broken, exact_roots_are_least_covers,
 };
+pub use routes::fleet_route;
 pub use verdict::Verdict;
+pub use wide_bases::ListedRoute;

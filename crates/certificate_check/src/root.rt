@@ -30,8 +30,8 @@ pub(crate) fn root_holds(
         return Ok(false);
     }
     match root {
-        Root::None => Ok(bound_of(section).is_none()),
-        Root::Exact { over, shares } => Ok(is_exact(inst, section, *over, shares.as_slice())),
+        Root::None => { Ok(bound_of(section.weight, section.prices.as_slice()).is_none()) }
+        Root::Exact { over, shares } => { is_exact(alloc, inst, section, *over, shares.as_slice()) }
         Root::Wide { columns, basis } => {
             is_wide(alloc, inst, columns.as_slice(), basis.as_slice())
         }

@@ -1,10 +1,10 @@
 //! Routes of a fleet.
 
 ghost use Rattle.std.specs.Prelude.{◌≡◌, ◌<◌, ◌≤◌, [], IfNone, IfSome, length};
-ghost use Rattle.std.specs.List.{list_any};
-ghost use Rattle.certificate_check.specs.Routes.{IsListedRoute, IsServedBy, served_once, visits};
+ghost use Rattle.certificate_check.specs.Routes.{IsListedRoute, IsRouteAmong, IsServedBy, served_once};
 ghost use Rattle.ev_model.specs.Network.{node_count};
 ghost use Rattle.fleet_model.specs.Cover.{IsFleetRoute};
+ghost use Rattle.fleet_model.specs.Places.{customer_count};
 ghost use Rattle.instance_reader.specs.Instance.{customer_nodes};
 ghost use Rattle.plan_check.specs.FirstFaults.{first_stray, strays};
 ghost use Rattle.plan_check.specs.Tallies.{AreKnown};
@@ -18,11 +18,14 @@ use wide_bases::ListedRoute;
 /// The customers and the scaled time of a route of a fleet: a feasible plan from full that serves
 /// customers alone, one at least and each once. `None` exactly where the stops are none. It takes
 /// no memory.
-pub(crate) fn fleet_route(inst: &Instance, stops: &[Stop]) -> Option<ListedRoute>
+pub fn fleet_route(inst: &Instance, stops: &[Stop]) -> Option<ListedRoute>
     requires few { length (customer_nodes inst.now) ≤ 128 }
     ensures route { IfSome result (IsListedRoute inst.now stops.now) }
+    ensures among { IfSome result (IsRouteAmong (customer_count inst.now)) }
     ensures none { IfNone result (IsFleetRoute inst.now 1 stops.now → ⊥) }
 {
+    // A feasible plan takes at most the limit.
+    let _limit = inst.limit();
     let Ok(end) = walk(inst, inst.max_q(), stops) else {
         return None;
     };
@@ -88,16 +91,4 @@ fn is_stray(inst: &Instance, stop: Stop) -> bool
     ensures { result ≡ strays inst.now stop }
 {
     !stop.via && inst.customer_number(stop.node).is_none()
-}
-
-/// Whether some stop that wasn't inserted is at the node.
-pub(crate) fn visits(stops: &[Stop], node: usize) -> bool
-    ensures { result ≡ list_any (visits node) stops.now }
-{
-    for stop in stops {
-        if !stop.via && stop.node == node {
-            return true;
-        }
-    }
-    false
 }

@@ -8,9 +8,10 @@ ghost use Rattle.certificate_check.specs.Firsts.{IsSectionFault, Tells, TellsFir
 ghost use Rattle.fleet_model.specs.ClosedList.{IsClosed};
 ghost use Rattle.instance_reader.specs.Instance.{customer_nodes};
 
+use crate::labels::check_labels;
 use crate::verdict::Verdict;
 use bound_certificate::Section;
-use closed_lists::{ClosedFault, check_closed};
+use closed_lists::ClosedFault;
 use instance_reader::Instance;
 use std::alloc::{AllocError, Global};
 
@@ -47,7 +48,7 @@ fn fault_in(
 {
     let prices = section.prices.as_slice();
     let labels = section.labels.as_slice();
-    match check_closed(alloc, inst, &section.pairs, section.weight, prices, labels) {
+    match check_labels(alloc, inst, &section.pairs, section.weight, prices, labels) {
         Ok(()) => Ok(None),
         Err(fault) => told(number, fault),
     }

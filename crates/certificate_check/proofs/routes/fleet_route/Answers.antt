@@ -3,7 +3,7 @@ use Rattle.std.specs.Prelude.{is_some}
 use Rattle.std.proofs.lemmas.Bool.{false≢true}
 use Rattle.ev_model.specs.Feasible.{IsFeasible}
 use Rattle.ev_model.specs.Time.{time_of}
-use Rattle.certificate_check.proofs.FleetRoutes.{none_where_none_found, not_only_with_stray, once_from, only_without_stray, plan_known, some_where_found, twice_is_none}
+use Rattle.certificate_check.proofs.FleetRoutes.{among_of, none_where_none_found, not_only_with_stray, once_from, only_without_stray, plan_known, some_where_found, twice_is_none}
 use Rattle.certificate_check.proofs.routes.fleet_route.Goals as goal
 use Rattle.certificate_check.proofs.routes.fleet_route.Goals.{then-is_empty-via-then-is_empty, then-is_empty-via-else-is_empty+then-is_some}
 
@@ -44,3 +44,8 @@ returns-clause-route c =
       set = from.members;
       time = c.in-Ok.ensures.time ∙ ap (λ q. time_of g 1 q stops) c.max_q.ensures.value;
     }
+
+pub returns-clause-among : goal.returns-clause-among
+returns-clause-among c =
+    let listed = returns-clause-route c in
+    among_of c.args.inst.now c.args.stops.now (record { set = c.in-Some.set; time = c.in-Ok.end.time }) listed.route listed.set listed.time c.limit-limit.ensures.small

@@ -1,12 +1,17 @@
-use Rattle.std.proofs.Common.{subst, sym}
-use Rattle.certificate_check.proofs.SectionSteps.{closed_told, labels_of, verdict_told}
+use Rattle.std.proofs.Common.{◌∙◌, ap, length, subst, sym}
 use Rattle.std.specs.List.{All}
-use Rattle.closed_lists.specs.Sections.{IsLabelOf}
+use Rattle.bound_certificate.specs.Ranges.{IsPrice, LabelFits}
+use Rattle.certificate_check.proofs.SectionSteps.{closed_told, verdict_told}
 use Rattle.certificate_check.proofs.sections.fault_in.Goals as goal
 
-pub check_closed-requires-clause-labels : goal.check_closed-requires-clause-labels
-check_closed-requires-clause-labels c =
-    subst (All (IsLabelOf c.args.inst.now)) (sym c.as_slice-labels.ensures) (labels_of c.args.inst.now c.args.section.now c.requires.fits)
+pub check_labels-requires-clause-one_price : goal.check_labels-requires-clause-one_price
+check_labels-requires-clause-one_price c = ap length c.as_slice-prices.ensures ∙ c.requires.fits.one_price
+
+pub check_labels-requires-clause-small_prices : goal.check_labels-requires-clause-small_prices
+check_labels-requires-clause-small_prices c = subst (All IsPrice) (sym c.as_slice-prices.ensures) c.requires.fits.prices
+
+pub check_labels-requires-clause-labels : goal.check_labels-requires-clause-labels
+check_labels-requires-clause-labels c = subst (All (LabelFits c.args.inst.now)) (sym c.as_slice-labels.ensures) c.requires.fits.labels
 
 pub returns-in-Ok : goal.returns-in-Ok
 returns-in-Ok c =
