@@ -109,12 +109,12 @@ fn better_of(terms: &Section<'_>, search: Search<'_>) -> Priced
     ensures { IsPriced terms.now result }
 {
     let Search {
-        care: _,
         table: _,
         tree: _,
         queue: _,
         listed: _,
         mut routes,
+        left_out: _,
     } = search;
     let Some(last) = routes.pop() else {
         unreachable!();

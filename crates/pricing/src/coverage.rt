@@ -7,8 +7,9 @@ ghost use Rattle.pricing.specs.Answers.{IsInRange};
 ghost use Rattle.pricing.specs.Tree.{IsTree};
 
 use crate::found::Tree;
-use crate::groups::{Brief, Detail, Gap, Group};
+use crate::groups::{BLOCK, Brief, Gap, Group};
 use closed_lists::{Section, margin};
+use customer_sets::CustSet;
 use dominance::LabelValue;
 use piece_fn::Label;
 
@@ -24,7 +25,6 @@ pub(crate) enum Care {
 /// A label that may be needless, beside the labels that come before a key and a number.
 #[derive(Drop)]
 pub(crate) struct Asked<'a> {
-    pub(crate) care: Care,
     pub(crate) label: &'a Label,
     /// The price sum of its set.
     pub(crate) paid: i128,
@@ -32,25 +32,31 @@ pub(crate) struct Asked<'a> {
     pub(crate) number: usize,
     /// No level below this one counts.
     pub(crate) lowest: u64,
+    /// For each customer a word with all its bits set where a label that has served him can't make
+    /// this one needless, else with none.
+    pub(crate) left_out: &'a [u64],
+}
+
+/// Writes for each of so many customers a word with all its bits set where a label that has served
+/// him can't make one needless that has served these, else with none.
+pub(crate) fn leave_out(words: &mut [u64; 128], customers: usize, set: CustSet) {
+    for c in 0..customers.min(128) {
+        words[c] = if set.has(c) { 0 } else { u64::MAX };
+    }
 }
 
 impl Asked<'_> {
-    /// Whether a label is no later than a time at its least time, has a level that is not below
-    /// one, and its customers let it make the label needless.
-    ///
-    /// All three are looked at, since which one fails can't be foreseen.
-    fn admits(&self, other: &Brief, latest: u64, level: u64) -> bool {
-        let is_within = self.care == Care::Quick || other.set.is_subset(self.label.set);
-        (other.key <= latest) & (other.top >= level) & is_within
-    }
-
-    /// Whether a label with a least time comes before the key and the number, and costs no more at
-    /// that time than the one asked for does at a time. Else it is dearer at each of its levels.
-    fn is_met(&self, key: u64, other: &Detail, weight: u64, time: u64) -> bool {
-        if key > self.key || key == self.key && other.number >= self.number {
+    /// Whether a label comes before the key and the number, is at its least time no later than a
+    /// time, has a level that is not below one, and costs no more at its least time than the one
+    /// asked for does at the time. Else it is later, lower or dearer at each of its levels.
+    fn is_met(&self, other: &Brief, weight: u64, time: u64, level: u64) -> bool {
+        if other.top < level || other.key > self.key {
             return false;
         }
-        let Some(earlier) = time.checked_sub(key) else {
+        if other.key == self.key && other.number >= self.number {
+            return false;
+        }
+        let Some(earlier) = time.checked_sub(other.key) else {
             return false;
         };
         let saved = u128::from(weight) * u128::from(earlier);
@@ -120,23 +126,50 @@ impl Tree {
         ensures up { IfSome result (λ to. level ≤ to) }
         ensures ends { IfSome result (λ to. IsLevel (level_times asked.now.label.now.value) to) }
     {
-        let weight = terms.weight();
         let Some(time) = asked.label.value.at(level) else {
             return None;
         };
-        let latest = time.min(asked.key);
-        for place in (first..group.briefs.len()).rev() {
-            let brief = &group.briefs[place];
-            if !asked.admits(brief, latest, level) {
-                continue;
+        for block in first / BLOCK..group.briefs.len().div_ceil(BLOCK) {
+            let skipped = first.saturating_sub(block.wrapping_mul(BLOCK)) as u32;
+            let labels = group.within(self.customers, block, asked.left_out)
+                & u64::MAX.wrapping_shl(skipped);
+            if let Some(to) = self.reach_in(terms, asked, group, block, labels, level, time) {
+                return Some(to);
             }
-            let Some(detail) = group.details.get(place) else {
+        }
+        None
+    }
+
+    /// The same by the labels of a block whose bits are set.
+    fn reach_in(
+        &self,
+        terms: &Section<'_>,
+        asked: &Asked<'_>,
+        group: &Group,
+        block: usize,
+        labels: u64,
+        level: u64,
+        time: u64,
+    ) -> Option<u64>
+        requires tree { IsTree terms.now self.now.found.items self.now.groups.items }
+        requires small { unsigned_abs asked.now.paid ≤ 2 ^ 91 }
+        requires level { IsLevel (level_times asked.now.label.now.value) level }
+        ensures up { IfSome result (λ to. level ≤ to) }
+        ensures ends { IfSome result (λ to. IsLevel (level_times asked.now.label.now.value) to) }
+    {
+        let weight = terms.weight();
+        let mut left = labels;
+        for _ in 0..labels.count_ones() {
+            let bit = left.trailing_zeros();
+            left &= left.wrapping_sub(1);
+            let place = block.wrapping_mul(BLOCK).wrapping_add(bit as usize);
+            let Some(brief) = group.briefs.get(place) else {
                 continue;
             };
-            if detail.number >= self.found.len() || !asked.is_met(brief.key, detail, weight, time) {
+            if brief.number >= self.found.len() || !asked.is_met(brief, weight, time, level) {
                 continue;
             }
-            if let Some(to) = self.reach_of(terms, asked, detail.number, level) {
+            if let Some(to) = self.reach_of(terms, asked, brief.number, level) {
                 return Some(to);
             }
         }

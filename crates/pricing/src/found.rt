@@ -29,11 +29,17 @@ pub(crate) struct Tree {
     pub(crate) found: Vec<Found>,
     /// The labels with the same last customer and node, by key.
     pub(crate) groups: Vec<Group>,
+    /// How many customers the groups tell apart: none where it doesn't count who was served.
+    pub(crate) customers: usize,
 }
 
 impl Tree {
     /// No label.
-    pub(crate) fn new(alloc: Global, terms: &Section<'_>) -> Result<Tree, AllocError>
+    pub(crate) fn new(
+        alloc: Global,
+        terms: &Section<'_>,
+        customers: usize,
+    ) -> Result<Tree, AllocError>
         ensures tree { IfOk result (λ t. IsTree terms.now t.found.items t.groups.items) }
         ensures none { IfOk result (λ t. length t.found.items ≡ 0) }
         ensures network { IfOk result (λ t. IsNetwork terms.now.network) }
@@ -42,6 +48,7 @@ impl Tree {
         Ok(Tree {
             found: Vec::new(alloc),
             groups: no_labels(alloc, nodes * nodes)?,
+            customers,
         })
     }
 
@@ -76,7 +83,7 @@ impl Tree {
     {
         let key = self.key_of(terms, &label);
         let number = self.found.len();
-        self.groups[key].push(&label, paid, number)?;
+        self.groups[key].push(self.customers, &label, paid, number)?;
         self.found.push(Found {
             label,
             paid,

@@ -7,21 +7,17 @@ use dominance::LabelValue;
 use piece_fn::Label;
 use std::alloc::{AllocError, Global};
 
-/// What is read of a label first, since it mostly shows that the label doesn't make another one
-/// needless.
+/// How many labels a word has a bit for.
+pub(crate) const BLOCK: usize = 64;
+
+/// What is read of a label whose customers let it make another one needless, since it mostly shows
+/// that the label doesn't.
 #[derive(Clone, Copy, Drop)]
 pub(crate) struct Brief {
     /// The least time of the label.
     pub(crate) key: u64,
     /// Its greatest level.
     pub(crate) top: u64,
-    /// The customers that it has served.
-    pub(crate) set: CustSet,
-}
-
-/// What is read of a label after that.
-#[derive(Clone, Copy, Drop)]
-pub(crate) struct Detail {
     /// The price sum of its set.
     pub(crate) paid: i128,
     /// Its number, by which the tree has it.
@@ -29,14 +25,12 @@ pub(crate) struct Detail {
 }
 
 /// Labels with the same last customer and node, in the order of their numbers.
-///
-/// What is read first stands side by side, since a search mostly reads this.
 #[derive(Drop)]
 pub(crate) struct Group {
-    /// What is read first of the labels, by their place in the group.
+    /// What is read of the labels, by their place in the group.
     pub(crate) briefs: Vec<Brief>,
-    /// What is read then, by the same places.
-    pub(crate) details: Vec<Detail>,
+    /// For each block of 64 places one word a customer: whose labels have served him.
+    servers: Vec<u64>,
 }
 
 impl Group {
@@ -44,13 +38,15 @@ impl Group {
     pub(crate) fn new(alloc: Global) -> Group {
         Group {
             briefs: Vec::new(alloc),
-            details: Vec::new(alloc),
+            servers: Vec::new(alloc),
         }
     }
 
-    /// Puts a label with its price sum and its number behind the others.
+    /// Puts a label with its price sum and its number behind the others. There are so many
+    /// customers.
     pub(crate) fn push(
         &mut self,
+        customers: usize,
         label: &Label,
         paid: i128,
         number: usize,
@@ -58,13 +54,45 @@ impl Group {
         let (_, key) = label.value.least();
         let points = label.value.points();
         let (top, _) = points[points.len() - 1];
+        let place = self.briefs.len();
         self.briefs.push(Brief {
             key,
             top,
-            set: label.set,
+            paid,
+            number,
         })?;
-        self.details.push(Detail { paid, number })?;
+        self.serve(customers, label.set, place)
+    }
+
+    /// Says that the label at a place has served these customers.
+    fn serve(&mut self, customers: usize, set: CustSet, place: usize) -> Result<(), AllocError> {
+        let begin = (place / BLOCK).wrapping_mul(customers);
+        let end = begin.wrapping_add(customers);
+        if self.servers.len() < end {
+            self.servers.resize(end, 0)?;
+        }
+        let bit = 1u64.wrapping_shl((place % BLOCK) as u32);
+        for c in 0..customers.min(128) {
+            if set.has(c) {
+                if let Some(word) = self.servers.get_mut(begin.wrapping_add(c)) {
+                    *word |= bit;
+                }
+            }
+        }
         Ok(())
+    }
+
+    /// The labels of a block that have served none of the customers left out, as bits. `left_out`
+    /// has a word for each of so many customers: all its bits are set where he is left out, else
+    /// none.
+    pub(crate) fn within(&self, customers: usize, block: usize, left_out: &[u64]) -> u64 {
+        let begin = block.wrapping_mul(customers);
+        let rows = self.servers.get(begin..begin.wrapping_add(customers));
+        let mut beyond = 0;
+        for (servers, word) in rows.unwrap_or(&[]).iter().zip(left_out) {
+            beyond |= servers & word;
+        }
+        !beyond
     }
 }
 

@@ -12,7 +12,7 @@ ghost use Rattle.pricing.specs.Answers.{HasPoints, IsInRange};
 ghost use Rattle.pricing.specs.Tree.{AreCopies, AreSteps, HasOrigin, IsFurther, IsGrown, IsMended, IsSearch, IsTree};
 ghost use Rattle.pricing.specs.declared.found.Found.{Found};
 
-use crate::coverage::{Asked, Care};
+use crate::coverage::{Asked, Care, leave_out};
 use crate::found::Tree;
 use crate::groups::Gap;
 use crate::priced::PricedRoute;
@@ -32,7 +32,6 @@ const MOST_ROUTES: usize = 80;
 /// A search for routes that earn more than they take.
 #[derive(Drop)]
 pub(crate) struct Search<'a> {
-    pub(crate) care: Care,
     /// By which it leaves out what can't earn.
     pub(crate) table: &'a Completion,
     pub(crate) tree: Tree,
@@ -41,6 +40,8 @@ pub(crate) struct Search<'a> {
     /// The numbers of the labels that were taken and not needless, whose steps are all made.
     pub(crate) listed: Vec<usize>,
     pub(crate) routes: Vec<PricedRoute>,
+    /// Who is left out of the labels that may make the present one needless.
+    pub(crate) left_out: [u64; 128],
 }
 
 impl<'a> Search<'a> {
@@ -53,7 +54,11 @@ impl<'a> Search<'a> {
     ) -> Result<Search<'a>, AllocError>
         ensures { IfOk result (IsSearch terms.now) }
     {
-        let mut tree = Tree::new(alloc, terms)?;
+        let customers = match care {
+            Care::Quick => 0,
+            Care::Exact => terms.prices().len(),
+        };
+        let mut tree = Tree::new(alloc, terms, customers)?;
         let mut queue = IndexHeap::new(alloc);
         let start = Label {
             last: 0,
@@ -64,12 +69,12 @@ impl<'a> Search<'a> {
         let gap = Gap::new(&start);
         put(&mut tree, &mut queue, terms, start, 0, None, gap)?;
         Ok(Search {
-            care,
             table,
             tree,
             queue,
             listed: Vec::new(alloc),
             routes: Vec::new(alloc),
+            left_out: [0; 128],
         })
     }
 
@@ -109,13 +114,15 @@ impl<'a> Search<'a> {
     {
         let found = &self.tree.found[number];
         let (_, key) = found.label.value.least();
+        let mut left_out = [0; 128];
+        leave_out(&mut left_out, self.tree.customers, found.label.set);
         let asked = Asked {
-            care: self.care,
             label: &found.label,
             paid: found.paid,
             key,
             number,
             lowest: self.table.need(found.label.node),
+            left_out: &left_out,
         };
         self.tree.makes_needless(terms, &asked, found.gap)
     }
@@ -210,7 +217,7 @@ impl<'a> Search<'a> {
             return Ok(());
         }
         let values = values_at(alloc, terms, label, node)?;
-        self.add_all(terms, from, node, &target, values)
+        self.add_all(terms, from, node, &target, paid, values)
     }
 
     /// Lets the labels with these values wait, where they are not needless.
@@ -220,10 +227,12 @@ impl<'a> Search<'a> {
         from: usize,
         node: usize,
         target: &Target,
+        paid: i128,
         mut values: Vec<PieceFn>,
     ) -> Result<(), AllocError>
         requires search { IsSearch terms.now self.old }
         requires node { node < node_count terms.now.network }
+        requires small { unsigned_abs paid ≤ 2 ^ 91 }
         requires steps { AreSteps terms.now self.old.tree.found.items from node
             target.now values.items }
         ensures search { OnOk result (IsSearch terms.now self.new) }
@@ -231,14 +240,21 @@ impl<'a> Search<'a> {
         ensures listed { OnOk result (self.new.listed.items ≡ self.old.listed.items) }
     {
         while let Some(value) = values.pop() {
-            self.add(terms, from, target.label(node, value))?;
+            self.add(terms, from, paid, target.label(node, value))?;
         }
         Ok(())
     }
 
     /// Lets a label wait, where it is not needless.
-    fn add(&mut self, terms: &Section<'_>, from: usize, label: Label) -> Result<(), AllocError>
+    fn add(
+        &mut self,
+        terms: &Section<'_>,
+        from: usize,
+        paid: i128,
+        label: Label,
+    ) -> Result<(), AllocError>
         requires search { IsSearch terms.now self.old }
+        requires small { unsigned_abs paid ≤ 2 ^ 91 }
         requires range { IsInRange terms.now.network label }
         requires known { from < length self.old.tree.found.items }
         requires origin { HasOrigin terms.now self.old.tree.found.items (Some from) label }
@@ -246,18 +262,18 @@ impl<'a> Search<'a> {
         ensures grown { OnOk result (IsGrown self.old.tree.found.items self.new.tree.found.items) }
         ensures listed { OnOk result (self.new.listed.items ≡ self.old.listed.items) }
     {
-        let paid = price_sum(terms.prices(), label.set);
         let budget = self.table.budget(&label.value);
         if self.table.is_beyond(budget, label.node, label.set, paid) {
             return Ok(());
         }
+        leave_out(&mut self.left_out, self.tree.customers, label.set);
         let asked = Asked {
-            care: self.care,
             label: &label,
             paid,
             key: u64::MAX,
             number: usize::MAX,
             lowest: self.table.need(label.node),
+            left_out: &self.left_out,
         };
         let Some(gap) = self.tree.gap(terms, &asked) else {
             return Ok(());
@@ -443,14 +459,17 @@ impl Search<'_> {
     }
 }
 
-/// What is paid for at a node, by what was paid for before it.
+/// What is paid for at a node, by what was paid for before it; 0 where that is past 2^91, which
+/// prices in their ranges never add up to.
 fn paid_at(terms: &Section<'_>, paid: i128, node: usize) -> i128
     requires { node < node_count terms.now.network }
+    ensures { unsigned_abs result ≤ 2 ^ 91 }
 {
-    match terms.customer_number(node) {
+    let sum = match terms.customer_number(node) {
         Some(number) => paid.saturating_add(terms.prices().get(number).copied().unwrap_or(0)),
         None => paid,
-    }
+    };
+    if sum.unsigned_abs() > 1 << 91 { 0 } else { sum }
 }
 
 /// A label with the same numbers.
