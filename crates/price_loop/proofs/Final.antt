@@ -10,7 +10,7 @@ use Rattle.price_loop.specs.Rising.{AreFixed, ArePayable, StandsNowhere}
 use Rattle.price_loop.proofs.Raising.{past_end, worth_nothing, worth_set}
 
 -- ---- whole prices
-price_of_whole : (xs : List ℕ) (c : ℕ) → price_of (map pos xs) c ≡ pos (get_or xs c 0)
+pub price_of_whole : (xs : List ℕ) (c : ℕ) → price_of (map pos xs) c ≡ pos (get_or xs c 0)
 price_of_whole [] zero = refl
 price_of_whole [] (suc c) = refl
 price_of_whole (x ∷ xs) zero = refl

@@ -2,5 +2,10 @@ pub mod Independent
 mod ColumnPast
 mod Past
 mod Filling
-mod Raising
-mod Final
+pub mod Raising
+pub mod Final
+pub mod Alike
+mod Dependent
+pub mod Listing
+pub mod Optimum
+pub mod WholePrices
