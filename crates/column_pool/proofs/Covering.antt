@@ -18,7 +18,8 @@ use Rattle.fleet_model.proofs.Counts.{count_numbers, numbers_once}
 use Rattle.fleet_model.proofs.Plans.{filtered}
 use Rattle.master_simplex.specs.Answer.{cost_of_shares, covered}
 use Rattle.route_plan.specs.declared.plan.RoutePlan.{RoutePlan}
-use Rattle.column_pool.specs.Columns.{column_of, HasPlan, set_of, share_of}
+use Rattle.price_loop.specs.Columns.{set_of}
+use Rattle.column_pool.specs.Columns.{column_of, HasPlan, share_of}
 use Rattle.route_pool.specs.Pool.{full_time}
 
 -- ---- the set of some customers

@@ -20,12 +20,9 @@ use Rattle.fleet_model.proofs.Numbers.{counted}
 use Rattle.fleet_model.proofs.Plans.{filtered}
 use Rattle.fleet_model.proofs.Weighed.{AreBelow}
 use Rattle.instance_reader.specs.Instance.{customer_nodes}
-use Rattle.piece_fn.specs.declared.label.Label.{Label}
-use Rattle.pricing.specs.Answers.{AreClosed}
 use Rattle.pricing.specs.Better.{IsBetter}
-use Rattle.bound_certificate.specs.Limits.{greatest_weight, most_items}
+use Rattle.bound_certificate.specs.Limits.{most_items}
 use Rattle.bound_certificate.specs.Meaning.{route_shares}
-use Rattle.bound_certificate.specs.Ranges.{IsPrice}
 use Rattle.bound_certificate.specs.declared.certificate.Section.{Section}
 use Rattle.bound_certificate.specs.declared.certificate.Share.{Share}
 use Rattle.column_pool.specs.Bounds.{IsExact, IsNodeSection, IsPlanAtBound, plans_of}
@@ -34,20 +31,7 @@ use Rattle.column_pool.specs.Columns.{IsNodeRoute}
 use Rattle.feasible_texts.proofs.Fitting.{feasible_fits}
 use Rattle.column_pool.proofs.OneOrder.{one_order}
 use Rattle.column_pool.proofs.OneWay.{Stands}
-use Rattle.column_pool.proofs.Sections.{asked, closed_section}
 use Rattle.column_pool.proofs.Serving.{served_at}
-
--- ---- a section of closed labels
-pub section_closed : (g : Network) (p : ForbiddenPairs) (s : Section) (w : ℕ) (prices : List ℤ) (labels : List Label) → AreClosed (asked g p w prices) labels
-    → s.pairs ≡ p → s.weight ≡ w → s.prices ≡ prices → s.labels ≡ labels → p.customers ≡ length (customer_nodes g) → w ≤ greatest_weight → length prices ≡ length (customer_nodes g) → All IsPrice prices → length s.labels ≤ most_items → IsNodeSection g p s
-section_closed g p s w prices labels closed same weight is_prices is_labels count small_weight count_prices small few =
-    let a = subst (λ (q : ForbiddenPairs). AreClosed (asked g q w prices) labels) (sym same) closed in
-    let b = subst (λ (v : ℕ). AreClosed (asked g s.pairs v prices) labels) (sym weight) a in
-    let d = subst (λ (ps : List ℤ). AreClosed (asked g s.pairs s.weight ps) labels) (sym is_prices) b in
-    let e = subst (λ (ls : List Label). AreClosed (asked g s.pairs s.weight s.prices) ls) (sym is_labels) d in
-    let fits = subst (λ (v : ℕ). v ≤ greatest_weight) (sym weight) small_weight in
-    subst (λ (q : ForbiddenPairs). IsNodeSection g q s) same
-    (closed_section g s e (ap (λ (q : ForbiddenPairs). q.customers) same ∙ count) fits (ap length is_prices ∙ count_prices) (subst (All IsPrice) (sym is_prices) small) few)
 
 -- ---- some customer is served
 first_stands : (xs : List ℕ) → xs ≢ [] → (x : ℕ) × Stands x xs

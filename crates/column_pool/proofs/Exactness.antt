@@ -14,15 +14,20 @@ use Rattle.fleet_model.proofs.Counts.{number_less}
 use Rattle.fleet_model.proofs.Numbers.{counted}
 use Rattle.instance_reader.specs.Instance.{customer_nodes}
 use Rattle.master_simplex.specs.Answer.{covered, cost_of_shares, IsAdded, IsCover, IsOptimum}
+use Rattle.master_table.specs.Tableau.{Tableau}
 use Rattle.route_plan.specs.declared.plan.RoutePlan.{RoutePlan}
 use Rattle.bound_certificate.specs.Meaning.{route_shares}
 use Rattle.bound_certificate.specs.Ranges.{ShareFits}
 use Rattle.bound_certificate.specs.declared.certificate.Share.{Share}
-use Rattle.column_pool.specs.Columns.{AreNodeRoutes, HasPlan, IsMaster, IsNodeRoute, share_of}
-use Rattle.column_pool.specs.declared.master.Master.{Master}
+use Rattle.column_pool.specs.Columns.{AreNodeRoutes, HasPlan, IsNodeRoute, IsTabled, share_of}
 use Rattle.column_pool.proofs.Covering.{cost_is, cover_is, many_columns, sum_is_right}
-use Rattle.column_pool.proofs.Filling.{all_mapped}
 use Rattle.feasible_texts.proofs.Fitting.{feasible_fits}
+
+-- what holds of each that is mapped holds of its origin
+module _ {X Y : Type 0} (P : Y → Type 0) (f : X → Y) where
+  all_mapped : (xs : List X) → All P (map f xs) → All (λ x. P (f x)) xs
+  all_mapped [] all = All-nil (λ x. P (f x))
+  all_mapped (x ∷ xs) all = All-cons (λ x. P (f x)) x xs (All-head P (f x) (map f xs) all) (all_mapped xs (All-tail P (f x) (map f xs) all))
 
 -- ---- what holds of a share of a route
 pub record IsShareOf (g : Network) (p : ForbiddenPairs) (over : ℕ) (x : RouteShare) : Type 0 where
@@ -42,21 +47,18 @@ shares_fit g p over shares network small all =
     All-weaker (λ (x : Share). IsShareOf g p over (record { share = x.share; plan = x.plan.stops })) ShareFits (share_fits g p over network small) shares each
 
 -- ---- the shares of an optimum
-module _ (g : Network) (p : ForbiddenPairs) (m : Master) (is : IsMaster g m) (routes : AreNodeRoutes g p m.plans.items) where
+module _ (g : Network) (p : ForbiddenPairs) (t : Tableau) (plans : List RoutePlan) (is : IsTabled g t plans) (routes : AreNodeRoutes g p plans) where
   abbrev n : ℕ
   n = length (customer_nodes g)
 
-  abbrev plans : List RoutePlan
-  plans = m.plans.items
-
-  many : length m.table.columns ≡ n + length plans
+  many : length t.columns ≡ n + length plans
   many = ap length is.columns ∙ many_columns g n plans
 
-  pub has_plan : (x : ℕ × ℕ) → IsAdded m.table x.0 → HasPlan n plans x
+  pub has_plan : (x : ℕ × ℕ) → IsAdded t x.0 → HasPlan n plans x
   has_plan x added = let e = is.count in (omega (arith, added.0, e), omega (arith, added.1, many))
 
-  pub have_plans : (xs : List (ℕ × ℕ)) → All (λ x. IsAdded m.table x.0) xs → All (HasPlan n plans) xs
-  have_plans xs added = All-weaker (λ (x : ℕ × ℕ). IsAdded m.table x.0) (HasPlan n plans) has_plan xs added
+  pub have_plans : (xs : List (ℕ × ℕ)) → All (λ x. IsAdded t x.0) xs → All (HasPlan n plans) xs
+  have_plans xs added = All-weaker (λ (x : ℕ × ℕ). IsAdded t x.0) (HasPlan n plans) has_plan xs added
 
   only_routes : All (λ plan. IsFleetRoute g 1 plan.stops) plans
   only_routes = All-weaker (λ (plan : RoutePlan). IsNodeRoute g p plan.stops) (λ plan. IsFleetRoute g 1 plan.stops) (λ plan r. r.route) plans routes
@@ -76,7 +78,7 @@ module _ (g : Network) (p : ForbiddenPairs) (m : Master) (is : IsMaster g m) (ro
       let rest = are_shares over xs (All-tail (HasPlan n plans) x xs have) (All-tail P x xs within) in
       All-cons (IsShareOf g p over) (share_of n plans x) (map (share_of n plans) xs) here rest
 
-  pub covers : (over : ℕ) (xs : List (ℕ × ℕ)) → IsCover m.table over xs → All (λ x. (0 < x.1) × (x.1 ≤ over)) xs → IsFractionalCover g 1 over (map (share_of n plans) xs)
+  pub covers : (over : ℕ) (xs : List (ℕ × ℕ)) → IsCover t over xs → All (λ x. (0 < x.1) × (x.1 ≤ over)) xs → IsFractionalCover g 1 over (map (share_of n plans) xs)
   covers over xs cover within =
       let have = have_plans xs cover.added in
       let all = are_shares over xs have within in
@@ -94,14 +96,14 @@ module _ (g : Network) (p : ForbiddenPairs) (m : Master) (is : IsMaster g m) (ro
             sym (cover_is g n plans xs node only_routes have customer) ∙ sym columns ∙ exact;
       }
 
-  pub cost_same : (weight over : ℕ) (prices : List ℤ) (xs : List (ℕ × ℕ)) → IsOptimum m.table weight prices over xs → pos (cost_of_routes g 1 (map (share_of n plans) xs) * weight) ≡ sum_of prices *ℤ pos over
+  pub cost_same : (weight over : ℕ) (prices : List ℤ) (xs : List (ℕ × ℕ)) → IsOptimum t weight prices over xs → pos (cost_of_routes g 1 (map (share_of n plans) xs) * weight) ≡ sum_of prices *ℤ pos over
   cost_same weight over prices xs optimum =
       let have = have_plans xs optimum.cover.added in
-      let cost : cost_of_shares m.table.columns xs ≡ cost_of_routes g 1 (map (share_of n plans) xs) = ap (λ bs. cost_of_shares bs xs) is.columns ∙ cost_is g n plans xs have in
-      let turned : cost_of_routes g 1 (map (share_of n plans) xs) * weight ≡ weight * cost_of_shares m.table.columns xs = ap (λ k. k * weight) (sym cost) ∙ omega arith in
+      let cost : cost_of_shares t.columns xs ≡ cost_of_routes g 1 (map (share_of n plans) xs) = ap (λ bs. cost_of_shares bs xs) is.columns ∙ cost_is g n plans xs have in
+      let turned : cost_of_routes g 1 (map (share_of n plans) xs) * weight ≡ weight * cost_of_shares t.columns xs = ap (λ k. k * weight) (sym cost) ∙ omega arith in
       ap pos turned ∙ optimum.cost ∙ ap (λ z. pos over *ℤ z) (sum_is_right prices) ∙ omega (arith, ints)
 
-  pub exact_root : (s : PricedSection) (over : ℕ) (xs : List (ℕ × ℕ)) → IsOptimum m.table s.weight s.prices over xs → All (λ x. (0 < x.1) × (x.1 ≤ over)) xs → IsExactRoot g s over (map (share_of n plans) xs)
+  pub exact_root : (s : PricedSection) (over : ℕ) (xs : List (ℕ × ℕ)) → IsOptimum t s.weight s.prices over xs → All (λ x. (0 < x.1) × (x.1 ≤ over)) xs → IsExactRoot g s over (map (share_of n plans) xs)
   exact_root s over xs optimum within = record {
     cover = covers over xs optimum.cover within;
     some_weight = omega (arith, optimum.weighty);

@@ -1,13 +1,9 @@
-mod Known
 mod Alike
-mod ColumnPast
-mod Independent
-mod Filling
 mod Covering
 mod Sections
+mod Routes
+mod Ends
 mod Exactness
-mod Refused
-mod Earning
 mod Bounding
 mod Strength
 mod OneWay
@@ -17,8 +13,7 @@ mod Paying
 mod Adding
 mod Deciding
 mod Through
-mod Raising
+mod Rising
+mod Raised
 mod Dependent
-mod Closing
-mod Final
 mod Widening

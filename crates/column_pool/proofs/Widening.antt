@@ -6,32 +6,30 @@ use Rattle.std.proofs.lemmas.Bool.{cases_lt, ne_eqb}
 use Rattle.std.proofs.lemmas.List.{get_or_append_left, length-append, length-map, take_all}
 use Rattle.std.proofs.lemmas.List.Elements.{All-map, All-weaker}
 use Rattle.std.proofs.lemmas.List.FromFn.{length-map-range_with_len}
-use Rattle.customer_sets.specs.Pairs.{ForbiddenPairs}
+use Rattle.customer_sets.specs.Pairs.{allows_of, ForbiddenPairs}
 use Rattle.ev_model.specs.Network.{IsNetwork, Network}
 use Rattle.fleet_model.specs.Basis.{AreIndependent}
 use Rattle.fleet_model.specs.Cover.{IsFleetRoute}
-use Rattle.fleet_model.specs.Equations.{Column, column_at, helper, helpers, route, serves}
+use Rattle.fleet_model.specs.Equations.{Column, column_at, helper, helpers, route}
 use Rattle.fleet_model.specs.Places.{customer_count}
-use Rattle.fleet_model.specs.Strong.{column_of}
+use Rattle.fleet_model.specs.Strong.{AreRisingPrices, column_of}
 use Rattle.fleet_model.specs.Wide.{IsPast}
 use Rattle.fleet_model.proofs.Numbers.{counted}
 use Rattle.instance_reader.specs.Instance.{customer_nodes}
+use Rattle.master_table.specs.Tableau.{Limits}
 use Rattle.route_plan.specs.declared.plan.RoutePlan.{RoutePlan}
 use Rattle.bound_certificate.specs.Limits.{most_items}
 use Rattle.bound_certificate.specs.Meaning.{basis_columns, entry_column, route_columns}
 use Rattle.bound_certificate.specs.Ranges.{AreDifferent, ColumnFits, ColumnsFit, EntryFits, same_entry}
 use Rattle.certificate_parts.specs.declared.entry.BasisEntry.{BasisEntry}
 use Rattle.bound_certificate.specs.declared.certificate.Section.{Section}
-use Rattle.column_pool.specs.Bounds.{IsNodeBound}
+use Rattle.column_pool.specs.Bounds.{IsNodeBound, IsNodeSection}
 use Rattle.column_pool.specs.Columns.{AreNodeRoutes, IsNodeRoute}
-use Rattle.column_pool.specs.Rising.{IsPricedByRising}
-use Rattle.column_pool.specs.Faults.{columns_of}
-use Rattle.column_pool.specs.TooWide.{entry_of, IsNodeBoundAt, IsPastAmong, IsTooWideAt, IsWideAt, IsWideBasisAt}
+use Rattle.column_pool.specs.TooWide.{columns_of, entry_of, IsNodeBoundAt, IsPastBasis, IsTooWideAt, IsWideAt, IsWideBasisAt}
 use Rattle.column_pool.specs.declared.bound.NodeBound.{NodeBound}
 use Rattle.column_pool.specs.declared.bound.NodeBound.TheVariants.{Exact, Empty, Wide}
 use Rattle.column_pool.proofs.Dependent.{none_follow}
 use Rattle.feasible_texts.proofs.Fitting.{feasible_fits}
-use Rattle.column_pool.proofs.Independent.{columns_differ, some_customer}
 
 too_wide : (body cost n : ℕ) (routes entries : List Column) → IsPast body cost n (helpers n ++ routes) entries → IsTooWideAt body cost n routes entries
 too_wide body cost n routes entries is =
@@ -84,40 +82,11 @@ any_default [] j b less = absurd (omega (arith, less))
 any_default (x ∷ xs) zero b less = refl
 any_default (x ∷ xs) (suc j) b less = any_default xs j b (omega (arith, less))
 
-past_columns : (bs : List Column) (j : ℕ) → length bs ≤ j → column_at bs j ≡ route [] 0
-past_columns [] zero le = refl
-past_columns [] (suc j) le = refl
-past_columns (x ∷ xs) zero le = absurd (omega (arith, le))
-past_columns (x ∷ xs) (suc j) le = past_columns xs j (omega (arith, le))
-
-column_of_number : (columns : List Column) (basis : List ℕ) (i d : ℕ) → i < length basis → column_at (map (column_at columns) basis) i ≡ column_at columns (get_or basis i d)
-column_of_number columns [] i d less = absurd (omega (arith, less))
-column_of_number columns (j ∷ js) zero d less = refl
-column_of_number columns (j ∷ js) (suc i) d less = column_of_number columns js i d (omega (arith, less))
-
 abbrev Differ : List ℕ → Type 0
 Differ basis = (i k : ℕ) → i + suc k < length basis → get_or basis i 0 ≢ get_or basis (i + suc k) 0
 
-module _ (n : ℕ) (columns : List Column) (basis : List ℕ) (free : AreIndependent n (map (column_at columns) basis)) where
-  long : length (map (column_at columns) basis) ≡ length basis
-  long = length-map basis (column_at columns)
-
-  within : All (λ j. j < length columns) basis
-  within i d less = elim (cases_lt (get_or basis i d) (length columns)) [
-    | inl lt ↦ lt
-    | inr past ↦
-        let empty : column_at (map (column_at columns) basis) i ≡ route [] 0 = column_of_number columns basis i d less ∙ past_columns columns (get_or basis i d) past in
-        absurd (some_customer n (map (column_at columns) basis) free i (omega (arith, less, long)) (λ c small. ap (λ b. serves b c) empty))
-  ]
-
-  differ : Differ basis
-  differ i k less same =
-      let first = column_of_number columns basis i 0 (omega (arith, less)) in
-      let later = column_of_number columns basis (i + suc k) 0 less in
-      columns_differ n (map (column_at columns) basis) free i k (omega (arith, less, long)) (first ∙ ap (column_at columns) same ∙ sym later)
-
-  listed : All (Contains columns) (map (column_at columns) basis)
-  listed = All-map (Contains columns) (column_at columns) basis (All-weaker (λ j. j < length columns) (λ j. Contains columns (column_at columns j)) (λ j less. (j, less, any_default columns j (column_at columns j) less)) basis within)
+listed : (columns : List Column) (basis : List ℕ) → All (λ j. j < length columns) basis → All (Contains columns) (map (column_at columns) basis)
+listed columns basis within = All-map (Contains columns) (column_at columns) basis (All-weaker (λ j. j < length columns) (λ j. Contains columns (column_at columns j)) (λ j less. (j, less, any_default columns j (column_at columns j) less)) basis within)
 
 same_apart : (n j x : ℕ) → j ≢ x → same_entry (entry_of n j) (entry_of n x) ≡ false
 same_apart n j x apart = elim (cases_lt j n) [
@@ -154,7 +123,7 @@ entry_fits n m j less = elim (cases_lt j n) [
 ]
 
 -- ---- all of it
-module _ (body cost : ℕ) (g : Network) (p : ForbiddenPairs) (plans : List RoutePlan) (basis : List ℕ) (routes : AreNodeRoutes g p plans) (past : IsPastAmong body cost g plans basis) where
+module _ (g : Network) (p : ForbiddenPairs) (caps : Limits) (plans : List RoutePlan) (basis : List ℕ) (routes : AreNodeRoutes g p plans) (is_past : IsPastBasis g caps plans basis) where
   abbrev n : ℕ
   n = customer_count g
 
@@ -170,15 +139,6 @@ module _ (body cost : ℕ) (g : Network) (p : ForbiddenPairs) (plans : List Rout
   fleet_routes : All (IsFleetRoute g 1) (map (λ c. c.stops) plans)
   fleet_routes = All-map (IsFleetRoute g 1) (λ (c : RoutePlan). c.stops) plans (All-weaker (λ (c : RoutePlan). IsNodeRoute g p c.stops) (λ c. IsFleetRoute g 1 c.stops) (λ c r. r.route) plans routes)
 
-  pub wide_basis : IsWideBasisAt body cost g (map (λ c. c.stops) plans) (basis_columns g plans entries)
-  wide_basis =
-      let P = IsWideBasisAt body cost g (map (λ (c : RoutePlan). c.stops) plans) in
-      subst P (sym named) (record {
-        routes = fleet_routes;
-        listed = listed n (columns_of g plans) basis past.is_basis.independent;
-        too_wide = too_wide body cost n added (map (column_at (columns_of g plans)) basis) past;
-      })
-
   many : length (columns_of g plans) ≡ n + length plans
   many =
       let a = length-append (helpers n) added in
@@ -187,12 +147,19 @@ module _ (body cost : ℕ) (g : Network) (p : ForbiddenPairs) (plans : List Rout
       let e = length-map plans (λ (c : RoutePlan). c.stops) in
       omega (arith, a, b, d, e)
 
-  pub columns_fit : IsNetwork g → length plans ≤ most_items → ColumnsFit (length (customer_nodes g)) plans entries
+  wide_basis : IsWideBasisAt caps.body caps.cost g (map (λ c. c.stops) plans) (basis_columns g plans entries)
+  wide_basis =
+      let P = IsWideBasisAt caps.body caps.cost g (map (λ (c : RoutePlan). c.stops) plans) in
+      subst P (sym named) (record {
+        routes = fleet_routes;
+        listed = listed (columns_of g plans) basis is_past.placed;
+        too_wide = too_wide caps.body caps.cost n added (map (column_at (columns_of g plans)) basis) is_past.past;
+      })
+
+  columns_fit : IsNetwork g → length plans ≤ most_items → ColumnsFit (length (customer_nodes g)) plans entries
   columns_fit network few =
-      let free = past.is_basis.independent in
-      let count = past.is_basis.count in
-      let all = within n (columns_of g plans) basis free in
-      let inside = All-weaker (λ j. j < length (columns_of g plans)) (λ j. EntryFits n (length plans) (entry_of n j)) (λ j less. entry_fits n (length plans) j (omega (arith, less, many))) basis all in
+      let count = is_past.past.is_basis.count in
+      let inside = All-weaker (λ (j : ℕ). j < length (columns_of g plans)) (λ j. EntryFits n (length plans) (entry_of n j)) (λ j less. entry_fits n (length plans) j (omega (arith, less, many))) basis is_past.placed in
       let same = counted g in
       record {
         few = few;
@@ -200,18 +167,18 @@ module _ (body cost : ℕ) (g : Network) (p : ForbiddenPairs) (plans : List Rout
         basis_fits = record {
           count = length-map basis (entry_of n) ∙ sym (length-map basis (column_at (columns_of g plans))) ∙ count ∙ sym same;
           entries = subst (λ k. All (EntryFits k (length plans)) entries) (sym same) (All-map (EntryFits n (length plans)) (entry_of n) basis inside);
-          different = different n basis (differ n (columns_of g plans) basis free);
+          different = different n basis (λ i k less. is_past.apart i (i + suc k) (omega arith) less);
         };
       }
 
-  pub wide_at : (s : Section) → IsNetwork g → length plans ≤ most_items → IsPricedByRising g p s → IsWideAt body cost g p plans (map (entry_of (length (customer_nodes g))) basis) s
-  wide_at s network few is =
+  pub wide_at : (s : Section) → IsNetwork g → length plans ≤ most_items → IsNodeSection g p s → s.weight ≡ 1 → AreRisingPrices g (allows_of p) s.prices → IsWideAt caps.body caps.cost g p plans (map (entry_of (length (customer_nodes g))) basis) s
+  wide_at s network few section weight prices =
       let same : map (entry_of (length (customer_nodes g))) basis ≡ entries = ap (λ k. map (entry_of k) basis) (counted g) in
-      subst (λ (es : List BasisEntry). IsWideAt body cost g p plans es s) (sym same) (record {
-        section = is.section;
+      subst (λ (es : List BasisEntry). IsWideAt caps.body caps.cost g p plans es s) (sym same) (record {
+        section = section;
         wide = wide_basis;
-        weight = is.weight;
-        prices = is.prices;
+        weight = weight;
+        prices = prices;
         fits = columns_fit network few;
       })
 

@@ -6,10 +6,12 @@ use Rattle.ev_model.specs.Network.{Network}
 use Rattle.ev_model.specs.declared.Stop.{Stop}
 use Rattle.fleet_model.specs.Basis.{AreIndependent}
 use Rattle.fleet_model.specs.Cover.{IsFleetRoute}
-use Rattle.fleet_model.specs.Equations.{Column, column_at, helper, helpers}
+use Rattle.fleet_model.specs.Equations.{Column, helper, helpers}
 use Rattle.fleet_model.specs.Places.{customer_count}
 use Rattle.fleet_model.specs.Strong.{AreRisingPrices, column_of}
 use Rattle.fleet_model.specs.Wide.{Follow, IsPast}
+use Rattle.master_table.specs.Tableau.{Limits}
+use Rattle.price_loop.specs.Masters.{IsPastBasis as IsPastAmong}
 use Rattle.route_plan.specs.declared.plan.RoutePlan.{RoutePlan}
 use Rattle.bound_certificate.specs.Meaning.{basis_columns}
 use Rattle.bound_certificate.specs.Ranges.{ColumnsFit, customer_count as count_customers}
@@ -17,7 +19,6 @@ use Rattle.certificate_parts.specs.declared.entry.BasisEntry.{BasisEntry}
 use Rattle.certificate_parts.specs.declared.entry.BasisEntry.TheVariants as entry
 use Rattle.bound_certificate.specs.declared.certificate.Section.{Section}
 use Rattle.column_pool.specs.Bounds.{IsEmpty, IsExact, IsNodeSection}
-use Rattle.column_pool.specs.Faults.{columns_of}
 use Rattle.column_pool.specs.declared.bound.NodeBound.{NodeBound}
 use Rattle.column_pool.specs.declared.bound.NodeBound.TheVariants.{Exact, Empty, Wide}
 
@@ -54,11 +55,15 @@ IsNodeBoundAt body cost g p (Empty section) = IsEmpty g p section
 IsNodeBoundAt body cost g p (Wide columns basis section) =
     IsWideAt body cost g p columns basis section
 
--- the columns with these numbers are a basis past the caps
-abbrev pub IsPastAmong : ℕ → ℕ → Network → List RoutePlan → List ℕ → Type 0
-IsPastAmong body cost g plans basis =
-    IsPast body cost (customer_count g) (columns_of g plans)
-    (map (column_at (columns_of g plans)) basis)
+-- the columns of the master problem over these plans: the customers' helpers, then the routes
+abbrev pub columns_of : Network → List RoutePlan → List Column
+columns_of g plans =
+    helpers (customer_count g) ++ map (column_of g) (map (λ c. c.stops) plans)
+
+-- the numbers are those of a basis of these columns that is past the caps, no two of them the same
+abbrev pub IsPastBasis : Network → Limits → List RoutePlan → List ℕ → Type 0
+IsPastBasis g caps plans basis =
+    IsPastAmong (customer_count g) caps (columns_of g plans) basis
 
 -- the entry of a basis column: a helper where its number is below that of the helpers, else a listed column
 abbrev pub entry_of : ℕ → ℕ → BasisEntry

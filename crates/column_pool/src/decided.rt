@@ -2,7 +2,6 @@
 //! a customer, so that the fleet plan of the node is found customer by customer.
 
 ghost use Rattle.std.specs.Prelude.{◌≡◌, ◌+◌, ◌++◌, ◌∷◌, ◌<◌, ◌≤◌, [], IfOk, IfSome, length, true};
-ghost use Rattle.bound_certificate.specs.Limits.{most_items};
 ghost use Rattle.customer_sets.specs.Pairs.{IsDecided};
 ghost use Rattle.ev_model.specs.Network.{is_customer, node_count};
 ghost use Rattle.fleet_model.specs.Places.{customer_number};
@@ -12,12 +11,12 @@ ghost use Rattle.column_pool.specs.Chains.{AreChains, HasChains, IsChainThrough,
 ghost use Rattle.route_pool.specs.Pool.{IsGrown, IsPool};
 
 use crate::bound::NodeBound;
+use crate::section::section_of;
 use bound_certificate::{Section, Share};
 use customer_sets::Pairs;
 use ev_list::Listed;
 use frvcp_labels::solve_route;
 use instance_reader::Instance;
-use piece_fn::Label;
 use pricing::{Priced, Prices, price};
 use route_plan::RoutePlan;
 use route_pool::{ColumnPool, copy_of, full_time};
@@ -211,23 +210,6 @@ fn route_over(alloc: Global, order: &[usize]) -> Result<Vec<usize>, AllocError>
     route.extend_from_slice(order)?;
     route.push(0)?;
     Ok(route)
-}
-
-/// The section of closed labels.
-fn section_of(pairs: &Pairs, prices: Prices, labels: Vec<Label>) -> Section
-    ensures weight { result.weight ≡ prices.weight }
-    ensures prices { result.prices ≡ prices.of.items }
-    ensures pairs { result.pairs ≡ pairs.now }
-    ensures labels { result.labels ≡ labels.items }
-    ensures few { length result.labels ≤ most_items }
-{
-    let Prices { weight, of } = prices;
-    Section {
-        weight,
-        prices: Listed::from_vec(of),
-        pairs: *pairs,
-        labels: Listed::from_vec(labels),
-    }
 }
 
 #[cfg(test)]

@@ -4,7 +4,7 @@ ghost use Rattle.std.specs.Prelude.{◌≡◌, ◌≤◌, length};
 ghost use Rattle.instance_reader.specs.Instance.{customer_nodes};
 ghost use Rattle.route_pool.specs.Pool.{IsColumn, IsPool};
 
-use crate::master::set_of;
+use crate::route::set_of;
 use customer_sets::Pairs;
 use instance_reader::Instance;
 use master_simplex::{Lp, LpFault, solve};

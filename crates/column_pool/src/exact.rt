@@ -1,22 +1,23 @@
 //! The bound at an optimum, or at a ray, beside which no route earns.
 
-ghost use Rattle.std.specs.Prelude.{◌≡◌, ◌≤◌, [], IfOk, length, map};
+ghost use Rattle.std.specs.Prelude.{◌≡◌, ◌≤◌, ℕ, IfOk, length, map};
 ghost use Rattle.std.specs.List.{All};
 ghost use Rattle.bound_certificate.specs.Meaning.{route_shares};
 ghost use Rattle.instance_reader.specs.Instance.{customer_nodes};
-ghost use Rattle.master_simplex.specs.Answer.{IsAnswer, IsLpWithin};
 ghost use Rattle.pricing.specs.Answers.{AreClosed};
-ghost use Rattle.column_pool.specs.Bounds.{IsNodeBound};
-ghost use Rattle.column_pool.specs.Columns.{AreNodeRoutes, HasPlan, IsMaster, share_of};
+ghost use Rattle.column_pool.specs.Columns.{AreNodeRoutes, HasPlan, IsAnswered, share_of};
+ghost use Rattle.column_pool.specs.Nodes.{asked};
+ghost use Rattle.column_pool.specs.TooWide.{IsNodeBoundAt};
 
 use crate::bound::NodeBound;
-use crate::master::Master;
-use bound_certificate::{Section, Share};
+use crate::section::section_of;
+use bound_certificate::Share;
 use customer_sets::Pairs;
 use ev_list::Listed;
 use instance_reader::Instance;
 use master_simplex::Lp;
 use piece_fn::Label;
+use pricing::Prices;
 use route_plan::RoutePlan;
 use route_pool::copy_of;
 use std::alloc::{AllocError, Global};
@@ -43,31 +44,22 @@ fn shares_of(
     Ok(found)
 }
 
-/// The bound at the answer of the simplex method, where the labels show that no further route
-/// earns.
+/// The bound at the answer of the simplex method over the plans' columns, where the labels show
+/// that no further route earns.
 pub(crate) fn bound_of(
     alloc: Global,
     inst: &Instance,
     pairs: &Pairs,
-    master: &Master,
+    plans: &[RoutePlan],
     lp: Lp,
     labels: Vec<Label>,
 ) -> Result<NodeBound, AllocError>
     requires few { length (customer_nodes inst.now) ≤ 128 }
     requires pairs { pairs.now.customers ≡ length (customer_nodes inst.now) }
-    requires master { IsMaster inst.now master.now }
-    requires routes { AreNodeRoutes inst.now pairs.now master.now.plans.items }
-    requires answer { IsAnswer master.now.table lp }
-    requires within { IsLpWithin master.now.table lp }
-    requires one_price { length lp.prices.items ≡ length (customer_nodes inst.now) }
-    requires closed { AreClosed (record {
-      network = inst.now;
-      pairs = pairs.now;
-      weight = lp.weight;
-      prices = lp.prices.items;
-      labels = [];
-    }) labels.items }
-    ensures { IfOk result (IsNodeBound inst.now pairs.now) }
+    requires routes { AreNodeRoutes inst.now pairs.now plans.now }
+    requires answered { IsAnswered inst.now plans.now lp }
+    requires closed { AreClosed (asked inst.now pairs.now lp.weight lp.prices.items) labels.items }
+    ensures { (body cost : ℕ) → IfOk result (IsNodeBoundAt body cost inst.now pairs.now) }
 {
     let Lp {
         weight,
@@ -77,16 +69,11 @@ pub(crate) fn bound_of(
     } = lp;
     let nodes = inst.nodes();
     prove!(nodes > 0);
-    let section = Section {
-        weight,
-        prices: Listed::from_vec(prices),
-        pairs: *pairs,
-        labels: Listed::from_vec(labels),
-    };
+    let section = section_of(pairs, Prices { weight, of: prices }, labels);
     if weight == 0 {
         return Ok(NodeBound::Empty { section });
     }
-    let shares = shares_of(alloc, inst.customers().len(), &master.plans, &shares)?;
+    let shares = shares_of(alloc, inst.customers().len(), plans, &shares)?;
     Ok(NodeBound::Exact {
         section,
         over,

@@ -3,18 +3,17 @@
 //! 2005).
 #![tactic(auto)]
 
-mod basis;
 mod bound;
-mod by_table;
+mod by_loop;
 mod decided;
+mod earners;
 mod estimate;
 mod exact;
-mod fault;
 mod laws;
-mod master;
 mod node;
-mod rising;
-mod rounds;
+mod pricing_problem;
+mod route;
+mod section;
 mod taking;
 mod wide;
 

@@ -7,10 +7,8 @@ ghost use Rattle.column_pool.specs.Bounds.{IsBoundOfDecided, IsNodeBound};
 ghost use Rattle.route_pool.specs.Pool.{IsGrown, IsPool};
 
 use crate::bound::NodeBound;
-use crate::by_table::bound_by_table;
+use crate::by_loop::bound_by_loop;
 use crate::decided::bound_of_decided;
-use crate::fault::NodeFault;
-use crate::wide::wide_bound;
 use customer_sets::Pairs;
 use instance_reader::Instance;
 use master_table::Caps;
@@ -48,9 +46,5 @@ pub fn bound_node(
         body: 1 << 40,
         cost: 1 << 84,
     };
-    match bound_by_table(alloc, inst, pairs, pool, caps) {
-        Ok(bound) => Ok(bound),
-        Err(NodeFault::Memory) => Err(AllocError),
-        Err(NodeFault::Wide { plans, basis }) => { wide_bound(alloc, inst, pairs, plans, &basis) }
-    }
+    bound_by_loop(alloc, inst, pairs, pool, caps)
 }

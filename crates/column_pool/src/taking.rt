@@ -1,129 +1,87 @@
-//! Routes become columns.
+//! What the loop leaves in the pool.
 
-ghost use Rattle.std.specs.Prelude.{◌≡◌, ◌++◌, ◌∷◌, ◌≤◌, [], IfErr, IfOk, OnOk, length, map};
-ghost use Rattle.instance_reader.specs.Instance.{customer_nodes};
-ghost use Rattle.column_pool.specs.Columns.{AreNodeRoutes, IsFilled, IsMaster};
-ghost use Rattle.column_pool.specs.Faults.{IsMasterFault};
-ghost use Rattle.route_pool.specs.Pool.{IsColumn, IsGrown, IsPool};
+ghost use Rattle.std.specs.List.{All};
+ghost use Rattle.route_pool.specs.Pool.{IsGrown, IsPool};
+ghost use Rattle.column_pool.specs.Nodes.{IsColumnOf};
 
-use crate::fault::MasterFault;
-use crate::master::Master;
-use customer_sets::Pairs;
+use crate::route::NodeRoute;
 use instance_reader::Instance;
-use pricing::PricedRoute;
-use route_plan::RoutePlan;
-use route_pool::{ColumnPool, copy_of, keeps_pairs};
-use std::alloc::Global;
+use route_pool::{ColumnPool, copy_of};
+use std::alloc::{AllocError, Global};
 
-/// Adds the routes at the places of the pool that keep the pairs as columns.
-pub(crate) fn add_at(
-    alloc: Global,
-    inst: &Instance,
-    pairs: &Pairs,
-    pool: &ColumnPool,
-    master: &mut Master,
-    places: &[usize],
-) -> Result<(), MasterFault>
-    requires few { length (customer_nodes inst.now) ≤ 128 }
-    requires pairs { pairs.now.customers ≡ length (customer_nodes inst.now) }
-    requires pool { IsPool inst.now pool.now }
-    requires master { IsMaster inst.now master.old }
-    requires routes { AreNodeRoutes inst.now pairs.now master.old.plans.items }
-    ensures master { OnOk result (IsMaster inst.now master.new) }
-    ensures routes { AreNodeRoutes inst.now pairs.now master.new.plans.items }
-    ensures no_fewer { OnOk result
-        (length master.old.plans.items ≤ length master.new.plans.items) }
-    ensures caps { master.new.table.caps ≡ master.old.table.caps }
-    ensures fault { IfErr result
-        (IsMasterFault inst.now master.old.table.caps master.new.plans.items) }
-{
-    for at in places {
-        if let Some((order, pooled)) = pool.route(*at) {
-            add_if_kept(alloc, inst, pairs, master, order, &pooled.plan)?;
-        }
-    }
-    Ok(())
-}
-
-/// Adds the route as a column where it keeps the pairs.
-fn add_if_kept(
-    alloc: Global,
-    inst: &Instance,
-    pairs: &Pairs,
-    master: &mut Master,
-    order: &[usize],
-    plan: &RoutePlan,
-) -> Result<(), MasterFault>
-    requires few { length (customer_nodes inst.now) ≤ 128 }
-    requires pairs { pairs.now.customers ≡ length (customer_nodes inst.now) }
-    requires column { IsColumn inst.now order.now plan.now.stops }
-    requires master { IsMaster inst.now master.old }
-    requires routes { AreNodeRoutes inst.now pairs.now master.old.plans.items }
-    ensures master { OnOk result (IsMaster inst.now master.new) }
-    ensures routes { AreNodeRoutes inst.now pairs.now master.new.plans.items }
-    ensures no_fewer { OnOk result
-        (length master.old.plans.items ≤ length master.new.plans.items) }
-    ensures caps { master.new.table.caps ≡ master.old.table.caps }
-    ensures fault { IfErr result
-        (IsMasterFault inst.now master.old.table.caps master.new.plans.items) }
-{
-    if !keeps_pairs(inst, pairs, order) {
-        return Ok(());
-    }
-    let copy = copy_of(alloc, plan)?;
-    master.add(alloc, inst, order, copy)
-}
-
-/// Takes a route into the pool, and as a column.
-pub(crate) fn take_in(
-    alloc: Global,
-    inst: &Instance,
-    pool: &mut ColumnPool,
-    master: &mut Master,
-    order: &[usize],
-    plan: &RoutePlan,
-) -> Result<(), MasterFault>
-    requires few { length (customer_nodes inst.now) ≤ 128 }
-    requires column { IsColumn inst.now order.now plan.now.stops }
-    requires pool { IsPool inst.now pool.old }
-    requires master { IsMaster inst.now master.old }
-    ensures pool { IsPool inst.now pool.new }
-    ensures grown { IsGrown inst.now pool.old pool.new }
-    ensures master { OnOk result (IsMaster inst.now master.new) }
-    ensures plans { OnOk result (master.new.plans.items ≡ master.old.plans.items ++ plan.now ∷ []) }
-    ensures filled { IsFilled inst.now master.old (plan.now ∷ []) master.new }
-    ensures fault { IfErr result
-        (IsMasterFault inst.now master.old.table.caps master.new.plans.items) }
-{
-    let pooled = copy_of(alloc, plan)?;
-    pool.put(alloc, inst, order, pooled)?;
-    let column = copy_of(alloc, plan)?;
-    master.add(alloc, inst, order, column)
-}
-
-/// Takes routes into the pool, and as columns.
+/// Takes the routes into the pool, as far as they are new or faster.
 pub(crate) fn take_all(
     alloc: Global,
     inst: &Instance,
     pool: &mut ColumnPool,
-    master: &mut Master,
-    routes: &[PricedRoute],
-) -> Result<(), MasterFault>
-    requires few { length (customer_nodes inst.now) ≤ 128 }
-    requires columns { IsPool inst.now routes.now }
+    routes: &[NodeRoute],
+) -> Result<(), AllocError>
+    requires routes { All (IsColumnOf inst.now) routes.now }
     requires pool { IsPool inst.now pool.old }
-    requires master { IsMaster inst.now master.old }
     ensures pool { IsPool inst.now pool.new }
     ensures grown { IsGrown inst.now pool.old pool.new }
-    ensures master { OnOk result (IsMaster inst.now master.new) }
-    ensures plans { OnOk result (master.new.plans.items
-        ≡ master.old.plans.items ++ map (λ r. r.plan) routes.now) }
-    ensures filled { IsFilled inst.now master.old (map (λ r. r.plan) routes.now) master.new }
-    ensures fault { IfErr result
-        (IsMasterFault inst.now master.old.table.caps master.new.plans.items) }
 {
     for route in routes {
-        take_in(alloc, inst, pool, master, &route.order, &route.plan)?;
+        take_in(alloc, inst, pool, route)?;
     }
     Ok(())
+}
+
+/// Takes the route into the pool, where it is new or faster.
+fn take_in(
+    alloc: Global,
+    inst: &Instance,
+    pool: &mut ColumnPool,
+    route: &NodeRoute,
+) -> Result<(), AllocError>
+    requires route { IsColumnOf inst.now route.now }
+    requires pool { IsPool inst.now pool.old }
+    ensures pool { IsPool inst.now pool.new }
+    ensures grown { IsGrown inst.now pool.old pool.new }
+{
+    if is_known(pool, route) {
+        return Ok(());
+    }
+    let plan = copy_of(alloc, &route.plan)?;
+    pool.put(alloc, inst, route.order.as_slice(), plan)
+}
+
+/// Whether the pool has a route of the order that takes no longer, by the time that it has noted.
+fn is_known(pool: &ColumnPool, route: &NodeRoute) -> bool {
+    let Some(at) = pool.place(route.order.as_slice()) else {
+        return false;
+    };
+    match pool.route(at) {
+        Some((_, pooled)) => pooled.time <= route.time,
+        None => false,
+    }
+}
+
+/// The places in the pool of the routes with these numbers of columns, where the first `helpers`
+/// columns have none. They are a guide for the next node, and nothing rests on them.
+pub(crate) fn places_of(
+    alloc: Global,
+    helpers: usize,
+    pool: &ColumnPool,
+    routes: &[NodeRoute],
+    basis: &[usize],
+) -> Result<Vec<usize>, AllocError> {
+    let mut places = Vec::with_capacity(alloc, basis.len())?;
+    for column in basis {
+        if let Some(at) = place_of(helpers, pool, routes, *column) {
+            places.push(at)?;
+        }
+    }
+    Ok(places)
+}
+
+/// The place in the pool of the route of a column.
+fn place_of(
+    helpers: usize,
+    pool: &ColumnPool,
+    routes: &[NodeRoute],
+    column: usize,
+) -> Option<usize> {
+    let route = routes.get(column.checked_sub(helpers)?)?;
+    pool.place(route.order.as_slice())
 }

@@ -1,16 +1,17 @@
 //! Worked instances: the bound of a node by a table and by rising prices, and its estimate.
 
-ghost use Rattle.std.specs.Prelude.{IfSome};
+ghost use Rattle.std.specs.Prelude.{◌≡◌, ◌≤◌, IfSome, length};
+ghost use Rattle.instance_reader.specs.Instance.{customer_nodes};
 ghost use Rattle.route_pool.specs.Pool.{IsPool};
 
-use crate::by_table::bound_by_table;
-use crate::fault::NodeFault;
-use crate::rising::{Risen, rising_section};
-use crate::wide::wide_bound;
+use crate::by_loop::bound_by_loop;
+use crate::earners::NodeEarners;
+use crate::wide::past_limit;
 use crate::{ColumnPool, NodeBound, bound_node, estimate_node};
 use customer_sets::Pairs;
 use instance_reader::{Instance, read_instance};
 use master_table::Caps;
+use price_loop::{Risen, rise};
 use route_pool::put_own_route;
 use std::alloc::Global;
 use worked_instances::{DEPOT_ALONE, ONE_STATION, THREE_CUSTOMERS, TWO_CUSTOMERS};
@@ -115,20 +116,32 @@ fn bounded_by_ones(alloc: Global, text: &str, limit: u64) -> Option<Told> {
         body: 1,
         cost: 1 << 84,
     };
-    match bound_by_table(alloc, &inst, &pairs, &mut pool, caps) {
-        Ok(bound) => summary_of(bound),
-        Err(NodeFault::Memory) => None,
-        Err(NodeFault::Wide { plans, basis }) => {
-            let bound = wide_bound(alloc, &inst, &pairs, plans, &basis).ok()?;
-            summary_of(bound)
-        }
-    }
+    let bound = bound_by_loop(alloc, &inst, &pairs, &mut pool, caps).ok()?;
+    summary_of(bound)
 }
 
 #[test]
 fn a_bound_beside_a_wide_basis_is_by_rising_prices(rt: HostRuntime) {
     let told = bounded_by_ones(rt.alloc(), THREE_CUSTOMERS, 11);
     assert_eq!(rt; told, Some(Told::Wide(3, 14)));
+}
+
+/// The weight at which prices rise, or 0 where a customer stands nowhere, and the prices.
+fn risen(
+    alloc: Global,
+    inst: &Instance,
+    pairs: &Pairs,
+    pool: &ColumnPool,
+) -> Option<(u64, Vec<i128>)>
+    requires few { length (customer_nodes inst.now) ≤ 128 }
+    requires pairs { pairs.now.customers ≡ length (customer_nodes inst.now) }
+    requires pool { IsPool inst.now pool.now }
+{
+    let earners = NodeEarners::new(alloc, inst, pairs, pool).ok()?;
+    match rise(alloc, &earners, past_limit(inst)).ok()? {
+        Risen::Priced { prices, .. } => Some((1, prices)),
+        Risen::Nowhere { prices, .. } => Some((0, prices)),
+    }
 }
 
 /// Whether the rising prices are these at that weight, under a pair that may be forbidden.
@@ -151,11 +164,9 @@ fn rises_to(
         }
         pairs.forbid(i, j);
     }
-    let section = match rising_section(alloc, &inst, &pairs).ok()? {
-        Risen::Priced { section } => section,
-        Risen::Nowhere { section } => section,
-    };
-    Some(section.weight == weight && section.prices.as_slice() == prices)
+    let pool = ColumnPool::new(alloc);
+    let (risen_at, of) = risen(alloc, &inst, &pairs, &pool)?;
+    Some(risen_at == weight && of.as_slice() == prices)
 }
 
 #[test]
