@@ -1,1 +1,4 @@
 pub mod OneProof
+pub mod Rules
+pub mod KindRoutes
+pub mod Roots

@@ -1,1 +1,2 @@
 pub mod OneKind
+pub mod Tellings
