@@ -1,0 +1,11 @@
+pub mod TextParts
+pub mod RootReading
+pub mod KindReading
+pub mod MixedReading
+pub mod KindNumbers
+pub mod KindLoops
+pub mod PartReading
+pub mod WholeReading
+pub mod WrittenMixeds
+pub mod OneMixed
+pub mod MixedLaws
