@@ -1,0 +1,16 @@
+mod Once
+mod Asking
+mod Routes
+mod Rises
+mod Exact
+mod Entries
+mod Wides
+mod Best
+mod Owning
+mod OwnPlan
+mod Ends
+mod Permuting
+mod Firsts
+mod Wholes
+mod Outcomes
+mod Gathering

@@ -1,0 +1,7 @@
+use Rattle.std.proofs.Common.{◌<◌}
+use Rattle.std.specs.List.{All}
+use Rattle.mixed_model.specs.declared.proof.MixedRoute.{MixedRoute}
+use Rattle.mixed_fleet.proofs.greedy.take_all.Given as goal
+
+abbrev pub invariant-loop-route : goal.invariant-loop-route
+invariant-loop-route l = All (λ (r : MixedRoute). r.kind < l.kinds) l.taken.routes.items

@@ -1,0 +1,14 @@
+pub mod Fleets
+pub mod Searched
+pub mod Once
+pub mod Problem
+pub mod Rising
+pub mod Proofs
+pub mod Shares
+pub mod Entries
+pub mod Roots
+pub mod Own
+pub mod Plans
+pub mod Whole
+pub mod Outcome
+pub mod Gathered
