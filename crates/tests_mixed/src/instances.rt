@@ -1,10 +1,13 @@
 //! The kinds of vehicles that the tests drive, and their routes.
 
-ghost use Rattle.std.specs.Prelude.{◌≡◌, IfOk};
+ghost use Rattle.std.specs.Prelude.{◌≡◌, ◌≤◌, IfOk, length, true};
+ghost use Rattle.instance_reader.specs.Instance.{customer_nodes};
+ghost use Rattle.mixed_model.specs.Kinds.{AreKinds, first_of};
 
 use ev_list::Listed;
 use ev_model::Stop;
-use mixed_plan::MixedRoute;
+use instance_reader::{Instance, read_instance};
+use mixed_plan::{MixedRoute, kinds_agree};
 use route_plan::RoutePlan;
 use std::alloc::{AllocError, Global};
 
@@ -49,4 +52,35 @@ pub(crate) fn route_of(alloc: Global, kind: usize, stops: &[Stop]) -> Result<Mix
         kind,
         plan: RoutePlan { stops },
     })
+}
+
+/// Whether the kinds are those of a fleet with at most 128 customers.
+pub(crate) fn are_of_a_fleet(kinds: &[Instance]) -> bool
+    ensures kinds { result ≡ true → AreKinds kinds.now }
+    ensures few { result ≡ true → length (customer_nodes (first_of kinds.now)) ≤ 128 }
+{
+    let count = kinds.len();
+    if count == 0 {
+        return false;
+    }
+    if count > 8 || kinds_agree(kinds).is_some() {
+        return false;
+    }
+    if kinds[0].customers().len() > 128 {
+        return false;
+    }
+    true
+}
+
+/// Instances of these texts; none where memory was refused or a text is none of an instance.
+pub(crate) fn kinds_of(alloc: Global, texts: &[&str]) -> Vec<Instance> {
+    let mut kinds = Vec::new(alloc);
+    for text in texts {
+        if let Ok(inst) = read_instance(alloc, text.as_bytes()) {
+            if kinds.push(inst).is_err() {
+                return kinds;
+            }
+        }
+    }
+    kinds
 }

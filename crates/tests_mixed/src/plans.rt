@@ -1,14 +1,12 @@
 //! What the judge says of plans of fleets of several kinds of vehicles.
 
-ghost use Rattle.std.specs.Prelude.{◌≡◌, ◌<◌, ◌≤◌, IfSome, length, true};
+ghost use Rattle.std.specs.Prelude.{◌<◌, IfSome};
 ghost use Rattle.std.specs.List.{All};
-ghost use Rattle.instance_reader.specs.Instance.{customer_nodes};
-ghost use Rattle.mixed_model.specs.Kinds.{AreKinds, first_of};
 
-use crate::instances::{OTHER_TIMES, at, route_of, via};
+use crate::instances::{OTHER_TIMES, are_of_a_fleet, at, kinds_of, route_of, via};
 use ev_model::Stop;
 use instance_reader::{Instance, read_instance};
-use mixed_plan::{MixedRoute, PlanFault, check_mixed_plan, kinds_agree};
+use mixed_plan::{MixedRoute, PlanFault, check_mixed_plan};
 use route_plan::WalkFault;
 use std::alloc::Global;
 use worked_instances::{ONE_STATION, TWO_CUSTOMERS};
@@ -27,24 +25,6 @@ fn judged(
     Some(check_mixed_plan(kinds, plan.as_slice()))
 }
 
-/// Whether the kinds are those of a fleet with at most 128 customers.
-fn are_of_a_fleet(kinds: &[Instance]) -> bool
-    ensures kinds { result ≡ true → AreKinds kinds.now }
-    ensures few { result ≡ true → length (customer_nodes (first_of kinds.now)) ≤ 128 }
-{
-    let count = kinds.len();
-    if count == 0 {
-        return false;
-    }
-    if count > 8 || kinds_agree(kinds).is_some() {
-        return false;
-    }
-    if kinds[0].customers().len() > 128 {
-        return false;
-    }
-    true
-}
-
 /// The routes, each of one of so many kinds.
 fn routes_of(alloc: Global, kinds: usize, routes: &[(usize, &[Stop])]) -> Option<Vec<MixedRoute>>
     ensures { IfSome result (λ plan. All (λ r. r.kind < kinds) plan.items) }
@@ -58,19 +38,6 @@ fn routes_of(alloc: Global, kinds: usize, routes: &[(usize, &[Stop])]) -> Option
         plan.push(route).ok()?;
     }
     Some(plan)
-}
-
-/// Instances of these texts; none where memory was refused or a text is none of an instance.
-fn kinds_of(alloc: Global, texts: &[&str]) -> Vec<Instance> {
-    let mut kinds = Vec::new(alloc);
-    for text in texts {
-        if let Ok(inst) = read_instance(alloc, text.as_bytes()) {
-            if kinds.push(inst).is_err() {
-                return kinds;
-            }
-        }
-    }
-    kinds
 }
 
 #[test]

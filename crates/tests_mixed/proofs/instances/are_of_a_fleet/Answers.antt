@@ -1,6 +1,6 @@
 use Rattle.std.proofs.Common.{arith, sym}
 use Rattle.mixed_plan.proofs.Agreeing.{kind_is}
-use Rattle.tests_mixed.proofs.plans.are_of_a_fleet.Goals as goal
+use Rattle.tests_mixed.proofs.instances.are_of_a_fleet.Goals as goal
 
 pub returns-clause-few : goal.returns-clause-few
 returns-clause-few c = λ is.
