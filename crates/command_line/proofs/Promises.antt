@@ -1,13 +1,17 @@
--- The files that a search writes are different ones, and it may look at one node at least.
+-- The files that a search writes are different ones, and it may look at one node at least; and what
+-- is told of the files of a job of several kinds of vehicles.
 use Rattle.std.proofs.Common.{◌≡◌, ◌≢◌, ◌≤◌, ◌&&◌, ◌||◌, ◌∷◌, [], ℕ, List, Option, None, Some, Result, Ok, Err, Bool, true, false, IfOk, IfSome, arith, codes, nat_lt, not, refl, sym, subst}
 use Rattle.std.proofs.lemmas.Bool.Decides.{nat_tests}
 use Rattle.std.proofs.lemmas.Slice.Eq.{bytes_eq-Decides}
 use Rattle.std.specs.Prelude.{if◌then◌else◌, option_and_then, option_map}
 use Rattle.std.specs.Str.{bytes_eq}
 use Rattle.clap.specs.Words.{Row, Text, first_of}
-use Rattle.command_line.specs.JobValue.{IsJob, job_value}
-use Rattle.command_line.specs.Words.{BoundFleets, CheckBound, CheckPlan, CheckRoute, ConvertFile, FixedRoute, ImprovePlan, Job, MakeInstance, PlanFleet, ProofJob, ProveRoute, are_different, at_least_one, bound_of, bound_with, charge_in, check_bound_of, check_bound_with, check_of, check_route_of, check_with, convert_of, convert_with, energy_digits_in, fixed_of, fixed_with, fleet_of, fleet_with, gives_only, improve_of, improve_with, is_listed, job_in, job_of_command, limit_in, make_of, make_with, most_count, most_seed, most_value, near_in, nodes_in, number_of, optional_number, proof_of, prove_of, rest_in, time_digits_in}
+use Rattle.command_line.proofs.MixedFiles.{AreMixedFiles, mixed_files}
+use Rattle.command_line.proofs.Tested.{both_true, where_passed}
+use Rattle.command_line.specs.JobValue.{IsJob, IsMixedJob, job_value, mixed_value}
+use Rattle.command_line.specs.Words.{BoundFleets, CheckBound, CheckMixed, CheckPlan, CheckRoute, ConvertFile, FixedRoute, ImprovePlan, Job, MakeInstance, MixedJob, PlanFleet, PlanMixed, ProofJob, ProveRoute, are_different, at_least_one, bound_of, bound_with, charge_in, check_bound_of, check_bound_with, check_mixed_of, check_of, check_route_of, check_with, convert_of, convert_with, energy_digits_in, fixed_of, fixed_with, fleet_of, fleet_with, gives_only, improve_of, improve_with, is_listed, job_in, job_of_command, limit_in, make_of, make_with, mixed_of, mixed_words_of, most_count, most_seed, most_value, near_in, nodes_in, number_of, optional_number, proof_of, prove_of, rest_in, time_digits_in}
 use Rattle.command_line.specs.declared.Job as values
+use Rattle.command_line.specs.declared.MixedWords.{MixedWords}
 use Rattle.command_line.specs.declared.Job.TheVariants as value
 
 AtLeastOne : Option ℕ → Type 0
@@ -24,18 +28,12 @@ Looks (CheckBound job) = Unit {0}
 Looks (ProveRoute job) = Unit {0}
 Looks (CheckRoute job) = Unit {0}
 Looks (ImprovePlan job) = Unit {0}
+Looks (PlanMixed job) = AreMixedFiles job
+Looks (CheckMixed job) = AreMixedFiles job
 
 if_looks : (test : Bool) (p q : Option Job) → IfSome p Looks → IfSome q Looks → IfSome (if test then p else q) Looks
 if_looks true p q h k = h
 if_looks false p q h k = k
-
-where_looks : (test : Bool) (p : Option Job) → (test ≡ true → IfSome p Looks) → IfSome (if test then p else None) Looks
-where_looks true p h = h refl
-where_looks false p h = tt
-
-both_true : (a b : Bool) → (a && b) ≡ true → (a ≡ true) × (b ≡ true)
-both_true true b is = (refl, is)
-both_true false b is = absurd (cc)
 
 true_is_not_false : true ≡ false → ⊥
 true_is_not_false is = cc
@@ -113,7 +111,8 @@ fleet_looks [] rows = tt
 fleet_looks (a ∷ []) rows = tt
 fleet_looks (a ∷ b ∷ []) rows = tt
 fleet_looks (a ∷ b ∷ c ∷ []) rows =
-    where_looks (gives_only (codes "limit" ∷ codes "nodes" ∷ []) rows && are_different (a ∷ b ∷ c ∷ [])) (fleet_with a b c (limit_in rows) (nodes_in rows))
+    where_passed Looks (gives_only (codes "limit" ∷ codes "nodes" ∷ []) rows && are_different (a ∷ b ∷ c ∷ []))
+    (fleet_with a b c (limit_in rows) (nodes_in rows))
     (λ is. fleet_with_looks a b c (limit_in rows) (nodes_in rows)
     (last_differ a b c (both_true (gives_only (codes "limit" ∷ codes "nodes" ∷ []) rows) (are_different (a ∷ b ∷ c ∷ [])) is).1)
     (given (optional_number most_value (first_of (codes "nodes") rows))))
@@ -180,6 +179,18 @@ unfolding Looks
 check_route_looks None = tt
 check_route_looks (Some job) = tt
 
+mixed_looks : (found : Option MixedJob) → IfSome found AreMixedFiles
+    → IfSome (option_map (λ job. PlanMixed job) found) Looks
+unfolding Looks
+mixed_looks None h = tt
+mixed_looks (Some job) h = h
+
+check_mixed_looks : (found : Option MixedJob) → IfSome found AreMixedFiles
+    → IfSome (option_map (λ job. CheckMixed job) found) Looks
+unfolding Looks
+check_mixed_looks None h = tt
+check_mixed_looks (Some job) h = h
+
 command_looks : (command : Text) (rest : List Text) (rows : List Row) → IfSome (job_of_command command rest rows) Looks
 command_looks command rest rows =
     if_looks (bytes_eq command (codes "fixed")) (fixed_of rest rows) _ (fixed_looks rest rows)
@@ -191,11 +202,19 @@ command_looks command rest rows =
     (if_looks (bytes_eq command (codes "check-bound")) (check_bound_of rest rows) _ (check_bound_looks rest rows)
     (if_looks (bytes_eq command (codes "prove")) (prove_of rest rows) _ (prove_looks (proof_of rest rows))
     (if_looks (bytes_eq command (codes "check-route")) (check_route_of rest rows) _ (check_route_looks (proof_of rest rows))
-    (if_looks (bytes_eq command (codes "improve")) (improve_of rest rows) None (improve_looks rest rows) tt)))))))))
+    (if_looks (bytes_eq command (codes "improve")) (improve_of rest rows) _
+    (improve_looks rest rows)
+    (if_looks (bytes_eq command (codes "mixed")) (mixed_of rest rows) _
+    (mixed_looks (mixed_words_of rest rows) (mixed_files rest rows))
+    (if_looks (bytes_eq command (codes "check-mixed")) (check_mixed_of rest rows) None
+    (check_mixed_looks (mixed_words_of rest rows) (mixed_files rest rows)) tt)))))))))))
 
 and_then_looks : (command : Option Text) (rows : List Row) → IfSome (option_and_then (λ c. job_of_command c (rest_in rows) rows) command) Looks
 and_then_looks None rows = tt
 and_then_looks (Some command) rows = command_looks command (rest_in rows) rows
+
+is_mixed_job : (w : MixedWords) → AreMixedFiles (mixed_value w) → IsMixedJob w
+is_mixed_job w h = record { some = h.some; few = h.few; different = h.different }
 
 value_looks : (found : Option values.Job) → IfSome (option_map job_value found) Looks → IfSome found IsJob
 unfolding Looks AtLeastOne
@@ -210,6 +229,8 @@ value_looks (Some (value.CheckBound w)) h = tt
 value_looks (Some (value.Prove w)) h = tt
 value_looks (Some (value.CheckRoute w)) h = tt
 value_looks (Some (value.Improve w)) h = tt
+value_looks (Some (value.Mixed w)) h = is_mixed_job w h
+value_looks (Some (value.CheckMixed w)) h = is_mixed_job w h
 
 is_job : (rows : List Row) (found : Option values.Job) → option_map job_value found ≡ job_in rows → IfSome found IsJob
 is_job rows found is =

@@ -13,3 +13,5 @@ usage_text =
     ++ codes "evroute prove FILE ROUTE CERT [--limit N] [--charge N]\n"
     ++ codes "evroute check-route FILE ROUTE CERT [--limit N] [--charge N]\n"
     ++ codes "evroute improve FILE PLAN OUTFILE [--limit N]\n"
+    ++ codes "evroute mixed PLAN CERT FILE.. [--limit N]\n"
+    ++ codes "evroute check-mixed PLAN CERT FILE.. [--limit N]\n"

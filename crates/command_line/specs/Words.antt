@@ -1,5 +1,5 @@
 -- The job that the words of a command line name: a function of what the command finds in them.
-use Rattle.std.specs.Prelude.{ℕ, ◌-◌, ◌^◌, ◌&&◌, ◌||◌, Bool, true, not, List, [], ◌∷◌, Option, None, Some, Result, Ok, Err, is_none, codes, nat_eq, nat_lt, option_and_then, option_map, unwrap_or, if◌then◌else◌, length}
+use Rattle.std.specs.Prelude.{ℕ, ◌-◌, ◌^◌, ◌&&◌, ◌||◌, Bool, true, not, List, [], ◌∷◌, Option, None, Some, Result, Ok, Err, is_none, codes, nat_eq, nat_le, nat_lt, option_and_then, option_map, unwrap_or, if◌then◌else◌, length}
 use Rattle.std.specs.List.{list_any}
 use Rattle.std.specs.Str.{bytes_eq}
 use Rattle.clap.specs.Words.{Kinds, Row, Text, all_of, fault_of, first_of, matches_of}
@@ -74,6 +74,15 @@ pub record ImproveJob : Type 0 where
   pub outfile : Text
   pub limit : Option ℕ
 
+-- the job of planning a fleet of several kinds of vehicles, or of judging such a plan and its
+-- proof: the names of the files of the plan and of the proof, those of the instances, one a kind,
+-- and the limit where one is given
+pub record MixedJob : Type 0 where
+  pub plan : Text
+  pub cert : Text
+  pub files : List Text
+  pub limit : Option ℕ
+
 -- a job of the program
 pub data Job : Type 0 where
   FixedRoute : FixedJob → Job
@@ -86,6 +95,8 @@ pub data Job : Type 0 where
   ProveRoute : ProofJob → Job
   CheckRoute : ProofJob → Job
   ImprovePlan : ImproveJob → Job
+  PlanMixed : MixedJob → Job
+  CheckMixed : MixedJob → Job
 
 -- the greatest limit, level and number of nodes
 abbrev pub most_value : ℕ
@@ -106,6 +117,10 @@ most_seed = 2 ^ 64 - 1
 -- the greatest count of customers or stations
 abbrev pub most_count : ℕ
 most_count = 2 ^ 32 - 1
+
+-- the most files of instances, one a kind of vehicles
+abbrev pub most_kinds : ℕ
+most_kinds = 8
 
 -- the whole word is a number in its one spelling, at most `most`
 abbrev pub all_taken : Result (ℕ × (List ℕ × ℕ)) TextFault → Option ℕ
@@ -137,6 +152,10 @@ is_listed text names = list_any (λ name. bytes_eq name text) names
 abbrev pub are_different : List Text → Bool
 are_different [] = true
 are_different (name ∷ names) = not (is_listed name names) && are_different names
+
+-- there is a file, and no more than the most
+abbrev pub are_few : List Text → Bool
+are_few files = nat_lt 0 (length files) && nat_le (length files) most_kinds
 
 -- the words behind the word of the command
 abbrev pub rest_in : List Row → List Text
@@ -349,6 +368,30 @@ improve_of (file ∷ plan ∷ outfile ∷ []) rows =
     else None
 improve_of rest rows = None
 
+-- the job of these words with this limit
+abbrev pub mixed_job_of : Text → Text → List Text → Option ℕ → MixedJob
+mixed_job_of plan cert files limit =
+    record { plan = plan; cert = cert; files = files; limit = limit }
+
+-- `PLAN CERT FILE.. [--limit N]`
+abbrev pub mixed_with : Text → Text → List Text → Option (Option ℕ) → Option MixedJob
+mixed_with plan cert files limit = option_map (mixed_job_of plan cert files) limit
+
+abbrev pub mixed_words_of : List Text → List Row → Option MixedJob
+mixed_words_of (plan ∷ cert ∷ files) rows =
+    if gives_only (codes "limit" ∷ []) rows && are_few files && are_different (plan ∷ cert ∷ files)
+    then mixed_with plan cert files (limit_in rows)
+    else None
+mixed_words_of rest rows = None
+
+-- `mixed PLAN CERT FILE.. [--limit N]`
+abbrev pub mixed_of : List Text → List Row → Option Job
+mixed_of rest rows = option_map (λ job. PlanMixed job) (mixed_words_of rest rows)
+
+-- `check-mixed PLAN CERT FILE.. [--limit N]`
+abbrev pub check_mixed_of : List Text → List Row → Option Job
+check_mixed_of rest rows = option_map (λ job. CheckMixed job) (mixed_words_of rest rows)
+
 -- the job of a command, of the words behind it and of the options
 abbrev pub job_of_command : Text → List Text → List Row → Option Job
 job_of_command command rest rows =
@@ -362,6 +405,8 @@ job_of_command command rest rows =
     else if bytes_eq command (codes "prove") then prove_of rest rows
     else if bytes_eq command (codes "check-route") then check_route_of rest rows
     else if bytes_eq command (codes "improve") then improve_of rest rows
+    else if bytes_eq command (codes "mixed") then mixed_of rest rows
+    else if bytes_eq command (codes "check-mixed") then check_mixed_of rest rows
     else None
 
 -- the job of what the command finds

@@ -16,6 +16,7 @@ mod improve;
 mod laws;
 mod make;
 mod matches;
+mod mixed;
 mod proof;
 mod words;
 
@@ -127,6 +128,17 @@ pub struct ProofWords {
     pub options: Options,
 }
 
+/// The words of the jobs `mixed` and `check-mixed`: the file of the plan, that of the proof, one to
+/// eight files of instances, one a kind, and the limit on the time of each route in place of the
+/// instances', in units of time.
+#[derive(Debug, Drop, PartialEq, Eq)]
+pub struct MixedWords {
+    pub plan: String,
+    pub cert: String,
+    pub files: Vec<String>,
+    pub limit: Option<u64>,
+}
+
 /// A job of the program.
 #[derive(Debug, Drop, PartialEq, Eq)]
 pub enum Job {
@@ -150,6 +162,11 @@ pub enum Job {
     CheckRoute(ProofWords),
     /// The plan of a file becomes cheaper, and is written into another.
     Improve(ImproveWords),
+    /// A fleet of several kinds of vehicles is planned, and its plan and a proof of a bound on its
+    /// cost are written.
+    Mixed(MixedWords),
+    /// A plan of a fleet of several kinds of vehicles and a proof of such a bound are judged.
+    CheckMixed(MixedWords),
 }
 
 /// The job of the words, which stand behind the program's name, read by one `clap` command: `fixed
@@ -157,8 +174,9 @@ pub enum Job {
 /// FILE PLAN CERT [--limit N]`, `convert FILE OUTFILE --time-digits N --energy-digits N`, `make
 /// SEED CUSTOMERS STATIONS OUTFILE`, `bound FILE CERT --near N [--limit N]`, `check-bound FILE CERT
 /// [--limit N]`, `prove FILE ROUTE CERT [--limit N] [--charge N]`, `check-route FILE ROUTE CERT
-/// [--limit N] [--charge N]` or `improve FILE PLAN OUTFILE [--limit N]`. `None` comes exactly where
-/// the words are no such job.
+/// [--limit N] [--charge N]`, `improve FILE PLAN OUTFILE [--limit N]`, `mixed PLAN CERT FILE..
+/// [--limit N]` or `check-mixed PLAN CERT FILE.. [--limit N]`, with one to eight FILEs. `None`
+/// comes exactly where the words are no such job.
 ///
 /// Options stand anywhere before a word `--`, each at most once; the value is the next word or
 /// follows a `=`. A name that begins with `-` and has more behind it is given after `--`. Numbers
@@ -195,5 +213,7 @@ pub fn usage() -> &'static str
      evroute check-bound FILE CERT [--limit N]\n\
      evroute prove FILE ROUTE CERT [--limit N] [--charge N]\n\
      evroute check-route FILE ROUTE CERT [--limit N] [--charge N]\n\
-     evroute improve FILE PLAN OUTFILE [--limit N]\n"
+     evroute improve FILE PLAN OUTFILE [--limit N]\n\
+     evroute mixed PLAN CERT FILE.. [--limit N]\n\
+     evroute check-mixed PLAN CERT FILE.. [--limit N]\n"
 }

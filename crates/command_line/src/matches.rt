@@ -15,6 +15,7 @@ use crate::fixed::fixed_job;
 use crate::fleet::fleet_job;
 use crate::improve::improve_job;
 use crate::make::make_job;
+use crate::mixed::{check_mixed_job, mixed_job};
 use crate::proof::{check_route_job, prove_job};
 use crate::words::{
     GREATEST_DIGITS, GREATEST_NEAR, GREATEST_VALUE, is_listed, optional_number, required_number,
@@ -136,6 +137,8 @@ fn job_of_command(
         "prove" => prove_job(alloc, rest, matches),
         "check-route" => check_route_job(alloc, rest, matches),
         "improve" => improve_job(alloc, rest, matches),
+        "mixed" => mixed_job(alloc, rest, matches),
+        "check-mixed" => check_mixed_job(alloc, rest, matches),
         _ => Ok(None),
     }
 }
