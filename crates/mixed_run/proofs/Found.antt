@@ -1,0 +1,114 @@
+-- What is reported of a search for a plan of several kinds of vehicles.
+use Rattle.std.proofs.Common.{◌≡◌, ◌∙◌, ◌↔◌, ℕ, ◌*◌, ◌<◌, ◌≤◌, ◌++◌, List, [], Option, None, Some, IfSome, ap, length, refl, subst, sym}
+use Rattle.std.proofs.lemmas.List.Elements.{All-weaker}
+use Rattle.std.specs.List.{All}
+use Rattle.ev_model.specs.Network.{Network}
+use Rattle.fleet_model.specs.Prices.{sum_of}
+use Rattle.job_frame.specs.declared.status.Status.{Status}
+use Rattle.job_frame.specs.declared.status.Status.TheVariants as status
+use Rattle.mixed_fleet.specs.Outcome.{IsOutcome}
+use Rattle.mixed_fleet.specs.Plans.{IsHeld}
+use Rattle.mixed_fleet.specs.Proofs.{IsBestProof, IsRootOf}
+use Rattle.mixed_fleet.specs.declared.outcome.MixedOutcome.{MixedOutcome}
+use Rattle.mixed_model.specs.Accepted.{RootHolds}
+use Rattle.mixed_model.specs.Kinds.{first_of}
+use Rattle.mixed_model.specs.Meaning.{kind_plans}
+use Rattle.mixed_model.specs.Plans.{IsMixedPlan}
+use Rattle.mixed_model.specs.Truth.{IsTrueBound, IsTrueRoot}
+use Rattle.mixed_model.specs.declared.proof.MixedProof.{MixedProof}
+use Rattle.mixed_model.specs.declared.proof.MixedRoot.{MixedRoot}
+use Rattle.mixed_model.specs.declared.proof.MixedRoot.TheVariants as root
+use Rattle.mixed_model.specs.declared.proof.MixedRoute.{MixedRoute}
+use Rattle.mixed_model.specs.declared.proof.MixedShare.{MixedShare}
+use Rattle.mixed_plan.specs.MixedRules.{IsBroken}
+use Rattle.mixed_plan.specs.MixedTexts.{FitsRoute, mixed_plan_text}
+use Rattle.mixed_run.specs.Judged.{AreKnown}
+use Rattle.mixed_run.proofs.Accepting.{is_bound_of_cost}
+use Rattle.mixed_run.specs.CheckMixedAnswer.{BreaksFirst, IsValid}
+use Rattle.mixed_run.specs.MixedAnswer.{IsMixedFound, TellsRoot, mixed_status, outcomes_of}
+use Rattle.mixed_text.specs.MixedTexts.{mixed_text}
+use Rattle.mixed_text.specs.Written.{written_mixed}
+use Rattle.plan_check.specs.declared.fault.PlanFault.{PlanFault}
+use Rattle.plan_writer.specs.FleetText.{AreOutcomes, IsExactLine, IsLowestLine, StandsBeside, StandsBesideRoot, fleet_text}
+use Rattle.plan_writer.specs.declared.fleet.RootLine.{RootLine}
+use Rattle.plan_writer.specs.declared.fleet.RootLine.TheVariants as line
+
+-- ---- the cost of the plan that is held
+
+pub held_is_known : (kinds : List Network) (plan : Option (List MixedRoute)) → IfSome plan (IsHeld kinds) → AreKnown kinds plan
+held_is_known kinds None held = tt
+held_is_known kinds (Some routes) held = All-weaker (FitsRoute (length kinds)) (λ r. r.kind < length kinds) (λ r fits. fits.kind) routes held.text.1
+
+-- a plan that is held breaks no rule
+abbrev pub BreakNone : Type 0
+BreakNone = (kinds : List Network) (plan : List MixedRoute) → All (λ r. r.kind < length kinds) plan →
+    IsMixedPlan kinds 1 (kind_plans plan) ↔ ((fault : PlanFault) → IsBroken kinds plan fault → ⊥)
+
+pub held_breaks_none : BreakNone → (kinds : List Network) (plan : Option (List MixedRoute)) (fault : PlanFault) → IfSome plan (IsHeld kinds) → BreaksFirst kinds plan fault → ⊥
+held_breaks_none law kinds None fault held broken = broken
+held_breaks_none law kinds (Some plan) fault held broken = (law kinds plan (held_is_known kinds (Some plan) held)).0 held.plan fault broken.broken
+
+stands_beside : (kinds : List Network) (plan : Option (List MixedRoute)) (cost bound : Option ℕ) → IsValid kinds plan cost → IsTrueBound kinds bound → StandsBeside cost bound
+stands_beside kinds plan None None valid truth = tt
+stands_beside kinds plan None (Some b) valid truth = tt
+stands_beside kinds plan (Some c) (Some b) valid truth = tt
+stands_beside kinds None (Some c) None valid truth = absurd (cc)
+stands_beside kinds (Some p) (Some c) None valid truth = truth 1 (kind_plans p) valid.0
+
+-- ---- the root
+
+some_is_not_none : (b : ℕ) (bound : Option ℕ) → bound ≡ Some b → bound ≡ None → ⊥
+some_is_not_none b bound is none = cc
+
+shows : (kinds : List Network) (p : MixedProof) (r : MixedRoot) (told : RootLine) (bound : Option ℕ) → p.bound ≡ bound → IsRootOf kinds p r → TellsRoot kinds p r told → StandsBesideRoot bound told
+shows kinds p r told None same is tells = tt
+shows kinds p root.None told (Some b) same is tells = absurd (some_is_not_none b p.bound same is)
+shows kinds p (root.Exact over shares) line.Empty (Some b) same is tells = absurd tells.1
+shows kinds p (root.Exact over shares) (line.Exact n m) (Some b) same is tells = λ empty. cc
+shows kinds p (root.Exact over shares) line.Wide (Some b) same is tells = λ empty. cc
+shows kinds p (root.Wide columns basis) told (Some b) same is tells = λ empty. cc
+
+pub tells_exact : (kinds : List Network) (p : MixedProof) (over : ℕ) (shares : List MixedShare) (told : RootLine) → IsBestProof kinds p → p.root ≡ root.Exact over shares →
+    IsExactLine (sum_of p.prices) (p.weight * (first_of kinds).denominator) told → TellsRoot kinds p p.root told
+tells_exact kinds p over shares told best is line =
+    let truth = subst (λ (r : MixedRoot). IsTrueRoot kinds p r) is best.truth.root in
+    subst (λ (r : MixedRoot). TellsRoot kinds p r told) (sym is) (truth.0, line)
+
+-- an exact root has a weight
+pub root_weight : (kinds : List Network) (p : MixedProof) (over : ℕ) (shares : List MixedShare) → IsBestProof kinds p → p.root ≡ root.Exact over shares → 1 ≤ p.weight
+root_weight kinds p over shares best is = (subst (λ (r : MixedRoot). RootHolds kinds p r) is best.accepted.root).some_weight
+
+-- ---- the report
+
+pub are_outcomes : (kinds : List Network) (o : MixedOutcome) (cost : Option ℕ) (told : RootLine) → IsOutcome kinds o → IsValid kinds o.plan cost →
+    TellsRoot kinds o.proof o.proof.root told → IsLowestLine told → AreOutcomes (record { cost = cost; bound = o.proof.bound; root = told; stopped = None })
+are_outcomes kinds o cost told is valid tells lowest = record {
+  bound = is_bound_of_cost kinds o.plan cost o.proof.bound valid is.proof_is.truth.bound;
+  beside = stands_beside kinds o.plan cost o.proof.bound valid is.proof_is.truth.bound;
+  root = shows kinds o.proof o.proof.root told o.proof.bound refl is.proof_is.root_is tells;
+  lowest = lowest;
+}
+
+negative_tells : (bound : Option ℕ) → (mixed_status bound ≡ status.Negative) ↔ (bound ≡ None)
+negative_tells None = (λ is. refl, λ is. refl)
+negative_tells (Some b) = (λ is. absurd (cc), λ is. absurd (cc))
+
+pub is_found : (kinds : List Network) (o : MixedOutcome) (plan_bytes cert_bytes text : List ℕ) (ended : Status) (told : RootLine) → IsOutcome kinds o →
+    plan_bytes ≡ mixed_plan_text o.plan → cert_bytes ≡ mixed_text (written_mixed kinds o.proof) → ended ≡ mixed_status o.proof.bound →
+    TellsRoot kinds o.proof o.proof.root told → text ≡ fleet_text (first_of kinds).denominator (outcomes_of kinds o told) → IsMixedFound kinds plan_bytes cert_bytes ended text
+is_found kinds o plan_bytes cert_bytes text ended told is plan cert ended_is tells text_is = record {
+  outcome = o;
+  is = is;
+  true_bound = is.proof_is.truth.bound;
+  plan_is = plan;
+  cert_is = cert;
+  root = told;
+  root_is = tells;
+  status_is = ended_is;
+  negative = subst (λ (s : Status). (s ≡ status.Negative) ↔ (o.proof.bound ≡ None)) (sym ended_is) (negative_tells o.proof.bound);
+  text_is = text_is;
+}
+
+-- what was appended to nothing
+pub appended : (old new text : List ℕ) → new ≡ old ++ text → old ≡ [] → new ≡ text
+appended old new text is empty = is ∙ ap (λ (xs : List ℕ). xs ++ text) empty

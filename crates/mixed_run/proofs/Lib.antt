@@ -1,0 +1,10 @@
+pub mod Reading
+pub mod Halting
+pub mod CheckMixedFinds
+pub mod Accepting
+pub mod Different
+pub mod MixedFinds
+pub mod Found
+pub mod KindLaws
+pub mod CheckMixedLaw
+pub mod MixedLaw

@@ -1,0 +1,30 @@
+use Rattle.job_frame.proofs.FileReads.{finds_alone}
+use Rattle.job_frame.specs.declared.status.Status.TheVariants as status
+use Rattle.mixed_run.proofs.CheckMixedFinds.{file_fails, refused_early}
+use Rattle.mixed_run.proofs.Halting.{halt_is, refused_is_no_failure, stopped_finds}
+use Rattle.mixed_run.specs.CheckMixedAnswer.{check_mixed_task}
+use Rattle.command_line.specs.JobValue.{mixed_value}
+use Rattle.command_line.specs.Words.{MixedJob}
+use Rattle.mixed_run.specs.KindFiles.{IsKindsRefused, mixed_refusal_text}
+use Rattle.mixed_run.specs.declared.refusal.Halt.TheVariants.{Refused, Stopped}
+use Rattle.mixed_run.proofs.check.check_mixed_files.Goals as goal
+
+pub returns-in-Err-Refused : goal.returns-in-Err-Refused
+returns-in-Err-Refused g c =
+    let job : MixedJob = mixed_value c.args.job.now in
+    let before = g.S.Shelf.state c.args.shelf.now in
+    let after = g.S.Shelf.state c.kinds_of_files.new.shelf in
+    let r = c.in-Err-Refused.refusal in
+    let halted = halt_is job.limit (IsKindsRefused job.limit) c.as_slice.result.now c.args.job.now.files.items before after c.in-Err-Refused.field-0 (Refused r) c.as_slice.ensures.value c.in-Err-Refused.field-0-is c.in-Err-Refused.ensures.halt in
+    finds_alone (check_mixed_task job) before after status.Refused (mixed_refusal_text r) c.refuse_mixed_job.result (refused_early job before.files r halted) tt
+    c.refuse_mixed_job.ensures.status c.refuse_mixed_job.ensures.text c.refuse_mixed_job.ensures.files c.refuse_mixed_job.ensures.memory
+    (c.in-Err-Refused.ensures.stays (refused_is_no_failure c.in-Err-Refused.field-0 r c.in-Err-Refused.field-0-is)) c.in-Err-Refused.ensures.falls c.in-Err-Refused.ensures.files
+
+pub returns-in-Err-Stopped : goal.returns-in-Err-Stopped
+returns-in-Err-Stopped g c =
+    let job : MixedJob = mixed_value c.args.job.now in
+    let before = g.S.Shelf.state c.args.shelf.now in
+    let after = g.S.Shelf.state c.kinds_of_files.new.shelf in
+    let halted = halt_is job.limit (IsKindsRefused job.limit) c.as_slice.result.now c.args.job.now.files.items before after c.in-Err-Stopped.field-0 (Stopped c.in-Err-Stopped.fault) c.as_slice.ensures.value c.in-Err-Stopped.field-0-is c.in-Err-Stopped.ensures.halt in
+    stopped_finds (check_mixed_task job) job.limit job.files (IsKindsRefused job.limit) before after c.in-Err-Stopped.field-0 c.in-Err-Stopped.fault c.in-Err-Stopped.field-0-is
+    halted (λ fails. file_fails job before after fails) c.in-Err-Stopped.ensures.stays c.in-Err-Stopped.ensures.falls c.in-Err-Stopped.ensures.files

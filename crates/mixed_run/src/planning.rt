@@ -1,0 +1,117 @@
+//! What `mixed` writes and puts of a search.
+
+ghost use Rattle.std.specs.Prelude.{◌≡◌, ◌≤◌, IfOk, option_map};
+ghost use Rattle.mixed_fleet.specs.Outcome.{IsOutcome};
+ghost use Rattle.mixed_fleet.specs.Proofs.{IsBestProof};
+ghost use Rattle.mixed_model.specs.Kinds.{AreKinds, first_of};
+ghost use Rattle.mixed_run.specs.KindFiles.{customer_count, most_customers};
+ghost use Rattle.mixed_run.specs.MixedAnswer.{IsMixedFound, TellsRoot, mixed_status, outcomes_of};
+ghost use Rattle.plan_writer.specs.FleetText.{IsLowestLine, fleet_text};
+ghost use Rattle.plan_writer.specs.declared.fleet.RootLine.{RootLine};
+
+use crate::judging::cost_of;
+use certificate_check::price_total;
+use ev_list::Listed;
+use instance_reader::Instance;
+use job_frame::{Answer, Status};
+use mixed_fleet::{MixedOutcome, plan_mixed};
+use mixed_model::{MixedProof, MixedRoot, MixedRoute};
+use mixed_plan::{mixed_plans_break_no_rule, push_mixed_plan};
+use mixed_text::push_mixed;
+use plan_writer::{Outcomes, RootLine, push_fleet_report};
+use std::alloc::{AllocError, Global};
+
+/// What is written and put of a search.
+#[derive(Drop)]
+pub struct Planned {
+    /// The text of the plan file.
+    pub plan: Vec<u8>,
+    /// The text of the proof.
+    pub cert: Vec<u8>,
+    /// The report, and the status that goes with it.
+    pub answer: Answer,
+}
+
+/// The texts of a plan for these kinds of vehicles and of a proof, and the report on both.
+pub fn plan_all(alloc: Global, kinds: &[Instance]) -> Result<Planned, AllocError>
+    requires kinds { AreKinds kinds.now }
+    requires few { customer_count kinds.now ≤ most_customers }
+    ensures { IfOk result (λ p. IsMixedFound kinds.now p.plan.items p.cert.items
+        p.answer.status p.answer.text.items) }
+{
+    let outcome = plan_mixed(alloc, kinds)?;
+    let mut plan = Vec::new(alloc);
+    push_mixed_plan(alloc, &mut plan, held_routes(&outcome.plan))?;
+    let mut cert = Vec::new(alloc);
+    push_mixed(alloc, &mut cert, kinds, &outcome.proof)?;
+    let answer = report(alloc, kinds, &outcome)?;
+    Ok(Planned { plan, cert, answer })
+}
+
+/// The routes of a plan that is held.
+fn held_routes(plan: &Option<Listed<MixedRoute>>) -> Option<&[MixedRoute]>
+    ensures { option_map (λ p. p.now) result ≡ plan.now }
+{
+    match plan {
+        Some(routes) => Some(routes.as_slice()),
+        None => None,
+    }
+}
+
+/// The report on a search, and its status.
+fn report(alloc: Global, kinds: &[Instance], outcome: &MixedOutcome) -> Result<Answer, AllocError>
+    requires kinds { AreKinds kinds.now }
+    requires few { customer_count kinds.now ≤ most_customers }
+    requires outcome { IsOutcome kinds.now outcome.now }
+    ensures status { IfOk result (λ a. a.status ≡ mixed_status outcome.now.proof.bound) }
+    ensures text { IfOk result (λ a. (told : RootLine)
+        × TellsRoot kinds.now outcome.now.proof outcome.now.proof.root told
+        × (a.text.items ≡ fleet_text (first_of kinds.now).denominator
+        (outcomes_of kinds.now outcome.now told))) }
+{
+    let Ok(cost) = cost_of(kinds, held_routes(&outcome.plan)) else {
+        // A plan that is held breaks no rule.
+        mixed_plans_break_no_rule();
+        unreachable!()
+    };
+    let outcomes = Outcomes {
+        cost,
+        bound: outcome.proof.bound,
+        root: root_line(kinds, &outcome.proof),
+        stopped: None,
+    };
+    let mut text = Vec::new(alloc);
+    push_fleet_report(alloc, &mut text, &kinds[0], &outcomes)?;
+    Ok(Answer {
+        status: mixed_status(outcomes.bound),
+        text,
+    })
+}
+
+/// The status of a search with this bound.
+fn mixed_status(bound: Option<u128>) -> Status
+    ensures { result ≡ mixed_status bound }
+{
+    match bound {
+        None => Status::Negative,
+        Some(_) => Status::Done,
+    }
+}
+
+/// The line of the root of the proof that a search found.
+fn root_line(kinds: &[Instance], proof: &MixedProof) -> RootLine
+    requires kinds { AreKinds kinds.now }
+    requires few { customer_count kinds.now ≤ most_customers }
+    requires proof { IsBestProof kinds.now proof.now }
+    ensures told { TellsRoot kinds.now proof.now proof.now.root result }
+    ensures lowest { IsLowestLine result }
+{
+    match &proof.root {
+        MixedRoot::None => RootLine::Empty,
+        MixedRoot::Exact { .. } => {
+            let sum = price_total(proof.prices.as_slice());
+            RootLine::exact(sum, proof.weight, &kinds[0])
+        }
+        MixedRoot::Wide { .. } => RootLine::Wide,
+    }
+}
