@@ -4,7 +4,7 @@ use Rattle.std.proofs.lemmas.List.{append-nil}
 use Rattle.std.specs.Option.{option_map}
 use Rattle.command_line.specs.JobValue.{job_value}
 use Rattle.command_line.specs.Usage.{usage_text}
-use Rattle.command_line.specs.Words.{BoundFleets, CheckBound, CheckPlan, CheckRoute, ConvertFile, FixedRoute, ImprovePlan, Job, MakeInstance, PlanFleet, ProveRoute}
+use Rattle.command_line.specs.Words.{BoundFleets, CheckBound, CheckMixed, CheckPlan, CheckRoute, ConvertFile, FixedRoute, ImprovePlan, Job, MakeInstance, PlanFleet, PlanMixed, ProveRoute}
 use Rattle.command_line.specs.declared.Job as values
 use Rattle.ev_outside.specs.Shelf.{ShelfState}
 use Rattle.ev_outside.specs.Sink.{AddsPrefix, SinkState}
@@ -22,6 +22,8 @@ use Rattle.evroute_run.specs.Run.{TellsUsage, task_of}
 use Rattle.job_frame.proofs.Performed.{IsLawful, performs_nothing}
 use Rattle.job_frame.specs.Performs.{Performs}
 use Rattle.job_frame.specs.declared.status.Status.TheVariants as status
+use Rattle.mixed_run.proofs.CheckMixedLaw.{check_mixed_lawful}
+use Rattle.mixed_run.proofs.MixedLaw.{mixed_lawful}
 
 -- what each command proves of its task
 pub is_lawful : (job : Job) → IsLawful (task_of job)
@@ -35,6 +37,8 @@ is_lawful (CheckBound job) = check_bound_lawful job
 is_lawful (ProveRoute job) = prove_lawful job
 is_lawful (CheckRoute job) = check_route_lawful job
 is_lawful (ImprovePlan job) = improve_lawful job
+is_lawful (PlanMixed job) = mixed_lawful job
+is_lawful (CheckMixed job) = check_mixed_lawful job
 
 -- ---- where no job is known, since memory for its words was refused
 

@@ -2,7 +2,7 @@
 use Rattle.std.specs.Prelude.{◌≡◌, List, map, Option, String, string_bytes}
 use Rattle.std.specs.declared.alloc.Global.{Global}
 use Rattle.command_line.specs.Usage.{usage_text}
-use Rattle.command_line.specs.Words.{BoundFleets, CheckBound, CheckPlan, CheckRoute, ConvertFile, FixedRoute, ImprovePlan, Job, MakeInstance, PlanFleet, ProveRoute, job_of}
+use Rattle.command_line.specs.Words.{BoundFleets, CheckBound, CheckMixed, CheckPlan, CheckRoute, ConvertFile, FixedRoute, ImprovePlan, Job, MakeInstance, PlanFleet, PlanMixed, ProveRoute, job_of}
 use Rattle.ev_outside.specs.Counts.{Rose}
 use Rattle.ev_outside.specs.Shelf.{ShelfState}
 use Rattle.ev_outside.specs.Sink.{Adds, AddsPrefix, SinkState}
@@ -20,6 +20,8 @@ use Rattle.job_frame.specs.Performs.{EndsUnlessHindered}
 use Rattle.job_frame.specs.Task.{Task}
 use Rattle.job_frame.specs.declared.status.Status.{Status}
 use Rattle.job_frame.specs.declared.status.Status.TheVariants as status
+use Rattle.mixed_run.specs.CheckMixedAnswer.{check_mixed_task}
+use Rattle.mixed_run.specs.MixedAnswer.{mixed_task}
 
 -- the job that the words name, if they name one
 abbrev pub job_named : List (String Global) → Option Job
@@ -37,6 +39,8 @@ task_of (CheckBound job) = check_bound_task job
 task_of (ProveRoute job) = prove_task job
 task_of (CheckRoute job) = check_route_task job
 task_of (ImprovePlan job) = improve_task job
+task_of (PlanMixed job) = mixed_task job
+task_of (CheckMixed job) = check_mixed_task job
 
 -- what the program owes where its words name no job: it tells how it is called
 pub record TellsUsage

@@ -25,6 +25,7 @@ use crate::watcher::{JobWatcher, Nobody};
 use command_line::{Job, job_words};
 use ev_outside::{Shelf, Sink};
 use job_frame::Status;
+use mixed_run::{check_mixed_files, mixed};
 use std::alloc::{AllocError, Global};
 
 /// The program: its words after its name, the files and the output.
@@ -72,12 +73,22 @@ use std::alloc::{AllocError, Global};
 /// rule that the plan breaks or, where there is none, the first customer whom no route of his own
 /// reaches ([`Status::Negative`]).
 ///
+/// `mixed PLAN CERT FILE.. [--limit N]` reads each FILE as the instance of one kind of vehicles,
+/// writes a plan with vehicles of these kinds, or that none is held, into PLAN, and a proof of what
+/// no such plan costs less than into CERT, and puts cost, bound and gap ([`Status::Done`], also
+/// where the gap is above 0), or that there is no such plan ([`Status::Negative`]).
+///
+/// `check-mixed PLAN CERT FILE.. [--limit N]` reads PLAN and CERT as such a plan, or none, and such
+/// a proof for the kinds of the FILEs, and puts that they are accepted, with cost, bound and gap
+/// ([`Status::Done`]), or the first rule that is broken, the plan's before the proof's
+/// ([`Status::Negative`]).
+///
 /// All put the line of the first broken rule of their files and words ([`Status::Refused`]). Other
 /// words put the usage text ([`Status::Words`]). After [`Status::Fault`] and [`Status::Memory`] a
-/// part of such a text may have been put. No file but OUTFILE, PLAN and CERT of `fleet`, and CERT
-/// of `bound` and `prove`, is written: by `convert`, `fleet`, `bound` and `prove` only where no
-/// rule is broken, by `make` wherever an instance is made, by `improve` only where it is done. What
-/// it holds after a failed write isn't known.
+/// part of such a text may have been put. No file but OUTFILE, PLAN and CERT of `fleet` and
+/// `mixed`, and CERT of `bound` and `prove`, is written: by `convert`, `fleet`, `mixed`, `bound`
+/// and `prove` only where no rule is broken, by `make` wherever an instance is made, by `improve`
+/// only where it is done. What it holds after a failed write isn't known.
 pub fn run<S: Shelf, K: Sink>(alloc: Global, words: &[String], shelf: &mut S, out: &mut K) -> Status
     ensures words { result ≡ Status.Words → IsNone (job_named words.now) }
     ensures usage { IsNone (job_named words.now)
@@ -164,5 +175,7 @@ fn perform<S: Shelf, K: Sink, W: JobWatcher>(
         Job::Prove(job) => finish(prove(alloc, job, shelf), shelf, out),
         Job::CheckRoute(job) => finish(check_route(alloc, job, shelf), shelf, out),
         Job::Improve(job) => finish(improve(alloc, job, shelf, watcher), shelf, out),
+        Job::Mixed(job) => finish(mixed(alloc, job, shelf), shelf, out),
+        Job::CheckMixed(job) => finish(check_mixed_files(alloc, job, shelf), shelf, out),
     }
 }

@@ -1,7 +1,7 @@
 use Rattle.std.proofs.Common.{subst, sym}
 use Rattle.command_line.specs.JobValue.{job_value}
 use Rattle.command_line.specs.declared.Job.{Job}
-use Rattle.command_line.specs.declared.Job.TheVariants.{Bound, Check, CheckBound, CheckRoute, Convert, Fixed, Fleet, Improve, Prove}
+use Rattle.command_line.specs.declared.Job.TheVariants.{Bound, Check, CheckBound, CheckMixed, CheckRoute, Convert, Fixed, Fleet, Improve, Mixed, Prove}
 use Rattle.evroute_run.specs.Run.{task_of}
 use Rattle.job_frame.specs.Performs.{Performs}
 use Rattle.evroute_run.proofs.command.perform.Goals as goal
@@ -64,3 +64,15 @@ returns-in-Improve-clause-job g c =
     let before = g.S.Shelf.state c.args.shelf.now in
     subst (λ (job : Job). Performs (task_of (job_value job)) before (g.S.Shelf.state c.finish-in-Improve.new.shelf) (g.K.Sink.state c.args.out.now) (g.K.Sink.state c.finish-in-Improve.new.out) c.finish-in-Improve.result)
     (sym c.in-Improve.is) (c.finish-in-Improve.ensures.job (job_value (Improve c.in-Improve.job)) before c.improve.ensures)
+
+pub returns-in-Mixed-clause-job : goal.returns-in-Mixed-clause-job
+returns-in-Mixed-clause-job g c =
+    let before = g.S.Shelf.state c.args.shelf.now in
+    subst (λ (job : Job). Performs (task_of (job_value job)) before (g.S.Shelf.state c.finish-in-Mixed.new.shelf) (g.K.Sink.state c.args.out.now) (g.K.Sink.state c.finish-in-Mixed.new.out) c.finish-in-Mixed.result)
+    (sym c.in-Mixed.is) (c.finish-in-Mixed.ensures.job (job_value (Mixed c.in-Mixed.job)) before c.mixed.ensures)
+
+pub returns-in-CheckMixed-clause-job : goal.returns-in-CheckMixed-clause-job
+returns-in-CheckMixed-clause-job g c =
+    let before = g.S.Shelf.state c.args.shelf.now in
+    subst (λ (job : Job). Performs (task_of (job_value job)) before (g.S.Shelf.state c.finish-in-CheckMixed.new.shelf) (g.K.Sink.state c.args.out.now) (g.K.Sink.state c.finish-in-CheckMixed.new.out) c.finish-in-CheckMixed.result)
+    (sym c.in-CheckMixed.is) (c.finish-in-CheckMixed.ensures.job (job_value (CheckMixed c.in-CheckMixed.job)) before c.check_mixed_files.ensures)
