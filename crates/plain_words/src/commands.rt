@@ -1,9 +1,11 @@
 //! The commands of the program, as the usage text has them.
 
-/// A command: the names behind it, in order, and its options.
+/// A command: the names behind it, in order, how many more there may be like the last, and its
+/// options.
 #[derive(Clone, Copy)]
 pub(crate) struct Command {
     pub(crate) names: &'static [&'static str],
+    pub(crate) more: usize,
     pub(crate) options: &'static [NumberOption],
 }
 
@@ -56,38 +58,52 @@ pub(crate) fn command_of(word: &str) -> Option<Command> {
     match word {
         "fixed" => Some(Command {
             names: &["FILE", "ROUTE"],
+            more: 0,
             options: &[LIMIT, CHARGE],
         }),
         "fleet" => Some(Command {
             names: &["FILE", "PLAN", "CERT"],
+            more: 0,
             options: &[LIMIT, NODES],
         }),
         "check" => Some(Command {
             names: &["FILE", "PLAN", "CERT"],
+            more: 0,
             options: &[LIMIT],
         }),
         "convert" => Some(Command {
             names: &["FILE", "OUTFILE"],
+            more: 0,
             options: &[TIME_DIGITS, ENERGY_DIGITS],
         }),
         "make" => Some(Command {
             names: &["SEED", "CUSTOMERS", "STATIONS", "OUTFILE"],
+            more: 0,
             options: &[],
         }),
         "bound" => Some(Command {
             names: &["FILE", "CERT"],
+            more: 0,
             options: &[NEAR, LIMIT],
         }),
         "check-bound" => Some(Command {
             names: &["FILE", "CERT"],
+            more: 0,
             options: &[LIMIT],
         }),
         "prove" | "check-route" => Some(Command {
             names: &["FILE", "ROUTE", "CERT"],
+            more: 0,
             options: &[LIMIT, CHARGE],
         }),
         "improve" => Some(Command {
             names: &["FILE", "PLAN", "OUTFILE"],
+            more: 0,
+            options: &[LIMIT],
+        }),
+        "mixed" | "check-mixed" => Some(Command {
+            names: &["PLAN", "CERT", "FILE"],
+            more: 7,
             options: &[LIMIT],
         }),
         _ => None,

@@ -1,6 +1,6 @@
 //! From which byte on a file is no JSON text.
 
-use crate::names::names_of;
+use crate::names::{instances_of, names_of};
 use crate::reach::MOST_BYTES;
 use ev_outside::Shelf;
 use serde_json::Value;
@@ -11,8 +11,8 @@ use std::alloc::{AllocError, Global};
 const MARK: &[u8] = b"\xef\xbb\xbf";
 
 /// What is said where an instance was refused since it is no JSON text: from which byte on, counted
-/// from 0. The file is read again. `None` for other lines, and where it can't be had or is a JSON
-/// text by now.
+/// from 0. The files of instances are read again, and the first of them is told that is none. `None`
+/// for other lines, and where they can't be had or are JSON texts by now.
 pub fn broken_json<S: Shelf>(
     alloc: Global,
     shelf: &mut S,
@@ -23,9 +23,20 @@ pub fn broken_json<S: Shelf>(
         return Ok(None);
     }
     let names = names_of(alloc, words)?;
-    let [_, file, ..] = names.as_slice() else {
-        return Ok(None);
-    };
+    for file in instances_of(names.as_slice()) {
+        if let Some(told) = told_in(alloc, shelf, file)? {
+            return Ok(Some(told));
+        }
+    }
+    Ok(None)
+}
+
+/// What is said of a file, where it can be had.
+fn told_in<S: Shelf>(
+    alloc: Global,
+    shelf: &mut S,
+    file: &str,
+) -> Result<Option<String>, AllocError> {
     let mut bytes = Vec::new(alloc);
     if shelf.read(file, MOST_BYTES, &mut bytes).is_err() {
         return Ok(None);

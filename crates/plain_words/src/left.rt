@@ -21,8 +21,10 @@ pub fn left_behind(
     failed: Failed<'_>,
 ) -> Result<Option<String>, AllocError> {
     let names = names_of(alloc, words)?;
-    let files = match names.as_slice() {
+    let names = names.as_slice();
+    let files = match names {
         ["fleet", _, files @ ..] => files,
+        ["mixed", _, _, ..] => &names[1..3],
         ["improve", _, _, files @ ..] => files,
         ["prove", _, _, files @ ..] => files,
         ["bound", _, files @ ..] => files,

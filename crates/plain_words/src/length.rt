@@ -5,13 +5,13 @@ use std::alloc::{AllocError, Global};
 use std::fs::metadata;
 use std::rt::Files;
 
-/// The most bytes of a certificate that `check` reads, and of a proof that `check-route` or
-/// `check-bound` reads.
+/// The most bytes of a certificate that `check` reads, and of a proof that `check-route`,
+/// `check-bound` or `check-mixed` reads.
 const MOST: u64 = 1 << 28;
 
 /// What is said of a certificate that `fleet` wrote and that is longer than `check` reads, or of a
-/// proof that `prove` or `bound` wrote and that is longer than its judge reads. `None` for other
-/// commands, and where the system tells no length.
+/// proof that `prove`, `bound` or `mixed` wrote and that is longer than its judge reads. `None` for
+/// other commands, and where the system tells no length.
 pub fn long_certificate<R: Files>(
     alloc: Global,
     files: &R,
@@ -22,6 +22,7 @@ pub fn long_certificate<R: Files>(
         ["fleet", _, _, cert] => (cert, "check"),
         ["prove", _, _, cert] => (cert, "check-route"),
         ["bound", _, cert] => (cert, "check-bound"),
+        ["mixed", _, cert, ..] => (cert, "check-mixed"),
         _ => return Ok(None),
     };
     match metadata(files, *cert) {

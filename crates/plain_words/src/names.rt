@@ -36,6 +36,39 @@ pub(crate) fn name_at<'a>(names: &[&'a str], at: usize) -> &'a str {
     }
 }
 
+/// The names of the instances of a job: of several kinds of vehicles all behind PLAN and CERT, else
+/// the first.
+pub(crate) fn instances_of<'a, 'b>(names: &'b [&'a str]) -> &'b [&'a str] {
+    match names {
+        ["mixed" | "check-mixed", _, _, files @ ..] => files,
+        [_, _, ..] => &names[1..2],
+        _ => &[],
+    }
+}
+
+/// The name of the plan of a job that reads one.
+pub(crate) fn plan_of<'a>(names: &[&'a str]) -> &'a str {
+    match names.first() {
+        Some(command) if *command == "check-mixed" => name_at(names, 1),
+        _ => name_at(names, 2),
+    }
+}
+
+/// One of these files, in words.
+pub(crate) fn one_of(alloc: Global, files: &[&str]) -> Result<String, AllocError> {
+    let mut told = String::new(alloc);
+    for (at, file) in files.iter().enumerate() {
+        if at > 0 {
+            told.push_str(" or ")?;
+        }
+        told.push_str(file)?;
+    }
+    if told.is_empty() {
+        told.push_str("the file")?;
+    }
+    Ok(told)
+}
+
 /// The value of an option, which is the next word or follows a `=`.
 pub(crate) fn option_value<'a>(words: &'a [String], option: &str) -> Option<&'a str> {
     let mut is_next = false;

@@ -1,6 +1,6 @@
-//! Which customer no vehicle reaches, where there is no fleet plan.
+//! Which customer no vehicle reaches, where there is no plan of a fleet.
 
-use crate::names::{names_of, option_value};
+use crate::names::{instances_of, names_of, one_of, option_value};
 use ev_outside::Shelf;
 use frvcp_labels::solve_route;
 use instance_reader::{Instance, read_instance};
@@ -10,10 +10,10 @@ use std::alloc::{AllocError, Global};
 /// The most bytes of an instance.
 pub(crate) const MOST_BYTES: usize = 1 << 26;
 
-/// What is said where `fleet` or `bound` printed that there is no fleet plan: a customer whom no
-/// route of its own serves, the first in order of nodes. There is one, since routes of their own
-/// for all customers are a fleet plan. `None` for other commands and lines, and where the instance
-/// can't be read again.
+/// What is said where `fleet`, `bound` or `mixed` printed that there is no plan of the fleet: a
+/// customer whom no route of its own serves, by a vehicle of any kind, the first in order of nodes.
+/// There is one, since routes of their own for all customers are such a plan. `None` for other
+/// commands and lines, and where the instances can't be read again.
 pub fn out_of_reach<S: Shelf>(
     alloc: Global,
     shelf: &mut S,
@@ -21,23 +21,61 @@ pub fn out_of_reach<S: Shelf>(
     line: &str,
 ) -> Result<Option<String>, AllocError> {
     let names = names_of(alloc, words)?;
-    let ["fleet" | "bound", file, ..] = names.as_slice() else {
-        return Ok(None);
-    };
-    if line != "infeasible" {
+    let names = names.as_slice();
+    if line != "infeasible" || !matches!(names, ["fleet" | "bound" | "mixed", ..]) {
         return Ok(None);
     }
-    let Some(inst) = instance_of(alloc, shelf, file, words) else {
+    let files = instances_of(names);
+    let Some(kinds) = read_again(alloc, shelf, files, words)? else {
         return Ok(None);
     };
-    for node in inst.customers() {
-        if !is_served_alone(alloc, &inst, *node)? {
-            return Ok(Some(format!(in alloc;
-                "{file}: no route of its own serves customer {node} within the limit"
-            )?));
+    match unreached(alloc, kinds.as_slice())? {
+        Some(node) => Ok(Some(format!(in alloc;
+            "{}: no route of its own serves customer {node} within the limit",
+            one_of(alloc, files)?
+        )?)),
+        None => Ok(None),
+    }
+}
+
+/// The instances of files, where all of them can be read.
+fn read_again<S: Shelf>(
+    alloc: Global,
+    shelf: &mut S,
+    files: &[&str],
+    words: &[String],
+) -> Result<Option<Vec<Instance>>, AllocError> {
+    let mut kinds = Vec::new(alloc);
+    for file in files {
+        match instance_of(alloc, shelf, file, words) {
+            Some(inst) => kinds.push(inst)?,
+            None => return Ok(None),
+        }
+    }
+    Ok(Some(kinds))
+}
+
+/// The first customer whom no route of its own serves by any of these kinds of vehicles.
+fn unreached(alloc: Global, kinds: &[Instance]) -> Result<Option<usize>, AllocError> {
+    let Some(first) = kinds.first() else {
+        return Ok(None);
+    };
+    for node in first.customers() {
+        if !is_served_by_any(alloc, kinds, *node)? {
+            return Ok(Some(*node));
         }
     }
     Ok(None)
+}
+
+/// Whether some kind of vehicles serves the customer at a node by a route of its own.
+fn is_served_by_any(alloc: Global, kinds: &[Instance], node: usize) -> Result<bool, AllocError> {
+    for inst in kinds {
+        if is_served_alone(alloc, inst, node)? {
+            return Ok(true);
+        }
+    }
+    Ok(false)
 }
 
 /// The instance of a file, with the limit of the words where they give one.

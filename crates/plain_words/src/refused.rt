@@ -1,6 +1,6 @@
 //! Lines that begin with `refused`.
 
-use crate::names::name_at;
+use crate::names::{instances_of, name_at, one_of, plan_of};
 use std::alloc::{AllocError, Global};
 
 /// What a refusal means, by the parts of its line behind the first word.
@@ -9,7 +9,8 @@ pub(crate) fn in_words(
     names: &[&str],
     cause: &[&str],
 ) -> Result<Option<String>, AllocError> {
-    let file = name_at(names, 1);
+    let either = one_of(alloc, instances_of(names))?;
+    let file = either.as_str();
     match cause {
         ["instance", rule @ ..] => instance(alloc, file, rule),
         ["limit", limit] => Ok(Some(format!(in alloc;
@@ -18,11 +19,15 @@ pub(crate) fn in_words(
         ["charge", level] => Ok(Some(format!(in alloc;
             "the charge {level} is more than the battery of {file} holds"
         )?)),
+        ["kinds", kind] => Ok(Some(format!(in alloc;
+            "{}: its nodes, customers or denominator differ from those of the first file",
+            kind_file(names, kind)
+        )?)),
         ["customers", count] => Ok(Some(format!(in alloc;
             "{file}: {count} customers, and at most 128 are planned or judged"
         )?)),
         ["route", rule @ ..] => route(alloc, name_at(names, 2), rule),
-        ["plan", rule @ ..] => plan(alloc, name_at(names, 2), rule),
+        ["plan", rule @ ..] => plan(alloc, plan_of(names), rule),
         ["certificate", rule @ ..] => certificate(alloc, kind(names), certificate_of(names), rule),
         ["literal", rule @ ..] => literal(alloc, file, rule),
         ["maker", ..] => Ok(Some(format!(in alloc;
@@ -31,6 +36,14 @@ pub(crate) fn in_words(
         )?)),
         _ => Ok(None),
     }
+}
+
+/// The file of the kind with a number, which is counted from 0.
+fn kind_file<'a>(names: &[&'a str], kind: &str) -> &'a str {
+    let Ok(kind) = kind.parse::<usize>() else {
+        return "the file";
+    };
+    name_at(instances_of(names), kind)
 }
 
 /// What a broken rule of an instance means.
@@ -126,11 +139,12 @@ fn plan(alloc: Global, file: &str, rule: &[&str]) -> Result<Option<String>, Allo
 }
 
 /// What the file of a certificate holds for a command: the proof of a route for `check-route`, that
-/// of a bound for `check-bound`.
+/// of a bound for `check-bound`, one for kinds of vehicles for `check-mixed`.
 fn kind(names: &[&str]) -> &'static str {
     match names.first() {
         Some(command) if *command == "check-route" => "a proof",
         Some(command) if *command == "check-bound" => "a proof of a bound",
+        Some(command) if *command == "check-mixed" => "a proof for kinds of vehicles",
         _ => "a certificate",
     }
 }
@@ -138,7 +152,7 @@ fn kind(names: &[&str]) -> &'static str {
 /// The name of that file.
 fn certificate_of<'a>(names: &[&'a str]) -> &'a str {
     match names.first() {
-        Some(command) if *command == "check-bound" => name_at(names, 2),
+        Some(command) if matches!(*command, "check-bound" | "check-mixed") => name_at(names, 2),
         _ => name_at(names, 3),
     }
 }

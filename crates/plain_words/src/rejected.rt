@@ -1,6 +1,6 @@
 //! Lines that begin with `rejected`.
 
-use crate::names::name_at;
+use crate::names::{name_at, plan_of};
 use std::alloc::{AllocError, Global};
 
 /// What a broken rule means, by the parts of its line behind the first word.
@@ -10,10 +10,11 @@ pub(crate) fn in_words(
     rule: &[&str],
 ) -> Result<Option<String>, AllocError> {
     match rule {
-        ["plan", rule @ ..] => plan(alloc, name_at(names, 2), rule),
+        ["plan", rule @ ..] => plan(alloc, plan_of(names), rule),
         ["certificate", rule @ ..] => certificate(alloc, name_at(names, 3), rule),
         ["proof", rule @ ..] => proof(alloc, name_at(names, 3), rule),
         ["near", rule @ ..] => near(alloc, name_at(names, 2), rule),
+        ["mixed", rule @ ..] => mixed(alloc, name_at(names, 2), rule),
         _ => Ok(None),
     }
 }
@@ -131,6 +132,29 @@ fn certificate(alloc: Global, file: &str, rule: &[&str]) -> Result<Option<String
             "{file}: the section of leaf {leaf} doesn't show the bound"
         )?)),
         ["6"] => Ok(Some(format!(in alloc;
+            "{file}: the root is not the least cost of a fractional cover"
+        )?)),
+        _ => Ok(None),
+    }
+}
+
+/// What a broken rule of a proof for several kinds of vehicles means. Kinds are counted from 0, in
+/// the order of their files.
+fn mixed(alloc: Global, file: &str, rule: &[&str]) -> Result<Option<String>, AllocError> {
+    match rule {
+        ["1", "kind", kind] => Ok(Some(format!(in alloc;
+            "{file}: kind {kind} lists no label of a vehicle that starts"
+        )?)),
+        ["2", "kind", kind, "label", label, "node", node] => Ok(Some(format!(in alloc;
+            "{file}: kind {kind}: the step from label {label} to node {node} leads to no listed \
+             label"
+        )?)),
+        ["3", "kind", kind, "label", label] => Ok(Some(format!(in alloc;
+            "{file}: kind {kind}: from label {label} a vehicle comes home for less than its \
+             customers' prices"
+        )?)),
+        ["4"] => Ok(Some(format!(in alloc; "{file}: its prices don't show the bound")?)),
+        ["5"] => Ok(Some(format!(in alloc;
             "{file}: the root is not the least cost of a fractional cover"
         )?)),
         _ => Ok(None),

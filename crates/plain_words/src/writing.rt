@@ -7,9 +7,9 @@ use std::io::ErrorKind;
 use std::path::Path;
 use std::rt::Files;
 
-/// Which file that `fleet`, `improve`, `bound` or `prove` would write behind its search can't be
-/// written, and why, as far as the system tells without a change: where a folder has its name, or
-/// its folder isn't there. `None` for other commands, which take no time.
+/// Which file that `fleet`, `mixed`, `improve`, `bound` or `prove` would write behind its search
+/// can't be written, and why, as far as the system tells without a change: where a folder has its
+/// name, or its folder isn't there. `None` for other commands, which take no time.
 pub fn unwritable<R: Files>(
     alloc: Global,
     files: &R,
@@ -17,7 +17,7 @@ pub fn unwritable<R: Files>(
 ) -> Result<Option<String>, AllocError> {
     let names = names_of(alloc, words)?;
     match names.as_slice() {
-        ["fleet", _, plan, cert] => match told_of(alloc, files, plan)? {
+        ["fleet", _, plan, cert] | ["mixed", plan, cert, ..] => match told_of(alloc, files, plan)? {
             Some(told) => Ok(Some(told)),
             None => told_of(alloc, files, cert),
         },

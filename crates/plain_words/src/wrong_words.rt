@@ -127,8 +127,7 @@ fn wrong_names(
     names: &[&str],
 ) -> Result<Option<String>, AllocError> {
     let given = names.len().saturating_sub(1);
-    let wanted = command.names.len();
-    if given != wanted {
+    if let Some(wanted) = wrong_count(alloc, command, given)? {
         return Ok(Some(format!(in alloc;
             "{name} takes {wanted} names behind it, and {given} are given"
         )?));
@@ -143,6 +142,23 @@ fn wrong_names(
         }
     }
     twice(alloc, names)
+}
+
+/// How many names a command takes, where so many are too few or too many.
+fn wrong_count(
+    alloc: Global,
+    command: &Command,
+    given: usize,
+) -> Result<Option<String>, AllocError> {
+    let least = command.names.len();
+    let most = least.saturating_add(command.more);
+    if least <= given && given <= most {
+        Ok(None)
+    } else if least == most {
+        Ok(Some(format!(in alloc; "{least}")?))
+    } else {
+        Ok(Some(format!(in alloc; "{least} to {most}")?))
+    }
 }
 
 /// Which file is named twice.
