@@ -1,6 +1,6 @@
 //! The jobs that lines of words name.
 
-use command_line::{Job, ProofWords, job_words, usage};
+use command_line::{Job, MixedWords, ProofWords, job_words, usage};
 use std::alloc::{AllocError, Global};
 
 /// The words of a line, in which they are parted by single spaces.
@@ -64,8 +64,20 @@ fn job_text(alloc: Global, line: &str) -> Result<String, AllocError> {
                 job.file, job.plan, job.outfile, job.limit
             )
         }
+        Some(Job::Mixed(job)) => kinds_text(alloc, "mixed", &job),
+        Some(Job::CheckMixed(job)) => kinds_text(alloc, "check-mixed", &job),
         None => String::from_str(alloc, "none"),
     }
+}
+
+/// What a job on several kinds of vehicles is, in one line.
+fn kinds_text(alloc: Global, command: &str, job: &MixedWords) -> Result<String, AllocError> {
+    let mut text = format!(in alloc; "{command} {} {}", job.plan, job.cert)?;
+    for file in &job.files {
+        text.push(' ')?;
+        text.push_str(file.as_str())?;
+    }
+    format!(in alloc; "{text} {:?}", job.limit)
 }
 
 /// What a job of proving or of judging a proof is, in one line.
@@ -260,6 +272,37 @@ fn words_name_jobs_that_improve_a_plan(rt: HostRuntime) {
         ("improve A P P", "none"),
         ("improve A P", "none"),
         ("improve A P O Q", "none"),
+    ] {
+        let job = job_text(alloc, line).expect(&rt, "memory");
+        assert_eq!(rt; job.as_str(), wanted, "{line}");
+    }
+}
+
+#[test]
+fn words_name_jobs_on_several_kinds(rt: HostRuntime) {
+    let alloc = rt.alloc();
+    for (line, wanted) in [
+        ("mixed P Q A", "mixed P Q A None"),
+        ("mixed P Q B A --limit 12", "mixed P Q B A Some(12)"),
+        (
+            "mixed P --limit=0 Q 1 2 3 4 5 6 7 8",
+            "mixed P Q 1 2 3 4 5 6 7 8 Some(0)",
+        ),
+        ("check-mixed P Q A B", "check-mixed P Q A B None"),
+        (
+            "--limit 3 check-mixed P -- Q -A",
+            "check-mixed P Q -A Some(3)",
+        ),
+        ("mixed P Q", "none"),
+        ("mixed P", "none"),
+        ("mixed P Q 1 2 3 4 5 6 7 8 9", "none"),
+        ("mixed P Q A B A", "none"),
+        ("mixed P P A", "none"),
+        ("mixed P Q A P", "none"),
+        ("check-mixed P Q Q", "none"),
+        ("mixed P Q A --nodes 1", "none"),
+        ("mixed P Q A --near 1", "none"),
+        ("check-mixed P Q A --charge 1", "none"),
     ] {
         let job = job_text(alloc, line).expect(&rt, "memory");
         assert_eq!(rt; job.as_str(), wanted, "{line}");

@@ -23,6 +23,8 @@ mod long_files;
 #[cfg(test)]
 mod many_customers;
 #[cfg(test)]
+mod mixed;
+#[cfg(test)]
 mod proved;
 #[cfg(test)]
 mod sure;

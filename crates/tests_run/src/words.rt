@@ -105,6 +105,52 @@ fn refusals_are_told_with_the_file(rt: HostRuntime) -> Result<(), Fail> {
 }
 
 #[test]
+fn jobs_on_several_kinds_are_told_with_their_files(rt: HostRuntime) -> Result<(), Fail> {
+    let alloc = rt.alloc();
+    for (line, want) in [
+        (
+            "refused kinds 1",
+            "b: its nodes, customers or denominator differ from those of the first file",
+        ),
+        (
+            "refused instance 2",
+            "a or b: no JSON text (in UTF-8, without a byte order mark)",
+        ),
+        ("refused plan 4 at 7", "p: ends too early, at byte 7"),
+        (
+            "refused certificate 3",
+            "q: a proof for kinds of vehicles of another version",
+        ),
+        (
+            "rejected plan 3 customer 5",
+            "p: customer 5 is served by no route",
+        ),
+        (
+            "rejected mixed 1 kind 0",
+            "q: kind 0 lists no label of a vehicle that starts",
+        ),
+        (
+            "rejected mixed 2 kind 1 label 0 node 7",
+            "q: kind 1: the step from label 0 to node 7 leads to no listed label",
+        ),
+        (
+            "rejected mixed 3 kind 1 label 4",
+            "q: kind 1: from label 4 a vehicle comes home for less than its customers' prices",
+        ),
+        ("rejected mixed 4", "q: its prices don't show the bound"),
+        (
+            "rejected mixed 5",
+            "q: the root is not the least cost of a fractional cover",
+        ),
+        ("accepted", ""),
+    ] {
+        let found = said(alloc, "check-mixed p q a b --limit 3", line)?;
+        assert_eq!(rt; found.as_str(), want, "at {line}");
+    }
+    Ok(())
+}
+
+#[test]
 fn broken_rules_are_told_with_the_file(rt: HostRuntime) -> Result<(), Fail> {
     let alloc = rt.alloc();
     for (line, want) in [
@@ -175,6 +221,16 @@ fn a_wrong_word_is_named(rt: HostRuntime) -> Result<(), Fail> {
             "check takes 3 names behind it, and 2 are given",
         ),
         ("check a b a", "a is named twice"),
+        (
+            "mixed p q",
+            "mixed takes 3 to 10 names behind it, and 2 are given",
+        ),
+        (
+            "check-mixed p q 1 2 3 4 5 6 7 8 9",
+            "check-mixed takes 3 to 10 names behind it, and 11 are given",
+        ),
+        ("mixed p q a q", "q is named twice"),
+        ("mixed p q a --nodes 1", "--nodes is no option of mixed"),
         (
             "make 1 x 0 m",
             "CUSTOMERS x: no whole number of at most 4294967295",
@@ -267,6 +323,19 @@ fn what_a_failure_leaves_is_told(rt: HostRuntime) -> Result<(), Fail> {
         ),
         ("bound a c --near 2", Failed::File("a"), ""),
         ("check-bound a c", Failed::File("c"), ""),
+        (
+            "mixed p q a b",
+            Failed::File("q"),
+            "p is whole, q may hold a part, and is to be written again",
+        ),
+        (
+            "mixed --limit 3 p q a b",
+            Failed::Output("cost 13/1"),
+            "p is whole, q is whole",
+        ),
+        ("mixed p q a b", Failed::File("a"), ""),
+        ("mixed p q a b", Failed::Output("refused kinds 1"), ""),
+        ("check-mixed p q a b", Failed::File("p"), ""),
         ("make 1 1 0 c", Failed::Output("nodes 2"), "c is whole"),
         ("improve a b c", Failed::Output("alone 1"), ""),
         (
