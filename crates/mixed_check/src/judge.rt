@@ -15,8 +15,8 @@ use instance_reader::Instance;
 use mixed_model::{MixedProof, MixedVerdict, accepted_roots_are_true};
 use std::alloc::{AllocError, Global};
 
-/// The verdict on a proof for several kinds of vehicles: that it is accepted, or the first rule that
-/// it breaks. The only `Err` is want of memory.
+/// The verdict on a proof for several kinds of vehicles: that it is accepted, or the first rule
+/// that it breaks. The only `Err` is want of memory.
 ///
 /// The rules; 1 to 3 are tried kind by kind, each of a kind over all its labels before the next:
 ///
@@ -30,8 +30,9 @@ use std::alloc::{AllocError, Global};
 /// 5. The root holds. `None`: the weight is 0 and the price sum above 0. `Exact`: the plan of each
 ///    share is a feasible one from full for its kind, serves customers alone, one at least and each
 ///    once; the shares of each customer add up to `over`; and their cost, each as its kind drives
-///    it, over `over` is the price sum over the weight, which is not 0. `Wide`: the columns are such
-///    plans, and the basis over them, by their kinds' times, is past the caps of 2^40 and 2^84.
+///    it, over `over` is the price sum over the weight, which is not 0. `Wide`: the columns are
+///    such plans, and the basis over them, by their kinds' times, is past the caps of 2^40 and
+///    2^84.
 ///
 /// Where it is accepted, whoever wrote the proof, every plan of a fleet of these kinds in any
 /// fraction of a unit of charge costs at least its bound, and there is none where it has no bound.

@@ -11,8 +11,8 @@ use std::alloc::{AllocError, Global};
 const MARK: &[u8] = b"\xef\xbb\xbf";
 
 /// What is said where an instance was refused since it is no JSON text: from which byte on, counted
-/// from 0. The files of instances are read again, and the first of them is told that is none. `None`
-/// for other lines, and where they can't be had or are JSON texts by now.
+/// from 0. The files of instances are read again, and the first of them is told that is none.
+/// `None` for other lines, and where they can't be had or are JSON texts by now.
 pub fn broken_json<S: Shelf>(
     alloc: Global,
     shelf: &mut S,
