@@ -6,12 +6,11 @@ ghost use Rattle.ev_model.specs.Network.{node_count};
 ghost use Rattle.fleet_model.specs.Cover.{IsFleetRoute};
 ghost use Rattle.fleet_model.specs.Places.{customer_count};
 ghost use Rattle.instance_reader.specs.Instance.{customer_nodes};
-ghost use Rattle.plan_check.specs.FirstFaults.{first_stray, strays};
 ghost use Rattle.plan_check.specs.Tallies.{AreKnown};
-ghost use Rattle.route_plan.specs.FirstPlaces.{behind_first};
 
 use customer_sets::CustSet;
 use instance_reader::Instance;
+use plan_check::stray_stop;
 use route_plan::{Stop, walk};
 use wide_bases::ListedRoute;
 
@@ -70,25 +69,4 @@ fn served_by(inst: &Instance, stop: Stop) -> Option<usize>
         return None;
     }
     inst.customer_number(stop.node)
-}
-
-/// The first stop between the ends that wasn't inserted and isn't at a customer.
-fn stray_stop(inst: &Instance, stops: &[Stop]) -> Option<usize>
-    requires { AreKnown inst.now stops.now }
-    ensures { result ≡ first_stray inst.now 1 (behind_first stops.now) }
-{
-    for at in 1..stops.len().saturating_sub(1) {
-        if is_stray(inst, stops[at]) {
-            return Some(at);
-        }
-    }
-    None
-}
-
-/// Whether a stop wasn't inserted and isn't at a customer.
-fn is_stray(inst: &Instance, stop: Stop) -> bool
-    requires { stop.node < node_count inst.now }
-    ensures { result ≡ strays inst.now stop }
-{
-    !stop.via && inst.customer_number(stop.node).is_none()
 }

@@ -16,7 +16,6 @@ use crate::paid::price_sum;
 use crate::places::Places;
 use customer_sets::Pairs;
 use instance_reader::Instance;
-use label_steps::scaled_limit;
 use piece_fn::Label;
 use std::alloc::{AllocError, Global};
 use std::marker::Model;
@@ -109,11 +108,11 @@ impl<'a> Section<'a> {
     }
 
     /// The limit on the scaled time of a route. It takes no memory.
-    pub fn limit(&self) -> u64
+    pub fn scaled_limit(&self) -> u64
         ensures value { result ≡ scaled_limit self.now.network }
         ensures small { result ≤ 10 ^ 18 }
     {
-        scaled_limit(self.inst)
+        self.inst.scaled_limit()
     }
 
     /// The label with a number.

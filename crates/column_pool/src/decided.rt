@@ -19,7 +19,7 @@ use frvcp_labels::solve_route;
 use instance_reader::Instance;
 use pricing::{Priced, Prices, price};
 use route_plan::RoutePlan;
-use route_pool::{ColumnPool, copy_of, full_time};
+use route_pool::ColumnPool;
 use std::alloc::{AllocError, Global};
 
 /// What serves a customer.
@@ -101,9 +101,9 @@ impl Chains {
         match chain_through(alloc, inst, pairs, number, node)? {
             Chain::None { section } => Ok(Some(section)),
             Chain::Route { order, plan } => {
-                let pooled = copy_of(alloc, &plan)?;
+                let pooled = plan.copy(alloc)?;
                 pool.put(alloc, inst, &order, pooled)?;
-                self.prices.push(i128::from(full_time(inst, &plan)))?;
+                self.prices.push(i128::from(plan.full_time(inst)))?;
                 self.shares.push(Share { share: 1, plan })?;
                 Ok(None)
             }

@@ -10,7 +10,7 @@ use instance_reader::Instance;
 use master_simplex::{Lp, LpFault, solve};
 use master_table::{Caps, Table, TableFault};
 use route_plan::RoutePlan;
-use route_pool::{ColumnPool, earning, full_time, keeps_pairs, kept_places};
+use route_pool::{ColumnPool, earning, keeps_pairs, kept_places};
 use std::alloc::{AllocError, Global};
 
 /// What it costs at least to cover the customers by fractions of the pool's routes that keep the
@@ -99,7 +99,7 @@ fn add_if_kept(
         return Ok(false);
     }
     let set = set_of(inst, order);
-    match table.add_column(set, full_time(inst, plan)) {
+    match table.add_column(set, plan.full_time(inst)) {
         Ok(_) => Ok(true),
         Err(TableFault::Memory) => Err(AllocError),
         Err(TableFault::Wide { .. }) => Ok(false),

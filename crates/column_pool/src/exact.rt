@@ -19,7 +19,6 @@ use master_simplex::Lp;
 use piece_fn::Label;
 use pricing::Prices;
 use route_plan::RoutePlan;
-use route_pool::copy_of;
 use std::alloc::{AllocError, Global};
 
 /// The shares of added columns, with the plans of these; the first `helpers` columns are helpers.
@@ -35,7 +34,7 @@ fn shares_of(
 {
     let mut found = Vec::with_capacity(alloc, shares.len())?;
     for (column, share) in shares {
-        let plan = copy_of(alloc, &plans[*column - helpers])?;
+        let plan = plans[*column - helpers].copy(alloc)?;
         found.push(Share {
             share: *share,
             plan,

@@ -15,7 +15,7 @@ use ev_list::Listed;
 use instance_reader::Instance;
 use pricing::PricedRoute;
 use route_plan::RoutePlan;
-use route_pool::{ColumnPool, copy_of, full_time, keeps_pairs};
+use route_pool::{ColumnPool, keeps_pairs};
 use std::alloc::{AllocError, Global};
 
 /// A route with the nodes of its customers, in the order in which it serves them, and its scaled
@@ -33,7 +33,7 @@ pub(crate) fn timed(inst: &Instance, route: PricedRoute) -> NodeRoute
     ensures { result ≡ timed inst.now route }
 {
     let PricedRoute { plan, order } = route;
-    let time = full_time(inst, &plan);
+    let time = plan.full_time(inst);
     NodeRoute {
         plan,
         order: Listed::from_vec(order),
@@ -119,7 +119,7 @@ fn copied(
     let mut nodes = Vec::with_capacity(alloc, order.len())?;
     nodes.extend_from_slice(order)?;
     let copy = PricedRoute {
-        plan: copy_of(alloc, plan)?,
+        plan: plan.copy(alloc)?,
         order: nodes,
     };
     Ok(timed(inst, copy))

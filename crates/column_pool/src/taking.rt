@@ -6,7 +6,7 @@ ghost use Rattle.column_pool.specs.Nodes.{IsColumnOf};
 
 use crate::route::NodeRoute;
 use instance_reader::Instance;
-use route_pool::{ColumnPool, copy_of};
+use route_pool::ColumnPool;
 use std::alloc::{AllocError, Global};
 
 /// Takes the routes into the pool, as far as they are new or faster.
@@ -42,7 +42,7 @@ fn take_in(
     if is_known(pool, route) {
         return Ok(());
     }
-    let plan = copy_of(alloc, &route.plan)?;
+    let plan = route.plan.copy(alloc)?;
     pool.put(alloc, inst, route.order.as_slice(), plan)
 }
 

@@ -5,7 +5,6 @@ ghost use Rattle.std.specs.List.Sorted.{IsNonDecreasingBy, IsPermutation};
 ghost use Rattle.ev_fleet.specs.Greedy.{AreGreedy, meet, meets_any, rank, routes_at, visits, with_all_apart, with_apart};
 
 use crate::held::Held;
-use crate::shares::copy_of;
 use bound_certificate::Share;
 use route_plan::RoutePlan;
 use std::alloc::{AllocError, Global};
@@ -45,7 +44,7 @@ fn copies_of(alloc: Global, shares: &[Share]) -> Result<Vec<Share>, AllocError>
     for share in shares {
         copies.push(Share {
             share: share.share,
-            plan: copy_of(alloc, &share.plan)?,
+            plan: share.plan.copy(alloc)?,
         })?;
     }
     Ok(copies)
@@ -97,7 +96,7 @@ fn add_apart(
     ensures { OnOk result (routes.new.items ≡ with_apart routes.old.items route.now) }
 {
     if !meets_any(routes.as_slice(), route) {
-        routes.push(copy_of(alloc, route)?)?;
+        routes.push(route.copy(alloc)?)?;
     }
     Ok(())
 }

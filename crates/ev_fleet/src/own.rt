@@ -7,7 +7,6 @@ ghost use Rattle.route_pool.specs.Pool.{IsPool};
 ghost use Rattle.ev_fleet.specs.OwnRoutes.{AreFastestOwn, HasNoOwn, IsFastestOwn, LacksOwn};
 ghost use Rattle.ev_fleet.specs.Plans.{CostsNoMoreThanOwn, IsHeld};
 
-use crate::shares::copy_of;
 use column_pool::ColumnPool;
 use ev_list::Listed;
 use frvcp_labels::solve_route;
@@ -57,7 +56,7 @@ fn own_routes(
         let Some(plan) = own_route(alloc, inst, *node)? else {
             return Ok(None);
         };
-        pool.put(alloc, inst, &[*node], copy_of(alloc, &plan)?)?;
+        pool.put(alloc, inst, &[*node], plan.copy(alloc)?)?;
         routes.push(plan)?;
     }
     Ok(Some(routes))

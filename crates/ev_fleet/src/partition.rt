@@ -6,7 +6,7 @@ ghost use Rattle.instance_reader.specs.Instance.{customer_nodes};
 ghost use Rattle.ev_fleet.specs.Plans.{IsHeld};
 
 use crate::candidates::{Candidate, candidates_by_customer, is_among};
-use crate::shares::{copy_of, plan_of_routes};
+use crate::shares::plan_of_routes;
 use bound_certificate::Section;
 use column_pool::ColumnPool;
 use instance_reader::Instance;
@@ -74,7 +74,7 @@ pub(crate) fn plan_of_pool(
     let mut routes = Vec::new(alloc);
     for at in &partition.found {
         if let Some((_, plan)) = pool.route_at(*at) {
-            routes.push(copy_of(alloc, plan)?)?;
+            routes.push(plan.copy(alloc)?)?;
         }
     }
     Ok(plan_of_routes(inst, routes))

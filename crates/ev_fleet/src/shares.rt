@@ -58,20 +58,9 @@ fn routes_of(alloc: Global, shares: &[Share]) -> Result<Vec<RoutePlan>, AllocErr
 {
     let mut routes = Vec::with_capacity(alloc, shares.len())?;
     for share in shares {
-        routes.push(copy_of(alloc, &share.plan)?)?;
+        routes.push(share.plan.copy(alloc)?)?;
     }
     Ok(routes)
-}
-
-/// A plan with the same stops.
-pub(crate) fn copy_of(alloc: Global, plan: &RoutePlan) -> Result<RoutePlan, AllocError>
-    ensures { IfOk result (λ copy. copy ≡ plan.now) }
-{
-    let mut stops = Vec::with_capacity(alloc, plan.stops.len())?;
-    stops.extend_from_slice(plan.stops.as_slice())?;
-    Ok(RoutePlan {
-        stops: Listed::from_vec(stops),
-    })
 }
 
 /// Sorts the routes by the nodes of their first stops outside the depot that weren't inserted.

@@ -34,7 +34,7 @@ impl<'a> Trip<'a> {
             result ≡ label.key) }
     {
         let Some(i) = home else {
-            return self.limit() + 1;
+            return self.scaled_limit() + 1;
         };
         let (_, time) = pool.value(i).value.least();
         time
@@ -178,7 +178,7 @@ impl<'a> Trip<'a> {
     fn is_low(&self, point: (u64, u64)) -> bool
         ensures { IsTrue result → IsPointWithin self.now.network point }
     {
-        point.0 <= self.capacity() && point.1 <= self.limit()
+        point.0 <= self.capacity() && point.1 <= self.scaled_limit()
     }
 }
 

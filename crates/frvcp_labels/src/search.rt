@@ -82,7 +82,7 @@ impl<'a> Trip<'a> {
         let Some(key) = pool.next_key() else {
             return None;
         };
-        if self.limit() < key {
+        if self.scaled_limit() < key {
             return None;
         }
         pool.take_next()

@@ -6,7 +6,7 @@ ghost use Rattle.route_steps.specs.Trips.{IsTrip};
 
 use crate::rest::Rest;
 use instance_reader::Instance;
-use label_steps::{drive_time, scaled_limit};
+use label_steps::drive_time;
 use std::marker::Model;
 
 /// A route on an instance, with the nodes that have a curve, the charge that the vehicle starts
@@ -34,11 +34,11 @@ impl<'a> Model for Trip<'a> {
 
 impl<'a> Trip<'a> {
     /// The scaled limit on the time of the route.
-    pub(crate) fn limit(&self) -> u64
+    pub(crate) fn scaled_limit(&self) -> u64
         ensures value { result ≡ scaled_limit self.now.network }
         ensures small { result ≤ 10 ^ 18 }
     {
-        scaled_limit(self.inst)
+        self.inst.scaled_limit()
     }
 
     /// The index in the route of its end.

@@ -155,6 +155,15 @@ impl Instance {
         self.limit
     }
 
+    /// The scaled limit on the time of a route: the limit times the denominator. It takes no
+    /// memory.
+    pub fn scaled_limit(&self) -> u64
+        ensures value { result ≡ scaled_limit self.now }
+        ensures small { result ≤ 10 ^ 18 }
+    {
+        self.denominator() * self.limit()
+    }
+
     /// The customers' nodes in rising order.
     pub fn customers(&self) -> &[usize]
         ensures value { result.now ≡ customer_nodes self.now }

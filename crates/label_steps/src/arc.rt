@@ -1,18 +1,10 @@
-//! Scaled times of an instance.
+//! Scaled times of arcs and of plugging in.
 
 ghost use Rattle.std.specs.Prelude.{◌≡◌, ◌*◌, ◌^◌, ◌<◌, ◌≤◌};
-ghost use Rattle.ev_model.specs.Network.{node_count, plug_time, scaled_limit};
+ghost use Rattle.ev_model.specs.Network.{node_count, plug_time};
 ghost use Rattle.label_steps.specs.Arrivals.{drive_time};
 
 use instance_reader::Instance;
-
-/// The limit on the scaled time of a route. It takes no memory.
-pub fn scaled_limit(inst: &Instance) -> u64
-    ensures value { result ≡ scaled_limit inst.now }
-    ensures small { result ≤ 10 ^ 18 }
-{
-    inst.denominator() * inst.limit()
-}
 
 /// The scaled time of an arc and of the visit at its end, without plugging in and charging. It
 /// takes no memory.

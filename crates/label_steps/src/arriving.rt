@@ -6,7 +6,7 @@ ghost use Rattle.ev_model.specs.Network.{node_count};
 ghost use Rattle.piece_fn.specs.PieceFn.{IsCut, level_times};
 ghost use Rattle.label_steps.specs.Arrivals.{ArrivesAs, IsArrival, IsWithin, NoArrival};
 
-use crate::arc::{drive_time, scaled_limit};
+use crate::arc::drive_time;
 use dominance::LabelValue;
 use instance_reader::Instance;
 use piece_fn::PieceFn;
@@ -33,7 +33,7 @@ pub fn arrival(
 {
     let energy = inst.energy(from, to);
     let time = drive_time(inst, from, to);
-    moved(value, energy, time, scaled_limit(inst), least)
+    moved(value, energy, time, inst.scaled_limit(), least)
 }
 
 /// What is left of a value after an arc, at the level `least` or above; `None` where nothing is

@@ -6,7 +6,7 @@ ghost use Rattle.ev_model.specs.Network.{node_count};
 ghost use Rattle.piece_fn.specs.PieceFn.{level_times};
 ghost use Rattle.label_steps.specs.Leaves.{AreLeft, CoverCharges};
 
-use crate::arc::{plugging_time, scaled_limit};
+use crate::arc::plugging_time;
 use crate::paying::charged_where_it_pays;
 use dominance::LabelValue;
 use instance_reader::Instance;
@@ -34,10 +34,10 @@ pub fn departures(
     let Some(curve) = inst.curve_at(node) else {
         return single(alloc, arrived);
     };
-    let Some(plugged) = arrived.shift(0, plugging_time(inst, node), scaled_limit(inst))? else {
+    let Some(plugged) = arrived.shift(0, plugging_time(inst, node), inst.scaled_limit())? else {
         return single(alloc, arrived);
     };
-    let mut values = charged_where_it_pays(alloc, plugged, curve, scaled_limit(inst))?;
+    let mut values = charged_where_it_pays(alloc, plugged, curve, inst.scaled_limit())?;
     values[0] = arrived;
     Ok(values)
 }

@@ -9,7 +9,7 @@ mod covering;
 mod leaving;
 mod paying;
 
-pub use arc::{drive_time, plugging_time, scaled_limit};
+pub use arc::{drive_time, plugging_time};
 pub use arriving::arrival;
 pub use covering::{Covering, covers_all};
 pub use leaving::departures;

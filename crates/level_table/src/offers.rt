@@ -80,7 +80,7 @@ impl<'a> Trip<'a> {
             return None;
         };
         let time = leg.time + rest.time;
-        if time > self.limit() {
+        if time > self.scaled_limit() {
             return None;
         }
         let reach = Reach {

@@ -31,11 +31,11 @@ impl<'a> Model for Trip<'a> {
 
 impl<'a> Trip<'a> {
     /// The scaled limit on the time of the route.
-    pub(crate) fn limit(&self) -> u64
+    pub(crate) fn scaled_limit(&self) -> u64
         ensures value { result ≡ scaled_limit self.now.network }
         ensures small { result ≤ 10 ^ 18 }
     {
-        self.inst.denominator() * self.inst.limit()
+        self.inst.scaled_limit()
     }
 
     /// The number of arcs of the route: the index in it of the depot at its end.

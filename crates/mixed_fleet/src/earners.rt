@@ -17,7 +17,6 @@ use instance_reader::Instance;
 use piece_fn::Label;
 use price_loop::{Earned, Earners};
 use pricing::{Priced, PricedRoute, Prices, price};
-use route_pool::copy_of;
 use std::alloc::{AllocError, Global};
 use std::cell::Cell;
 use std::marker::Model;
@@ -230,7 +229,7 @@ fn all_searched(
 {
     let mut found = Vec::with_capacity(alloc, routes.len())?;
     for route in routes {
-        let plan = copy_of(alloc, &route.plan)?;
+        let plan = route.plan.copy(alloc)?;
         found.push(as_searched(alloc, inst, kind, &route.order, plan)?)?;
     }
     Ok(found)

@@ -8,7 +8,6 @@ ghost use Rattle.mixed_fleet.specs.Shares.{HasRoute, share_at};
 use crate::searched::Searched;
 use certificate_parts::BasisEntry;
 use mixed_model::{MixedRoute, MixedShare};
-use route_pool::copy_of;
 use std::alloc::{AllocError, Global};
 
 /// The shares of routes; the first `helpers` columns are helpers.
@@ -49,7 +48,7 @@ pub(crate) fn copy_of_route(alloc: Global, route: &MixedRoute) -> Result<MixedRo
 {
     Ok(MixedRoute {
         kind: route.kind,
-        plan: copy_of(alloc, &route.plan)?,
+        plan: route.plan.copy(alloc)?,
     })
 }
 

@@ -12,7 +12,6 @@ use ev_list::Listed;
 use instance_reader::Instance;
 use mixed_model::MixedRoute;
 use route_plan::RoutePlan;
-use route_pool::full_time;
 use std::alloc::{AllocError, Global};
 
 /// A route of a vehicle of some kind, with the numbers of its customers and its scaled time.
@@ -34,7 +33,7 @@ pub(crate) fn as_searched(
     requires { IsColumn inst.now order.now plan.stops }
     ensures { IfOk result (λ r. r ≡ searched_of inst.now kind order.now plan) }
 {
-    let time = full_time(inst, &plan);
+    let time = plan.full_time(inst);
     let numbers = numbers_at(alloc, inst, order)?;
     Ok(Searched {
         route: MixedRoute { kind, plan },

@@ -1,24 +1,21 @@
 //! Tight routes.
 
-ghost use Rattle.std.specs.Prelude.{◌≡◌, ◌↔◌, ◌*◌, ◌<◌, ◌^◌, ◌≤◌, [], IfOk, IsTrue, length};
+ghost use Rattle.std.specs.Prelude.{◌↔◌, ◌*◌, ◌<◌, ◌^◌, ◌≤◌, [], IfOk, IsTrue, length};
 ghost use Rattle.std.specs.List.{All};
 ghost use Rattle.ev_model.specs.Fleet.{times_in};
-ghost use Rattle.ev_model.specs.Network.{node_count};
 ghost use Rattle.fleet_model.specs.Places.{numbers_of};
 ghost use Rattle.instance_reader.specs.Instance.{customer_nodes};
 ghost use Rattle.near_proof.specs.Accepted.{IsTight, terms_of};
 ghost use Rattle.near_proof.specs.Ranges.{NearFits};
 ghost use Rattle.near_proof.specs.Routes.{KeepsMemory};
 ghost use Rattle.near_proof.specs.Terms.{earned_by};
-ghost use Rattle.plan_check.specs.FirstFaults.{first_stray, strays};
-ghost use Rattle.plan_check.specs.Tallies.{AreKnown};
-ghost use Rattle.route_plan.specs.FirstPlaces.{behind_first};
 
 use crate::memory::remembered;
 use customer_sets::CustSet;
 use instance_reader::Instance;
 use near_proof::NearProof;
 use near_services::{earned_by, numbers_of, times_in};
+use plan_check::stray_stop;
 use route_plan::{Stop, walk};
 use std::alloc::{AllocError, Global};
 
@@ -71,25 +68,4 @@ fn keeps_memory(sets: &[CustSet], customers: &[usize]) -> bool
         memory = remembered(memory, sets[*customer], *customer);
     }
     true
-}
-
-/// The first stop between the ends that wasn't inserted and isn't at a customer.
-fn stray_stop(inst: &Instance, stops: &[Stop]) -> Option<usize>
-    requires { AreKnown inst.now stops.now }
-    ensures { result ≡ first_stray inst.now 1 (behind_first stops.now) }
-{
-    for at in 1..stops.len().saturating_sub(1) {
-        if is_stray(inst, stops[at]) {
-            return Some(at);
-        }
-    }
-    None
-}
-
-/// Whether a stop wasn't inserted and isn't at a customer.
-fn is_stray(inst: &Instance, stop: Stop) -> bool
-    requires { stop.node < node_count inst.now }
-    ensures { result ≡ strays inst.now stop }
-{
-    !stop.via && inst.customer_number(stop.node).is_none()
 }

@@ -7,7 +7,6 @@ use crate::asked::Pricing;
 use completion_bounds::{Completion, Terms};
 use customer_sets::CustSet;
 use instance_reader::Instance;
-use label_steps::scaled_limit;
 use near_proof::NearLabel;
 use std::alloc::{AllocError, Global};
 
@@ -41,7 +40,7 @@ fn table_of<'a>(
         prices,
         sets,
         turns: None,
-        horizon: scaled_limit(inst),
+        horizon: inst.scaled_limit(),
         layers: LAYERS,
     };
     Completion::new(alloc, &terms)

@@ -4,13 +4,12 @@ ghost use Rattle.std.specs.Prelude.{◌≡◌, ◌<◌, ◌≤◌, IfNone, IfOk,
 ghost use Rattle.std.specs.List.{All};
 ghost use Rattle.ev_model.specs.Feasible.{IsFeasible};
 ghost use Rattle.ev_model.specs.Fleet.{times_in};
-ghost use Rattle.ev_model.specs.Time.{time_of};
 ghost use Rattle.ng_pricing.specs.Met.{IsAllowed, IsLimit, IsMeasured, Pays};
 
 use ev_list::Listed;
 use instance_reader::Instance;
 use near_services::{earned_by, numbers_of, times_in};
-use route_plan::{RoutePlan, walk};
+use route_plan::RoutePlan;
 use std::alloc::{AllocError, Global};
 
 /// A near route with what is asked of it again and again.
@@ -42,7 +41,7 @@ impl MetRoute {
         ensures { IfOk result (IsMeasured inst.now plan) }
     {
         let numbers = numbers_of(alloc, inst, plan.stops.as_slice())?;
-        let time = full_time(inst, &plan);
+        let time = plan.full_time(inst);
         Ok(MetRoute {
             plan,
             time,
@@ -69,27 +68,4 @@ impl MetRoute {
         let rest = u128::from(self.time) - earned_by(prices, numbers);
         Some((rest / times as u128) as u64)
     }
-}
-
-/// The scaled time of a plan from full.
-fn full_time(inst: &Instance, plan: &RoutePlan) -> u64
-    requires { IsFeasible inst.now 1 inst.now.capacity plan.now.stops }
-    ensures { result ≡ time_of inst.now 1 inst.now.capacity plan.now.stops }
-{
-    match walk(inst, inst.max_q(), plan.stops.as_slice()) {
-        Ok(end) => end.time,
-        Err(_) => unreachable!(),
-    }
-}
-
-/// A plan with the same stops.
-pub(crate) fn copy_of(alloc: Global, plan: &RoutePlan) -> Result<RoutePlan, AllocError>
-    ensures { IfOk result (λ copy. copy ≡ plan.now) }
-{
-    let stops = plan.stops.as_slice();
-    let mut copy = Vec::with_capacity(alloc, stops.len())?;
-    copy.extend_from_slice(stops)?;
-    Ok(RoutePlan {
-        stops: Listed::from_vec(copy),
-    })
 }

@@ -9,7 +9,7 @@ ghost use Rattle.ng_pricing.specs.Met.{AreMet, IsLimit};
 ghost use Rattle.ng_pricing.specs.Rising.{terms_at};
 
 use crate::limits::First;
-use crate::met::{Limit, MetRoute, copy_of};
+use crate::met::{Limit, MetRoute};
 use crate::setting::{ClosedAt, Setting, no_prices, prices_with};
 use crate::watcher::{PriceWatcher, progress_of};
 use ev_list::Listed;
@@ -143,7 +143,7 @@ impl Setting<'_> {
                     limit = self.meet(alloc, prices, met, customer, plan)?;
                 }
                 NearPriced::Closed { labels } => {
-                    let tight = copy_of(alloc, &met[limit.route].plan)?;
+                    let tight = met[limit.route].plan.copy(alloc)?;
                     return Ok(Fixed {
                         price: limit.price,
                         labels,

@@ -11,5 +11,5 @@ mod tally;
 pub use fault::{LargeFault, PlanFault};
 pub use has_stops::HasStops;
 pub use judge::{check_fleet, check_large};
-pub use later::fault_behind_walks;
+pub use later::{fault_behind_walks, stray_stop};
 pub use laws::{fleet_plans_break_no_rule, later_rules_ask_for_each_customer_once};

@@ -37,7 +37,7 @@ fn horizon(terms: &Section<'_>) -> u64 {
     let time = paid
         .checked_div(u128::from(terms.weight()))
         .unwrap_or(u128::MAX);
-    u64::try_from(time).unwrap_or(u64::MAX).min(terms.limit())
+    u64::try_from(time).unwrap_or(u64::MAX).min(terms.scaled_limit())
 }
 
 /// All customers, for each of them.

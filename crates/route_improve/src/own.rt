@@ -6,7 +6,7 @@ ghost use Rattle.plan_check.specs.FleetRules.{IsCustomer};
 ghost use Rattle.route_improve.specs.Improved.{IsFirstAlone, IsOwnFault};
 ghost use Rattle.route_improve.specs.Own.{AreOwn, IsOwn, IsOwnOrAlone};
 
-use crate::pricer::{fastest_plan, full_time};
+use crate::pricer::fastest_plan;
 use crate::route::Route;
 use instance_reader::Instance;
 use std::alloc::{AllocError, Global};
@@ -51,7 +51,7 @@ fn own_route(alloc: Global, inst: &Instance, node: usize) -> Result<Option<Route
     match fastest_plan(alloc, inst, &order)? {
         Some(plan) => Ok(Some(Route {
             order,
-            time: full_time(inst, &plan),
+            time: plan.full_time(inst),
         })),
         None => Ok(None),
     }

@@ -2,9 +2,7 @@
 
 ghost use Rattle.std.specs.Prelude.{◌≡◌, ◌+◌, ◌<◌, ◌≤◌, ◌≢◌, [], ℕ, IfOk, IfSome, MatchOption};
 ghost use Rattle.ev_model.specs.Fastest.{HasNoPlan, IsFastest};
-ghost use Rattle.ev_model.specs.Feasible.{IsFeasible};
 ghost use Rattle.ev_model.specs.Network.{scaled_limit};
-ghost use Rattle.ev_model.specs.Time.{time_of};
 ghost use Rattle.route_improve.specs.Orders.{IsLeastTime, route_over};
 ghost use Rattle.route_improve.specs.Pricing.{AreKnown, AreLess, AreNoLess, IsTimeOf};
 ghost use Rattle.route_improve.specs.Routes.{IsOrder};
@@ -13,7 +11,7 @@ use crate::moves::copy_of;
 use frvcp_labels::{RouteBounds, solve_route};
 use indexmap::IndexMap;
 use instance_reader::Instance;
-use route_plan::{RoutePlan, walk};
+use route_plan::RoutePlan;
 use std::alloc::{AllocError, Global};
 use std::marker::Model;
 
@@ -96,7 +94,7 @@ impl<'a> Pricer<'a> {
             return 0;
         }
         let bound = self.bounds.bound(order);
-        if u128::from(scaled_limit(self.inst)) < bound {
+        if u128::from(self.inst.scaled_limit()) < bound {
             return u128::MAX;
         }
         bound
@@ -161,13 +159,6 @@ fn remember(
     Ok(())
 }
 
-/// The scaled limit on the time of a route.
-fn scaled_limit(inst: &Instance) -> u64
-    ensures { result ≡ scaled_limit inst.now }
-{
-    inst.denominator() * inst.limit()
-}
-
 /// The least time of an order, found by a search.
 fn charge(alloc: Global, inst: &Instance, order: &[usize]) -> Result<Option<u64>, AllocError>
     requires order { IsOrder inst.now order.now }
@@ -175,7 +166,7 @@ fn charge(alloc: Global, inst: &Instance, order: &[usize]) -> Result<Option<u64>
     ensures { IfOk result (IsTimeOf inst.now order.now) }
 {
     match fastest_plan(alloc, inst, order)? {
-        Some(plan) => Ok(Some(full_time(inst, &plan))),
+        Some(plan) => Ok(Some(plan.full_time(inst))),
         None => Ok(None),
     }
 }
@@ -207,15 +198,4 @@ fn route_over(alloc: Global, order: &[usize]) -> Result<Vec<usize>, AllocError>
     route.extend_from_slice(order)?;
     route.push(0)?;
     Ok(route)
-}
-
-/// The scaled time of a plan from full.
-pub(crate) fn full_time(inst: &Instance, plan: &RoutePlan) -> u64
-    requires { IsFeasible inst.now 1 inst.now.capacity plan.now.stops }
-    ensures { result ≡ time_of inst.now 1 inst.now.capacity plan.now.stops }
-{
-    match walk(inst, inst.max_q(), plan.stops.as_slice()) {
-        Ok(end) => end.time,
-        Err(_) => unreachable!(),
-    }
 }

@@ -6,7 +6,6 @@ ghost use Rattle.route_proof.specs.Closed.{HasGoodPlan, bar};
 ghost use Rattle.route_proof.specs.Verdicts.{IsVerdict};
 
 use instance_reader::Instance;
-use label_steps::scaled_limit;
 use route_plan::{Stop, walk};
 use route_proof::{RouteProof, RouteVerdict};
 
@@ -25,7 +24,7 @@ pub(crate) fn bar_of(
         (record { network = inst.now; route = route.now; start = start }) proof.now) }
 {
     let Some(plan) = &proof.plan else {
-        return Ok(scaled_limit(inst) + 1);
+        return Ok(inst.scaled_limit() + 1);
     };
     match walk(inst, start, plan.stops.as_slice()) {
         Ok(walk) => {

@@ -5,14 +5,12 @@
 mod keeping;
 mod own;
 mod partial_pricing;
-mod plans;
 mod pool;
 mod pooled;
 
 pub use keeping::keeps_pairs;
 pub use own::{put_own_route, put_own_routes};
 pub use partial_pricing::{earning, kept_places};
-pub use plans::{copy_of, full_time};
 pub use pool::ColumnPool;
 pub use pooled::Pooled;
 

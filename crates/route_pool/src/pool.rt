@@ -7,7 +7,6 @@ ghost use Rattle.route_plan.specs.declared.plan.RoutePlan.{RoutePlan};
 ghost use Rattle.route_pool.specs.Placed.{IsRouteAt};
 ghost use Rattle.route_pool.specs.Pool.{AreApart, full_time, held, IsColumn, IsPool, IsPut, kept, orders_after, orders_of};
 
-use crate::plans::full_time;
 use crate::pooled::Pooled;
 use indexmap::IndexMap;
 use instance_reader::Instance;
@@ -67,7 +66,7 @@ impl ColumnPool {
         ensures first_seen { OnOk result (orders_of self.new ≡ orders_after self.old order.now) }
         ensures unchanged { OnErr result (self.new ≡ self.old) }
     {
-        let time = full_time(inst, &plan);
+        let time = plan.full_time(inst);
         if let Some(before) = self.routes.get_mut(order) {
             keep_faster(inst, before, Pooled { plan, time });
             return Ok(());
@@ -153,7 +152,7 @@ fn keep_faster(inst: &Instance, before: &mut Pooled, other: Pooled)
     requires other { IsFeasible inst.now 1 inst.now.capacity other.plan.stops }
     ensures { before.new.plan.stops ≡ kept inst.now other.plan.stops (Some before.old.plan.stops) }
 {
-    if full_time(inst, &other.plan) < full_time(inst, &before.plan) {
+    if other.plan.full_time(inst) < before.plan.full_time(inst) {
         *before = other;
     }
 }

@@ -4,7 +4,7 @@ ghost use Rattle.std.specs.Prelude.{◌≡◌, ◌≤◌, IfSome, length};
 ghost use Rattle.instance_reader.specs.Instance.{customer_nodes};
 ghost use Rattle.route_pool.specs.Pool.{IsPool};
 
-use crate::{ColumnPool, copy_of, earning, kept_places, put_own_routes};
+use crate::{ColumnPool, earning, kept_places, put_own_routes};
 use customer_sets::Pairs;
 use instance_reader::{Instance, read_instance};
 use std::alloc::Global;
@@ -105,7 +105,7 @@ fn copies(alloc: Global, at: usize) -> Option<bool> {
     let inst = instance(alloc)?;
     let pool = own_routes(alloc, &inst)?;
     let (_, plan) = pool.route_at(at)?;
-    let copy = copy_of(alloc, plan).ok()?;
+    let copy = plan.copy(alloc).ok()?;
     Some(copy.stops.as_slice() == plan.stops.as_slice())
 }
 

@@ -79,13 +79,5 @@ fn points_fit(inst: &Instance, points: &[(u64, u64)]) -> bool
 fn point_fits(inst: &Instance, point: (u64, u64)) -> bool
     ensures { IsTrue result ↔ PointFits inst.now point }
 {
-    point.0 <= inst.max_q() && point.1 <= scaled_limit(inst)
-}
-
-/// The limit on the scaled time of a route.
-pub fn scaled_limit(inst: &Instance) -> u64
-    ensures value { result ≡ scaled_limit inst.now }
-    ensures small { result ≤ 10 ^ 18 }
-{
-    inst.denominator() * inst.limit()
+    point.0 <= inst.max_q() && point.1 <= inst.scaled_limit()
 }

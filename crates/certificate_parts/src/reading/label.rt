@@ -17,7 +17,6 @@ ghost use Rattle.certificate_parts.specs.declared.cert_text.CertText.TheVariants
 ghost use Rattle.ev_text.specs.declared.TextFault.TheVariants.{TooLarge};
 
 use crate::cert_text::CertText;
-use crate::ranges::scaled_limit;
 use crate::reading::nodes::{Place, take_customer, take_node, take_place};
 use customer_sets::CustSet;
 use ev_text::{Scan, TextFault};
@@ -232,7 +231,7 @@ fn take_time(
         number_where (scaled_limit inst.now) (is_later last level) scan.old ≡ Err fault) }
 {
     let at = scan.place();
-    let time = scan.whole(u128::from(scaled_limit(inst)))? as u64;
+    let time = scan.whole(u128::from(inst.scaled_limit()))? as u64;
     if is_later(last, level, time) {
         Ok(time)
     } else {

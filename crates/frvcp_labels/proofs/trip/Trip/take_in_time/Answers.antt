@@ -6,7 +6,7 @@ use Rattle.frvcp_labels.proofs.trip.Trip.take_in_time.Goals as goal
 pub returns-in_default-clause-none : goal.returns-in_default-clause-none
 returns-in_default-clause-none c none = none_home c.args.self.now c.args.pool.now.labels c.requires.spread (c.next_key.ensures.none.0 (subst (λ (o : Option ℕ). IsNone o) (sym c.in_default.is) refl))
 
-pub returns-then-limit-key-clause-none : goal.returns-then-limit-key-clause-none
-returns-then-limit-key-clause-none c none =
+pub returns-then-scaled_limit-key-clause-none : goal.returns-then-scaled_limit-key-clause-none
+returns-then-scaled_limit-key-clause-none c none =
     let next = c.in-Some.ensures.key in
-    late_home c.args.self.now c.args.pool.now.labels c.requires.spread c.limit.result next.0 c.in-Some.key next.1 c.requires.pool.labels next.2 next.3 c.limit.ensures.value c.if-limit-key.true
+    late_home c.args.self.now c.args.pool.now.labels c.requires.spread c.scaled_limit.result next.0 c.in-Some.key next.1 c.requires.pool.labels next.2 next.3 c.scaled_limit.ensures.value c.if-scaled_limit-key.true
