@@ -1,9 +1,9 @@
 pub mod Options
 pub mod Margins
-pub mod Linking
-pub mod Covering
+pub mod EntryLists
+pub mod CoveredStates
 pub mod LabelSteps
 pub mod StationSteps
 pub mod HomeSteps
 pub mod Faults
-pub mod Starting
+pub mod StartState

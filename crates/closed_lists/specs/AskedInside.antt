@@ -5,10 +5,10 @@ use Rattle.closed_lists.specs.Asking.{Asking}
 use Rattle.closed_lists.specs.declared.coverage.Asked.TheInside.{Inside}
 
 abbrev pub asking : Inside → Asking
-asking a = record { question = a.section.now; target = a.target.now }
+asking a = record { question = a.question.now; target = a.target.now }
 
 pub record IsAsked (a : Inside) : Type 0 where
-  pub last : a.target.now.last < node_count a.section.now.network
-  pub node : a.target.now.node < node_count a.section.now.network
+  pub last : a.target.now.last < node_count a.question.now.network
+  pub node : a.target.now.node < node_count a.question.now.network
   pub paid : unsigned_abs a.target.now.paid ≤ 2 ^ 92
-  pub key : a.key ≡ a.target.now.last * node_count a.section.now.network + a.target.now.node
+  pub key : a.key ≡ a.target.now.last * node_count a.question.now.network + a.target.now.node

@@ -2,7 +2,7 @@
 use Rattle.ev_model.specs.Network.{IsNetwork, node_count}
 use Rattle.closed_lists.specs.Links.{AreEntries}
 use Rattle.closed_lists.specs.Questions.{IsQuestion, Question}
-use Rattle.closed_lists.specs.declared.section.Section.TheInside.{Inside}
+use Rattle.closed_lists.specs.declared.question.Question.TheInside.{Inside}
 
 abbrev pub question : Inside → Question
 question s = record {
@@ -13,7 +13,7 @@ question s = record {
   labels = s.labels.now;
 }
 
-pub record IsSection (s : Inside) : Type 0 where
+pub record IsSoundQuestion (s : Inside) : Type 0 where
   pub ranges : IsQuestion (question s)
   pub network : IsNetwork s.inst.now
   pub entries : AreEntries (node_count s.inst.now) s.prices.now s.labels.now s.entries.items

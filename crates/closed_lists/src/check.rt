@@ -11,7 +11,7 @@ ghost use Rattle.closed_lists.specs.Verdicts.{HasNoBadEnd, HasNoBadStep, IsFirst
 
 use crate::coverage::Target;
 use crate::fault::ClosedFault;
-use crate::section::Section;
+use crate::question::Question;
 use customer_sets::{CustSet, Pairs};
 use instance_reader::Instance;
 use label_steps::covers_all;
@@ -54,17 +54,17 @@ pub fn check_closed(
     ensures broken { IfErr result
         (IsTold inst.now (section_of pairs.now weight prices.now labels.now)) }
 {
-    let section = Section::new(alloc, inst, pairs, weight, prices, labels)?;
-    if !section.covers_start(alloc) {
+    let question = Question::new(alloc, inst, pairs, weight, prices, labels)?;
+    if !question.covers_start(alloc) {
         return Err(ClosedFault::Start);
     }
-    match section.check_steps(alloc) {
-        Ok(()) => section.check_ends(),
+    match question.check_steps(alloc) {
+        Ok(()) => question.check_ends(),
         Err(fault) => Err(fault),
     }
 }
 
-impl Section<'_> {
+impl Question<'_> {
     /// Whether the start is covered.
     fn covers_start(&self, alloc: Global) -> bool
         ensures covered { result ≡ true → IsCovered (section self.now) (start self.now.network) }

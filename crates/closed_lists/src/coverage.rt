@@ -1,4 +1,4 @@
-//! Whether the states of a target are covered by the labels of a section.
+//! Whether the states of a target are covered by the labels of a question.
 
 ghost use Rattle.std.specs.Prelude.{◌≡◌, ◌^◌, ◌<◌, ◌≤◌, IfNone, IfSome, length, slice_index_or, unsigned_abs};
 ghost use Rattle.dominance.specs.LevelTimes.{IsLevel, time_at};
@@ -14,7 +14,7 @@ ghost use Rattle.closed_lists.specs.Targets.{state_of};
 use crate::links::{Entry, first, is_in_time};
 use crate::paid::{is_too_dear, margin};
 use crate::places::TRIES;
-use crate::section::Section;
+use crate::question::Question;
 use customer_sets::CustSet;
 use label_steps::Covering;
 use piece_fn::{Label, PieceFn};
@@ -33,10 +33,10 @@ pub(crate) struct Target {
     pub(crate) paid: i128,
 }
 
-/// The states of a target, asked of the labels of a section. Contracts see both.
+/// The states of a target, asked of the labels of a question. Contracts see both.
 #[derive(Drop)]
 pub(crate) struct Asked<'a> {
-    section: &'a Section<'a>,
+    question: &'a Question<'a>,
     target: &'a Target,
     /// The key of labels at the target's node after its customer.
     key: usize,
@@ -55,7 +55,7 @@ impl<'a> Model for Asked<'a> {
     ghost invariant = { IsAsked };
 }
 
-impl Section<'_> {
+impl Question<'_> {
     /// The states of a target, asked of the labels.
     pub(crate) fn asked<'b>(&'b self, target: &'b Target) -> Asked<'b>
         requires last { target.now.last < node_count self.now.network }
@@ -66,7 +66,7 @@ impl Section<'_> {
         let key = target.last * self.inst.nodes() + target.node;
         let mark = self.places.mark(key, target.set);
         Asked {
-            section: self,
+            question: self,
             target,
             key,
             mark,
@@ -105,7 +105,7 @@ impl Asked<'_> {
             (IsCoveredTo (covers self.now) (level_times value.now) level) }
     {
         for tried in 0..TRIES {
-            let at = self.section.places().at(self.mark, tried)?;
+            let at = self.question.places().at(self.mark, tried)?;
             if let Some(to) = self.reach_at(at, value, level, time) {
                 return Some(to);
             }
@@ -120,7 +120,7 @@ impl Asked<'_> {
         ensures some { IfSome result
             (IsCoveredTo (covers self.now) (level_times value.now) level) }
     {
-        let entries = self.section.entries();
+        let entries = self.question.entries();
         if !is_in_time(entries, at, self.key, time) {
             return None;
         }
@@ -134,13 +134,13 @@ impl Asked<'_> {
         ensures some { IfSome result
             (IsCoveredTo (covers self.now) (level_times value.now) level) }
     {
-        let entries = self.section.entries();
+        let entries = self.question.entries();
         let mut at = first(entries, self.key);
         while is_in_time(entries, at, self.key, time) {
             if let Some(to) = self.reach_of(&entries[at], value, level, time) {
                 return Some(to);
             }
-            at = self.section.places().after(at, entries.len());
+            at = self.question.places().after(at, entries.len());
         }
         None
     }
@@ -154,7 +154,7 @@ impl Asked<'_> {
         ensures none { IfNone result
             (covers self.now level (time_at (level_times value.now) level) → ⊥) }
     {
-        let entries = self.section.entries();
+        let entries = self.question.entries();
         let begin = first(entries, self.key);
         let mut at = begin;
         while is_in_time(entries, at, self.key, time) {
@@ -189,7 +189,7 @@ impl Asked<'_> {
         if !entry.set.is_subset(self.target.set) {
             return None;
         }
-        let weight = self.section.weight();
+        let weight = self.question.weight();
         if is_too_dear(weight, time - entry.time, entry.paid, self.target.paid) {
             return None;
         }
@@ -205,6 +205,6 @@ impl Asked<'_> {
         ensures { (d : Label) →
             result.now ≡ slice_index_or self.now.question.labels entry.now.number d }
     {
-        self.section.label(entry.number)
+        self.question.label(entry.number)
     }
 }

@@ -10,11 +10,11 @@ mod links;
 mod paid;
 mod places;
 mod ranges;
-mod section;
+mod question;
 mod steps;
 
 pub use check::check_closed;
 pub use fault::ClosedFault;
 pub use paid::{margin, price_sum};
 pub use ranges::is_label_of;
-pub use section::Section;
+pub use question::Question;

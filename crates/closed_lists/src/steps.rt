@@ -12,13 +12,13 @@ ghost use Rattle.closed_lists.specs.Tellings.{TellsFirst, TellsHome, TellsStep};
 
 use crate::coverage::{Asked, Target};
 use crate::paid::earns;
-use crate::section::Section;
+use crate::question::Question;
 use dominance::LabelValue;
 use label_steps::{arrival, covers_all, departures};
 use piece_fn::{Label, PieceFn};
 use std::alloc::{AllocError, Global};
 
-impl Section<'_> {
+impl Question<'_> {
     /// What is left of a label's value on arriving at a node.
     fn arrival(&self, label: &Label, node: usize, least: u64) -> Result<Option<PieceFn>, AllocError>
         requires label { IsLabelOf self.now.network label.now }

@@ -26,7 +26,7 @@ use Rattle.column_pool.specs.Nodes.{IsTimedRoute, node_problem, plans_of_routes}
 use Rattle.column_pool.specs.TooWide.{IsPastBasis}
 use Rattle.column_pool.specs.declared.route.NodeRoute.{NodeRoute}
 use Rattle.column_pool.proofs.Alike.{alike_same, AreAlike, IsAlike, past_alike}
-use Rattle.column_pool.proofs.Covering.{has_of}
+use Rattle.column_pool.proofs.OptimalCovers.{has_of}
 
 -- ---- columns of plans, and as certificates list them
 route_alike : (g : Network) (plan : RoutePlan) → IsAlike (column_of g plan) (listed_column g plan.stops)

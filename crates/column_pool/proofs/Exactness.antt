@@ -20,8 +20,8 @@ use Rattle.bound_certificate.specs.Meaning.{route_shares}
 use Rattle.bound_certificate.specs.Ranges.{ShareFits}
 use Rattle.bound_certificate.specs.declared.certificate.Share.{Share}
 use Rattle.column_pool.specs.Columns.{AreNodeRoutes, HasPlan, IsNodeRoute, IsTabled, share_of}
-use Rattle.column_pool.proofs.Covering.{cost_is, cover_is, many_columns, sum_is_right}
-use Rattle.feasible_texts.proofs.Fitting.{feasible_fits}
+use Rattle.column_pool.proofs.OptimalCovers.{cost_is, cover_is, many_columns, sum_is_right}
+use Rattle.feasible_texts.proofs.PlanRanges.{feasible_fits}
 
 -- what holds of each that is mapped holds of its origin
 module _ {X Y : Type 0} (P : Y → Type 0) (f : X → Y) where

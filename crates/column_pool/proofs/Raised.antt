@@ -13,7 +13,7 @@ use Rattle.bound_certificate.specs.Limits.{most_items}
 use Rattle.bound_certificate.specs.declared.certificate.Section.{Section}
 use Rattle.column_pool.specs.Bounds.{IsEmpty, IsNodeSection}
 use Rattle.column_pool.specs.Nodes.{node_problem}
-use Rattle.column_pool.proofs.Rising.{are_rising, lone_above}
+use Rattle.column_pool.proofs.RisingPrices.{are_rising, lone_above}
 use Rattle.column_pool.proofs.Sections.{section_closed}
 
 module _ (g : Network) (p : ForbiddenPairs) (s : Section) (prices : List ℤ) (labels : Vec Label Global) (count : p.customers ≡ length (customer_nodes g)) (pairs : s.pairs ≡ p) (same : s.prices ≡ prices) (alike : s.labels ≡ labels.items) (few : length s.labels ≤ most_items) where

@@ -21,7 +21,7 @@ use Rattle.column_pool.specs.Chains.{IsChain, lone_price}
 use Rattle.column_pool.specs.Columns.{IsNodeRoute}
 use Rattle.column_pool.proofs.OneOrder.{IsKnown, next_of, way_of}
 use Rattle.column_pool.proofs.OneWay.{IsWay}
-use Rattle.column_pool.proofs.Paying.{lone_pays}
+use Rattle.column_pool.proofs.MorePrices.{lone_pays}
 
 -- ---- customers in order as a route
 some_node : (g : Network) (x : ℕ) → is_customer g x ≡ true → x ≢ 0

@@ -18,8 +18,8 @@ use Rattle.ev_fleet.specs.Bounds.{HasBound, IsNotAbove}
 use Rattle.ev_fleet.specs.Searched.{EachNode, SearchedTree, branches_of, fork, names_of, own_of, tip}
 use Rattle.ev_fleet.specs.Standing.{AreStanding, IsGreatestOf, IsLeastOf, NamesGreatest, on_the_way}
 use Rattle.ev_fleet.specs.State.{IsFound, IsSearchAt, named}
-use Rattle.ev_fleet.proofs.Ending.{one_bound, standing}
-use Rattle.ev_fleet.proofs.Fitting.{lines_fit}
+use Rattle.ev_fleet.proofs.SearchEnds.{one_bound, standing}
+use Rattle.ev_fleet.proofs.TreeLineRanges.{lines_fit}
 use Rattle.ev_fleet.proofs.Under.{AllowsHere, leaves_under}
 
 -- a section on the way to a leaf has a bound not above that of the leaf's section

@@ -20,7 +20,7 @@ use Rattle.route_plan.specs.declared.plan.RoutePlan.{RoutePlan}
 use Rattle.route_pool.specs.Pool.{IsColumn}
 use Rattle.ev_fleet.specs.OwnRoutes.{AreFastestOwn, HasNoOwn, IsFastestOwn, LacksOwn, own_route}
 use Rattle.ev_fleet.specs.Plans.{AreOwnRoutes, CostsNoMoreThanOwn, IsHeld, first_customer}
-use Rattle.ev_fleet.proofs.Holding.{may_hold}
+use Rattle.ev_fleet.proofs.HeldPlans.{may_hold}
 
 -- ---- one more customer
 

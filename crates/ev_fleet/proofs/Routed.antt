@@ -12,7 +12,7 @@ use Rattle.route_plan.specs.declared.plan.FleetPlan.{FleetPlan}
 use Rattle.route_plan.specs.declared.plan.RoutePlan.{RoutePlan}
 use Rattle.ev_fleet.specs.SameRoutes.{IsPlanOf, first_outside}
 use Rattle.ev_fleet.proofs.FirstCustomers.{firsts_rise}
-use Rattle.ev_fleet.proofs.Holding.{may_hold}
+use Rattle.ev_fleet.proofs.HeldPlans.{may_hold}
 use Rattle.ev_fleet.proofs.Permuted.{permuted_cost, permuted_fleet}
 
 pub stops_of_shares : (shares : List Share) → stops_of (map (λ (x : Share). x.plan) shares) ≡ plans_of shares

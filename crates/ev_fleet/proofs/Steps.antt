@@ -15,7 +15,7 @@ use Rattle.ev_fleet.specs.Searched.{fork, tip}
 use Rattle.ev_fleet.specs.State.{IsFound, IsSearch, greater_of, placed}
 use Rattle.ev_fleet.specs.Splitting.{IsSettled, taken_of}
 use Rattle.branching.proofs.Elements.{node_kept, node_set}
-use Rattle.ev_fleet.proofs.Settling.{closed_search, split_search}
+use Rattle.ev_fleet.proofs.TakenNodes.{closed_search, split_search}
 
 module _ (g : Network) (tree : SearchTree) (sections : List Section) (cost lower : Option ℕ) (sound : IsSearchTree tree) (is : IsSearch g tree sections cost)
     (key : ℕ) (node : Node) (next : IsNext tree.nodes key node) (cheaper : IsAtMost lower cost) (below : IsAtMost (Some node.bound) cost)

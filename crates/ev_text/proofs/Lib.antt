@@ -1,5 +1,5 @@
 pub mod DigitRuns
-pub mod Spelling
+pub mod DecimalSpellings
 pub mod Readings
 pub mod Results
 pub mod Grown

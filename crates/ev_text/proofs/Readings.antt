@@ -14,7 +14,7 @@ use Rattle.ev_text.specs.declared.TextFault.TheVariants.{NotWhole, TooLarge, Wor
 use Rattle.ev_text.specs.Numerals.{leading_digits, is_canonical, BeginsWithoutDigit, BeginsWithNumber, StandsInFront}
 use Rattle.ev_text.specs.Scans.{rest_of, past, whole_at, word_at, IsPrefixOf, IsProperPrefix, TakesNumber, TakesWord}
 use Rattle.ev_text.proofs.DigitRuns.{test_from_digit, AllDigits-leading_digits, run_has_ended, run_and_rest, leading_digits-append}
-use Rattle.ev_text.proofs.Spelling.{is_canonical-decimal, decimal-digits_value, decimal_injective}
+use Rattle.ev_text.proofs.DecimalSpellings.{is_canonical-decimal, decimal-digits_value, decimal_injective}
 
 -- the place behind a word that stands in front leaves what follows the word
 pub rest_of-past : (word rest : List ℕ) (s : List ℕ × ℕ) → rest_of s ≡ word ++ rest → rest_of (past word s) ≡ rest

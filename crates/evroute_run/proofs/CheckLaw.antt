@@ -20,7 +20,7 @@ use Rattle.plan_writer.specs.declared.refusal.Refusal.TheVariants as refusal
 use Rattle.route_plan.proofs.PlanLaws.{fleet_plan_is_spelled}
 use Rattle.route_plan.specs.PlanTexts.{SpellsFleetPlan}
 use Rattle.route_plan.specs.declared.plan.FleetPlan.{FleetPlan}
-use Rattle.evroute_run.proofs.Accepting.{accepted_is_no_rejection, accepted_same}
+use Rattle.evroute_run.proofs.AcceptedCertificates.{accepted_is_no_rejection, accepted_same}
 use Rattle.evroute_run.proofs.Instances.{same_fleet}
 use Rattle.job_steps.proofs.LimitedNetworks.{one_limited, refused_has_none}
 use Rattle.evroute_run.proofs.OneCertificate.{AreSame, one_certificate}

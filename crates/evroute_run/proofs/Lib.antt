@@ -1,10 +1,10 @@
 pub mod Task
 pub mod Instances
 pub mod OneCertificate
-pub mod Accepting
+pub mod AcceptedCertificates
 pub mod Refused
 pub mod Reported
-pub mod Making
+pub mod MadeInstances
 pub mod SearchStatus
 pub mod SearchReports
 pub mod OneSearch

@@ -8,7 +8,7 @@ use Rattle.job_frame.proofs.OneStatus.{ExcludeEachOther, IsPlain, lawful, nothin
 use Rattle.job_frame.proofs.Performed.{IsLawful}
 use Rattle.job_frame.specs.Task.{Outcome}
 use Rattle.job_frame.specs.Writes.{Written}
-use Rattle.evroute_run.proofs.Making.{refused_has_no_instance}
+use Rattle.evroute_run.proofs.MadeInstances.{refused_has_no_instance}
 use Rattle.evroute_run.specs.MakeAnswer.{MakeAnswers, MakesNetwork, PutsNoTime, PutsTime, make_answers, make_task, route_of_all}
 use Rattle.job_frame.specs.declared.status.Status.{Status}
 use Rattle.job_frame.specs.declared.status.Status.TheVariants as status

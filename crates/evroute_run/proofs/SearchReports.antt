@@ -35,7 +35,7 @@ use Rattle.route_plan.specs.declared.plan.FleetPlan.{FleetPlan}
 use Rattle.evroute_run.specs.CheckAnswer.{BreaksFirst, IsValid}
 use Rattle.evroute_run.specs.FleetAnswer.{IsFound, TellsKind, TellsRootOf, outcomes_of, search_status}
 use Rattle.job_frame.specs.declared.status.Status.{Status}
-use Rattle.evroute_run.proofs.Accepting.{is_bound_of_cost}
+use Rattle.evroute_run.proofs.AcceptedCertificates.{is_bound_of_cost}
 use Rattle.evroute_run.proofs.SearchStatus.{status_tells}
 
 -- ---- the cost of the plan that is held

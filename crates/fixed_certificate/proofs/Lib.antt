@@ -1,3 +1,3 @@
-mod Fitting
-mod Closing
+mod ProofRanges
+mod ClosedStates
 mod Quick

@@ -10,8 +10,8 @@ use Rattle.route_proof.specs.declared.proof.RouteProof.{RouteProof}
 use Rattle.route_steps.specs.Trips.{Journey}
 use Rattle.route_steps.specs.declared.state.State.{State}
 use Rattle.fixed_certificate.specs.Labels.{label_of}
-use Rattle.fixed_certificate.proofs.Closing.{is_accepted}
-use Rattle.fixed_certificate.proofs.Fitting.{plan_fits, states_fit}
+use Rattle.fixed_certificate.proofs.ClosedStates.{is_accepted}
+use Rattle.fixed_certificate.proofs.ProofRanges.{plan_fits, states_fit}
 
 abbrev pub proof_of : Option RoutePlan → List State → RouteProof
 proof_of plan states = record { plan = plan; labels = map label_of states }

@@ -15,8 +15,8 @@ use Rattle.route_steps.specs.Steps.{Holds, MayGo}
 use Rattle.route_steps.specs.Trips.{Journey}
 use Rattle.route_steps.specs.Ways.{Leaving, leaving_after}
 use Rattle.route_steps.specs.declared.state.State.{State}
-use Rattle.frvcp_labels.proofs.Growing.{same_place}
-use Rattle.route_steps.proofs.Leaving.{arrives}
+use Rattle.frvcp_labels.proofs.MoreLabels.{same_place}
+use Rattle.route_steps.proofs.LeavingValues.{arrives}
 
 pub noted : (full : List (Option ℕ)) (bucket : ℕ) (o : Option ℕ) → bucket < length full → IsNoted full bucket o (set full bucket o)
 noted full bucket o inside i time here = elim (cases_eq i bucket) [

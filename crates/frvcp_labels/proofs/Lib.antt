@@ -1,14 +1,14 @@
-pub mod Growing
-pub mod Searching
+pub mod MoreLabels
+pub mod SearchTurns
 mod FullBattery
 mod FirstLevel
-mod Spreading
-mod Turning
-mod Solving
+mod StationSteps
+mod TakenLabels
+mod RoutePlans
 pub mod Points
-pub mod Tracing
-mod Planning
-mod Settling
+pub mod WaysBack
+mod LevelPlans
+mod SearchLoops
 mod LiveStates
 mod Within
 mod RestRate

@@ -7,7 +7,7 @@ use Rattle.instance_reader.specs.Instance.{IsCurveAt}
 use Rattle.piece_fn.proofs.Straight.{slows}
 use Rattle.dominance.proofs.Pieces.{never_falls}
 use Rattle.frvcp_labels.specs.Rest.{IsRateAt}
-use Rattle.label_steps.proofs.Charging.{station_charging}
+use Rattle.label_steps.proofs.ChargingTimes.{station_charging}
 
 module _ (curve : List (ℕ × ℕ)) (is : IsScaledCurve curve) where
   -- how long the first unit of charge takes

@@ -9,8 +9,8 @@ use Rattle.index_links.specs.Links.{slot_at, unlinked, ends_at, last_of, IsChain
 use Rattle.index_links.proofs.Members.{head_in, in-append_left, in-append_right, once-append, split, with_before-none, with_before-split, without-none, without-split}
 use Rattle.index_links.proofs.Chains.{are_disjoint, chain_head, chain_split, last_found, linked_home, linked_within, spelled_is}
 use Rattle.index_links.proofs.ListChanges.{list_at-with_before, list_at-without}
-use Rattle.index_links.proofs.Rewiring.{ends_set, next_set, prev_set}
-use Rattle.index_links.proofs.Splicing.{insert_spells, remove_spells}
+use Rattle.index_links.proofs.LinkWrites.{ends_set, next_set, prev_set}
+use Rattle.index_links.proofs.ListEdits.{insert_spells, remove_spells}
 
 abbrev pub view : List Ends → List Slot → Lists
 view es s = record { lists = spelled_lists es s; items = length s }

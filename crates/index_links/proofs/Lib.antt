@@ -1,11 +1,11 @@
 pub mod Calls
 pub mod Chains
 pub mod Forest
-pub mod Growing
+pub mod MoreItems
 pub mod ListChanges
 pub mod Members
 pub mod Queue
 pub mod QueueChanges
-pub mod Rewiring
-pub mod Splicing
+pub mod LinkWrites
+pub mod ListEdits
 pub mod Walk

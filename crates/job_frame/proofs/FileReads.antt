@@ -4,7 +4,7 @@ use Rattle.ev_outside.specs.Counts.{Rose}
 use Rattle.ev_outside.specs.Shelf.{CountsNeverFall, CountsStay, Files, ShelfState, bytes_under}
 use Rattle.ev_outside.specs.declared.shelf.ShelfFault.{ShelfFault}
 use Rattle.ev_outside.specs.declared.shelf.ShelfFault.TheVariants.{Failed, Memory}
-use Rattle.job_frame.proofs.Writing.{counts_since}
+use Rattle.job_frame.proofs.FileWrites.{counts_since}
 use Rattle.job_frame.specs.Faults.{FailsReading, HasFailedRead}
 use Rattle.job_frame.specs.Finds.{Finds, outcome_of, written_by}
 use Rattle.job_frame.specs.Task.{Answers, AreRead, AreReadUpTo, IsAnswered, Outcome, Read, Task, Tells}

@@ -1,4 +1,4 @@
-pub mod Writing
+pub mod FileWrites
 pub mod FileReads
 pub mod Performed
 pub mod OneStatus

@@ -5,7 +5,7 @@ use Rattle.ev_outside.specs.Shelf.{CountsStay, Files, ShelfState}
 use Rattle.ev_outside.specs.Sink.{Adds, AddsPrefix, SinkState}
 use Rattle.ev_outside.specs.Sure.{sure_output, without_faults}
 use Rattle.job_frame.proofs.FileReads.{nothing_fails, one_reading}
-use Rattle.job_frame.proofs.Writing.{leaves_held}
+use Rattle.job_frame.proofs.FileWrites.{leaves_held}
 use Rattle.job_frame.specs.Faults.{ComesToPut, Concludes, FailsReading, FailsToAnswer, FailsWriting, PutsPartOf, StopsToAnswer}
 use Rattle.job_frame.specs.Performs.{BreakNoRule, EndsUnlessHindered, HasFaultCause, IsCutOff, Performs, PutsAnswer, PutsPart}
 use Rattle.job_frame.specs.Task.{Answers, IsAnswered, Outcome, Task, Tells}

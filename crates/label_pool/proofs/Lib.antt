@@ -1,4 +1,4 @@
 pub mod Elements
 pub mod Ties
-pub mod Covering
+pub mod LiveCoverage
 pub mod Chains

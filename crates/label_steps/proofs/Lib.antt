@@ -1,7 +1,7 @@
 pub mod OneLevel
 pub mod Vehicles
 pub mod Arrivals
-pub mod Charging
+pub mod ChargingTimes
 pub mod Stops
 pub mod Pays
-pub mod Plugging
+pub mod PluggedValues

@@ -1,7 +1,7 @@
 pub mod StationNodes
-pub mod Charging
+pub mod ChargingTimes
 pub mod Grid
-pub mod Filling
+pub mod TableSizes
 pub mod WayHome
 pub mod Walked
 pub mod AnyFraction

@@ -25,8 +25,8 @@ use Rattle.level_table.specs.declared.moves.Move.TheVariants.{Charge, Drive, Unp
 use Rattle.level_table.specs.declared.offers.Offer.{Offer}
 use Rattle.level_table.specs.declared.place.Place.{Place}
 use Rattle.level_table.specs.declared.reach.Reach.{Reach}
-use Rattle.level_table.proofs.Charging.{charging-adds, charging-nothing}
-use Rattle.level_table.proofs.Filling.{few-steps, route-length}
+use Rattle.level_table.proofs.ChargingTimes.{charging-adds, charging-nothing}
+use Rattle.level_table.proofs.TableSizes.{few-steps, route-length}
 use Rattle.level_table.proofs.Grid.{place-below, place-of_index}
 use Rattle.level_table.proofs.StationNodes.{station-curve, station-known}
 use Rattle.level_table.proofs.WayHome.{entry_time, not_zero, passed_after-station, rank-times_back, time_at}

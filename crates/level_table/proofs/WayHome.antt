@@ -21,8 +21,8 @@ use Rattle.level_table.specs.declared.moves.Move.{Move}
 use Rattle.level_table.specs.declared.moves.Move.TheVariants.{Charge, Drive, Unplug}
 use Rattle.level_table.specs.declared.place.Place.{Place}
 use Rattle.level_table.specs.declared.reach.Reach.{Reach}
-use Rattle.level_table.proofs.Charging.{charging-adds, charging-nothing}
-use Rattle.level_table.proofs.Filling.{few-steps, route-length}
+use Rattle.level_table.proofs.ChargingTimes.{charging-adds, charging-nothing}
+use Rattle.level_table.proofs.TableSizes.{few-steps, route-length}
 use Rattle.level_table.proofs.Grid.{home-below, home-index, place-below, place-of_index}
 use Rattle.level_table.proofs.StationNodes.{station-number}
 

@@ -6,7 +6,7 @@ use Rattle.fleet_model.specs.Equations.{combined}
 use Rattle.master_simplex.specs.Falling.{IsLexPositive, height, rank, AreWithin}
 use Rattle.master_simplex.specs.Phase.{less, or_later, precedes}
 use Rattle.master_simplex.proofs.Lex.{by_sign}
-use Rattle.master_simplex.proofs.Falling.{height_falls, rank_same}
+use Rattle.master_simplex.proofs.FallingRows.{height_falls, rank_same}
 
 nothing : (c : ℕ) → get_or {A = ℤ} [] c (pos 0) ≡ pos 0
 nothing zero = refl

@@ -5,7 +5,7 @@ use Rattle.fleet_model.proofs.Ring.{*ℤ_comm, *ℤ_assoc, *ℤ_pos, *ℤ--ℤ}
 use Rattle.fleet_model.proofs.Signs.{factor_pos}
 use Rattle.fleet_model.specs.Equations.{combined}
 use Rattle.master_simplex.specs.Falling.{IsLexPositive, height, AreWithin}
-use Rattle.master_simplex.proofs.Falling.{height_falls}
+use Rattle.master_simplex.proofs.FallingRows.{height_falls}
 use Rattle.master_simplex.proofs.Lex.{lex_times, lex_untimes}
 
 -- the difference of the old and the new cost entry, as fractions, is a positive multiple of the pivot row's entry

@@ -1,4 +1,4 @@
-pub mod Falling
+pub mod FallingRows
 pub mod Expansion
 pub mod Lex
 pub mod Gains
@@ -6,13 +6,13 @@ pub mod Choice
 pub mod Tables
 pub mod Phases
 pub mod Factors
-pub mod Leaving
+pub mod LeavingRows
 pub mod Starts
 pub mod Returns
 pub mod Sums
-pub mod Sharing
+pub mod BasisShares
 pub mod Optimum
 pub mod Ray
 pub mod Duality
-pub mod Entering
+pub mod EnteringColumns
 pub mod Apart

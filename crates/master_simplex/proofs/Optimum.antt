@@ -9,7 +9,7 @@ use Rattle.fleet_model.proofs.Ring.{*ℤ_assoc, *ℤ_comm, *ℤ_cancel}
 use Rattle.master_table.specs.Tableau.{IsTableau, IsWithinCaps, Tableau, basis_columns, charge, entry_at, multipliers, prices_of, row_at, size, weight_cap, entry_cap}
 use Rattle.master_table.proofs.Combinations.{spelled_length}
 use Rattle.master_table.proofs.PastCaps.{table_basis}
-use Rattle.master_table.proofs.Spelling.{total_neg}
+use Rattle.master_table.proofs.CombinedRows.{total_neg}
 use Rattle.master_simplex.specs.Answer.{ArePrices, IsAdded, IsCover, IsOptimum, cost_of_shares, covered}
 use Rattle.master_simplex.specs.Cover.{expansion}
 use Rattle.master_simplex.specs.Phase.{AreHelpersIdle, HasNoGain, IsFeasible}
@@ -18,7 +18,7 @@ use Rattle.master_simplex.specs.declared.phase.Goal.{Goal}
 use Rattle.master_simplex.specs.declared.phase.Goal.TheVariants.{Helpers, Cost}
 use Rattle.master_simplex.proofs.Factors.{cofactors, common_above, entry_is, factor_at, gathered, gathered_at, length_factors, length_gathered, product_of, spreads}
 use Rattle.master_simplex.proofs.Returns.{one_at}
-use Rattle.master_simplex.proofs.Sharing.{own_is}
+use Rattle.master_simplex.proofs.BasisShares.{own_is}
 use Rattle.master_simplex.proofs.Starts.{basis_column}
 use Rattle.master_simplex.proofs.Sums.{each_at, each_given, expansion_sum, one_at_most, some_member, sum_from, sum_same, sum_times, term, total_unit, unit, worth, worth_cost, worth_given, worth_unit}
 

@@ -3,7 +3,7 @@ pub mod Sizes
 pub mod Divided
 pub mod Reduced
 pub mod Quotients
-pub mod Spelling
+pub mod CombinedRows
 pub mod Pivots
 pub mod Tableaus
 pub mod Facts

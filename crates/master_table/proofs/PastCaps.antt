@@ -13,7 +13,7 @@ use Rattle.master_table.specs.FirstPast.{first_past, or_later, or_place, past_fr
 use Rattle.master_table.proofs.Combinations.{length_map, spelled_length}
 use Rattle.master_table.proofs.Independence.{is_basis}
 use Rattle.master_table.proofs.Pivots.{IsRows}
-use Rattle.master_table.proofs.Spelling.{total_neg}
+use Rattle.master_table.proofs.CombinedRows.{total_neg}
 
 -- ---- the number that is named
 pub IsEntryPast : ℕ → List ℤ → Type 0

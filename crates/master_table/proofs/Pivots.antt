@@ -9,7 +9,7 @@ use Rattle.fleet_model.proofs.Ring.{*ℤ_comm, *ℤ_assoc, *ℤ_pos, *ℤ--ℤ, 
 use Rattle.fleet_model.proofs.Totals.{total_nothing, total_times, total_combined, length-combined, length-times}
 use Rattle.fleet_model.proofs.Signs.{above_times, factor_pos, same_or_not, zero_times}
 use Rattle.master_table.proofs.Quotients.{IsReducedOf}
-use Rattle.master_table.proofs.Spelling.{neg_map, total_neg}
+use Rattle.master_table.proofs.CombinedRows.{neg_map, total_neg}
 
 -- the body equations of a basis, by their multipliers
 pub record IsRows (n : ℕ) (basis : List Column) (rows : ℕ → List ℤ) : Type 0 where

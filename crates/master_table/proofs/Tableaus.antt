@@ -16,7 +16,7 @@ use Rattle.fleet_model.proofs.Unique.{pays_least}
 use Rattle.master_table.specs.Tableau.{Equation, IsSpelled, IsTableauOf, IsTableau, Tableau, basis_columns, charge, multipliers, prices_of, row_at, size}
 use Rattle.master_table.specs.Pivoting.{IsCombinationOf, IsPivotOf, combined_row, divided_row, divisor, excess, is_below, pivoted, quotients, row_after, rows_after, turned_row}
 use Rattle.master_table.proofs.Quotients.{IsReducedOf, divides_total, gcd_pos, reduced_quotients, reduced_rest, reduced_same}
-use Rattle.master_table.proofs.Spelling.{spelled_combined, spelled_divided, spelled_negated, take_combined, total_neg}
+use Rattle.master_table.proofs.CombinedRows.{spelled_combined, spelled_divided, spelled_negated, take_combined, total_neg}
 use Rattle.master_table.proofs.Combinations.{combination_divided, combination_same, length_map, spelled_length}
 use Rattle.master_table.proofs.Pivots.{IsPivoted, IsRows, pays_after}
 use Rattle.master_table.proofs.Pivots as pivots

@@ -25,7 +25,7 @@ use Rattle.mixed_model.specs.Kinds.{Agrees, AreKinds, first_of, network_of, no_n
 use Rattle.mixed_model.specs.Meaning.{kind_plan, kind_shares, mixed_columns}
 use Rattle.mixed_model.specs.declared.proof.MixedRoute.{MixedRoute}
 use Rattle.mixed_model.specs.declared.proof.MixedShare.{MixedShare}
-use Rattle.mixed_model.proofs.Agreeing.{same_customer, same_customers, same_number}
+use Rattle.mixed_model.proofs.AgreeingNetworks.{same_customer, same_customers, same_number}
 use Rattle.mixed_check.specs.Tellings.{IsListedIn, IsSharedIn}
 
 -- the network of a kind is that of the instance at its place

@@ -10,7 +10,7 @@ use Rattle.ev_model.specs.Fleet.{all_customers, customers_of, ServesOnly, times_
 use Rattle.ev_model.specs.Network.{curve_at, is_customer, Network, node_count}
 use Rattle.ev_model.specs.Route.{route_of}
 use Rattle.ev_model.specs.declared.Stop.{Stop}
-use Rattle.feasible_texts.proofs.Fitting.{feasible_fits}
+use Rattle.feasible_texts.proofs.PlanRanges.{feasible_fits}
 use Rattle.fleet_model.proofs.Counts.{AreCustomers, times_append}
 use Rattle.fleet_model.proofs.Fleets.{plan_below}
 use Rattle.fleet_model.proofs.Plans.{filtered}
@@ -19,7 +19,7 @@ use Rattle.mixed_model.specs.Kinds.{first_of, network_of}
 use Rattle.mixed_model.specs.Meaning.{kind_plan, kind_plans}
 use Rattle.mixed_model.specs.Plans.{IsFeasibleIn, IsMixedPlan, KindPlan, plain_plans}
 use Rattle.mixed_model.specs.declared.proof.MixedRoute.{MixedRoute}
-use Rattle.mixed_model.proofs.Agreeing.{same_customers}
+use Rattle.mixed_model.proofs.AgreeingNetworks.{same_customers}
 use Rattle.mixed_model.proofs.Known.{plan_known}
 use Rattle.mixed_model.proofs.Whole.{network_at}
 use Rattle.mixed_fleet.specs.Fleets.{AreFleetKinds}

@@ -11,7 +11,7 @@ use Rattle.mixed_model.specs.Covers.{IsKindRoute}
 use Rattle.mixed_model.specs.Kinds.{first_of, network_of}
 use Rattle.mixed_model.specs.Meaning.{kind_plan}
 use Rattle.mixed_model.specs.Plans.{KindPlan, time_in}
-use Rattle.mixed_model.proofs.Agreeing.{same_numbers}
+use Rattle.mixed_model.proofs.AgreeingNetworks.{same_numbers}
 use Rattle.mixed_model.proofs.Known.{plan_known}
 use Rattle.mixed_fleet.specs.Fleets.{AreFleetKinds}
 use Rattle.mixed_fleet.specs.Searched.{IsSearched}

@@ -24,7 +24,7 @@ use Rattle.mixed_model.specs.declared.proof.MixedRoot.{MixedRoot}
 use Rattle.mixed_model.specs.declared.proof.MixedRoot.TheVariants.{Exact}
 use Rattle.mixed_model.specs.declared.proof.MixedRoute.{MixedRoute}
 use Rattle.mixed_model.specs.declared.proof.MixedShare.{MixedShare}
-use Rattle.mixed_model.proofs.Agreeing.{same_customers}
+use Rattle.mixed_model.proofs.AgreeingNetworks.{same_customers}
 use Rattle.mixed_model.proofs.Known.{plan_known}
 use Rattle.mixed_fleet.specs.Fleets.{AreFleetKinds}
 use Rattle.mixed_fleet.specs.Plans.{cost_of_routes}
@@ -32,7 +32,7 @@ use Rattle.mixed_fleet.specs.Proofs.{IsBestProof, IsBoundOf, IsRoundedUp}
 use Rattle.mixed_fleet.specs.Whole.{AreWhole, first_outside, IsAtBound}
 use Rattle.mixed_fleet.proofs.Firsts.{may_hold}
 use Rattle.mixed_fleet.proofs.Once.{agrees_at}
-use Rattle.mixed_fleet.proofs.Permuting.{permuted_cost, permuted_plan}
+use Rattle.mixed_fleet.proofs.RouteOrders.{permuted_cost, permuted_plan}
 
 abbrev route_in : MixedShare → MixedRoute
 route_in x = x.route

@@ -15,7 +15,7 @@ use Rattle.customer_sets.specs.CustSet.{has}
 use Rattle.price_loop.specs.Masters.{IsPastBasis, IsWide}
 use Rattle.price_loop.specs.Problems.{column_of}
 use Rattle.price_loop.proofs.Alike.{alike_same, IsAlike}
-use Rattle.price_loop.proofs.Listing.{listed_past, too_wide}
+use Rattle.price_loop.proofs.ListedBases.{listed_past, too_wide}
 use Rattle.price_loop.proofs.Optimum.{has_of}
 use Rattle.mixed_model.specs.Accepted.{IsWideRoot}
 use Rattle.mixed_model.specs.Covers.{IsKindRoute}

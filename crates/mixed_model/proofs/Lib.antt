@@ -1,4 +1,4 @@
-pub mod Agreeing
+pub mod AgreeingNetworks
 pub mod Known
 pub mod Whole
 pub mod Copies

@@ -25,7 +25,7 @@ use Rattle.mixed_model.specs.Meaning.{section_of}
 use Rattle.mixed_model.specs.Plans.{KindPlan, time_in}
 use Rattle.mixed_model.specs.Truth.{IsLeastCost}
 use Rattle.mixed_model.specs.declared.proof.MixedProof.{MixedProof}
-use Rattle.mixed_model.proofs.Agreeing.{same_customers, same_numbers}
+use Rattle.mixed_model.proofs.AgreeingNetworks.{same_customers, same_numbers}
 use Rattle.mixed_model.proofs.Copies.{all_copies, below_copies, both_pay, copies, copies_pay, customers_all, repeated_is, times_all, weighed_evenly}
 use Rattle.mixed_model.proofs.Known.{plan_known}
 use Rattle.mixed_model.proofs.Whole.{network_at, whole_cover}

@@ -12,7 +12,7 @@ use Rattle.fleet_model.proofs.Weighed.{times_above}
 use Rattle.mixed_model.specs.Covers.{IsKindRoute, IsMixedCover, KindShare, mixed_cost_of_shares, plain_shares}
 use Rattle.mixed_model.specs.Kinds.{Agrees, AreKinds, first_of, network_of, no_network}
 use Rattle.mixed_model.specs.Plans.{IsFeasibleIn, IsMixedPlan, KindPlan, mixed_cost, plain_plans}
-use Rattle.mixed_model.proofs.Agreeing.{same_customer, same_customers}
+use Rattle.mixed_model.proofs.AgreeingNetworks.{same_customer, same_customers}
 use Rattle.mixed_model.proofs.Known.{plan_known}
 
 abbrev one_share : KindPlan → KindShare

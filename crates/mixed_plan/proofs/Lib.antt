@@ -1,7 +1,7 @@
-pub mod Agreeing
+pub mod KindNumbers
 pub mod Walks
 pub mod Broken
 pub mod LineReaders
 pub mod FileReaders
 pub mod TextLaws
-pub mod Reading
+pub mod PlanReading

@@ -23,7 +23,7 @@ use Rattle.mixed_model.specs.declared.proof.MixedShare.{MixedShare}
 use Rattle.mixed_plan.specs.MixedRules.{IsBroken}
 use Rattle.mixed_plan.specs.MixedTexts.{FitsRoute, mixed_plan_text}
 use Rattle.mixed_run.specs.Judged.{AreKnown}
-use Rattle.mixed_run.proofs.Accepting.{is_bound_of_cost}
+use Rattle.mixed_run.proofs.AcceptedAnswers.{is_bound_of_cost}
 use Rattle.mixed_run.specs.CheckMixedAnswer.{BreaksFirst, IsValid}
 use Rattle.mixed_run.specs.MixedAnswer.{IsMixedFound, TellsRoot, mixed_status, outcomes_of}
 use Rattle.mixed_text.specs.MixedTexts.{mixed_text}

@@ -1,7 +1,7 @@
-pub mod Reading
-pub mod Halting
+pub mod KindReading
+pub mod FileSteps
 pub mod CheckMixedFinds
-pub mod Accepting
+pub mod AcceptedAnswers
 pub mod Different
 pub mod MixedFinds
 pub mod Found

@@ -1,6 +1,6 @@
 pub mod Options
-pub mod Linking
-pub mod Covering
+pub mod EntryLists
+pub mod CoveredStates
 pub mod LabelSteps
 pub mod StationSteps
 pub mod HomeSteps

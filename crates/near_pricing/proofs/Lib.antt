@@ -1,9 +1,9 @@
 mod Customers
 mod Homeward
-mod Leaving
-mod Growing
-mod Tracing
-mod Starting
-mod Searching
-mod Mending
-mod Ending
+mod LeavingValues
+mod GrownTrees
+mod WaysBack
+mod StartLabels
+mod SearchState
+mod ListFaults
+mod SearchEnds

@@ -1,5 +1,5 @@
 pub mod Earnings
 pub mod Alone
-pub mod Limiting
+pub mod PriceLimits
 pub mod Risen
-pub mod Bounding
+pub mod EndProofs

@@ -7,5 +7,5 @@ pub mod Walks
 pub mod Parts
 pub mod Charges
 pub mod Starts
-pub mod Lasting
+pub mod LastingOrders
 pub mod Values

@@ -1,4 +1,4 @@
-pub mod Counting
+pub mod VisitCounts
 pub mod Strays
 pub mod Walks
 pub mod Customers

@@ -53,7 +53,7 @@ pub(crate) fn later_fault<R: HasStops>(
 }
 
 /// The first customer that was counted more than once.
-#[tactic(auto, using(crate::proofs::Counting::once_passed))]
+#[tactic(auto, using(crate::proofs::VisitCounts::once_passed))]
 fn first_again(inst: &Instance, visits: &[u8]) -> Option<usize>
     requires { length (customer_nodes inst.now) ≤ length visits.now }
     ensures { result ≡ first_again visits.now 0 (customer_nodes inst.now) }
@@ -68,7 +68,7 @@ fn first_again(inst: &Instance, visits: &[u8]) -> Option<usize>
 }
 
 /// The first customer that wasn't counted.
-#[tactic(auto, using(crate::proofs::Counting::counted_passed))]
+#[tactic(auto, using(crate::proofs::VisitCounts::counted_passed))]
 fn first_missed(inst: &Instance, visits: &[u8]) -> Option<usize>
     requires { length (customer_nodes inst.now) ≤ length visits.now }
     ensures { result ≡ first_missed visits.now 0 (customer_nodes inst.now) }

@@ -52,7 +52,7 @@ fn count_stop(inst: &Instance, stop: Stop, visits: &mut [u8])
 }
 
 /// Counts the customer of this number once more.
-#[tactic(auto, using(crate::proofs::Counting::tallies_customer))]
+#[tactic(auto, using(crate::proofs::VisitCounts::tallies_customer))]
 fn count_customer(inst: &Instance, number: usize, visits: &mut [u8])
     requires room { length (customer_nodes inst.now) ≤ length visits.old }
     requires within { number < length (customer_nodes inst.now) }

@@ -7,7 +7,7 @@ use Rattle.std.proofs.lemmas.List.{get_or-replicate}
 use Rattle.fleet_model.specs.Prices.{price_of, price_sum}
 use Rattle.price_loop.specs.Problems.{IsEarning, NoneEarns, Problem, worth}
 use Rattle.price_loop.specs.Rising.{AreFixed, ArePayable, StandsNowhere}
-use Rattle.price_loop.proofs.Raising.{past_end, worth_nothing, worth_set}
+use Rattle.price_loop.proofs.PriceRises.{past_end, worth_nothing, worth_set}
 
 -- ---- whole prices
 pub price_of_whole : (xs : List ℕ) (c : ℕ) → price_of (map pos xs) c ≡ pos (get_or xs c 0)

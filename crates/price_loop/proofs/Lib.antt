@@ -1,11 +1,11 @@
 pub mod Independent
 mod ColumnPast
 mod Past
-mod Filling
-pub mod Raising
+mod MasterColumns
+pub mod PriceRises
 pub mod Final
 pub mod Alike
 mod Dependent
-pub mod Listing
+pub mod ListedBases
 pub mod Optimum
 pub mod WholePrices

@@ -19,7 +19,7 @@ use Rattle.price_loop.specs.Columns.{set_of}
 use Rattle.price_loop.specs.Endings.{IsOver}
 use Rattle.price_loop.specs.Masters.{columns_of}
 use Rattle.price_loop.specs.Problems.{column_of, Problem}
-use Rattle.price_loop.proofs.Raising.{AreOnce}
+use Rattle.price_loop.proofs.PriceRises.{AreOnce}
 
 -- ---- the set of some customers
 swapped : (a b c : Bool) → ((a || b) || c) ≡ (b || (a || c))

@@ -9,7 +9,7 @@ use crate::completion::table_of;
 use crate::coverage::Care;
 use crate::priced::{Priced, PricedRoute, Prices};
 use crate::search::Search;
-use closed_lists::{Section, check_closed};
+use closed_lists::{Question, check_closed};
 use completion_bounds::Completion;
 use customer_sets::Pairs;
 use instance_reader::Instance;
@@ -48,19 +48,19 @@ pub fn price(
     })) }
 {
     let of = prices.of.as_slice();
-    let terms = Section::new(alloc, inst, pairs, prices.weight, of, &[])?;
-    let table = table_of(alloc, &terms)?;
-    let mut quick = Search::new(alloc, &terms, &table, Care::Quick)?;
-    quick.run(alloc, &terms)?;
+    let question = Question::new(alloc, inst, pairs, prices.weight, of, &[])?;
+    let table = table_of(alloc, &question)?;
+    let mut quick = Search::new(alloc, &question, &table, Care::Quick)?;
+    quick.run(alloc, &question)?;
     if !quick.routes.is_empty() {
-        return Ok(better_of(&terms, quick));
+        return Ok(better_of(&question, quick));
     }
-    let mut exact = Search::new(alloc, &terms, &table, Care::Exact)?;
-    exact.run(alloc, &terms)?;
+    let mut exact = Search::new(alloc, &question, &table, Care::Exact)?;
+    exact.run(alloc, &question)?;
     if !exact.routes.is_empty() {
-        return Ok(better_of(&terms, exact));
+        return Ok(better_of(&question, exact));
     }
-    closed(alloc, inst, pairs, prices, &terms)
+    closed(alloc, inst, pairs, prices, &question)
 }
 
 /// The answer of the exact search that leaves nothing out.
@@ -69,44 +69,44 @@ fn closed(
     inst: &Instance,
     pairs: &Pairs,
     prices: &Prices,
-    terms: &Section<'_>,
+    question: &Question<'_>,
 ) -> Result<Priced, AllocError>
     requires few { length (customer_nodes inst.now) ≤ 128 }
     requires pairs { pairs.now.customers ≡ length (customer_nodes inst.now) }
     requires weight { prices.now.weight ≤ 2 ^ 40 }
     requires one_price { length prices.now.of.items ≡ length (customer_nodes inst.now) }
     requires small_prices { All (λ price. unsigned_abs price ≤ 2 ^ 84) prices.now.of.items }
-    requires terms { terms.now ≡ record {
+    requires question { question.now ≡ record {
       network = inst.now;
       pairs = pairs.now;
       weight = prices.now.weight;
       prices = prices.now.of.items;
       labels = [];
     } }
-    ensures { IfOk result (IsPriced terms.now) }
+    ensures { IfOk result (IsPriced question.now) }
 {
     let of = prices.of.as_slice();
     let none = Completion::none(alloc);
-    let mut search = Search::new(alloc, terms, &none, Care::Exact)?;
+    let mut search = Search::new(alloc, question, &none, Care::Exact)?;
     while search.routes.is_empty() {
-        search.run(alloc, terms)?;
+        search.run(alloc, question)?;
         if !search.routes.is_empty() {
-            return Ok(better_of(terms, search));
+            return Ok(better_of(question, search));
         }
-        let labels = search.labels(alloc, terms)?;
+        let labels = search.labels(alloc, question)?;
         match check_closed(alloc, inst, pairs, prices.weight, of, &labels) {
             Ok(()) => return Ok(Priced::Closed { labels }),
-            Err(fault) => search.mend(alloc, terms, &labels, fault)?,
+            Err(fault) => search.mend(alloc, question, &labels, fault)?,
         }
     }
-    Ok(better_of(terms, search))
+    Ok(better_of(question, search))
 }
 
 /// The routes that a search found.
-fn better_of(terms: &Section<'_>, search: Search<'_>) -> Priced
-    requires search { IsSearch terms.now search }
+fn better_of(question: &Question<'_>, search: Search<'_>) -> Priced
+    requires search { IsSearch question.now search }
     requires some { 0 < length search.routes.items }
-    ensures { IsPriced terms.now result }
+    ensures { IsPriced question.now result }
 {
     let Search {
         table: _,

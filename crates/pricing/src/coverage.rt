@@ -8,7 +8,7 @@ ghost use Rattle.pricing.specs.Tree.{IsTree};
 
 use crate::found::Tree;
 use crate::groups::{BLOCK, Brief, Gap, Group};
-use closed_lists::{Section, margin};
+use closed_lists::{Question, margin};
 use customer_sets::CustSet;
 use dominance::LabelValue;
 use piece_fn::Label;
@@ -67,18 +67,18 @@ impl Asked<'_> {
 impl Tree {
     /// The first level of the label at which no other one has that level or a higher one at no more
     /// cost and no later; `None` where others make it needless.
-    pub(crate) fn gap(&self, terms: &Section<'_>, asked: &Asked<'_>) -> Option<Gap>
-        requires tree { IsTree terms.now self.now.found.items self.now.groups.items }
-        requires range { IsInRange terms.now.network asked.now.label.now }
+    pub(crate) fn gap(&self, question: &Question<'_>, asked: &Asked<'_>) -> Option<Gap>
+        requires tree { IsTree question.now self.now.found.items self.now.groups.items }
+        requires range { IsInRange question.now.network asked.now.label.now }
         requires small { unsigned_abs asked.now.paid ≤ 2 ^ 91 }
     {
-        let group = &self.groups[self.key_of(terms, asked.label)];
+        let group = &self.groups[self.key_of(question, asked.label)];
         let (least, _) = asked.label.value.least();
         let mut level = least.max(asked.lowest);
         if asked.label.value.at(level).is_none() {
             return None;
         }
-        while let Some(to) = self.reach(terms, asked, group, 0, level) {
+        while let Some(to) = self.reach(question, asked, group, 0, level) {
             let next = to.checked_add(1)?;
             if asked.label.value.at(next).is_none() {
                 return None;
@@ -95,32 +95,32 @@ impl Tree {
     ///
     /// Those that it was compared with leave the level of the gap open, so the later ones are asked
     /// first whether they close it.
-    pub(crate) fn makes_needless(&self, terms: &Section<'_>, asked: &Asked<'_>, gap: Gap) -> bool
-        requires tree { IsTree terms.now self.now.found.items self.now.groups.items }
-        requires range { IsInRange terms.now.network asked.now.label.now }
+    pub(crate) fn makes_needless(&self, question: &Question<'_>, asked: &Asked<'_>, gap: Gap) -> bool
+        requires tree { IsTree question.now self.now.found.items self.now.groups.items }
+        requires range { IsInRange question.now.network asked.now.label.now }
         requires small { unsigned_abs asked.now.paid ≤ 2 ^ 91 }
     {
-        let group = &self.groups[self.key_of(terms, asked.label)];
+        let group = &self.groups[self.key_of(question, asked.label)];
         if asked.label.value.at(gap.level).is_none() {
             return false;
         }
-        self.reach(terms, asked, group, gap.compared, gap.level)
+        self.reach(question, asked, group, gap.compared, gap.level)
             .is_some()
-            && self.gap(terms, asked).is_none()
+            && self.gap(question, asked).is_none()
     }
 
     /// A level up to which a label of the group from a place on does so, from a level on; `None`
     /// where none does so at that level.
     fn reach(
         &self,
-        terms: &Section<'_>,
+        question: &Question<'_>,
         asked: &Asked<'_>,
         group: &Group,
         first: usize,
         level: u64,
     ) -> Option<u64>
-        requires tree { IsTree terms.now self.now.found.items self.now.groups.items }
-        requires range { IsInRange terms.now.network asked.now.label.now }
+        requires tree { IsTree question.now self.now.found.items self.now.groups.items }
+        requires range { IsInRange question.now.network asked.now.label.now }
         requires small { unsigned_abs asked.now.paid ≤ 2 ^ 91 }
         requires level { IsLevel (level_times asked.now.label.now.value) level }
         ensures up { IfSome result (λ to. level ≤ to) }
@@ -133,7 +133,7 @@ impl Tree {
             let skipped = first.saturating_sub(block.wrapping_mul(BLOCK)) as u32;
             let labels = group.within(self.customers, block, asked.left_out)
                 & u64::MAX.wrapping_shl(skipped);
-            if let Some(to) = self.reach_in(terms, asked, group, block, labels, level, time) {
+            if let Some(to) = self.reach_in(question, asked, group, block, labels, level, time) {
                 return Some(to);
             }
         }
@@ -143,7 +143,7 @@ impl Tree {
     /// The same by the labels of a block whose bits are set.
     fn reach_in(
         &self,
-        terms: &Section<'_>,
+        question: &Question<'_>,
         asked: &Asked<'_>,
         group: &Group,
         block: usize,
@@ -151,13 +151,13 @@ impl Tree {
         level: u64,
         time: u64,
     ) -> Option<u64>
-        requires tree { IsTree terms.now self.now.found.items self.now.groups.items }
+        requires tree { IsTree question.now self.now.found.items self.now.groups.items }
         requires small { unsigned_abs asked.now.paid ≤ 2 ^ 91 }
         requires level { IsLevel (level_times asked.now.label.now.value) level }
         ensures up { IfSome result (λ to. level ≤ to) }
         ensures ends { IfSome result (λ to. IsLevel (level_times asked.now.label.now.value) to) }
     {
-        let weight = terms.weight();
+        let weight = question.weight();
         let mut left = labels;
         for _ in 0..labels.count_ones() {
             let bit = left.trailing_zeros();
@@ -169,7 +169,7 @@ impl Tree {
             if brief.number >= self.found.len() || !asked.is_met(brief, weight, time, level) {
                 continue;
             }
-            if let Some(to) = self.reach_of(terms, asked, brief.number, level) {
+            if let Some(to) = self.reach_of(question, asked, brief.number, level) {
                 return Some(to);
             }
         }
@@ -179,12 +179,12 @@ impl Tree {
     /// The same by the label with a number.
     fn reach_of(
         &self,
-        terms: &Section<'_>,
+        question: &Question<'_>,
         asked: &Asked<'_>,
         number: usize,
         level: u64,
     ) -> Option<u64>
-        requires tree { IsTree terms.now self.now.found.items self.now.groups.items }
+        requires tree { IsTree question.now self.now.found.items self.now.groups.items }
         requires small { unsigned_abs asked.now.paid ≤ 2 ^ 91 }
         requires number { number < length self.now.found.items }
         requires level { IsLevel (level_times asked.now.label.now.value) level }
@@ -192,7 +192,7 @@ impl Tree {
         ensures ends { IfSome result (λ to. IsLevel (level_times asked.now.label.now.value) to) }
     {
         let own = &self.found[number];
-        match margin(terms.weight(), own.paid, asked.paid) {
+        match margin(question.weight(), own.paid, asked.paid) {
             Some(extra) => own.label.value.reach(&asked.label.value, extra, level),
             None => None,
         }

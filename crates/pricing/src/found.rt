@@ -6,7 +6,7 @@ ghost use Rattle.pricing.specs.Answers.{IsInRange};
 ghost use Rattle.pricing.specs.Tree.{HasOrigin, IsGrown, IsTree};
 
 use crate::groups::{Gap, Group, no_labels};
-use closed_lists::Section;
+use closed_lists::Question;
 use piece_fn::Label;
 use std::alloc::{AllocError, Global};
 
@@ -37,14 +37,14 @@ impl Tree {
     /// No label.
     pub(crate) fn new(
         alloc: Global,
-        terms: &Section<'_>,
+        question: &Question<'_>,
         customers: usize,
     ) -> Result<Tree, AllocError>
-        ensures tree { IfOk result (λ t. IsTree terms.now t.found.items t.groups.items) }
+        ensures tree { IfOk result (λ t. IsTree question.now t.found.items t.groups.items) }
         ensures none { IfOk result (λ t. length t.found.items ≡ 0) }
-        ensures network { IfOk result (λ t. IsNetwork terms.now.network) }
+        ensures network { IfOk result (λ t. IsNetwork question.now.network) }
     {
-        let nodes = terms.instance().nodes();
+        let nodes = question.instance().nodes();
         Ok(Tree {
             found: Vec::new(alloc),
             groups: no_labels(alloc, nodes * nodes)?,
@@ -53,35 +53,35 @@ impl Tree {
     }
 
     /// The key of a label: its last customer's node times the number of nodes, plus its node.
-    pub(crate) fn key_of(&self, terms: &Section<'_>, label: &Label) -> usize
-        requires tree { IsTree terms.now self.now.found.items self.now.groups.items }
-        requires range { IsInRange terms.now.network label.now }
+    pub(crate) fn key_of(&self, question: &Question<'_>, label: &Label) -> usize
+        requires tree { IsTree question.now self.now.found.items self.now.groups.items }
+        requires range { IsInRange question.now.network label.now }
         ensures within { result < length self.now.groups.items }
     {
-        label.last * terms.instance().nodes() + label.node
+        label.last * question.instance().nodes() + label.node
     }
 
     /// Puts a label behind the others and answers its number.
     pub(crate) fn push(
         &mut self,
-        terms: &Section<'_>,
+        question: &Question<'_>,
         label: Label,
         paid: i128,
         parent: Option<usize>,
         gap: Gap,
     ) -> Result<usize, AllocError>
-        requires tree { IsTree terms.now self.old.found.items self.old.groups.items }
-        requires range { IsInRange terms.now.network label }
+        requires tree { IsTree question.now self.old.found.items self.old.groups.items }
+        requires range { IsInRange question.now.network label }
         requires small { unsigned_abs paid ≤ 2 ^ 91 }
         requires elder { IfSome parent (λ p. p < length self.old.found.items) }
-        requires origin { HasOrigin terms.now self.old.found.items parent label }
-        ensures tree { OnOk result (IsTree terms.now self.new.found.items self.new.groups.items) }
+        requires origin { HasOrigin question.now self.old.found.items parent label }
+        ensures tree { OnOk result (IsTree question.now self.new.found.items self.new.groups.items) }
         ensures grown { OnOk result (IsGrown self.old.found.items self.new.found.items) }
         ensures count { OnOk result (length self.new.found.items
             ≡ length self.old.found.items + 1) }
         ensures number { IfOk result (λ i. i ≡ length self.old.found.items) }
     {
-        let key = self.key_of(terms, &label);
+        let key = self.key_of(question, &label);
         let number = self.found.len();
         self.groups[key].push(self.customers, &label, paid, number)?;
         self.found.push(Found {

@@ -12,39 +12,39 @@ ghost use Rattle.pricing.specs.declared.found.Found.{Found};
 
 use crate::found::Tree;
 use crate::priced::PricedRoute;
-use closed_lists::Section;
+use closed_lists::Question;
 use frvcp_labels::solve_route;
 use std::alloc::{AllocError, Global};
 
 /// A fastest plan of the route of a label that earns more than it takes at home.
 pub(crate) fn route_of(
     alloc: Global,
-    terms: &Section<'_>,
+    question: &Question<'_>,
     tree: &Tree,
     home: usize,
 ) -> Result<PricedRoute, AllocError>
-    requires network { IsNetwork terms.now.network }
-    requires tree { IsTree terms.now tree.now.found.items tree.now.groups.items }
+    requires network { IsNetwork question.now.network }
+    requires tree { IsTree question.now tree.now.found.items tree.now.groups.items }
     requires known { home < length tree.now.found.items }
     requires earns { (f : Found) → slice_get tree.now.found.items home ≡ Some f →
-        EarnsAtHome terms.now.network (section terms.now) (paid_label terms.now.prices f.label) }
-    ensures better { IfOk result (IsBetterRoute terms.now) }
+        EarnsAtHome question.now.network (section question.now) (paid_label question.now.prices f.label) }
+    ensures better { IfOk result (IsBetterRoute question.now) }
 {
-    let order = tree.order_of(alloc, terms, home)?;
-    fastest_in(alloc, terms, order)
+    let order = tree.order_of(alloc, question, home)?;
+    fastest_in(alloc, question, order)
 }
 
 /// A fastest plan that serves the customers at these nodes in this order.
 fn fastest_in(
     alloc: Global,
-    terms: &Section<'_>,
+    question: &Question<'_>,
     order: Vec<usize>,
 ) -> Result<PricedRoute, AllocError>
-    requires { HasBetter terms.now order.items }
-    ensures { IfOk result (IsBetterRoute terms.now) }
+    requires { HasBetter question.now order.items }
+    ensures { IfOk result (IsBetterRoute question.now) }
 {
     let route = round_trip(alloc, &order)?;
-    let inst = terms.instance();
+    let inst = question.instance();
     let Some(plan) = solve_route(alloc, inst, &route, inst.max_q())? else {
         unreachable!();
     };
@@ -67,21 +67,21 @@ impl Tree {
     fn order_of(
         &self,
         alloc: Global,
-        terms: &Section<'_>,
+        question: &Question<'_>,
         home: usize,
     ) -> Result<Vec<usize>, AllocError>
-        requires network { IsNetwork terms.now.network }
-        requires tree { IsTree terms.now self.now.found.items self.now.groups.items }
+        requires network { IsNetwork question.now.network }
+        requires tree { IsTree question.now self.now.found.items self.now.groups.items }
         requires known { home < length self.now.found.items }
         requires earns { (f : Found) → slice_get self.now.found.items home ≡ Some f →
-            EarnsAtHome terms.now.network (section terms.now)
-            (paid_label terms.now.prices f.label) }
-        ensures better { IfOk result (λ order. HasBetter terms.now order.items) }
+            EarnsAtHome question.now.network (section question.now)
+            (paid_label question.now.prices f.label) }
+        ensures better { IfOk result (λ order. HasBetter question.now order.items) }
     {
         let mut order = Vec::new(alloc);
         let mut at = home;
         while let Some(parent) = self.found[at].parent {
-            push_customer(&mut order, terms, self.found[at].label.node)?;
+            push_customer(&mut order, question, self.found[at].label.node)?;
             at = parent;
         }
         order.reverse();
@@ -90,12 +90,12 @@ impl Tree {
 }
 
 /// Appends the node, if it is a customer.
-fn push_customer(order: &mut Vec<usize>, terms: &Section<'_>, node: usize) -> Result<(), AllocError>
-    requires { node < node_count terms.now.network }
-    ensures { OnOk result (order.new.items ≡ (if is_customer terms.now.network node
+fn push_customer(order: &mut Vec<usize>, question: &Question<'_>, node: usize) -> Result<(), AllocError>
+    requires { node < node_count question.now.network }
+    ensures { OnOk result (order.new.items ≡ (if is_customer question.now.network node
         then order.old.items ++ node ∷ [] else order.old.items)) }
 {
-    if terms.customer_number(node).is_some() {
+    if question.customer_number(node).is_some() {
         order.push(node)?;
     }
     Ok(())

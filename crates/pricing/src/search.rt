@@ -18,7 +18,7 @@ use crate::groups::Gap;
 use crate::priced::PricedRoute;
 use crate::route::route_of;
 use crate::steps::{Target, target_at, values_at};
-use closed_lists::{ClosedFault, Section, price_sum};
+use closed_lists::{ClosedFault, Question, price_sum};
 use completion_bounds::Completion;
 use customer_sets::CustSet;
 use dominance::LabelValue;
@@ -48,26 +48,26 @@ impl<'a> Search<'a> {
     /// A search in which the start waits.
     pub(crate) fn new(
         alloc: Global,
-        terms: &Section<'_>,
+        question: &Question<'_>,
         table: &'a Completion,
         care: Care,
     ) -> Result<Search<'a>, AllocError>
-        ensures { IfOk result (IsSearch terms.now) }
+        ensures { IfOk result (IsSearch question.now) }
     {
         let customers = match care {
             Care::Quick => 0,
-            Care::Exact => terms.prices().len(),
+            Care::Exact => question.prices().len(),
         };
-        let mut tree = Tree::new(alloc, terms, customers)?;
+        let mut tree = Tree::new(alloc, question, customers)?;
         let mut queue = IndexHeap::new(alloc);
         let start = Label {
             last: 0,
             node: 0,
             set: CustSet::empty(),
-            value: PieceFn::point(alloc, terms.instance().max_q(), 0),
+            value: PieceFn::point(alloc, question.instance().max_q(), 0),
         };
         let gap = Gap::new(&start);
-        put(&mut tree, &mut queue, terms, start, 0, None, gap)?;
+        put(&mut tree, &mut queue, question, start, 0, None, gap)?;
         Ok(Search {
             table,
             tree,
@@ -80,36 +80,36 @@ impl<'a> Search<'a> {
 
     /// Takes the labels that wait, by least time, and makes the steps from those that are not
     /// needless, until none waits or enough routes are found.
-    pub(crate) fn run(&mut self, alloc: Global, terms: &Section<'_>) -> Result<(), AllocError>
-        requires { IsSearch terms.now self.old }
-        ensures search { OnOk result (IsSearch terms.now self.new) }
+    pub(crate) fn run(&mut self, alloc: Global, question: &Question<'_>) -> Result<(), AllocError>
+        requires { IsSearch question.now self.old }
+        ensures search { OnOk result (IsSearch question.now self.new) }
         ensures listed { OnOk result (length self.old.listed.items ≤ length self.new.listed.items) }
     {
         while self.routes.len() < MOST_ROUTES {
             let Some(number) = self.queue.take_least() else {
                 return Ok(());
             };
-            self.take(alloc, terms, number)?;
+            self.take(alloc, question, number)?;
         }
         Ok(())
     }
 
     /// Lists a label and makes its steps, unless it is needless.
-    fn take(&mut self, alloc: Global, terms: &Section<'_>, number: usize) -> Result<(), AllocError>
-        requires search { IsSearch terms.now self.old }
+    fn take(&mut self, alloc: Global, question: &Question<'_>, number: usize) -> Result<(), AllocError>
+        requires search { IsSearch question.now self.old }
         requires known { number < length self.old.tree.found.items }
-        ensures search { OnOk result (IsSearch terms.now self.new) }
+        ensures search { OnOk result (IsSearch question.now self.new) }
         ensures listed { OnOk result (IsFurther self.old self.new) }
     {
-        if self.is_needless(terms, number) {
+        if self.is_needless(question, number) {
             return Ok(());
         }
-        self.settle(alloc, terms, number)
+        self.settle(alloc, question, number)
     }
 
     /// Whether labels that were taken before make a label needless.
-    fn is_needless(&self, terms: &Section<'_>, number: usize) -> bool
-        requires search { IsSearch terms.now self.now }
+    fn is_needless(&self, question: &Question<'_>, number: usize) -> bool
+        requires search { IsSearch question.now self.now }
         requires known { number < length self.now.tree.found.items }
     {
         let found = &self.tree.found[number];
@@ -124,27 +124,27 @@ impl<'a> Search<'a> {
             lowest: self.table.need(found.label.node),
             left_out: &left_out,
         };
-        self.tree.makes_needless(terms, &asked, found.gap)
+        self.tree.makes_needless(question, &asked, found.gap)
     }
 
     /// Lists a label, looks whether it earns more than it takes at home, and makes its steps.
     fn settle(
         &mut self,
         alloc: Global,
-        terms: &Section<'_>,
+        question: &Question<'_>,
         number: usize,
     ) -> Result<(), AllocError>
-        requires search { IsSearch terms.now self.old }
+        requires search { IsSearch question.now self.old }
         requires known { number < length self.old.tree.found.items }
-        ensures search { OnOk result (IsSearch terms.now self.new) }
+        ensures search { OnOk result (IsSearch question.now self.new) }
         ensures grown { OnOk result (IsGrown self.old.tree.found.items self.new.tree.found.items) }
         ensures listed { OnOk result (length self.old.listed.items < length self.new.listed.items) }
     {
         self.listed.push(number)?;
-        self.look_home(alloc, terms, number)?;
+        self.look_home(alloc, question, number)?;
         let budget = self.table.budget(&self.tree.found[number].label.value);
-        for node in 0..terms.instance().nodes() {
-            self.go(alloc, terms, number, node, budget)?;
+        for node in 0..question.instance().nodes() {
+            self.go(alloc, question, number, node, budget)?;
         }
         Ok(())
     }
@@ -153,39 +153,39 @@ impl<'a> Search<'a> {
     fn look_home(
         &mut self,
         alloc: Global,
-        terms: &Section<'_>,
+        question: &Question<'_>,
         number: usize,
     ) -> Result<(), AllocError>
-        requires search { IsSearch terms.now self.old }
+        requires search { IsSearch question.now self.old }
         requires known { number < length self.old.tree.found.items }
-        ensures search { OnOk result (IsSearch terms.now self.new) }
+        ensures search { OnOk result (IsSearch question.now self.new) }
         ensures same { OnOk result (self.new.tree.found.items ≡ self.old.tree.found.items) }
         ensures listed { OnOk result (self.new.listed.items ≡ self.old.listed.items) }
     {
-        if !earns(terms, &self.tree.found[number].label)? {
+        if !earns(question, &self.tree.found[number].label)? {
             return Ok(());
         }
-        self.keep_route(alloc, terms, number)
+        self.keep_route(alloc, question, number)
     }
 
     /// Keeps the route of a label that earns more than it takes.
     fn keep_route(
         &mut self,
         alloc: Global,
-        terms: &Section<'_>,
+        question: &Question<'_>,
         number: usize,
     ) -> Result<(), AllocError>
-        requires search { IsSearch terms.now self.old }
+        requires search { IsSearch question.now self.old }
         requires known { number < length self.old.tree.found.items }
         requires earns { (f : Found) → slice_get self.old.tree.found.items number ≡ Some f →
-            EarnsAtHome terms.now.network (section terms.now)
-            (paid_label terms.now.prices f.label) }
-        ensures search { OnOk result (IsSearch terms.now self.new) }
+            EarnsAtHome question.now.network (section question.now)
+            (paid_label question.now.prices f.label) }
+        ensures search { OnOk result (IsSearch question.now self.new) }
         ensures same { OnOk result (self.new.tree.found.items ≡ self.old.tree.found.items) }
         ensures listed { OnOk result (self.new.listed.items ≡ self.old.listed.items) }
         ensures some { OnOk result (0 < length self.new.routes.items) }
     {
-        let route = route_of(alloc, terms, &self.tree, number)?;
+        let route = route_of(alloc, question, &self.tree, number)?;
         self.routes.push(route)?;
         Ok(())
     }
@@ -194,53 +194,53 @@ impl<'a> Search<'a> {
     fn go(
         &mut self,
         alloc: Global,
-        terms: &Section<'_>,
+        question: &Question<'_>,
         from: usize,
         node: usize,
         budget: u64,
     ) -> Result<(), AllocError>
-        requires search { IsSearch terms.now self.old }
+        requires search { IsSearch question.now self.old }
         requires known { from < length self.old.tree.found.items }
-        requires node { node < node_count terms.now.network }
-        ensures search { OnOk result (IsSearch terms.now self.new) }
+        requires node { node < node_count question.now.network }
+        ensures search { OnOk result (IsSearch question.now self.new) }
         ensures grown { OnOk result (IsGrown self.old.tree.found.items self.new.tree.found.items) }
         ensures listed { OnOk result (self.new.listed.items ≡ self.old.listed.items) }
     {
         let found = &self.tree.found[from];
         let label = &found.label;
-        let Some(target) = target_at(terms, label, node) else {
+        let Some(target) = target_at(question, label, node) else {
             return Ok(());
         };
-        let paid = paid_at(terms, found.paid, node);
+        let paid = paid_at(question, found.paid, node);
         let table = self.table;
         if table.leaves_out(budget, label.node, node, target.set, paid) {
             return Ok(());
         }
-        let values = values_at(alloc, terms, label, node)?;
-        self.add_all(terms, from, node, &target, paid, values)
+        let values = values_at(alloc, question, label, node)?;
+        self.add_all(question, from, node, &target, paid, values)
     }
 
     /// Lets the labels with these values wait, where they are not needless.
     fn add_all(
         &mut self,
-        terms: &Section<'_>,
+        question: &Question<'_>,
         from: usize,
         node: usize,
         target: &Target,
         paid: i128,
         mut values: Vec<PieceFn>,
     ) -> Result<(), AllocError>
-        requires search { IsSearch terms.now self.old }
-        requires node { node < node_count terms.now.network }
+        requires search { IsSearch question.now self.old }
+        requires node { node < node_count question.now.network }
         requires small { unsigned_abs paid ≤ 2 ^ 91 }
-        requires steps { AreSteps terms.now self.old.tree.found.items from node
+        requires steps { AreSteps question.now self.old.tree.found.items from node
             target.now values.items }
-        ensures search { OnOk result (IsSearch terms.now self.new) }
+        ensures search { OnOk result (IsSearch question.now self.new) }
         ensures grown { OnOk result (IsGrown self.old.tree.found.items self.new.tree.found.items) }
         ensures listed { OnOk result (self.new.listed.items ≡ self.old.listed.items) }
     {
         while let Some(value) = values.pop() {
-            self.add(terms, from, paid, target.label(node, value))?;
+            self.add(question, from, paid, target.label(node, value))?;
         }
         Ok(())
     }
@@ -248,17 +248,17 @@ impl<'a> Search<'a> {
     /// Lets a label wait, where it is not needless.
     fn add(
         &mut self,
-        terms: &Section<'_>,
+        question: &Question<'_>,
         from: usize,
         paid: i128,
         label: Label,
     ) -> Result<(), AllocError>
-        requires search { IsSearch terms.now self.old }
+        requires search { IsSearch question.now self.old }
         requires small { unsigned_abs paid ≤ 2 ^ 91 }
-        requires range { IsInRange terms.now.network label }
+        requires range { IsInRange question.now.network label }
         requires known { from < length self.old.tree.found.items }
-        requires origin { HasOrigin terms.now self.old.tree.found.items (Some from) label }
-        ensures search { OnOk result (IsSearch terms.now self.new) }
+        requires origin { HasOrigin question.now self.old.tree.found.items (Some from) label }
+        ensures search { OnOk result (IsSearch question.now self.new) }
         ensures grown { OnOk result (IsGrown self.old.tree.found.items self.new.tree.found.items) }
         ensures listed { OnOk result (self.new.listed.items ≡ self.old.listed.items) }
     {
@@ -275,13 +275,13 @@ impl<'a> Search<'a> {
             lowest: self.table.need(label.node),
             left_out: &self.left_out,
         };
-        let Some(gap) = self.tree.gap(terms, &asked) else {
+        let Some(gap) = self.tree.gap(question, &asked) else {
             return Ok(());
         };
         put(
             &mut self.tree,
             &mut self.queue,
-            terms,
+            question,
             label,
             paid,
             Some(from),
@@ -296,13 +296,13 @@ impl Search<'_> {
     pub(crate) fn labels(
         &self,
         alloc: Global,
-        terms: &Section<'_>,
+        question: &Question<'_>,
     ) -> Result<Vec<Label>, AllocError>
-        requires { IsSearch terms.now self.now }
+        requires { IsSearch question.now self.now }
         ensures copies { IfOk result (λ labels.
             AreCopies self.now.tree.found.items self.now.listed.items labels.items) }
-        ensures ranges { IfOk result (λ labels. All (IsInRange terms.now.network) labels.items) }
-        ensures points { IfOk result (λ labels. All (HasPoints terms.now.network) labels.items) }
+        ensures ranges { IfOk result (λ labels. All (IsInRange question.now.network) labels.items) }
+        ensures points { IfOk result (λ labels. All (HasPoints question.now.network) labels.items) }
     {
         let mut labels = Vec::with_capacity(alloc, self.listed.len())?;
         for number in &self.listed {
@@ -316,22 +316,22 @@ impl Search<'_> {
     pub(crate) fn mend(
         &mut self,
         alloc: Global,
-        terms: &Section<'_>,
+        question: &Question<'_>,
         labels: &[Label],
         fault: ClosedFault,
     ) -> Result<(), AllocError>
-        requires search { IsSearch terms.now self.old }
-        requires none { terms.now.labels ≡ [] }
+        requires search { IsSearch question.now self.old }
+        requires none { question.now.labels ≡ [] }
         requires copies { AreCopies self.old.tree.found.items self.old.listed.items labels.now }
-        requires told { IsTold terms.now.network
-            (section_of terms.now.pairs terms.now.weight terms.now.prices labels.now) fault }
-        ensures search { OnOk result (IsSearch terms.now self.new) }
+        requires told { IsTold question.now.network
+            (section_of question.now.pairs question.now.weight question.now.prices labels.now) fault }
+        ensures search { OnOk result (IsSearch question.now self.new) }
         ensures further { OnOk result (IsMended self.old self.new) }
     {
         match fault {
-            ClosedFault::Start => self.settle(alloc, terms, 0),
-            ClosedFault::Step { label, node } => self.make_step(alloc, terms, labels, label, node),
-            ClosedFault::End { label } => self.keep_listed(alloc, terms, labels, label),
+            ClosedFault::Start => self.settle(alloc, question, 0),
+            ClosedFault::Step { label, node } => self.make_step(alloc, question, labels, label, node),
+            ClosedFault::End { label } => self.keep_listed(alloc, question, labels, label),
             ClosedFault::Memory => Err(AllocError),
         }
     }
@@ -340,21 +340,21 @@ impl Search<'_> {
     fn keep_listed(
         &mut self,
         alloc: Global,
-        terms: &Section<'_>,
+        question: &Question<'_>,
         labels: &[Label],
         label: usize,
     ) -> Result<(), AllocError>
-        requires search { IsSearch terms.now self.old }
+        requires search { IsSearch question.now self.old }
         requires copies { AreCopies self.old.tree.found.items self.old.listed.items labels.now }
-        requires earns { IsFault terms.now.network
-            (section_of terms.now.pairs terms.now.weight terms.now.prices labels.now)
+        requires earns { IsFault question.now.network
+            (section_of question.now.pairs question.now.weight question.now.prices labels.now)
             (at_home label) }
-        ensures search { OnOk result (IsSearch terms.now self.new) }
+        ensures search { OnOk result (IsSearch question.now self.new) }
         ensures listed { OnOk result (self.new.listed.items ≡ self.old.listed.items) }
         ensures some { OnOk result (0 < length self.new.routes.items) }
     {
         let number = self.listed[label];
-        self.keep_route(alloc, terms, number)
+        self.keep_route(alloc, question, number)
     }
 
     /// Lists the labels of a step from a listed label that leads to states that are not covered,
@@ -362,68 +362,68 @@ impl Search<'_> {
     fn make_step(
         &mut self,
         alloc: Global,
-        terms: &Section<'_>,
+        question: &Question<'_>,
         labels: &[Label],
         label: usize,
         node: usize,
     ) -> Result<(), AllocError>
-        requires search { IsSearch terms.now self.old }
-        requires none { terms.now.labels ≡ [] }
+        requires search { IsSearch question.now self.old }
+        requires none { question.now.labels ≡ [] }
         requires copies { AreCopies self.old.tree.found.items self.old.listed.items labels.now }
-        requires step { IsFault terms.now.network
-            (section_of terms.now.pairs terms.now.weight terms.now.prices labels.now)
+        requires step { IsFault question.now.network
+            (section_of question.now.pairs question.now.weight question.now.prices labels.now)
             (at_step label node) }
-        ensures search { OnOk result (IsSearch terms.now self.new) }
+        ensures search { OnOk result (IsSearch question.now self.new) }
         ensures listed { OnOk result (length self.old.listed.items < length self.new.listed.items) }
     {
         let number = self.listed[label];
-        self.force(alloc, terms, number, node)
+        self.force(alloc, question, number, node)
     }
 
     /// Makes the step from a label to a node, and lists the labels that it leads to.
     fn force(
         &mut self,
         alloc: Global,
-        terms: &Section<'_>,
+        question: &Question<'_>,
         from: usize,
         node: usize,
     ) -> Result<(), AllocError>
-        requires search { IsSearch terms.now self.old }
+        requires search { IsSearch question.now self.old }
         requires known { from < length self.old.tree.found.items }
-        requires node { node < node_count terms.now.network }
+        requires node { node < node_count question.now.network }
         requires leads { (f : Found) → slice_get self.old.tree.found.items from ≡ Some f →
-            IsUncovered terms.now f.label node }
-        ensures search { OnOk result (IsSearch terms.now self.new) }
+            IsUncovered question.now f.label node }
+        ensures search { OnOk result (IsSearch question.now self.new) }
         ensures listed { OnOk result (length self.old.listed.items < length self.new.listed.items) }
     {
         let label = &self.tree.found[from].label;
-        let Some(target) = target_at(terms, label, node) else {
+        let Some(target) = target_at(question, label, node) else {
             unreachable!();
         };
-        let values = values_at(alloc, terms, label, node)?;
-        self.force_all(alloc, terms, from, node, &target, values)
+        let values = values_at(alloc, question, label, node)?;
+        self.force_all(alloc, question, from, node, &target, values)
     }
 
     /// Lists the labels with these values.
     fn force_all(
         &mut self,
         alloc: Global,
-        terms: &Section<'_>,
+        question: &Question<'_>,
         from: usize,
         node: usize,
         target: &Target,
         mut values: Vec<PieceFn>,
     ) -> Result<(), AllocError>
-        requires search { IsSearch terms.now self.old }
-        requires node { node < node_count terms.now.network }
-        requires steps { AreSteps terms.now self.old.tree.found.items from node
+        requires search { IsSearch question.now self.old }
+        requires node { node < node_count question.now.network }
+        requires steps { AreSteps question.now self.old.tree.found.items from node
             target.now values.items }
         requires some { 0 < length values.items }
-        ensures search { OnOk result (IsSearch terms.now self.new) }
+        ensures search { OnOk result (IsSearch question.now self.new) }
         ensures listed { OnOk result (length self.old.listed.items < length self.new.listed.items) }
     {
         while let Some(value) = values.pop() {
-            self.force_one(alloc, terms, from, target.label(node, value))?;
+            self.force_one(alloc, question, from, target.label(node, value))?;
         }
         Ok(())
     }
@@ -432,41 +432,41 @@ impl Search<'_> {
     fn force_one(
         &mut self,
         alloc: Global,
-        terms: &Section<'_>,
+        question: &Question<'_>,
         from: usize,
         label: Label,
     ) -> Result<(), AllocError>
-        requires search { IsSearch terms.now self.old }
-        requires range { IsInRange terms.now.network label }
+        requires search { IsSearch question.now self.old }
+        requires range { IsInRange question.now.network label }
         requires known { from < length self.old.tree.found.items }
-        requires origin { HasOrigin terms.now self.old.tree.found.items (Some from) label }
-        ensures search { OnOk result (IsSearch terms.now self.new) }
+        requires origin { HasOrigin question.now self.old.tree.found.items (Some from) label }
+        ensures search { OnOk result (IsSearch question.now self.new) }
         ensures grown { OnOk result (IsGrown self.old.tree.found.items self.new.tree.found.items) }
         ensures listed { OnOk result (length self.old.listed.items < length self.new.listed.items) }
     {
-        let paid = price_sum(terms.prices(), label.set);
+        let paid = price_sum(question.prices(), label.set);
         let gap = Gap::new(&label);
         let number = put(
             &mut self.tree,
             &mut self.queue,
-            terms,
+            question,
             label,
             paid,
             Some(from),
             gap,
         )?;
-        self.settle(alloc, terms, number)
+        self.settle(alloc, question, number)
     }
 }
 
 /// What is paid for at a node, by what was paid for before it; 0 where that is past 2^91, which
 /// prices in their ranges never add up to.
-fn paid_at(terms: &Section<'_>, paid: i128, node: usize) -> i128
-    requires { node < node_count terms.now.network }
+fn paid_at(question: &Question<'_>, paid: i128, node: usize) -> i128
+    requires { node < node_count question.now.network }
     ensures { unsigned_abs result ≤ 2 ^ 91 }
 {
-    let sum = match terms.customer_number(node) {
-        Some(number) => paid.saturating_add(terms.prices().get(number).copied().unwrap_or(0)),
+    let sum = match question.customer_number(node) {
+        Some(number) => paid.saturating_add(question.prices().get(number).copied().unwrap_or(0)),
         None => paid,
     };
     if sum.unsigned_abs() > 1 << 91 { 0 } else { sum }
@@ -489,36 +489,36 @@ fn copy_of(alloc: Global, label: &Label) -> Result<Label, AllocError>
 fn put(
     tree: &mut Tree,
     queue: &mut IndexHeap,
-    terms: &Section<'_>,
+    question: &Question<'_>,
     label: Label,
     paid: i128,
     parent: Option<usize>,
     gap: Gap,
 ) -> Result<usize, AllocError>
-    requires tree { IsTree terms.now tree.old.found.items tree.old.groups.items }
+    requires tree { IsTree question.now tree.old.found.items tree.old.groups.items }
     requires room { length queue.old ≡ length tree.old.found.items }
-    requires range { IsInRange terms.now.network label }
+    requires range { IsInRange question.now.network label }
     requires small { unsigned_abs paid ≤ 2 ^ 91 }
     requires elder { IfSome parent (λ p. p < length tree.old.found.items) }
-    requires origin { HasOrigin terms.now tree.old.found.items parent label }
-    ensures tree { OnOk result (IsTree terms.now tree.new.found.items tree.new.groups.items) }
+    requires origin { HasOrigin question.now tree.old.found.items parent label }
+    ensures tree { OnOk result (IsTree question.now tree.new.found.items tree.new.groups.items) }
     ensures grown { OnOk result (IsGrown tree.old.found.items tree.new.found.items) }
     ensures room { OnOk result (length queue.new ≡ length tree.new.found.items) }
     ensures some { OnOk result (0 < length tree.new.found.items) }
     ensures number { IfOk result (λ i. i < length tree.new.found.items) }
 {
     let (_, key) = label.value.least();
-    let number = tree.push(terms, label, paid, parent, gap)?;
+    let number = tree.push(question, label, paid, parent, gap)?;
     queue.grow(number + 1)?;
     queue.put(number, key);
     Ok(number)
 }
 
 /// Whether the label earns, by the price sum of its customers, more than a way home from it takes.
-fn earns(terms: &Section<'_>, label: &Label) -> Result<bool, AllocError>
-    requires { IsLabelOf terms.now.network label.now }
-    ensures { IfOk result (TellsHome terms.now label.now) }
+fn earns(question: &Question<'_>, label: &Label) -> Result<bool, AllocError>
+    requires { IsLabelOf question.now.network label.now }
+    ensures { IfOk result (TellsHome question.now label.now) }
 {
-    let paid = price_sum(terms.prices(), label.set);
-    terms.earns_at_home(label, paid)
+    let paid = price_sum(question.prices(), label.set);
+    question.earns_at_home(label, paid)
 }

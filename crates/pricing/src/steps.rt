@@ -6,7 +6,7 @@ ghost use Rattle.closed_lists.specs.Sections.{IsLabelOf};
 ghost use Rattle.closed_lists.specs.Tellings.{IsUncovered};
 ghost use Rattle.pricing.specs.Steps.{IsLeft, label_of, Leads};
 
-use closed_lists::Section;
+use closed_lists::Question;
 use customer_sets::CustSet;
 use label_steps::{arrival, departures};
 use piece_fn::{Label, PieceFn};
@@ -35,29 +35,29 @@ impl Target {
 
 /// Where the step from a label to a node leads, if one may be made: to a station, or to a customer
 /// who isn't served yet and may follow the last one. It takes no memory.
-pub(crate) fn target_at(terms: &Section<'_>, from: &Label, node: usize) -> Option<Target>
-    requires label { IsLabelOf terms.now.network from.now }
-    requires node { node < node_count terms.now.network }
+pub(crate) fn target_at(question: &Question<'_>, from: &Label, node: usize) -> Option<Target>
+    requires label { IsLabelOf question.now.network from.now }
+    requires node { node < node_count question.now.network }
     ensures leads { IfSome result (λ t. (value : List (ℕ × ℕ)) →
-        Leads terms.now from.now (label_of t node value)) }
-    ensures none { IfNone result (IsUncovered terms.now from.now node → ⊥) }
+        Leads question.now from.now (label_of t node value)) }
+    ensures none { IfNone result (IsUncovered question.now from.now node → ⊥) }
 {
     if node == from.node {
         return None;
     }
-    if terms.instance().curve_at(node).is_some() {
+    if question.instance().curve_at(node).is_some() {
         return Some(Target {
             last: from.last,
             set: from.set,
         });
     }
-    let Some(customer) = terms.customer_number(node) else {
+    let Some(customer) = question.customer_number(node) else {
         return None;
     };
     if from.set.has(customer) {
         return None;
     }
-    if !terms.allows(from.last, node) {
+    if !question.allows(from.last, node) {
         return None;
     }
     Some(Target {
@@ -71,18 +71,18 @@ pub(crate) fn target_at(terms: &Section<'_>, from: &Label, node: usize) -> Optio
 /// or the limit does not let the vehicle come so far.
 pub(crate) fn values_at(
     alloc: Global,
-    terms: &Section<'_>,
+    question: &Question<'_>,
     from: &Label,
     node: usize,
 ) -> Result<Vec<PieceFn>, AllocError>
-    requires label { IsLabelOf terms.now.network from.now }
-    requires node { node < node_count terms.now.network }
+    requires label { IsLabelOf question.now.network from.now }
+    requires node { node < node_count question.now.network }
     ensures left { IfOk result (λ values.
-        All (IsLeft terms.now.network from.now node) values.items) }
-    ensures some { IfOk result (λ values. IsUncovered terms.now from.now node →
+        All (IsLeft question.now.network from.now node) values.items) }
+    ensures some { IfOk result (λ values. IsUncovered question.now from.now node →
         0 < length values.items) }
 {
-    let inst = terms.instance();
+    let inst = question.instance();
     let Some(arrived) = arrival(inst, &from.value, from.node, node, inst.min_q())? else {
         return Ok(Vec::new(alloc));
     };

@@ -8,7 +8,7 @@ use Rattle.ev_text.specs.Texts.{IsLonger, StandsUnlessLonger, joined_texts}
 use Rattle.ev_text.proofs.ReadingLaws.{Reads}
 use Rattle.ev_text.proofs.Results.{Ok-injective}
 use Rattle.text_records.proofs.Numbers.{Anything}
-use Rattle.route_steps.proofs.Solving.{is_trip}
+use Rattle.route_steps.proofs.WayHomePlans.{is_trip}
 use Rattle.certificate_parts.specs.Limits.{most_bytes, most_items}
 use Rattle.certificate_parts.specs.Versions.{version_line}
 use Rattle.certificate_parts.specs.declared.cert_text.CertText.TheVariants.{Range, Text, TooLong, Version}

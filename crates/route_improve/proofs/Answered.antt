@@ -20,8 +20,8 @@ use Rattle.route_improve.specs.Moves.{IsSettled, has_customer}
 use Rattle.route_improve.specs.Orders.{orders_of, route_over}
 use Rattle.route_improve.specs.Routes.{AreRoutes, AreSettledTo, IsOrder, cost_of_routes, lists_of, stands_in}
 use Rattle.route_improve.specs.declared.route.Route.{Route}
-use Rattle.route_improve.proofs.Fitting.{fits_file}
-use Rattle.route_improve.proofs.Finishing.{plan_customers, plans_cost, plans_fleet, plans_orders}
+use Rattle.route_improve.proofs.AnswerRanges.{fits_file}
+use Rattle.route_improve.proofs.FinishedPlans.{plan_customers, plans_cost, plans_fleet, plans_orders}
 use Rattle.route_improve.proofs.Prices.{TakesLeast}
 use Rattle.route_improve.proofs.Settled.{cost_all, least_front, settled}
 

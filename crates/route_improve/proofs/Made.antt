@@ -12,7 +12,7 @@ use Rattle.route_improve.specs.Routes.{AreRoutes, lists_of}
 use Rattle.route_improve.specs.Taking.{AreOfPair, AreOfRoute}
 use Rattle.route_improve.specs.declared.route.Route.{Route}
 use Rattle.route_improve.proofs.Changed.{list_is}
-use Rattle.route_improve.proofs.Moving.{All-insert, All-remove, moved_between, moved_within, swapped_between, swapped_within, times_append}
+use Rattle.route_improve.proofs.MovedOrders.{All-insert, All-remove, moved_between, moved_within, swapped_between, swapped_within, times_append}
 
 -- what holds of an answer holds of it by another name
 pub kept_by : {T E : Type 0} (r : Result T E) (P Q : T → Type 0) → ((made : T) → P made → Q made) → IfOk r P → IfOk r Q

@@ -12,7 +12,7 @@ use Rattle.route_steps.specs.Ways.{leaving_after}
 use Rattle.route_steps.specs.declared.state.Place.{Place}
 use Rattle.route_proof.specs.Covered.{IsCovered, vehicle_at}
 use Rattle.route_proof.specs.declared.proof.RouteLabel.{RouteLabel}
-use Rattle.route_proof.proofs.Homecoming.{covered_by_good}
+use Rattle.route_proof.proofs.HomeBounds.{covered_by_good}
 use Rattle.route_proof.proofs.Rules.{label_at}
 use Rattle.route_judge.specs.Asking.{vehicle}
 use Rattle.route_judge.specs.Questions.{Question}

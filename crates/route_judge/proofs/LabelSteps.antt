@@ -13,7 +13,7 @@ use Rattle.route_steps.specs.declared.state.Place.{Place}
 use Rattle.route_proof.specs.Broken.{IsSooner}
 use Rattle.route_proof.specs.Covered.{vehicle_at}
 use Rattle.route_proof.specs.declared.proof.RouteLabel.{RouteLabel}
-use Rattle.route_proof.proofs.Homecoming.{covered_by_good}
+use Rattle.route_proof.proofs.HomeBounds.{covered_by_good}
 use Rattle.route_judge.specs.Asking.{covers, vehicle}
 use Rattle.route_judge.specs.Questions.{Question}
 use Rattle.route_judge.specs.Tellings.{Misses, TellsEach, TellsFirst, TellsNext, TellsStation, TellsStep, state_of}

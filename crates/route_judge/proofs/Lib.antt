@@ -1,9 +1,9 @@
 pub mod Options
 pub mod Entries
-pub mod Looking
-pub mod Following
+pub mod EntryLooks
+pub mod FollowedRoutes
 pub mod LabelSteps
 pub mod LabelEnds
 pub mod Early
-pub mod Starting
+pub mod StartState
 pub mod Faults

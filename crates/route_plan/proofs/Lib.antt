@@ -1,4 +1,4 @@
-pub mod Reading
+pub mod PlanReading
 pub mod Rules
 pub mod Routes
 pub mod Spelled
@@ -7,6 +7,6 @@ pub mod Walked
 pub mod Feasibly
 pub mod FirstFaultWords
 pub mod PlanReaders
-pub mod Writing
+pub mod PlanWriting
 pub mod PlanLoops
 pub mod PlanLaws

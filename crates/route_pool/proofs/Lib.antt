@@ -1,6 +1,6 @@
-pub mod Putting
-pub mod Placing
-pub mod Growing
+pub mod PutPlans
+pub mod RoutePlaces
+pub mod GrownPools
 pub mod Alone
 pub mod Known
 mod Kept

@@ -1,4 +1,4 @@
 pub mod Better
 pub mod Ranges
-pub mod Homecoming
+pub mod HomeBounds
 pub mod Rules

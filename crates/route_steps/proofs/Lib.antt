@@ -1,5 +1,5 @@
 pub mod Plans
-pub mod Solving
+pub mod WayHomePlans
 pub mod StationList
-pub mod Leaving
+pub mod LeavingValues
 pub mod Rests

@@ -10,7 +10,7 @@ use Rattle.master_table.specs.Pivoting.{IsPivotOf, is_below, pivoted, turned_row
 use Rattle.master_table.proofs.Tableaus.{pivot_of, pivoted_tableau, zero_or_not}
 use Rattle.master_simplex.proofs.Tables.{excess_body}
 use Rattle.wide_bases.specs.Leaving.{IsLastToGo, IsStart, brought, left_rows}
-use Rattle.wide_bases.proofs.Following.{at_has, has_last, left_less, once_last}
+use Rattle.wide_bases.proofs.FollowingHelpers.{at_has, has_last, left_less, once_last}
 
 -- ---- lists
 pub take_last : {A : Type 0} (xs : List A) (m : ℕ) (d : A) → m < length xs → take (suc m) xs ≡ take m xs ++ get_or xs m d ∷ []

@@ -1,9 +1,9 @@
 mod Moves
 mod Dependence
 mod Within
-mod Following
+mod FollowingHelpers
 mod Exchange
-mod Testing
+mod ShareWeights
 mod Reached
-mod Going
-mod Beginning
+mod StartSteps
+mod HelperTables

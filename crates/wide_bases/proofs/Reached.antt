@@ -17,7 +17,7 @@ use Rattle.wide_bases.specs.Leaving.{IsStart, left_rows}
 use Rattle.wide_bases.specs.Starts.{IsStartPast}
 use Rattle.wide_bases.proofs.Dependence.{depends, first_independent}
 use Rattle.wide_bases.proofs.Exchange.{map_at}
-use Rattle.wide_bases.proofs.Following.{at_has, follow_once, follows, has_at, left_at, left_has, left_rise, left_split, once_apart}
+use Rattle.wide_bases.proofs.FollowingHelpers.{at_has, follow_once, follows, has_at, left_at, left_has, left_rise, left_split, once_apart}
 use Rattle.wide_bases.proofs.Moves.{IsOrder, StandsIn, moved_back, moved_rows, moved_there, past_moves}
 
 module _ (t : Tableau) (h : IsTableau t) (entries : List ℕ) (m : ℕ) (taken : List ℕ) (s : IsStart t entries m taken) where

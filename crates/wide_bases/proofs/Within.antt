@@ -10,9 +10,9 @@ use Rattle.fleet_model.proofs.Unique.{one_body}
 use Rattle.master_table.specs.Tableau.{IsBasisPast, IsTableau, IsWithinCaps, Tableau, basis_columns, charge, entry_at, entry_cap, multipliers, prices_of, row_at, size, weight_cap}
 use Rattle.master_table.proofs.Combinations.{spelled_length}
 use Rattle.master_table.proofs.PastCaps.{basis_of}
-use Rattle.master_table.proofs.Spelling.{total_neg}
+use Rattle.master_table.proofs.CombinedRows.{total_neg}
 use Rattle.master_simplex.specs.Sharing.{IsRowsWeight}
-use Rattle.master_simplex.proofs.Sharing.{weight_is}
+use Rattle.master_simplex.proofs.BasisShares.{weight_is}
 
 -- ---- lists of least weight are determined
 same_list : (xs ys : List ℤ) → length xs ≡ length ys → ((c : ℕ) → get_or (combined (pos 1) (pos 1) xs ys) c (pos 0) ≡ pos 0) → xs ≡ ys

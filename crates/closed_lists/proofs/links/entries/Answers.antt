@@ -2,7 +2,7 @@ use Rattle.std.proofs.Common.{rules}
 use Rattle.std.proofs.lemmas.List.Sorted.{All-permutation, answers_always, Contains-permutation, IsNonDecreasingBy-from_sort_by_key, IsPermutation-trans, ties_still_rise}
 use Rattle.ev_model.specs.Network.{node_count}
 use Rattle.closed_lists.specs.Links.{IsEntry}
-use Rattle.closed_lists.proofs.Linking.{in_order}
+use Rattle.closed_lists.proofs.EntryLists.{in_order}
 use Rattle.closed_lists.proofs.links.entries.Goals as goal
 
 pub returns-clause-entries : goal.returns-clause-entries

@@ -8,7 +8,7 @@ use Rattle.ev_model.specs.Network.{node_count}
 use Rattle.piece_fn.specs.PieceFn.{level_times}
 use Rattle.closed_lists.specs.Links.{HasEntries, IsEntry}
 use Rattle.closed_lists.specs.declared.links.Entry.{Entry}
-use Rattle.closed_lists.proofs.Linking.{entry_of, every_more}
+use Rattle.closed_lists.proofs.EntryLists.{entry_of, every_more}
 use Rattle.closed_lists.proofs.links.in_turn.Goals as goal
 
 pub loop-number-preserved : goal.loop-number-preserved

@@ -7,7 +7,7 @@ use Rattle.price_loop.specs.declared.ended.Ended.{Ended}
 use Rattle.pricing.specs.declared.priced.PricedRoute.{PricedRoute}
 use Rattle.route_plan.specs.declared.plan.RoutePlan.{RoutePlan}
 use Rattle.route_pool.specs.Pool.{IsGrown, IsPool}
-use Rattle.route_pool.proofs.Growing.{grown_further}
+use Rattle.route_pool.proofs.GrownPools.{grown_further}
 use Rattle.column_pool.specs.Columns.{AreNodeRoutes, IsAnswered}
 use Rattle.column_pool.specs.Nodes.{node_problem}
 use Rattle.column_pool.specs.TooWide.{IsPastBasis}

@@ -2,7 +2,7 @@ use Rattle.std.proofs.Common.{◌∙◌, ℕ, List, ap, get_or, sym}
 use Rattle.std.specs.Prelude.{slice_get}
 use Rattle.std.proofs.lemmas.Option.{slice_get-get_or}
 use Rattle.fleet_model.proofs.Numbers.{numbered}
-use Rattle.route_pool.proofs.Growing.{grown_further}
+use Rattle.route_pool.proofs.GrownPools.{grown_further}
 use Rattle.column_pool.proofs.decided.bound_of_decided.Goals as goal
 
 pub serve-requires-clause-number : goal.serve-requires-clause-number

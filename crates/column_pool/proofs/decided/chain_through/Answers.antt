@@ -15,7 +15,7 @@ use Rattle.route_plan.specs.declared.plan.RoutePlan.{RoutePlan}
 use Rattle.bound_certificate.specs.Ranges.{IsPrice}
 use Rattle.column_pool.specs.Columns.{IsNodeRoute}
 use Rattle.column_pool.proofs.Sections.{section_closed}
-use Rattle.column_pool.proofs.Paying.{lone_length, lone_small, lone_sum}
+use Rattle.column_pool.proofs.MorePrices.{lone_length, lone_small, lone_sum}
 use Rattle.column_pool.proofs.Through.{chain_of, route_over, serves_lone}
 use Rattle.column_pool.proofs.decided.chain_through.Goals as goal
 

@@ -3,7 +3,7 @@ use Rattle.std.specs.List.{All}
 use Rattle.bound_certificate.specs.declared.certificate.Share.{Share}
 use Rattle.column_pool.specs.Bounds.{IsExact}
 use Rattle.column_pool.specs.Columns.{HasPlan, share_of}
-use Rattle.column_pool.proofs.Bounding.{empty_node, exact_node, have_all, node_section}
+use Rattle.column_pool.proofs.NodeBounds.{empty_node, exact_node, have_all, node_section}
 use Rattle.column_pool.proofs.exact.bound_of.Goals as goal
 
 pub returns-then-weight-eq0 : goal.returns-then-weight-eq0

@@ -2,7 +2,7 @@ use Rattle.std.proofs.Common.{◌^◌}
 use Rattle.std.proofs.lemmas.Result.{IfOk-weaker}
 use Rattle.column_pool.specs.Bounds.{IsNodeBound}
 use Rattle.column_pool.specs.TooWide.{IsNodeBoundAt}
-use Rattle.column_pool.proofs.Widening.{bound_is}
+use Rattle.column_pool.proofs.WideBases.{bound_is}
 use Rattle.column_pool.proofs.node.bound_node.Goals as goal
 
 pub returns-clause-bound : goal.returns-clause-bound

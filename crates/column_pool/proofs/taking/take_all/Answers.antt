@@ -1,4 +1,4 @@
-use Rattle.route_pool.proofs.Growing.{grown_further}
+use Rattle.route_pool.proofs.GrownPools.{grown_further}
 use Rattle.column_pool.proofs.taking.take_all.Goals as goal
 
 pub loop-route-preserved : goal.loop-route-preserved

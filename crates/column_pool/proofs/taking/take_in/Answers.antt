@@ -1,4 +1,4 @@
-use Rattle.route_pool.proofs.Growing.{grown_result}
+use Rattle.route_pool.proofs.GrownPools.{grown_result}
 use Rattle.column_pool.proofs.taking.take_in.Goals as goal
 
 pub returns-clause-grown : goal.returns-clause-grown

@@ -10,7 +10,7 @@ use Rattle.certificate_parts.specs.declared.entry.BasisEntry.{BasisEntry}
 use Rattle.column_pool.specs.Nodes.{Node, node_problem}
 use Rattle.column_pool.specs.TooWide.{entry_of, IsWideAt}
 use Rattle.column_pool.proofs.Raised.{prices_risen, section_nowhere, section_risen}
-use Rattle.column_pool.proofs.Widening.{wide_at}
+use Rattle.column_pool.proofs.WideBases.{wide_at}
 use Rattle.column_pool.proofs.wide.wide_bound.Goals as goal
 
 pub returns-in-Nowhere : goal.returns-in-Nowhere

@@ -1,6 +1,6 @@
 use Rattle.std.proofs.Common.{◌≡◌, ◌↔◌, ℕ, List, Ok, subst}
 use Rattle.ev_text.specs.Scans.{TakesNumber, whole_at}
-use Rattle.command_line.proofs.Spelling.{one_spelling}
+use Rattle.command_line.proofs.NumberWords.{one_spelling}
 use Rattle.command_line.proofs.laws.numbers_have_one_spelling.Goals as goal
 
 pub returns : goal.returns

@@ -10,7 +10,7 @@ use Rattle.ev_fleet.specs.Outcome.{IsOutcome}
 use Rattle.ev_fleet.specs.Searching.{IsDone, IsUsedUp, IsWithin, ShowsRoot, plan_at}
 use Rattle.ev_fleet.specs.State.{IsSearch}
 use Rattle.ev_fleet.specs.Whole.{IsNoDearer}
-use Rattle.ev_fleet.proofs.Assembling.{is_outcome, names, sums}
+use Rattle.ev_fleet.proofs.AssembledOutcomes.{is_outcome, names, sums}
 use Rattle.ev_fleet.proofs.answer.outcome_of.Goals as goal
 
 pub returns : goal.returns

@@ -1,7 +1,7 @@
 use Rattle.std.proofs.Common.{refl, sym, subst}
 use Rattle.std.specs.Prelude.{IsNone}
 use Rattle.ev_fleet.specs.Held.{cost_at}
-use Rattle.ev_fleet.proofs.Promising.{done_where_none_lives}
+use Rattle.ev_fleet.proofs.PromisingNodes.{done_where_none_lives}
 use Rattle.ev_fleet.proofs.search.is_promising.Goals as goal
 
 pub returns-in-None-default-clause-done : goal.returns-in-None-default-clause-done

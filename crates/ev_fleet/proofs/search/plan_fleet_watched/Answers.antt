@@ -2,7 +2,7 @@ use Rattle.std.proofs.lemmas.Result.{IfOk-weaker}
 use Rattle.ev_fleet.specs.Held.{cost_at}
 use Rattle.ev_fleet.specs.Outcome.{IsOutcome}
 use Rattle.ev_fleet.specs.Searching.{IsOutcomeOf}
-use Rattle.ev_fleet.proofs.Advancing.{root_more, within_more}
+use Rattle.ev_fleet.proofs.SearchSteps.{root_more, within_more}
 use Rattle.ev_fleet.proofs.Whole.{takes_lower}
 use Rattle.ev_fleet.proofs.search.plan_fleet_watched.Goals as goal
 

@@ -5,7 +5,7 @@ use Rattle.ev_fleet.specs.Held.{cost_at}
 use Rattle.ev_fleet.specs.Splitting.{IsSettled}
 use Rattle.ev_fleet.specs.State.{greater_of}
 use Rattle.ev_fleet.specs.declared.state.Search.{Search}
-use Rattle.ev_fleet.proofs.Advancing.{advanced_by}
+use Rattle.ev_fleet.proofs.SearchSteps.{advanced_by}
 use Rattle.ev_fleet.proofs.Decided.{decided_taken, top_reaches}
 use Rattle.ev_fleet.proofs.Found.{found_of, strong_sum}
 use Rattle.ev_fleet.proofs.state.advance.Goals as goal

@@ -1,5 +1,5 @@
 use Rattle.bound_certificate.specs.Ranges.{customer_count}
-use Rattle.ev_fleet.proofs.Beginning.{begun, root_open}
+use Rattle.ev_fleet.proofs.SearchStarts.{begun, root_open}
 use Rattle.ev_fleet.proofs.state.begin.Goals as goal
 
 pub advance-requires-clause-open : goal.advance-requires-clause-open

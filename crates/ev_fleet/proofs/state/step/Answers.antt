@@ -1,5 +1,5 @@
 use Rattle.ev_fleet.specs.Held.{cost_at}
-use Rattle.ev_fleet.proofs.Advancing.{advanced_search, some_open}
+use Rattle.ev_fleet.proofs.SearchSteps.{advanced_search, some_open}
 use Rattle.ev_fleet.proofs.state.step.Goals as goal
 
 pub advance-requires-clause-open : goal.advance-requires-clause-open

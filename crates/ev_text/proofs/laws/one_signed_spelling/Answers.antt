@@ -1,4 +1,4 @@
-use Rattle.ev_text.proofs.Spelling.{signed_decimal_injective}
+use Rattle.ev_text.proofs.DecimalSpellings.{signed_decimal_injective}
 use Rattle.ev_text.proofs.laws.one_signed_spelling.Goals as goal
 
 pub returns : goal.returns

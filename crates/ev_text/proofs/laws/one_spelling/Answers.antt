@@ -1,7 +1,7 @@
 use Rattle.std.proofs.Common.{arith, sym, subst}
 use Rattle.ev_text.specs.Numerals.{IsSpelling}
 use Rattle.ev_text.proofs.Readings.{whole_at-number}
-use Rattle.ev_text.proofs.Spelling.{IsSpelling-decimal, same_from_IsSpelling}
+use Rattle.ev_text.proofs.DecimalSpellings.{IsSpelling-decimal, same_from_IsSpelling}
 use Rattle.ev_text.proofs.laws.one_spelling.Goals as goal
 
 pub returns : goal.returns

@@ -1,7 +1,7 @@
 use Rattle.std.proofs.Common.{rules}
 use Rattle.std.specs.Option.{option_map}
 use Rattle.certificate_check.specs.Truth.{IsTrueCertificate}
-use Rattle.evroute_run.proofs.Accepting.{is_bound_of_cost}
+use Rattle.evroute_run.proofs.AcceptedCertificates.{is_bound_of_cost}
 use Rattle.evroute_run.proofs.judging.judge.Goals as goal
 
 pub returns-in-Accepted-clause-bound : goal.returns-in-Accepted-clause-bound

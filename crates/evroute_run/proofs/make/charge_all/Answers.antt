@@ -1,5 +1,5 @@
 use Rattle.std.proofs.Common.{◌∙◌}
-use Rattle.evroute_run.proofs.Making.{is_route_of_all, puts_no_time, puts_time}
+use Rattle.evroute_run.proofs.MadeInstances.{is_route_of_all, puts_no_time, puts_time}
 use Rattle.evroute_run.proofs.make.charge_all.Goals as goal
 
 pub returns-in-Some-clause-answers : goal.returns-in-Some-clause-answers

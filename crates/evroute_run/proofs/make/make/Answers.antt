@@ -6,7 +6,7 @@ use Rattle.evroute_run.proofs.MakeLaw.{make_lawful}
 use Rattle.evroute_run.specs.MakeAnswer.{HasNoInstance, made_file, make_task}
 use Rattle.job_frame.proofs.FileReads.{finds_alone, nothing_fails, nothing_falls, ok_is_no_error}
 use Rattle.job_frame.proofs.Performed.{performs_unwritten}
-use Rattle.job_frame.proofs.Writing.{at_once_fails, is_written, leaves_one}
+use Rattle.job_frame.proofs.FileWrites.{at_once_fails, is_written, leaves_one}
 use Rattle.job_frame.specs.declared.status.Status.TheVariants as status
 use Rattle.plan_writer.specs.RefusalText.{refusal_text}
 use Rattle.plan_writer.specs.declared.refusal.Refusal.TheVariants as refusal

@@ -1,4 +1,4 @@
-use Rattle.evroute_run.proofs.Making.{one_more}
+use Rattle.evroute_run.proofs.MadeInstances.{one_more}
 use Rattle.evroute_run.proofs.make.route_of_all.Goals as goal
 
 pub loop-customer-preserved : goal.loop-customer-preserved

@@ -1,7 +1,7 @@
 use Rattle.std.proofs.Common.{List, ℕ}
 use Rattle.ev_model.specs.Network.{Network}
 use Rattle.route_steps.specs.Trips.{Journey}
-use Rattle.fixed_certificate.proofs.Fitting.{is_true}
+use Rattle.fixed_certificate.proofs.ProofRanges.{is_true}
 use Rattle.fixed_certificate.proofs.Quick.{fits_by}
 use Rattle.fixed_certificate.proofs.proving.prove_route.Goals as goal
 

@@ -1,9 +1,9 @@
 use Rattle.std.proofs.Common.{List, ℕ}
 use Rattle.ev_model.specs.Network.{Network}
 use Rattle.std.proofs.lemmas.Result.{IfOk-weaker}
-use Rattle.frvcp_labels.proofs.Settling.{all_held, on_way_only}
-use Rattle.frvcp_labels.proofs.Spreading.{IfOk-both}
-use Rattle.route_steps.proofs.Solving.{is_trip}
+use Rattle.frvcp_labels.proofs.SearchLoops.{all_held, on_way_only}
+use Rattle.frvcp_labels.proofs.StationSteps.{IfOk-both}
+use Rattle.route_steps.proofs.WayHomePlans.{is_trip}
 use Rattle.route_steps.specs.Trips.{Journey}
 use Rattle.route_steps.specs.Ways.{begin}
 use Rattle.frvcp_labels.proofs.reaching.reachable_states.Goals as goal

@@ -1,6 +1,6 @@
 use Rattle.std.proofs.Common.{map, take, drop, length, ◌-◌}
 use Rattle.job_frame.proofs.FileReads.{ok_is_no_error}
-use Rattle.job_frame.proofs.Writing.{at_once_fails, at_once_stops, is_written, then_fails, then_stops, written_in}
+use Rattle.job_frame.proofs.FileWrites.{at_once_fails, at_once_stops, is_written, then_fails, then_stops, written_in}
 use Rattle.job_frame.specs.Finds.{written_by}
 use Rattle.job_frame.proofs.concluding.+write_all.Goals as goal
 

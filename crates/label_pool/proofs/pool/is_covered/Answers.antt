@@ -2,7 +2,7 @@ use Rattle.std.proofs.Common.{◌≡◌, ℕ, sym, ◌∙◌, subst, arith, refl
 use Rattle.std.proofs.lemmas.Bool.{false≢true}
 use Rattle.std.proofs.lemmas.Option.{get_or_from_slice_get, slice_get_within}
 use Rattle.label_pool.specs.declared.label.Label.{Label}
-use Rattle.label_pool.proofs.Covering.{IsLooking, look_ends, look_live, look_on, look_start}
+use Rattle.label_pool.proofs.LiveCoverage.{IsLooking, look_ends, look_live, look_on, look_start}
 use Rattle.label_pool.proofs.pool.is_covered.Goals as goal
 
 pub loop-at-init : goal.loop-at-init

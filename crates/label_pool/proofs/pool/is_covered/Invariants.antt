@@ -1,6 +1,6 @@
 use Rattle.index_links.specs.Lists.{list_at}
 use Rattle.index_links.proofs.Walk.{left_at}
-use Rattle.label_pool.proofs.Covering.{IsLooking}
+use Rattle.label_pool.proofs.LiveCoverage.{IsLooking}
 use Rattle.label_pool.proofs.pool.is_covered.Given as goal
 
 abbrev pub invariant-loop-at : goal.invariant-loop-at

@@ -3,7 +3,7 @@ use Rattle.std.proofs.lemmas.Option.{slice_get_within}
 use Rattle.std.proofs.lemmas.List.{length-map}
 use Rattle.index_links.specs.Lists.{Lists, without}
 use Rattle.label_pool.proofs.Elements.{read_at}
-use Rattle.label_pool.proofs.Covering.{IsRetiring, retire_drops, retire_ends, retire_in, retire_keeps, retire_start}
+use Rattle.label_pool.proofs.LiveCoverage.{IsRetiring, retire_drops, retire_ends, retire_in, retire_keeps, retire_start}
 use Rattle.label_pool.proofs.pool.retire_covered.Goals as goal
 
 pub loop-at-init : goal.loop-at-init

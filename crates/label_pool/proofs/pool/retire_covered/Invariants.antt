@@ -1,7 +1,7 @@
 use Rattle.std.proofs.Common.{◌≡◌, length}
 use Rattle.index_links.specs.Lists.{list_at}
 use Rattle.index_links.proofs.Walk.{left_at}
-use Rattle.label_pool.proofs.Covering.{IsRetiring}
+use Rattle.label_pool.proofs.LiveCoverage.{IsRetiring}
 use Rattle.label_pool.proofs.pool.retire_covered.Given as goal
 
 abbrev pub invariant-loop-at : goal.invariant-loop-at

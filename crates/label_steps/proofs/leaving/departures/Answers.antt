@@ -7,7 +7,7 @@ use Rattle.dominance.specs.LevelTimes.{IsLevel, LevelTimes}
 use Rattle.dominance.specs.Steps.{IsCharge, IsShift}
 use Rattle.piece_fn.specs.PieceFn.{level_times}
 use Rattle.label_steps.specs.Paying.{AreCharged, paying}
-use Rattle.label_steps.proofs.Plugging.{charges_cover, charges_left, no_curve, no_plug, plugged_low, single_covers}
+use Rattle.label_steps.proofs.PluggedValues.{charges_cover, charges_left, no_curve, no_plug, plugged_low, single_covers}
 use Rattle.label_steps.proofs.leaving.departures.Goals as goal
 
 pub returns-in_default-clause-covers : goal.returns-in_default-clause-covers

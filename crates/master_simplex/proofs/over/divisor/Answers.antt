@@ -2,7 +2,7 @@ use Rattle.std.proofs.Common.{◌*◌, ◌/◌, ◌↔◌, ℕ, subst}
 use Rattle.std.specs.Int.{◌∣◌}
 use Rattle.ev_units.proofs.Divisors.{pos_cofactor}
 use Rattle.master_simplex.specs.Sharing.{right_at}
-use Rattle.master_simplex.proofs.Sharing.{whole_where_divided}
+use Rattle.master_simplex.proofs.BasisShares.{whole_where_divided}
 use Rattle.master_simplex.proofs.over.divisor.Goals as goal
 
 pub returns-clause-some : goal.returns-clause-some

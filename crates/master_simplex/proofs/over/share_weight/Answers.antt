@@ -2,7 +2,7 @@ use Rattle.std.proofs.Common.{◌≡◌, ◌<◌, ◌≤◌, arith, rules, subst
 use Rattle.ev_units.specs.Units.{IsLcm, IsLcmPast}
 use Rattle.master_table.specs.Tableau.{size}
 use Rattle.master_simplex.proofs.Optimum.{body_some}
-use Rattle.master_simplex.proofs.Sharing.{first_weight, next_weight, weight_past}
+use Rattle.master_simplex.proofs.BasisShares.{first_weight, next_weight, weight_past}
 use Rattle.master_simplex.proofs.over.share_weight.Goals as goal
 
 pub loop-row-init : goal.loop-row-init

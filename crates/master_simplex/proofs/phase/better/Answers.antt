@@ -2,7 +2,7 @@ use Rattle.std.proofs.Common.{◌≡◌, arith, rules, FitsSigned, pos, ◌≤�
 use Rattle.std.specs.Int.{w128}
 use Rattle.std.proofs.lemmas.Int.{ints}
 use Rattle.master_simplex.specs.Phase.{gain}
-use Rattle.master_simplex.proofs.Entering.{gaining_keep}
+use Rattle.master_simplex.proofs.EnteringColumns.{gaining_keep}
 use Rattle.master_simplex.proofs.phase.better.Goals as goal
 
 pub returns-then-gain-le0 : goal.returns-then-gain-le0

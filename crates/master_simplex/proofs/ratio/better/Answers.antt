@@ -3,7 +3,7 @@ use Rattle.std.specs.Int.{w128}
 use Rattle.std.proofs.lemmas.Int.{ints}
 use Rattle.master_table.specs.Tableau.{entry_at}
 use Rattle.master_simplex.specs.Phase.{IsLeast}
-use Rattle.master_simplex.proofs.Leaving.{least_keep, least_new, least_old}
+use Rattle.master_simplex.proofs.LeavingRows.{least_keep, least_new, least_old}
 use Rattle.master_simplex.proofs.ratio.better.Goals as goal
 
 pub returns-then-entry-le0 : goal.returns-then-entry-le0

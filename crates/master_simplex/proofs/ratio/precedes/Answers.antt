@@ -1,5 +1,5 @@
 use Rattle.std.proofs.Common.{rules}
-use Rattle.master_simplex.proofs.Leaving.{same_order}
+use Rattle.master_simplex.proofs.LeavingRows.{same_order}
 use Rattle.master_simplex.proofs.ratio.precedes.Goals as goal
 
 pub returns : goal.returns

@@ -1,5 +1,5 @@
 use Rattle.std.proofs.Common.{◌≡◌, arith, rules, sym, subst, Fits, w64}
-use Rattle.master_simplex.proofs.Sharing.{share_is}
+use Rattle.master_simplex.proofs.BasisShares.{share_is}
 use Rattle.master_simplex.proofs.shares.share.Goals as goal
 
 pub overflow_cast-result : goal.overflow_cast-result

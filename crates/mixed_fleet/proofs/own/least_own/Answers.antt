@@ -1,12 +1,12 @@
 use Rattle.std.proofs.Common.{◌≡◌, ◌∙◌, ◌+◌, Option, arith, subst, sym, true}
 use Rattle.ev_model.specs.Network.{is_customer, Network}
 use Rattle.mixed_model.specs.Kinds.{first_of, network_of}
-use Rattle.mixed_model.proofs.Agreeing.{same_customer}
-use Rattle.mixed_plan.proofs.Agreeing.{kind_is}
+use Rattle.mixed_model.proofs.AgreeingNetworks.{same_customer}
+use Rattle.mixed_plan.proofs.KindNumbers.{kind_is}
 use Rattle.mixed_fleet.specs.Own.{IsLeastBelow, IsOwnBy}
 use Rattle.mixed_fleet.specs.declared.searched.Searched.{Searched}
 use Rattle.mixed_fleet.proofs.Once.{agrees_at}
-use Rattle.mixed_fleet.proofs.Owning.{least_step}
+use Rattle.mixed_fleet.proofs.OwnRoutes.{least_step}
 use Rattle.mixed_fleet.proofs.own.least_own.Goals as goal
 
 pub own_by-requires-clause-customer : goal.own_by-requires-clause-customer

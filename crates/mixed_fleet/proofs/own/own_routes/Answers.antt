@@ -5,12 +5,12 @@ use Rattle.std.proofs.lemmas.List.Elements.{All-push}
 use Rattle.ev_model.specs.Network.{Network}
 use Rattle.instance_reader.specs.Instance.{customer_nodes}
 use Rattle.mixed_model.specs.Kinds.{first_of}
-use Rattle.mixed_plan.proofs.Agreeing.{kind_is}
+use Rattle.mixed_plan.proofs.KindNumbers.{kind_is}
 use Rattle.mixed_fleet.specs.Own.{AreOwnOf, IsLeastBelow}
 use Rattle.mixed_fleet.specs.Searched.{IsSearched}
 use Rattle.mixed_fleet.specs.declared.own.OwnRoutes.{OwnRoutes}
 use Rattle.mixed_fleet.specs.declared.searched.Searched.{Searched}
-use Rattle.mixed_fleet.proofs.Owning.{found_more, found_none}
+use Rattle.mixed_fleet.proofs.OwnRoutes.{found_more, found_none}
 use Rattle.mixed_fleet.proofs.own.own_routes.Goals.{in-Some+in_ok-push-in-Some, in-None}
 use Rattle.mixed_fleet.proofs.own.own_routes.Goals as goal
 

@@ -7,7 +7,7 @@ use Rattle.certificate_parts.specs.Limits.{most_items}
 use Rattle.mixed_model.specs.Kinds.{first_of}
 use Rattle.mixed_model.specs.declared.proof.MixedRoot.TheVariants.{Exact}
 use Rattle.mixed_model.specs.declared.proof.MixedShare.{MixedShare}
-use Rattle.mixed_plan.proofs.Agreeing.{kind_is}
+use Rattle.mixed_plan.proofs.KindNumbers.{kind_is}
 use Rattle.mixed_fleet.specs.Roots.{IsRightRoot}
 use Rattle.mixed_fleet.specs.Shares.{HasRoute, share_at}
 use Rattle.mixed_fleet.proofs.Ends.{exact_root, exact_sum, ray_sum, shares_placed}

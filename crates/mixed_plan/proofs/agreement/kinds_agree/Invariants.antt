@@ -1,4 +1,4 @@
-use Rattle.mixed_plan.proofs.Agreeing.{AgreeTo}
+use Rattle.mixed_plan.proofs.KindNumbers.{AgreeTo}
 use Rattle.mixed_plan.proofs.agreement.kinds_agree.Given as goal
 
 abbrev pub invariant-loop-kind : goal.invariant-loop-kind

@@ -4,7 +4,7 @@ use Rattle.ev_model.specs.Network.{Network}
 use Rattle.plan_check.specs.LaterRules.{IsFirstLater, KeepsLater}
 use Rattle.plan_check.specs.Tallies.{AllKnown}
 use Rattle.mixed_plan.specs.MixedRules.{plain_routes}
-use Rattle.mixed_plan.proofs.Agreeing.{kind_is}
+use Rattle.mixed_plan.proofs.KindNumbers.{kind_is}
 use Rattle.mixed_plan.proofs.Broken.{all_known, kept_is_plan, later_is_first, walk_is_first}
 use Rattle.mixed_plan.proofs.judge.check_mixed_plan.Goals as goal
 

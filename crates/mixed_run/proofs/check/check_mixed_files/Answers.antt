@@ -1,7 +1,7 @@
 use Rattle.job_frame.proofs.FileReads.{finds_alone}
 use Rattle.job_frame.specs.declared.status.Status.TheVariants as status
 use Rattle.mixed_run.proofs.CheckMixedFinds.{file_fails, refused_early}
-use Rattle.mixed_run.proofs.Halting.{halt_is, refused_is_no_failure, stopped_finds}
+use Rattle.mixed_run.proofs.FileSteps.{halt_is, refused_is_no_failure, stopped_finds}
 use Rattle.mixed_run.specs.CheckMixedAnswer.{check_mixed_task}
 use Rattle.command_line.specs.JobValue.{mixed_value}
 use Rattle.command_line.specs.Words.{MixedJob}

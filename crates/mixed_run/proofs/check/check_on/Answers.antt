@@ -2,7 +2,7 @@ use Rattle.std.proofs.Common.{length, refl}
 use Rattle.job_frame.proofs.FileReads.{finds_alone, finds_none, named_failed, named_read, ok_is_no_error}
 use Rattle.job_frame.specs.declared.status.Status.TheVariants as status
 use Rattle.job_steps.specs.Caps.{most_bytes}
-use Rattle.mixed_run.proofs.Accepting.{plan_refused, rule_of}
+use Rattle.mixed_run.proofs.AcceptedAnswers.{plan_refused, rule_of}
 use Rattle.mixed_run.proofs.CheckMixedFinds.{plan_fails, refused_by_plan}
 use Rattle.mixed_run.specs.CheckMixedAnswer.{check_mixed_task}
 use Rattle.command_line.specs.JobValue.{mixed_value}

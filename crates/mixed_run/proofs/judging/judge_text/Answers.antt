@@ -1,5 +1,5 @@
 use Rattle.std.specs.Option.{option_map}
-use Rattle.mixed_run.proofs.Accepting.{refused_answers}
+use Rattle.mixed_run.proofs.AcceptedAnswers.{refused_answers}
 use Rattle.mixed_run.proofs.judging.judge_text.Goals as goal
 
 pub returns-in-Ok-clause-answers : goal.returns-in-Ok-clause-answers

@@ -1,7 +1,7 @@
 use Rattle.std.proofs.Common.{arith}
 use Rattle.std.specs.Option.{option_map}
-use Rattle.mixed_plan.proofs.Agreeing.{kind_is}
-use Rattle.mixed_run.proofs.Accepting.{report_answers}
+use Rattle.mixed_plan.proofs.KindNumbers.{kind_is}
+use Rattle.mixed_run.proofs.AcceptedAnswers.{report_answers}
 use Rattle.mixed_run.proofs.judging.report_on.Goals as goal
 
 pub returns-clause-answers : goal.returns-clause-answers

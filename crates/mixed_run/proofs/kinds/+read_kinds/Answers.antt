@@ -1,8 +1,8 @@
 use Rattle.std.proofs.Common.{drop, length, take, ◌-◌}
 use Rattle.std.specs.Prelude.{string_bytes}
 use Rattle.job_frame.proofs.FileReads.{ok_is_no_error}
-use Rattle.mixed_run.proofs.Halting.{first_halts, next_halts, next_read}
-use Rattle.mixed_run.proofs.Reading.{names_in}
+use Rattle.mixed_run.proofs.FileSteps.{first_halts, next_halts, next_read}
+use Rattle.mixed_run.proofs.KindReading.{names_in}
 use Rattle.mixed_run.specs.Names.{names_of}
 use Rattle.mixed_run.proofs.kinds.+read_kinds.Goals as goal
 

@@ -1,6 +1,6 @@
 use Rattle.std.proofs.Common.{◌≤◌, ℕ, subst, sym}
 use Rattle.mixed_model.specs.Kinds.{most_kinds}
-use Rattle.mixed_run.proofs.Reading.{as_many_kinds}
+use Rattle.mixed_run.proofs.KindReading.{as_many_kinds}
 use Rattle.mixed_run.proofs.kinds.kinds_of_files.Goals as goal
 
 pub unfit-requires-clause-some : goal.unfit-requires-clause-some

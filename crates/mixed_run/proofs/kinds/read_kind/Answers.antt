@@ -1,5 +1,5 @@
 use Rattle.std.specs.Prelude.{string_bytes}
-use Rattle.mixed_run.proofs.Halting.{one_fails, one_read, one_refused}
+use Rattle.mixed_run.proofs.FileSteps.{one_fails, one_read, one_refused}
 use Rattle.mixed_run.proofs.kinds.read_kind.Goals as goal
 
 pub returns-in-Err-clause-halt : goal.returns-in-Err-clause-halt

@@ -5,7 +5,7 @@ use Rattle.dominance.specs.LevelTimes.{time_at}
 use Rattle.piece_fn.specs.PieceFn.{IsReach, level_times}
 use Rattle.label_steps.specs.Covering.{IsCoveredTo}
 use Rattle.near_check.specs.Targets.{covers_by}
-use Rattle.near_check.proofs.Covering.{pays_not, reach_covers, reaches_not}
+use Rattle.near_check.proofs.CoveredStates.{pays_not, reach_covers, reaches_not}
 use Rattle.near_check.proofs.Options.{none_map, some_map}
 use Rattle.near_check.proofs.coverage.reach_by.Goals as goal
 

@@ -1,7 +1,7 @@
 use Rattle.std.proofs.Common.{rules}
 use Rattle.std.proofs.lemmas.List.Sorted.{All-permutation, answers_always, Contains-permutation, IsNonDecreasingBy-from_sort_by_key, IsPermutation-trans, ties_still_rise}
 use Rattle.near_check.specs.Links.{IsEntry}
-use Rattle.near_check.proofs.Linking.{in_order}
+use Rattle.near_check.proofs.EntryLists.{in_order}
 use Rattle.near_check.proofs.links.entries.Goals as goal
 
 pub returns : goal.returns

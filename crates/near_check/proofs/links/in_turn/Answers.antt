@@ -5,7 +5,7 @@ use Rattle.dominance.specs.LevelTimes.{time_at}
 use Rattle.piece_fn.specs.PieceFn.{level_times}
 use Rattle.near_check.specs.Links.{HasEntries, IsEntry}
 use Rattle.near_check.specs.declared.links.Entry.{Entry}
-use Rattle.near_check.proofs.Linking.{entry_of, every_more}
+use Rattle.near_check.proofs.EntryLists.{entry_of, every_more}
 use Rattle.near_check.proofs.links.in_turn.Goals as goal
 
 pub loop-number-preserved : goal.loop-number-preserved

@@ -2,7 +2,7 @@ use Rattle.std.proofs.Common.{List, subst}
 use Rattle.std.specs.List.{All}
 use Rattle.route_plan.specs.declared.plan.RoutePlan.{RoutePlan}
 use Rattle.near_pricing.specs.Tree.{IsBetterPlan}
-use Rattle.near_pricing.proofs.Searching.{of_last}
+use Rattle.near_pricing.proofs.SearchState.{of_last}
 use Rattle.near_pricing.proofs.answer.better_of.Goals as goal
 
 pub returns : goal.returns

@@ -2,7 +2,7 @@ use Rattle.std.proofs.Common.{ap, sym, subst, arith}
 use Rattle.ev_model.specs.Network.{Network, node_count}
 use Rattle.near_proof.specs.Ranges.{NearLabelFits}
 use Rattle.near_proof.specs.declared.proof.NearLabel.{NearLabel}
-use Rattle.near_pricing.proofs.Searching.{left_within, listed_placed, step_memory}
+use Rattle.near_pricing.proofs.SearchState.{left_within, listed_placed, step_memory}
 use Rattle.near_pricing.proofs.listing.list_step.Goals as goal
 
 pub target_at-requires-clause-label : goal.target_at-requires-clause-label

@@ -5,7 +5,7 @@ use Rattle.fleet_model.specs.Places.{customer_count, customer_number}
 use Rattle.fleet_model.proofs.Numbers.{counted, numbered}
 use Rattle.instance_reader.specs.Instance.{customer_nodes, IsCustomerNumber}
 use Rattle.near_pricing.specs.Placed.{IsServedAt}
-use Rattle.near_pricing.proofs.Leaving.{served_enough, served_again}
+use Rattle.near_pricing.proofs.LeavingValues.{served_enough, served_again}
 use Rattle.near_pricing.proofs.steps.target_at.Goals as goal
 
 pub returns-clause-leads : goal.returns-clause-leads

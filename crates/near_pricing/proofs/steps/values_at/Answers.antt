@@ -6,7 +6,7 @@ use Rattle.ev_model.specs.Network.{Network}
 use Rattle.piece_fn.specs.PieceFn.{level_times}
 use Rattle.label_steps.specs.Arrivals.{ArrivesAs, IsWithin}
 use Rattle.label_steps.specs.Leaves.{AreLeft}
-use Rattle.near_pricing.proofs.Leaving.{all_left, nobody_arrives}
+use Rattle.near_pricing.proofs.LeavingValues.{all_left, nobody_arrives}
 use Rattle.near_pricing.proofs.steps.values_at.Goals as goal
 
 -- what is told of the value on arriving

@@ -3,7 +3,7 @@ use Rattle.std.specs.List.{All}
 use Rattle.std.proofs.lemmas.List.Elements.{All-append, All-cons, All-nil}
 use Rattle.fleet_model.specs.Places.{numbers_of}
 use Rattle.instance_reader.specs.Instance.{customer_nodes}
-use Rattle.near_services.proofs.Serving.{taken_one}
+use Rattle.near_services.proofs.MoreStops.{taken_one}
 use Rattle.near_services.proofs.services.numbers_of.Goals as goal
 
 pub loop-stop-preserved : goal.loop-stop-preserved

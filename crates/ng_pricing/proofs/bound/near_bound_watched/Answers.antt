@@ -5,7 +5,7 @@ use Rattle.near_proof.specs.declared.proof.NearProof.{NearProof}
 use Rattle.ng_pricing.specs.Fixing.{IsRaised, IsRising, IsUnserved}
 use Rattle.ng_pricing.specs.NearBound.{IsNearBound}
 use Rattle.ng_pricing.specs.declared.raising.Raised.{Raised}
-use Rattle.ng_pricing.proofs.Bounding.{bounded, sets_fit, unbounded}
+use Rattle.ng_pricing.proofs.EndProofs.{bounded, sets_fit, unbounded}
 use Rattle.ng_pricing.proofs.bound.near_bound_watched.Goals as goal
 
 pub raised-requires : goal.raised-requires

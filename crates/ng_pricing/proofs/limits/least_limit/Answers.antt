@@ -1,7 +1,7 @@
 use Rattle.std.proofs.Common.{◌≡◌, ◌+◌, IfNone, IfSome, ℕ, Option, subst, sym}
 use Rattle.ev_model.specs.Fleet.{times_in}
 use Rattle.ng_pricing.specs.Met.{IsAllowed}
-use Rattle.ng_pricing.proofs.Limiting.{least_with, least_without, LeastOf}
+use Rattle.ng_pricing.proofs.PriceLimits.{least_with, least_without, LeastOf}
 use Rattle.ng_pricing.specs.declared.met.Limit.{Limit}
 use Rattle.ng_pricing.proofs.limits.least_limit.Goals.{in-Some, in_default}
 use Rattle.ng_pricing.proofs.limits.least_limit.Goals as goal

@@ -1,6 +1,6 @@
 use Rattle.std.proofs.Common.{◌<◌, arith}
 use Rattle.charge_curve.specs.Points.{time_on}
-use Rattle.piece_fn.proofs.Lasting.{covered_further, last_further, straight_to_less}
+use Rattle.piece_fn.proofs.LastingOrders.{covered_further, last_further, straight_to_less}
 use Rattle.piece_fn.proofs.Walks.{walked}
 use Rattle.piece_fn.proofs.reach.farthest.Goals as goal
 

@@ -2,7 +2,7 @@ use Rattle.std.proofs.Common.{◌≡◌, ◌+◌, ◌-◌, ◌/◌, ◌<◌, ari
 use Rattle.std.proofs.lemmas.Bool.{leb-false, leb-true}
 use Rattle.charge_curve.specs.Points.{time_on}
 use Rattle.piece_fn.specs.Reach.{LastsTo}
-use Rattle.piece_fn.proofs.Lasting.{last_covered, lasts_below, lasts_to_high, steeper}
+use Rattle.piece_fn.proofs.LastingOrders.{last_covered, lasts_below, lasts_to_high, steeper}
 use Rattle.piece_fn.proofs.reach.lasts_to.Goals as goal
 
 pub returns-then-is_in_time : goal.returns-then-is_in_time

@@ -1,4 +1,4 @@
-use Rattle.piece_fn.proofs.Lasting.{first_within, second_within, straight_to_second}
+use Rattle.piece_fn.proofs.LastingOrders.{first_within, second_within, straight_to_second}
 use Rattle.piece_fn.proofs.reach.next_bend.Goals as goal
 
 pub returns-then-low-point-clause-within : goal.returns-then-low-point-clause-within

@@ -3,7 +3,7 @@ use Rattle.std.proofs.lemmas.Result.{err_from_is_err_and}
 use Rattle.route_plan.specs.declared.plan.RoutePlan.{RoutePlan}
 use Rattle.plan_check.specs.FirstFaults.{cost_from, later_fault}
 use Rattle.plan_check.specs.Tallies.{AllKnown}
-use Rattle.plan_check.proofs.Counting.{plans_by_own}
+use Rattle.plan_check.proofs.VisitCounts.{plans_by_own}
 use Rattle.plan_check.proofs.Firsts.{first_of_all, later_first, none_broken, none_later, walk_first}
 use Rattle.plan_check.proofs.FleetPlans.{unbroken_is_fleet_plan}
 use Rattle.plan_check.proofs.Walks.{all_known, cost_from-Ok}

@@ -1,5 +1,5 @@
 use Rattle.std.proofs.Common.{◌∙◌, refl, sym}
-use Rattle.plan_check.proofs.Counting.{twice_by, unserved_by}
+use Rattle.plan_check.proofs.VisitCounts.{twice_by, unserved_by}
 use Rattle.plan_check.proofs.later.later_fault.Goals as goal
 
 pub returns-in-Some : goal.returns-in-Some

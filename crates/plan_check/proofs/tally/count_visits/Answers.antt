@@ -2,7 +2,7 @@ use Rattle.std.proofs.Common.{List, subst, ◌++◌, map, take}
 use Rattle.ev_model.specs.Fleet.{all_customers, customers_of}
 use Rattle.ev_model.specs.declared.Stop.{Stop}
 use Rattle.plan_check.specs.Tallies.{Tallies}
-use Rattle.plan_check.proofs.Counting.{all_customers-more}
+use Rattle.plan_check.proofs.VisitCounts.{all_customers-more}
 use Rattle.plan_check.proofs.KnownRoutes.{known_at}
 use Rattle.plan_check.proofs.tally.count_visits.Goals as goal
 

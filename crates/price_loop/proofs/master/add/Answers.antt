@@ -3,7 +3,7 @@ use Rattle.fleet_model.specs.Equations.{route}
 use Rattle.master_table.specs.Tableau.{Tableau}
 use Rattle.master_table.specs.declared.caps.TableFault.{TableFault}
 use Rattle.price_loop.specs.Masters.{IsWide}
-use Rattle.price_loop.proofs.Filling.{added_master, made_column}
+use Rattle.price_loop.proofs.MasterColumns.{added_master, made_column}
 use Rattle.price_loop.proofs.Past.{refused_column}
 use Rattle.price_loop.proofs.master.add.Goals as goal
 

@@ -1,5 +1,5 @@
 use Rattle.master_table.specs.RowView.{limits_of}
-use Rattle.price_loop.proofs.Filling.{fresh_master}
+use Rattle.price_loop.proofs.MasterColumns.{fresh_master}
 use Rattle.price_loop.proofs.master.fresh_master.Goals as goal
 
 pub returns-in-Ok-clause-master : goal.returns-in-Ok-clause-master

@@ -2,7 +2,7 @@ use Rattle.std.proofs.Common.{◌≡◌, ◌∙◌, List, ℕ, Option, None, IfN
 use Rattle.std.proofs.lemmas.List.{set-set}
 use Rattle.std.proofs.lemmas.Bool.{false≢true}
 use Rattle.price_loop.specs.Rising.{ArePayable, HasExcess}
-use Rattle.price_loop.proofs.Raising.{ends_fixed, ends_nowhere, excess_within, lowered}
+use Rattle.price_loop.proofs.PriceRises.{ends_fixed, ends_nowhere, excess_within, lowered}
 use Rattle.price_loop.proofs.rising.fix.Goals as goal
 
 pub lower-price-requires : goal.lower-price-requires

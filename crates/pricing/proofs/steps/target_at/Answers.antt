@@ -6,8 +6,8 @@ use Rattle.pricing.proofs.steps.target_at.Goals as goal
 
 pub returns-clause-leads : goal.returns-clause-leads
 returns-clause-leads c value =
-    let g = c.args.terms.now.network in
-    let number = numbered c.args.terms.now.network c.in-Some.customer c.args.node c.in-Some.ensures.value.1 in
+    let g = c.args.question.now.network in
+    let number = numbered c.args.question.now.network c.in-Some.customer c.args.node c.in-Some.ensures.value.1 in
     record {
       moves = c.if-node-from.false;
       kind = inl (record {
@@ -21,4 +21,4 @@ returns-clause-leads c value =
 
 pub returns-then-has-clause-none : goal.returns-then-has-clause-none
 returns-then-has-clause-none c =
-    served_already c.args.terms.now c.args.from.now c.args.node c.in-Some.customer c.in-Some.ensures.value.0 (numbered c.args.terms.now.network c.in-Some.customer c.args.node c.in-Some.ensures.value.1) (sym c.if-has.ensures.value)
+    served_already c.args.question.now c.args.from.now c.args.node c.in-Some.customer c.in-Some.ensures.value.0 (numbered c.args.question.now.network c.in-Some.customer c.args.node c.in-Some.ensures.value.1) (sym c.if-has.ensures.value)

@@ -7,7 +7,7 @@ use Rattle.piece_fn.specs.PieceFn.{level_times}
 use Rattle.label_steps.specs.Arrivals.{ArrivesAs, IsWithin}
 use Rattle.label_steps.specs.Leaves.{AreLeft}
 use Rattle.closed_lists.proofs.LabelSteps.{nobody_arrives}
-use Rattle.pricing.proofs.Leaving.{all_left}
+use Rattle.pricing.proofs.LeavingValues.{all_left}
 use Rattle.pricing.proofs.steps.values_at.Goals as goal
 
 -- what is told of the value on arriving
@@ -19,11 +19,11 @@ arrival-requires-clause-levels c = subst (λ (g : Network). (level : ℕ) → Is
 
 pub returns-in_default-clause-some : goal.returns-in_default-clause-some
 returns-in_default-clause-some c missed =
-    let g = c.args.terms.now.network in
+    let g = c.args.question.now.network in
     let l = c.args.from.now in
-    let arrives = here _ c.args.terms.now.network c.args.from.now.value c.args.from.now.node c.args.node c.min_q.result c.in_ok-arrived.field-0 c.instance-inst.ensures c.min_q.ensures.value c.in_ok-arrived.ensures.left in
-    let none : ArrivesAs c.args.terms.now.network c.args.from.now.value c.args.from.now.node c.args.node c.args.terms.now.network.reserve None = subst (λ (o : Option (List (ℕ × ℕ))). ArrivesAs c.args.terms.now.network c.args.from.now.value c.args.from.now.node c.args.node c.args.terms.now.network.reserve o) c.in_default.is arrives in
-    absurd (nobody_arrives c.args.terms.now l c.args.node none missed)
+    let arrives = here _ c.args.question.now.network c.args.from.now.value c.args.from.now.node c.args.node c.min_q.result c.in_ok-arrived.field-0 c.instance-inst.ensures c.min_q.ensures.value c.in_ok-arrived.ensures.left in
+    let none : ArrivesAs c.args.question.now.network c.args.from.now.value c.args.from.now.node c.args.node c.args.question.now.network.reserve None = subst (λ (o : Option (List (ℕ × ℕ))). ArrivesAs c.args.question.now.network c.args.from.now.value c.args.from.now.node c.args.node c.args.question.now.network.reserve o) c.in_default.is arrives in
+    absurd (nobody_arrives c.args.question.now l c.args.node none missed)
 
 pub departures-requires-clause-levels : goal.departures-requires-clause-levels
 departures-requires-clause-levels c =
@@ -32,9 +32,9 @@ departures-requires-clause-levels c =
 
 pub returns-clause-left : goal.returns-clause-left
 returns-clause-left c =
-    let arrives = here _ c.args.terms.now.network c.args.from.now.value c.args.from.now.node c.args.node c.min_q.result c.in_ok-arrived.field-0 c.instance-inst.ensures c.min_q.ensures.value c.in_ok-arrived.ensures.left in
-    let arrival : ArrivesAs c.args.terms.now.network c.args.from.now.value c.args.from.now.node c.args.node c.args.terms.now.network.reserve (Some c.in-Some.arrived) = subst (λ (o : Option (List (ℕ × ℕ))). ArrivesAs c.args.terms.now.network c.args.from.now.value c.args.from.now.node c.args.node c.args.terms.now.network.reserve o) c.in-Some.is arrives in
+    let arrives = here _ c.args.question.now.network c.args.from.now.value c.args.from.now.node c.args.node c.min_q.result c.in_ok-arrived.field-0 c.instance-inst.ensures c.min_q.ensures.value c.in_ok-arrived.ensures.left in
+    let arrival : ArrivesAs c.args.question.now.network c.args.from.now.value c.args.from.now.node c.args.node c.args.question.now.network.reserve (Some c.in-Some.arrived) = subst (λ (o : Option (List (ℕ × ℕ))). ArrivesAs c.args.question.now.network c.args.from.now.value c.args.from.now.node c.args.node c.args.question.now.network.reserve o) c.in-Some.is arrives in
     let inner : IsWithin c.instance-inst.result.now c.in-Some.arrived = subst (λ (o : Option (List (ℕ × ℕ))). IfSome o (IsWithin c.instance-inst.result.now)) c.in-Some.is c.in_ok-arrived.ensures.within in
     let within = subst (λ (g : Network). IsWithin g c.in-Some.arrived) c.instance-inst.ensures inner in
     let left = subst (λ (g : Network). IfOk c.departures.result (λ values. AreLeft g c.args.node c.in-Some.arrived values.items)) c.instance-inst.ensures c.departures.ensures.left in
-    IfOk-weaker c.departures.result _ _ (λ values are. all_left c.args.terms.now.network c.args.from.now c.args.node c.in-Some.arrived arrival within values.items are) left
+    IfOk-weaker c.departures.result _ _ (λ values are. all_left c.args.question.now.network c.args.from.now c.args.node c.in-Some.arrived arrival within values.items are) left

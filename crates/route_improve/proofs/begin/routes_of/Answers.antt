@@ -5,7 +5,7 @@ use Rattle.ev_model.specs.declared.Stop.{Stop}
 use Rattle.route_plan.specs.declared.plan.RoutePlan.{RoutePlan}
 use Rattle.route_improve.specs.Begun.{AreRoutesOf, IsRouteOf}
 use Rattle.route_improve.specs.Routes.{IsOrder}
-use Rattle.route_improve.proofs.Beginning.{all_taken, at_plan, begun_cost, begun_more, begun_routes, order_at}
+use Rattle.route_improve.proofs.FirstRoutes.{all_taken, at_plan, begun_cost, begun_more, begun_routes, order_at}
 use Rattle.route_improve.proofs.begin.routes_of.Goals as goal
 use Rattle.route_improve.proofs.begin.routes_of.Goals.{After-as_slice}
 

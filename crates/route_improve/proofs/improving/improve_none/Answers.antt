@@ -1,6 +1,6 @@
 use Rattle.ev_model.specs.Fleet.{cost_of}
 use Rattle.plan_check.specs.FleetRules.{stops_of}
-use Rattle.route_improve.proofs.Owning.{own_costs, own_routes_are}
+use Rattle.route_improve.proofs.OwnRoutes.{own_costs, own_routes_are}
 use Rattle.route_improve.proofs.improving.improve_none.Goals as goal
 
 pub settled_plan-requires-clause-routes : goal.settled_plan-requires-clause-routes

@@ -2,7 +2,7 @@ use Rattle.std.proofs.Common.{subst}
 use Rattle.route_improve.specs.Moves.{exchanged}
 use Rattle.route_improve.specs.Routes.{AreNoCheaper, lists_of}
 use Rattle.route_improve.proofs.Made.{kept_by}
-use Rattle.route_improve.proofs.Trying.{shows}
+use Rattle.route_improve.proofs.TriedMoves.{shows}
 use Rattle.route_improve.proofs.moves.exchange.Goals as goal
 
 pub returns-then-a-b-clause-tried : goal.returns-then-a-b-clause-tried

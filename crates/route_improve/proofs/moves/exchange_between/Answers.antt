@@ -4,8 +4,8 @@ use Rattle.index_links.specs.Lists.{list_at}
 use Rattle.route_improve.specs.Routes.{AreNoCheaper, lists_of}
 use Rattle.route_improve.specs.Taking.{AreOfPair}
 use Rattle.route_improve.proofs.Made.{copied, kept_by, read_at, two_exchanged}
-use Rattle.route_improve.proofs.Moving.{exchanged_between}
-use Rattle.route_improve.proofs.Trying.{shows}
+use Rattle.route_improve.proofs.MovedOrders.{exchanged_between}
+use Rattle.route_improve.proofs.TriedMoves.{shows}
 use Rattle.route_improve.proofs.moves.exchange_between.Goals as goal
 use Rattle.route_improve.proofs.moves.exchange_between.Goals.{After-index_mut-2}
 

@@ -4,8 +4,8 @@ use Rattle.index_links.specs.Lists.{list_at}
 use Rattle.route_improve.specs.Routes.{AreNoCheaper, lists_of}
 use Rattle.route_improve.specs.Taking.{AreOfRoute}
 use Rattle.route_improve.proofs.Made.{copied, kept_by, one_exchanged, read_at}
-use Rattle.route_improve.proofs.Moving.{exchanged_within}
-use Rattle.route_improve.proofs.Trying.{shows}
+use Rattle.route_improve.proofs.MovedOrders.{exchanged_within}
+use Rattle.route_improve.proofs.TriedMoves.{shows}
 use Rattle.route_improve.proofs.moves.exchange_within.Goals as goal
 use Rattle.route_improve.proofs.moves.exchange_within.Goals.{After-index_mut-2}
 

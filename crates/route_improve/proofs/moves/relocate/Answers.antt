@@ -3,7 +3,7 @@ use Rattle.index_links.specs.Lists.{list_at}
 use Rattle.route_improve.specs.Moves.{relocated, taken_out}
 use Rattle.route_improve.specs.Routes.{AreNoCheaper, lists_of}
 use Rattle.route_improve.proofs.Made.{kept_by}
-use Rattle.route_improve.proofs.Trying.{shows}
+use Rattle.route_improve.proofs.TriedMoves.{shows}
 use Rattle.route_improve.proofs.moves.relocate.Goals as goal
 
 pub returns-then-a-b-clause-tried : goal.returns-then-a-b-clause-tried

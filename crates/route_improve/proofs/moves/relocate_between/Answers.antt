@@ -6,8 +6,8 @@ use Rattle.index_links.specs.Lists.{list_at}
 use Rattle.route_improve.specs.Routes.{AreNoCheaper, lists_of}
 use Rattle.route_improve.specs.Taking.{AreOfPair}
 use Rattle.route_improve.proofs.Made.{copied, kept_by, read_at, two_relocated}
-use Rattle.route_improve.proofs.Moving.{relocated_between}
-use Rattle.route_improve.proofs.Trying.{shows}
+use Rattle.route_improve.proofs.MovedOrders.{relocated_between}
+use Rattle.route_improve.proofs.TriedMoves.{shows}
 use Rattle.route_improve.proofs.moves.relocate_between.Goals as goal
 use Rattle.route_improve.proofs.moves.relocate_between.Goals.{In_ok-insert}
 

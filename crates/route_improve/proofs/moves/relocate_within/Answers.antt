@@ -4,8 +4,8 @@ use Rattle.index_links.specs.Lists.{list_at}
 use Rattle.route_improve.specs.Routes.{AreNoCheaper, lists_of}
 use Rattle.route_improve.specs.Taking.{AreOfRoute}
 use Rattle.route_improve.proofs.Made.{copied, kept_by, one_relocated, read_at}
-use Rattle.route_improve.proofs.Moving.{relocated_within}
-use Rattle.route_improve.proofs.Trying.{shows}
+use Rattle.route_improve.proofs.MovedOrders.{relocated_within}
+use Rattle.route_improve.proofs.TriedMoves.{shows}
 use Rattle.route_improve.proofs.moves.relocate_within.Goals as goal
 use Rattle.route_improve.proofs.moves.relocate_within.Goals.{In_ok-insert}
 

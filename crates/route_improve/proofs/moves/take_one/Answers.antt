@@ -1,6 +1,6 @@
 use Rattle.std.proofs.Common.{refl}
 use Rattle.route_improve.proofs.Changed.{take_one_kept, take_one_made}
-use Rattle.route_improve.proofs.Trying.{tried_made, tried_not}
+use Rattle.route_improve.proofs.TriedMoves.{tried_made, tried_not}
 use Rattle.route_improve.proofs.moves.take_one.Goals as goal
 
 pub returns-in-Some-clause-tried : goal.returns-in-Some-clause-tried

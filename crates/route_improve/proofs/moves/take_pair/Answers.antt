@@ -1,7 +1,7 @@
 use Rattle.std.proofs.Common.{◌+◌, arith, refl, subst, sym}
 use Rattle.route_improve.specs.Routes.{IsOrder}
 use Rattle.route_improve.proofs.Changed.{pair_orders, take_pair_kept, take_pair_made}
-use Rattle.route_improve.proofs.Trying.{tried_made, tried_not}
+use Rattle.route_improve.proofs.TriedMoves.{tried_made, tried_not}
 use Rattle.route_improve.proofs.moves.take_pair.Goals as goal
 
 pub least_times-requires-clause-first : goal.least_times-requires-clause-first

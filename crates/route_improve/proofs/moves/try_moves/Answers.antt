@@ -1,6 +1,6 @@
-use Rattle.route_improve.proofs.Looking.{settled_at}
+use Rattle.route_improve.proofs.PlaceLooks.{settled_at}
 use Rattle.route_improve.proofs.Made.{kept_by}
-use Rattle.route_improve.proofs.Trying.{tried_next}
+use Rattle.route_improve.proofs.TriedMoves.{tried_next}
 use Rattle.route_improve.proofs.moves.try_moves.Goals as goal
 
 pub returns-clause-tried : goal.returns-clause-tried

@@ -1,7 +1,7 @@
 use Rattle.std.proofs.Common.{◌+◌, subst, sym, take}
 use Rattle.std.specs.Prelude.{slice_index}
 use Rattle.route_improve.specs.Own.{AreOwn, IsOwnOrAlone}
-use Rattle.route_improve.proofs.Owning.{first_alone, own_more}
+use Rattle.route_improve.proofs.OwnRoutes.{first_alone, own_more}
 use Rattle.route_improve.proofs.own.own_routes.Goals as goal
 
 pub returns-in-Ok-None-clause-fault : goal.returns-in-Ok-None-clause-fault

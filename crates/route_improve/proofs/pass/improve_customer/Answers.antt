@@ -3,9 +3,9 @@ use Rattle.ev_model.specs.Network.{Network}
 use Rattle.route_improve.specs.Routes.{IsSettledAt, count_at}
 use Rattle.route_improve.specs.declared.route.Route.{Route}
 use Rattle.route_improve.proofs.Changed.{list_is}
-use Rattle.route_improve.proofs.Looking.{at_same, settled_to}
+use Rattle.route_improve.proofs.PlaceLooks.{at_same, settled_to}
 use Rattle.route_improve.proofs.Made.{kept_by}
-use Rattle.route_improve.proofs.Trying.{tried_next}
+use Rattle.route_improve.proofs.TriedMoves.{tried_next}
 use Rattle.route_improve.proofs.pass.improve_customer.Goals as goal
 
 pub loop-j-preserved : goal.loop-j-preserved

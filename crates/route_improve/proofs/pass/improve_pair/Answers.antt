@@ -3,7 +3,7 @@ use Rattle.ev_model.specs.Network.{Network}
 use Rattle.route_improve.specs.Routes.{IsSettledTo, count_at}
 use Rattle.route_improve.specs.declared.route.Route.{Route}
 use Rattle.route_improve.proofs.Changed.{list_is}
-use Rattle.route_improve.proofs.Looking.{at_same}
+use Rattle.route_improve.proofs.PlaceLooks.{at_same}
 use Rattle.route_improve.proofs.pass.improve_pair.Goals as goal
 
 pub loop-i-preserved : goal.loop-i-preserved

@@ -3,7 +3,7 @@ use Rattle.std.proofs.lemmas.Bool.{false≢true}
 use Rattle.ev_model.specs.Network.{Network}
 use Rattle.route_improve.specs.Routes.{AreCheaper, IsSettledPair, count_at}
 use Rattle.route_improve.specs.declared.route.Route.{Route}
-use Rattle.route_improve.proofs.Looking.{at_same, going_made, going_not}
+use Rattle.route_improve.proofs.PlaceLooks.{at_same, going_made, going_not}
 use Rattle.route_improve.proofs.pass.improve_route.Goals as goal
 use Rattle.route_improve.proofs.pass.improve_route.Goals.{then-branch, else-branch}
 

@@ -3,8 +3,8 @@ use Rattle.ev_model.specs.Network.{Network}
 use Rattle.route_improve.specs.Arranged.{AreArranged}
 use Rattle.route_improve.specs.Routes.{AreRoutes, AreSettledTo, cost_of_routes}
 use Rattle.route_improve.specs.declared.route.Route.{Route}
-use Rattle.route_improve.proofs.Arranging.{arranged_cost, arranged_routes}
-use Rattle.route_improve.proofs.Looking.{at_same}
+use Rattle.route_improve.proofs.RouteOrders.{arranged_cost, arranged_routes}
+use Rattle.route_improve.proofs.PlaceLooks.{at_same}
 use Rattle.route_improve.proofs.settling.settle.Goals as goal
 use Rattle.route_improve.proofs.settling.settle.Goals.{In_ok-routes}
 

@@ -3,7 +3,7 @@ use Rattle.route_proof.specs.Closed.{AreClosed, IsAccepted}
 use Rattle.route_proof.specs.Verdicts.{IsVerdict}
 use Rattle.route_proof.specs.declared.proof.RouteLabel.{RouteLabel}
 use Rattle.route_proof.specs.declared.verdict.RouteVerdict.{RouteVerdict}
-use Rattle.route_proof.proofs.Homecoming.{accepted_is_true}
+use Rattle.route_proof.proofs.HomeBounds.{accepted_is_true}
 use Rattle.route_steps.specs.Trips.{Journey}
 use Rattle.route_judge.specs.Faults.{TellsLabels}
 use Rattle.route_judge.specs.declared.fault.LabelFault.{LabelFault}

@@ -5,7 +5,7 @@ use Rattle.ev_model.specs.declared.Stop.{Stop}
 use Rattle.route_plan.specs.declared.plan.RoutePlan.{RoutePlan}
 use Rattle.route_proof.specs.Closed.{HasGoodPlan}
 use Rattle.route_judge.specs.Following.{follows}
-use Rattle.route_judge.proofs.Following.{follows_all, follows_true}
+use Rattle.route_judge.proofs.FollowedRoutes.{follows_all, follows_true}
 use Rattle.route_judge.proofs.plan.bar_of.Goals as goal
 
 pub returns-then-not-follows-clause-broken : goal.returns-then-not-follows-clause-broken

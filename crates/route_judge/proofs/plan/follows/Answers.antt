@@ -2,7 +2,7 @@ use Rattle.std.proofs.Common.{◌≡◌, ◌∙◌, ◌+◌, ◌∷◌, List, ap
 use Rattle.std.proofs.lemmas.List.{drop_all}
 use Rattle.ev_model.specs.declared.Stop.{Stop}
 use Rattle.route_judge.specs.Following.{follows}
-use Rattle.route_judge.proofs.Following.{follows_end, follows_next, follows_via}
+use Rattle.route_judge.proofs.FollowedRoutes.{follows_end, follows_next, follows_via}
 use Rattle.route_judge.proofs.plan.follows.Goals.{then-not-stop+else-passed-route+else-route-passed, else-not-stop}
 use Rattle.route_judge.proofs.plan.follows.Goals as goal
 

@@ -1,6 +1,6 @@
 use Rattle.std.proofs.Common.{◌≡◌, ◌++◌, ◌∷◌, [], ap, ◌∙◌, refl}
 use Rattle.std.proofs.lemmas.Bool.{false≢true}
-use Rattle.route_plan.proofs.Reading.{begins, ends, goes_on}
+use Rattle.route_plan.proofs.PlanReading.{begins, ends, goes_on}
 use Rattle.route_plan.proofs.route.read_nodes.Goals as goal
 
 pub loop-scan-init : goal.loop-scan-init

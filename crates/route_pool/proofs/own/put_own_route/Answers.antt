@@ -1,6 +1,6 @@
 use Rattle.std.proofs.Common.{[], ◌∷◌}
 use Rattle.route_pool.proofs.Alone.{own_route}
-use Rattle.route_pool.proofs.Growing.{grown_result}
+use Rattle.route_pool.proofs.GrownPools.{grown_result}
 use Rattle.route_pool.proofs.own.put_own_route.Goals as goal
 
 pub solve_route-requires-clause-route : goal.solve_route-requires-clause-route

@@ -8,7 +8,7 @@ use Rattle.label_steps.specs.Arrivals.{ArrivesAs}
 use Rattle.label_steps.proofs.Arrivals.{arrives_covers}
 use Rattle.route_steps.specs.Steps.{MayGo, StandsAt}
 use Rattle.route_steps.specs.Trips.{Journey, least_level}
-use Rattle.route_steps.proofs.Leaving.{end_covers, left_covers, left_steps, none_covers, one_step}
+use Rattle.route_steps.proofs.LeavingValues.{end_covers, left_covers, left_steps, none_covers, one_step}
 use Rattle.route_steps.specs.declared.state.Place.{Place}
 use Rattle.route_steps.specs.declared.state.State.{State}
 use Rattle.route_steps.proofs.stepping.values_at.Goals as goal

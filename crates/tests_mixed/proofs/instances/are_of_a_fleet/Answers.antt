@@ -1,5 +1,5 @@
 use Rattle.std.proofs.Common.{arith, sym}
-use Rattle.mixed_plan.proofs.Agreeing.{kind_is}
+use Rattle.mixed_plan.proofs.KindNumbers.{kind_is}
 use Rattle.tests_mixed.proofs.instances.are_of_a_fleet.Goals as goal
 
 pub returns-clause-few : goal.returns-clause-few

@@ -1,6 +1,6 @@
 use Rattle.std.proofs.Common.{◌≡◌, ◌↔◌, rules, sym, subst, is_none, IsTrue}
 use Rattle.master_table.specs.Tableau.{IsBasisPast}
-use Rattle.wide_bases.proofs.Testing.{tells_past}
+use Rattle.wide_bases.proofs.ShareWeights.{tells_past}
 use Rattle.wide_bases.proofs.leaving.is_past.Goals as goal
 
 pub returns : goal.returns

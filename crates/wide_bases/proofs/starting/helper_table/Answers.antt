@@ -5,7 +5,7 @@ use Rattle.master_table.specs.Fresh.{fresh}
 use Rattle.master_table.specs.RowView.{limits_of}
 use Rattle.wide_bases.specs.Leaving.{IsHelperTable}
 use Rattle.wide_bases.specs.Listed.{column_of}
-use Rattle.wide_bases.proofs.Beginning.{fresh_helpers, never_wide, with_route}
+use Rattle.wide_bases.proofs.HelperTables.{fresh_helpers, never_wide, with_route}
 use Rattle.wide_bases.proofs.Exchange.{take_last}
 use Rattle.wide_bases.proofs.starting.helper_table.Goals as goal
 

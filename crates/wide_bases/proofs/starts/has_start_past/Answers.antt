@@ -4,7 +4,7 @@ use Rattle.master_table.specs.RowView.{limits_of}
 use Rattle.master_table.specs.Tableau.{Limits, size}
 use Rattle.wide_bases.specs.Leaving.{IsHelperTable}
 use Rattle.wide_bases.specs.Starts.{HasStartPast}
-use Rattle.wide_bases.proofs.Beginning.{count_columns, first_start, size_of}
+use Rattle.wide_bases.proofs.HelperTables.{count_columns, first_start, size_of}
 use Rattle.wide_bases.proofs.starts.has_start_past.Goals as goal
 
 pub table_has_start_past-requires-clause-start : goal.table_has_start_past-requires-clause-start

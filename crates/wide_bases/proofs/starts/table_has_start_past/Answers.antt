@@ -2,7 +2,7 @@ use Rattle.std.proofs.Common.{◌≡◌, ◌+◌, ◌<◌, ◌≤◌, suc, arith
 use Rattle.std.proofs.lemmas.Bool.{both_ways}
 use Rattle.master_table.specs.Tableau.{IsBasisPast, size}
 use Rattle.wide_bases.specs.Leaving.{IsLastToGo, brought}
-use Rattle.wide_bases.proofs.Going.{IsGoing, going_end, going_on, going_past, going_stops}
+use Rattle.wide_bases.proofs.StartSteps.{IsGoing, going_end, going_on, going_past, going_stops}
 use Rattle.wide_bases.proofs.starts.table_has_start_past.Goals as goal
 
 pub returns-then-is_past-clause-past : goal.returns-then-is_past-clause-past

@@ -1,4 +1,4 @@
-use Rattle.wide_bases.proofs.Going.{IsGoing}
+use Rattle.wide_bases.proofs.StartSteps.{IsGoing}
 use Rattle.wide_bases.proofs.starts.table_has_start_past.Given as goal
 
 abbrev pub invariant-loop-col : goal.invariant-loop-col

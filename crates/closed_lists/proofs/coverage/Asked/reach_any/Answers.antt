@@ -5,7 +5,7 @@ use Rattle.closed_lists.specs.Asking.{Asking}
 use Rattle.closed_lists.specs.Links.{AreEntries, TellsTime}
 use Rattle.closed_lists.specs.Sections.{IsLabelOf}
 use Rattle.closed_lists.specs.Targets.{state_of}
-use Rattle.closed_lists.proofs.Covering.{IsCandidate, candidate, left_first, left_next, left_nothing}
+use Rattle.closed_lists.proofs.CoveredStates.{IsCandidate, candidate, left_first, left_next, left_nothing}
 use Rattle.closed_lists.proofs.coverage.Asked.reach_any.Goals as goal
 
 the_candidate : (c : goal.After-index-entries-at) → IsCandidate c.args.self.now.question c.args.self.now.target.last c.args.self.now.target.node c.index-entries-at.result

@@ -1,6 +1,6 @@
 use Rattle.std.proofs.Common.{◌-◌, length}
 use Rattle.closed_lists.specs.Targets.{state_of}
-use Rattle.closed_lists.proofs.Covering.{IsLeft}
+use Rattle.closed_lists.proofs.CoveredStates.{IsLeft}
 use Rattle.closed_lists.proofs.coverage.Asked.reach_any.Given as goal
 
 abbrev pub invariant-loop-entries : goal.invariant-loop-entries

@@ -4,7 +4,7 @@ use Rattle.ev_model.specs.Network.{node_count}
 use Rattle.closed_lists.specs.Asking.{Asking}
 use Rattle.closed_lists.specs.Links.{AreEntries, TellsTime}
 use Rattle.closed_lists.specs.Sections.{IsLabelOf}
-use Rattle.closed_lists.proofs.Covering.{IsCandidate, candidate}
+use Rattle.closed_lists.proofs.CoveredStates.{IsCandidate, candidate}
 use Rattle.closed_lists.proofs.coverage.Asked.reach_kept.Goals as goal
 
 the_candidate : (c : goal.After-index-entries-at) → IsCandidate c.args.self.now.question c.args.self.now.target.last c.args.self.now.target.node c.index-entries-at.result

@@ -4,7 +4,7 @@ use Rattle.pricing.specs.Answers.{AreClosed, IsPriced}
 use Rattle.pricing.specs.declared.priced.Priced.TheVariants.{Better}
 use Rattle.bound_certificate.specs.declared.certificate.Share.{Share}
 use Rattle.column_pool.specs.Bounds.{IsExact, IsPlanAtBound, plans_of}
-use Rattle.column_pool.proofs.Deciding.{exact, has_plan, none_earns}
+use Rattle.column_pool.proofs.FleetChains.{exact, has_plan, none_earns}
 use Rattle.column_pool.proofs.Sections.{section_closed}
 use Rattle.column_pool.proofs.decided.Chains.into_bound.Goals as goal
 

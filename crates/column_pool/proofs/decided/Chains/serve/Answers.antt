@@ -7,9 +7,9 @@ use Rattle.bound_certificate.specs.declared.certificate.Share.{Share}
 use Rattle.column_pool.specs.Chains.{AreChains, is_served, IsChainThrough}
 use Rattle.column_pool.specs.declared.decided.Chain.TheVariants as chain
 use Rattle.route_pool.specs.Pool.{IsGrown}
-use Rattle.column_pool.proofs.Adding.{chains_grow, chains_stay}
-use Rattle.route_pool.proofs.Growing.{grown_put, grown_same}
-use Rattle.column_pool.proofs.Serving.{served_tells}
+use Rattle.column_pool.proofs.ChainSteps.{chains_grow, chains_stay}
+use Rattle.route_pool.proofs.GrownPools.{grown_put, grown_same}
+use Rattle.column_pool.proofs.ServedTests.{served_tells}
 use Rattle.column_pool.proofs.decided.Chains.serve.Goals as goal
 
 pub returns-then-is_served-clause-chains : goal.returns-then-is_served-clause-chains

@@ -1,8 +1,8 @@
 use Rattle.std.proofs.Common.{false, refl, true}
 use Rattle.label_pool.specs.declared.label.Label.{Label}
 use Rattle.route_steps.specs.declared.state.State.{State}
-use Rattle.frvcp_labels.proofs.Growing.{IsAdded, added_is, new_sound}
-use Rattle.frvcp_labels.proofs.Planning.{origin_plans}
+use Rattle.frvcp_labels.proofs.MoreLabels.{IsAdded, added_is, new_sound}
+use Rattle.frvcp_labels.proofs.LevelPlans.{origin_plans}
 use Rattle.frvcp_labels.proofs.trip.Trip.add.Goals as goal
 
 abbrev label : goal.In_ok-add → Label State

@@ -1,8 +1,8 @@
 use Rattle.std.proofs.Common.{◌≡◌, ◌∙◌, ℕ, length, ap, Vec, Global, List}
 use Rattle.std.specs.Prelude.{Bool, nat_eq, not}
 use Rattle.label_pool.proofs.Elements.{element_at}
-use Rattle.frvcp_labels.proofs.Growing.{grown_on}
-use Rattle.frvcp_labels.proofs.Searching.{left_reached, left_same, origin_of, taken_state, taken_step}
+use Rattle.frvcp_labels.proofs.MoreLabels.{grown_on}
+use Rattle.frvcp_labels.proofs.SearchTurns.{left_reached, left_same, origin_of, taken_state, taken_step}
 use Rattle.frvcp_labels.proofs.trip.Trip.add_all.Goals as goal
 
 told : (v : Vec (List (ℕ × ℕ)) Global) (empty : Bool) → empty ≡ nat_eq v.len 0 → empty ≡ nat_eq (length v.items) 0

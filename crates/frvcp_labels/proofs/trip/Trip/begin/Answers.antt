@@ -3,7 +3,7 @@ use Rattle.label_pool.specs.Labels.{Labels}
 use Rattle.route_steps.specs.Trips.{IsTrip, Journey}
 use Rattle.route_steps.specs.declared.state.State.{State}
 use Rattle.frvcp_labels.proofs.FullBattery.{none_full}
-use Rattle.frvcp_labels.proofs.Searching.{begun, start_sound}
+use Rattle.frvcp_labels.proofs.SearchTurns.{begun, start_sound}
 use Rattle.frvcp_labels.proofs.trip.Trip.begin.Goals as goal
 
 pub add_noted-requires-clause-state : goal.add_noted-requires-clause-state

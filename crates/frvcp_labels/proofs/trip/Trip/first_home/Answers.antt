@@ -4,7 +4,7 @@ use Rattle.label_pool.specs.Labels.{Labels}
 use Rattle.frvcp_labels.specs.Full.{AreFull}
 use Rattle.frvcp_labels.specs.Search.{IsSoundPool}
 use Rattle.route_steps.specs.declared.state.State.{State}
-use Rattle.frvcp_labels.proofs.Turning.{is_taken, taken_falls, taken_full, taken_home, taken_inside, taken_on_way, taken_sound, taken_turn}
+use Rattle.frvcp_labels.proofs.TakenLabels.{is_taken, taken_falls, taken_full, taken_home, taken_inside, taken_on_way, taken_sound, taken_turn}
 use Rattle.frvcp_labels.proofs.trip.Trip.first_home.Goals as goal
 
 pub value-requires : goal.value-requires

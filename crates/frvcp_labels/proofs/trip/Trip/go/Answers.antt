@@ -8,7 +8,7 @@ use Rattle.route_steps.specs.Steps.{AreSteps, CoverStops, MayGo, StandsAt}
 use Rattle.route_steps.specs.declared.state.State.{State}
 use Rattle.ev_model.specs.Network.{node_count}
 use Rattle.frvcp_labels.proofs.FullBattery.{label_spreads, may_within}
-use Rattle.frvcp_labels.proofs.Searching.{covers_spread}
+use Rattle.frvcp_labels.proofs.SearchTurns.{covers_spread}
 use Rattle.frvcp_labels.proofs.trip.Trip.go.Goals as goal
 
 -- a state at its own place

@@ -2,8 +2,8 @@ use Rattle.std.proofs.Common.{◌≡◌, ◌∙◌, ◌<◌, ap, arith, length, 
 use Rattle.std.specs.Prelude.{slice_index}
 use Rattle.route_steps.specs.Stations.{stations}
 use Rattle.route_steps.specs.Trips.{Journey}
-use Rattle.frvcp_labels.proofs.Growing.{grown_on, grown_same}
-use Rattle.frvcp_labels.proofs.Spreading.{goes_to_station, spread_to_stations, spreads_each, spreads_more, spreads_none, still_inside}
+use Rattle.frvcp_labels.proofs.MoreLabels.{grown_on, grown_same}
+use Rattle.frvcp_labels.proofs.StationSteps.{goes_to_station, spread_to_stations, spreads_each, spreads_more, spreads_none, still_inside}
 use Rattle.frvcp_labels.proofs.trip.Trip.go_to_stations.Goals as goal
 
 pub loop-station-init : goal.loop-station-init

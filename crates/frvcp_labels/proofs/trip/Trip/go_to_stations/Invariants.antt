@@ -1,6 +1,6 @@
 use Rattle.frvcp_labels.specs.Full.{AreFull}
 use Rattle.frvcp_labels.specs.Search.{IsGrown, IsSoundPool}
-use Rattle.frvcp_labels.proofs.Spreading.{SpreadsBelow}
+use Rattle.frvcp_labels.proofs.StationSteps.{SpreadsBelow}
 use Rattle.frvcp_labels.proofs.trip.Trip.go_to_stations.Given as goal
 
 abbrev pub invariant-loop-station : goal.invariant-loop-station

@@ -4,8 +4,8 @@ use Rattle.ev_model.specs.Fastest.{IsFastest}
 use Rattle.label_pool.specs.declared.label.Label.{Label}
 use Rattle.route_steps.specs.declared.state.State.{State}
 use Rattle.frvcp_labels.specs.Answers.{IsHome, IsHomeOrNone}
-use Rattle.frvcp_labels.proofs.Solving.{fastest_home}
-use Rattle.route_steps.proofs.Solving.{no_plan}
+use Rattle.frvcp_labels.proofs.RoutePlans.{fastest_home}
+use Rattle.route_steps.proofs.WayHomePlans.{no_plan}
 use Rattle.frvcp_labels.proofs.trip.Trip.plan_to.Goals as goal
 
 pub returns-in_default : goal.returns-in_default

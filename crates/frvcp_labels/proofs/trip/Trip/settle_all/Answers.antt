@@ -1,5 +1,5 @@
-use Rattle.frvcp_labels.proofs.Settling.{next_taken, taken_turn_on_way}
-use Rattle.frvcp_labels.proofs.Turning.{taken_falls, taken_full, taken_inside, taken_sound}
+use Rattle.frvcp_labels.proofs.SearchLoops.{next_taken, taken_turn_on_way}
+use Rattle.frvcp_labels.proofs.TakenLabels.{taken_falls, taken_full, taken_inside, taken_sound}
 use Rattle.frvcp_labels.proofs.trip.Trip.settle_all.Goals as goal
 
 pub spread_on_way-requires-clause-pool : goal.spread_on_way-requires-clause-pool

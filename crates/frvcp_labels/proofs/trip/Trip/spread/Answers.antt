@@ -5,8 +5,8 @@ use Rattle.label_pool.specs.declared.label.Label.{Label}
 use Rattle.frvcp_labels.specs.Search.{SpreadsTo}
 use Rattle.route_steps.specs.Steps.{MayGo}
 use Rattle.route_steps.specs.declared.state.State.{State}
-use Rattle.frvcp_labels.proofs.Growing.{grown_on, grown_same}
-use Rattle.frvcp_labels.proofs.Spreading.{IfOk-both, goes_next, on_way, on_way_still, route_small, spread_from, spreads_whole, still_inside}
+use Rattle.frvcp_labels.proofs.MoreLabels.{grown_on, grown_same}
+use Rattle.frvcp_labels.proofs.StationSteps.{IfOk-both, goes_next, on_way, on_way_still, route_small, spread_from, spreads_whole, still_inside}
 use Rattle.frvcp_labels.proofs.trip.Trip.spread.Goals as goal
 
 pub overflow_add-passed : goal.overflow_add-passed

@@ -1,5 +1,5 @@
 use Rattle.std.proofs.lemmas.Result.{IfOk-weaker}
-use Rattle.frvcp_labels.proofs.Settling.{before_end}
+use Rattle.frvcp_labels.proofs.SearchLoops.{before_end}
 use Rattle.frvcp_labels.proofs.trip.Trip.spread_on_way.Goals as goal
 
 pub spread-requires-clause-on_way : goal.spread-requires-clause-on_way

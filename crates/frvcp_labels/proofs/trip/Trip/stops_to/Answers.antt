@@ -5,7 +5,7 @@ use Rattle.ev_model.specs.declared.Stop.{Stop}
 use Rattle.piece_fn.specs.PieceFn.{level_times}
 use Rattle.label_pool.proofs.Elements.{element_at}
 use Rattle.route_steps.specs.declared.state.State.{State}
-use Rattle.frvcp_labels.proofs.Tracing.{IsTraced, IsTurn, origin_at, traced_back, traced_home, traced_start, turn_is}
+use Rattle.frvcp_labels.proofs.WaysBack.{IsTraced, IsTurn, origin_at, traced_back, traced_home, traced_start, turn_is}
 use Rattle.frvcp_labels.proofs.trip.Trip.stops_to.Goals as goal
 
 pub loop-parent-init : goal.loop-parent-init

@@ -1,5 +1,5 @@
 use Rattle.std.proofs.Common.{reverse}
-use Rattle.frvcp_labels.proofs.Tracing.{IsTraced}
+use Rattle.frvcp_labels.proofs.WaysBack.{IsTraced}
 use Rattle.frvcp_labels.proofs.trip.Trip.stops_to.Given as goal
 
 abbrev pub invariant-loop-parent : goal.invariant-loop-parent

@@ -1,6 +1,6 @@
 use Rattle.std.proofs.Common.{Option, refl, subst, sym, ℕ}
 use Rattle.std.specs.Prelude.{IsNone}
-use Rattle.frvcp_labels.proofs.Searching.{late_home, none_home}
+use Rattle.frvcp_labels.proofs.SearchTurns.{late_home, none_home}
 use Rattle.frvcp_labels.proofs.trip.Trip.take_in_time.Goals as goal
 
 pub returns-in_default-clause-none : goal.returns-in_default-clause-none

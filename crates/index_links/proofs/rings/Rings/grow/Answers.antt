@@ -1,7 +1,7 @@
 use Rattle.std.proofs.Common.{◌≡◌, ◌-◌, ◌++◌, List, max, length, take, replicate, ◌∙◌, ap, arith, vec_len}
 use Rattle.index_links.specs.declared.rings.Ends.{Ends}
 use Rattle.index_links.specs.Links.{no_ends, unlinked}
-use Rattle.index_links.proofs.Growing.{grown}
+use Rattle.index_links.proofs.MoreItems.{grown}
 use Rattle.index_links.proofs.rings.Rings.grow.Goals as goal
 
 pub invariant_of-self-2 : goal.invariant_of-self-2

@@ -5,7 +5,7 @@ use Rattle.index_links.specs.Lists.{Lists, lists_padded}
 use Rattle.label_pool.specs.declared.label.Label.{Label}
 use Rattle.label_pool.specs.Labels.{IsCovered, Labels, beside, labels_with}
 use Rattle.label_pool.specs.Tied.{AreListed, IsTied}
-use Rattle.label_pool.proofs.Covering.{covered_by_new, covered_stays}
+use Rattle.label_pool.proofs.LiveCoverage.{covered_by_new, covered_stays}
 use Rattle.label_pool.proofs.Ties.{in_queue_room, in_room, number_is_free, tied_more_room, tied_room, tied_with}
 use Rattle.label_pool.proofs.pool.Pool.add.Goals as goal
 

@@ -6,7 +6,7 @@ use Rattle.ev_model.specs.Time.{charging_time}
 use Rattle.instance_reader.specs.Instance.{IsCurveAt}
 use Rattle.level_table.specs.Journey.{Journey}
 use Rattle.level_table.specs.Moves.{node_of, plug_before}
-use Rattle.level_table.proofs.Charging.{station-charging, station-has_curve, station-rises}
+use Rattle.level_table.proofs.ChargingTimes.{station-charging, station-has_curve, station-rises}
 use Rattle.level_table.proofs.trip.Trip.charge.Goals as goal
 
 some_way : (way : ℕ) → (way ≡ 0 → false ≡ true) → 0 < way

@@ -5,7 +5,7 @@ use Rattle.level_table.specs.Places.{index_of, place_of}
 use Rattle.level_table.specs.Reach.{rank}
 use Rattle.level_table.specs.declared.moves.Move.{Move}
 use Rattle.level_table.specs.declared.place.Place.{Place}
-use Rattle.level_table.proofs.Filling.{better-table, closed-none, few-steps, nearer-rank}
+use Rattle.level_table.proofs.TableSizes.{better-table, closed-none, few-steps, nearer-rank}
 use Rattle.level_table.proofs.trip.Trip.improve.Goals as goal
 
 pub returns-in_default-clause-closed : goal.returns-in_default-clause-closed

@@ -1,5 +1,5 @@
 use Rattle.std.proofs.Common.{arith}
-use Rattle.level_table.proofs.Filling.{few-steps}
+use Rattle.level_table.proofs.TableSizes.{few-steps}
 use Rattle.level_table.proofs.trip.Trip.offer.Goals as goal
 
 pub overflow_add-reach : goal.overflow_add-reach

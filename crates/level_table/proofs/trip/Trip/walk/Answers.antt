@@ -8,7 +8,7 @@ use Rattle.level_table.specs.Table.{entry_at}
 use Rattle.level_table.specs.Places.{index_of}
 use Rattle.level_table.specs.declared.offers.Offer.{Offer}
 use Rattle.level_table.specs.declared.reach.Reach.{Reach}
-use Rattle.level_table.proofs.Filling.{route-length}
+use Rattle.level_table.proofs.TableSizes.{route-length}
 use Rattle.level_table.proofs.Walked.{best-move, best-offer, feasible-plan, on-way, plan-time, rank-falls, walked-home, walked-on, walked-start, IsWalked}
 use Rattle.level_table.proofs.trip.Trip.walk.Goals as goal
 

@@ -4,8 +4,8 @@ use Rattle.piece_fn.specs.declared.label.Label.{Label}
 use Rattle.price_loop.specs.Problems.{IsClosing}
 use Rattle.mixed_fleet.specs.Fleets.{AreFleetKinds}
 use Rattle.mixed_fleet.specs.Problem.{AreClosedBelow, AreClosedLists, problem_of}
-use Rattle.mixed_fleet.proofs.Asking.{closing_is}
-use Rattle.mixed_fleet.proofs.Gathering.{gathered_more}
+use Rattle.mixed_fleet.proofs.KindAnswers.{closing_is}
+use Rattle.mixed_fleet.proofs.PricedKinds.{gathered_more}
 use Rattle.mixed_fleet.proofs.earners.KindsEarnersEarners.earn.Goals as goal
 
 pub loop-kind-preserved : goal.loop-kind-preserved

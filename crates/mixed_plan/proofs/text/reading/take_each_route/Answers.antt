@@ -3,7 +3,7 @@ use Rattle.ev_text.specs.Readers.{so_many}
 use Rattle.route_plan.specs.PlanReading.{or_bad}
 use Rattle.route_plan.specs.declared.text.plan_text.PlanText.TheVariants.{Memory}
 use Rattle.mixed_plan.specs.MixedReading.{mixed_route_at}
-use Rattle.mixed_plan.proofs.Reading.{begins_routes, ends_routes, next_route, no_route}
+use Rattle.mixed_plan.proofs.PlanReading.{begins_routes, ends_routes, next_route, no_route}
 use Rattle.mixed_plan.proofs.text.reading.take_each_route.Goals as goal
 
 pub loop-init : goal.loop-init

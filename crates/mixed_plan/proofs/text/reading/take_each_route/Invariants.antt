@@ -1,5 +1,5 @@
 use Rattle.std.proofs.Common.{◌-◌}
-use Rattle.mixed_plan.proofs.Reading.{AreRoutesTo}
+use Rattle.mixed_plan.proofs.PlanReading.{AreRoutesTo}
 use Rattle.mixed_plan.proofs.text.reading.take_each_route.Given as goal
 
 abbrev pub invariant-loop : goal.invariant-loop

@@ -5,7 +5,7 @@ use Rattle.label_steps.specs.Covering.{IsCoveredTo}
 use Rattle.near_proof.specs.Covered.{IsNearCovered}
 use Rattle.near_check.specs.Links.{TellsTime}
 use Rattle.near_check.specs.Targets.{Asking, covers, covers_by, state_at}
-use Rattle.near_check.proofs.Covering.{contains_of, covered_by_one, left_first, left_next, left_nothing, misses_of}
+use Rattle.near_check.proofs.CoveredStates.{contains_of, covered_by_one, left_first, left_next, left_nothing, misses_of}
 use Rattle.near_check.proofs.coverage.AskedCovering.reach.Goals as goal
 
 pub loop-entries-init : goal.loop-entries-init

@@ -1,6 +1,6 @@
 use Rattle.std.proofs.Common.{◌-◌, length}
 use Rattle.near_check.specs.Targets.{state_at}
-use Rattle.near_check.proofs.Covering.{IsLeft}
+use Rattle.near_check.proofs.CoveredStates.{IsLeft}
 use Rattle.near_check.proofs.coverage.AskedCovering.reach.Given as goal
 
 abbrev pub invariant-loop-entries : goal.invariant-loop-entries

@@ -5,8 +5,8 @@ use Rattle.ev_model.specs.Network.{is_customer, Network, node_count}
 use Rattle.label_pool.proofs.Elements.{element_at}
 use Rattle.near_pricing.specs.Better.{HasBetter}
 use Rattle.near_pricing.specs.declared.found.Found.{Found}
-use Rattle.near_pricing.proofs.Growing.{read}
-use Rattle.near_pricing.proofs.Tracing.{elder_at, IsTraced, traced_back, traced_home, traced_start, turned, with_node}
+use Rattle.near_pricing.proofs.GrownTrees.{read}
+use Rattle.near_pricing.proofs.WaysBack.{elder_at, IsTraced, traced_back, traced_home, traced_start, turned, with_node}
 use Rattle.near_pricing.proofs.found.Tree.order_of.Goals as goal
 
 pub loop-parent-init : goal.loop-parent-init

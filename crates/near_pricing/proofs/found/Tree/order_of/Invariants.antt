@@ -1,5 +1,5 @@
 use Rattle.std.proofs.Common.{reverse}
-use Rattle.near_pricing.proofs.Tracing.{IsTraced}
+use Rattle.near_pricing.proofs.WaysBack.{IsTraced}
 use Rattle.near_pricing.proofs.found.Tree.order_of.Given as goal
 
 abbrev pub invariant-loop-parent : goal.invariant-loop-parent

@@ -3,7 +3,7 @@ use Rattle.std.specs.Prelude.{slice_set}
 use Rattle.std.proofs.lemmas.List.{length-set}
 use Rattle.near_pricing.specs.Tree.{IsGrown, IsTree}
 use Rattle.near_pricing.specs.declared.found.Found.{Found}
-use Rattle.near_pricing.proofs.Growing.{grown_by, tree_with}
+use Rattle.near_pricing.proofs.GrownTrees.{grown_by, tree_with}
 use Rattle.near_pricing.proofs.found.Tree.push.Goals as goal
 
 pub returns-clause-tree : goal.returns-clause-tree

@@ -4,8 +4,8 @@ use Rattle.std.proofs.lemmas.Option.{slice_get_within}
 use Rattle.near_proof.specs.declared.proof.NearLabel.{NearLabel}
 use Rattle.near_pricing.specs.Tree.{IsInRange}
 use Rattle.near_pricing.specs.Steps.{IsLeft, IsStep}
-use Rattle.near_pricing.proofs.Growing.{grown_on}
-use Rattle.near_pricing.proofs.Searching.{all_but_last, of_last, step_made, step_range}
+use Rattle.near_pricing.proofs.GrownTrees.{grown_on}
+use Rattle.near_pricing.proofs.SearchState.{all_but_last, of_last, step_made, step_range}
 use Rattle.near_pricing.proofs.search.Search.add_all.Goals as goal
 
 the_left : (c : goal.After-label) → All (IsLeft c.args.pricing.now.network c.loop-value.invariant.steps.from.label c.args.node) (c.pop.new.self.items ++ c.in-Some.value ∷ [])

@@ -1,5 +1,5 @@
-use Rattle.near_pricing.proofs.Growing.{read}
-use Rattle.near_pricing.proofs.Searching.{label_placed}
+use Rattle.near_pricing.proofs.GrownTrees.{read}
+use Rattle.near_pricing.proofs.SearchState.{label_placed}
 use Rattle.near_pricing.proofs.search.Search.force.Goals as goal
 
 pub target_at-requires-clause-label : goal.target_at-requires-clause-label

@@ -1,4 +1,4 @@
-use Rattle.near_pricing.proofs.Growing.{read}
+use Rattle.near_pricing.proofs.GrownTrees.{read}
 use Rattle.near_pricing.proofs.search.Search.is_needless.Goals as goal
 
 pub makes_needless-requires-clause-node : goal.makes_needless-requires-clause-node

@@ -1,5 +1,5 @@
-use Rattle.near_pricing.proofs.Growing.{read}
-use Rattle.near_pricing.proofs.Mending.{earns_there, home_within}
+use Rattle.near_pricing.proofs.GrownTrees.{read}
+use Rattle.near_pricing.proofs.ListFaults.{earns_there, home_within}
 use Rattle.near_pricing.proofs.search.Search.keep_listed.Goals as goal
 
 pub keep_route-requires-clause-earns : goal.keep_route-requires-clause-earns

@@ -2,7 +2,7 @@ use Rattle.std.proofs.Common.{List, sym, subst}
 use Rattle.std.specs.List.{All}
 use Rattle.near_pricing.specs.Tree.{IsBetterPlan}
 use Rattle.route_plan.specs.declared.plan.RoutePlan.{RoutePlan}
-use Rattle.near_pricing.proofs.Searching.{one_more}
+use Rattle.near_pricing.proofs.SearchState.{one_more}
 use Rattle.near_pricing.proofs.search.Search.keep_route.Goals as goal
 
 pub returns-clause-search : goal.returns-clause-search

@@ -5,9 +5,9 @@ use Rattle.std.proofs.lemmas.List.{get_or_default, length-append}
 use Rattle.near_proof.specs.declared.proof.NearLabel.{NearLabel}
 use Rattle.near_proof.specs.Ranges.{NearLabelFits}
 use Rattle.near_pricing.specs.Tree.{IsInRange}
-use Rattle.near_pricing.proofs.Growing.{read}
-use Rattle.near_pricing.proofs.Mending.{copies_more}
-use Rattle.near_pricing.proofs.Searching.{label_fits, one_more}
+use Rattle.near_pricing.proofs.GrownTrees.{read}
+use Rattle.near_pricing.proofs.ListFaults.{copies_more}
+use Rattle.near_pricing.proofs.SearchState.{label_fits, one_more}
 use Rattle.near_pricing.proofs.search.Search.labels.Goals as goal
 
 pub loop-number-preserved : goal.loop-number-preserved

@@ -7,7 +7,7 @@ use Rattle.near_proof.specs.Broken.{EarnsHome}
 use Rattle.near_proof.specs.States.{label_of}
 use Rattle.near_proof.specs.Terms.{Terms}
 use Rattle.near_pricing.specs.declared.found.Found.{Found}
-use Rattle.near_pricing.proofs.Growing.{read}
+use Rattle.near_pricing.proofs.GrownTrees.{read}
 use Rattle.near_pricing.proofs.search.Search.look_home.Goals as goal
 
 pub earns_at_home-requires-clause-node : goal.earns_at_home-requires-clause-node

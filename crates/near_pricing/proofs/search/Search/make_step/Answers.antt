@@ -1,5 +1,5 @@
-use Rattle.near_pricing.proofs.Growing.{read}
-use Rattle.near_pricing.proofs.Mending.{step_within, steps_there}
+use Rattle.near_pricing.proofs.GrownTrees.{read}
+use Rattle.near_pricing.proofs.ListFaults.{step_within, steps_there}
 use Rattle.near_pricing.proofs.search.Search.make_step.Goals as goal
 
 pub force-requires-clause-leads : goal.force-requires-clause-leads

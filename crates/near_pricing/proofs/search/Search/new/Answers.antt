@@ -1,7 +1,7 @@
 use Rattle.std.proofs.Common.{◌∙◌, [], ◌∷◌, refl, ap}
 use Rattle.ev_model.specs.Network.{Network}
 use Rattle.near_pricing.specs.Steps.{IsStart}
-use Rattle.near_pricing.proofs.Starting.{start_range}
+use Rattle.near_pricing.proofs.StartLabels.{start_range}
 use Rattle.near_pricing.proofs.search.Search.new.Goals as goal
 
 pub put-requires-clause-range : goal.put-requires-clause-range

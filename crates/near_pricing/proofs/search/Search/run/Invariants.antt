@@ -1,6 +1,6 @@
 use Rattle.std.proofs.Common.{◌+◌, ◌-◌, ◌*◌, ◌≤◌, ◌^◌, length}
 use Rattle.near_pricing.specs.Tree.{IsSearch}
-use Rattle.near_pricing.proofs.Ending.{held_count}
+use Rattle.near_pricing.proofs.SearchEnds.{held_count}
 use Rattle.near_pricing.proofs.search.Search.run.Given as goal
 
 abbrev pub invariant-loop-self : goal.invariant-loop-self

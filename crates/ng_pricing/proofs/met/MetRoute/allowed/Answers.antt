@@ -1,7 +1,7 @@
 use Rattle.std.proofs.Common.{◌∙◌, ◌≤◌, ◌-◌, ◌/◌, List, ℕ, ap, arith}
 use Rattle.ev_model.specs.Fleet.{times_in}
 use Rattle.near_proof.specs.Terms.{earned_by}
-use Rattle.ng_pricing.proofs.Limiting.{allowed_price}
+use Rattle.ng_pricing.proofs.PriceLimits.{allowed_price}
 use Rattle.ng_pricing.proofs.met.MetRoute.allowed.Goals as goal
 
 pub returns-clause-some : goal.returns-clause-some

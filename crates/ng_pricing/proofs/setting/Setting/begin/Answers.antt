@@ -6,7 +6,7 @@ use Rattle.near_pricing.specs.declared.priced.NearPriced.{NearPriced}
 use Rattle.near_proof.specs.Terms.{earned_by}
 use Rattle.ng_pricing.specs.Rising.{terms_at}
 use Rattle.ng_pricing.proofs.Earnings.{earned_nothing}
-use Rattle.ng_pricing.proofs.Limiting.{no_less}
+use Rattle.ng_pricing.proofs.PriceLimits.{no_less}
 use Rattle.ng_pricing.proofs.setting.Setting.begin.Goals as goal
 
 pub unreachable-requires : goal.unreachable-requires

@@ -1,7 +1,7 @@
 use Rattle.std.proofs.Common.{◌≤◌, List, length, subst, sym}
 use Rattle.std.specs.List.{All}
 use Rattle.ng_pricing.specs.declared.met.MetRoute.{MetRoute}
-use Rattle.ng_pricing.proofs.Limiting.{all_few}
+use Rattle.ng_pricing.proofs.PriceLimits.{all_few}
 use Rattle.ng_pricing.proofs.setting.Setting.first_limit.Goals as goal
 
 pub least_limit-requires-clause-few : goal.least_limit-requires-clause-few

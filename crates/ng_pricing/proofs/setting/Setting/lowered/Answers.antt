@@ -13,7 +13,7 @@ use Rattle.near_proof.specs.Terms.{earned_by}
 use Rattle.route_plan.specs.declared.plan.RoutePlan.{RoutePlan}
 use Rattle.ng_pricing.specs.declared.met.MetRoute.{MetRoute}
 use Rattle.ng_pricing.specs.Rising.{terms_at}
-use Rattle.ng_pricing.proofs.Limiting.{falls, limit_fits, limit_is_small, limit_is_tight, serves_by, small_set}
+use Rattle.ng_pricing.proofs.PriceLimits.{falls, limit_fits, limit_is_small, limit_is_tight, serves_by, small_set}
 use Rattle.ng_pricing.proofs.setting.Setting.lowered.Goals as goal
 
 pub near_price-requires-clause-small : goal.near_price-requires-clause-small

@@ -1,7 +1,7 @@
 use Rattle.std.proofs.Common.{◌∙◌, List, arith, length, ◌≤◌, subst, sym}
 use Rattle.ng_pricing.specs.Met.{AreMet, IsLimit}
 use Rattle.ng_pricing.specs.declared.met.MetRoute.{MetRoute}
-use Rattle.ng_pricing.proofs.Limiting.{few_numbers, limit_last, met_more, met_route}
+use Rattle.ng_pricing.proofs.PriceLimits.{few_numbers, limit_last, met_more, met_route}
 use Rattle.ng_pricing.proofs.setting.Setting.meet.Goals as goal
 
 pub allowed-requires-clause-few : goal.allowed-requires-clause-few

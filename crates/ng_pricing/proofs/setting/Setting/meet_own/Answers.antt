@@ -1,12 +1,12 @@
 use Rattle.std.proofs.Common.{List, [], ◌∷◌, ℕ, Option, subst, sym}
 use Rattle.std.specs.Prelude.{MatchOption}
 use Rattle.ev_model.specs.Fastest.{HasNoPlan, IsFastest}
-use Rattle.feasible_texts.proofs.Fitting.{feasible_fits}
+use Rattle.feasible_texts.proofs.PlanRanges.{feasible_fits}
 use Rattle.route_plan.specs.declared.plan.RoutePlan.{RoutePlan}
 use Rattle.ng_pricing.specs.Met.{AreMet}
 use Rattle.ng_pricing.specs.declared.met.MetRoute.{MetRoute}
 use Rattle.ng_pricing.proofs.Alone.{own_near_route, own_route}
-use Rattle.ng_pricing.proofs.Limiting.{met_more, met_route}
+use Rattle.ng_pricing.proofs.PriceLimits.{met_more, met_route}
 use Rattle.ng_pricing.proofs.setting.Setting.meet_own.Goals as goal
 
 pub solve_route-requires-clause-route : goal.solve_route-requires-clause-route

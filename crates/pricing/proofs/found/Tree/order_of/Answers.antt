@@ -4,15 +4,15 @@ use Rattle.std.proofs.lemmas.Option.{same_Some, slice_get_within}
 use Rattle.label_pool.proofs.Elements.{element_at}
 use Rattle.pricing.specs.Better.{HasBetter}
 use Rattle.pricing.specs.declared.found.Found.{Found}
-use Rattle.pricing.proofs.Growing.{read}
-use Rattle.pricing.proofs.Tracing.{elder_at, IsTraced, traced_back, traced_home, traced_start, turned, with_node}
+use Rattle.pricing.proofs.GrownTrees.{read}
+use Rattle.pricing.proofs.WaysBack.{elder_at, IsTraced, traced_back, traced_home, traced_start, turned, with_node}
 use Rattle.pricing.proofs.found.Tree.order_of.Goals as goal
 
 pub loop-parent-init : goal.loop-parent-init
 loop-parent-init c =
     let f = element_at c.args.self.now.found.items c.args.home c.requires.known in
-    subst (IsTraced c.args.terms.now c.args.self.now.found.items c.args.home) (sym (ap reverse c.new-order.ensures.items))
-    (traced_home c.args.terms.now c.args.self.now.found.items c.args.self.now.groups.items c.requires.tree c.args.home f.0 f.1 (c.requires.earns f.0 f.1))
+    subst (IsTraced c.args.question.now c.args.self.now.found.items c.args.home) (sym (ap reverse c.new-order.ensures.items))
+    (traced_home c.args.question.now c.args.self.now.found.items c.args.self.now.groups.items c.requires.tree c.args.home f.0 f.1 (c.requires.earns f.0 f.1))
 
 pub index-requires : goal.index-requires
 index-requires c =
@@ -40,22 +40,22 @@ the_parent c =
 
 pub loop-parent-smaller : goal.loop-parent-smaller
 loop-parent-smaller c =
-    elder_at c.args.terms.now c.args.self.now.found.items c.args.self.now.groups.items c.requires.tree c.loop-parent.at c.in-Some.parent c.loop-parent.invariant.label c.loop-parent.invariant.here (the_parent c)
+    elder_at c.args.question.now c.args.self.now.found.items c.args.self.now.groups.items c.requires.tree c.loop-parent.at c.in-Some.parent c.loop-parent.invariant.label c.loop-parent.invariant.here (the_parent c)
 
 pub loop-parent-preserved : goal.loop-parent-preserved
 loop-parent-preserved c =
-    let g = c.args.terms.now.network in
+    let g = c.args.question.now.network in
     let same = is_label c.args.self.now.found.items c.loop-parent.at c.loop-parent.invariant.label c.index-in-Some.result.now c.loop-parent.invariant.here c.index-in-Some.ensures in
-    let back = traced_back c.args.terms.now c.args.self.now.found.items c.args.self.now.groups.items c.requires.tree c.loop-parent.at c.in-Some.parent (reverse c.loop-parent.order.items) c.loop-parent.invariant (the_parent c) in
-    let items = turned c.args.terms.now.network c.index-in-Some.result.now.label.node c.loop-parent.order.items c.push_customer.new.order.items c.in_ok-push_customer.ensures in
-    let node = ap (λ (f : Found). with_node c.args.terms.now.network f.label.node (reverse c.loop-parent.order.items)) same in
-    subst (IsTraced c.args.terms.now c.args.self.now.found.items c.in-Some.parent) (sym (items ∙ node)) back
+    let back = traced_back c.args.question.now c.args.self.now.found.items c.args.self.now.groups.items c.requires.tree c.loop-parent.at c.in-Some.parent (reverse c.loop-parent.order.items) c.loop-parent.invariant (the_parent c) in
+    let items = turned c.args.question.now.network c.index-in-Some.result.now.label.node c.loop-parent.order.items c.push_customer.new.order.items c.in_ok-push_customer.ensures in
+    let node = ap (λ (f : Found). with_node c.args.question.now.network f.label.node (reverse c.loop-parent.order.items)) same in
+    subst (IsTraced c.args.question.now c.args.self.now.found.items c.in-Some.parent) (sym (items ∙ node)) back
 
 pub returns : goal.returns
 returns c = record {
   better =
       let same = is_label c.args.self.now.found.items c.loop-parent.at c.loop-parent.invariant.label c.index.result.now c.loop-parent.invariant.here c.index.ensures in
       let none = sym (ap (λ (f : Found). f.parent) same) ∙ c.in_default.is in
-      let made = traced_start c.args.terms.now c.args.self.now.found.items c.args.self.now.groups.items c.requires.tree c.loop-parent.at (reverse c.loop-parent.order.items) c.loop-parent.invariant c.requires.network none in
-      subst (HasBetter c.args.terms.now) (sym c.reverse.ensures.items) made;
+      let made = traced_start c.args.question.now c.args.self.now.found.items c.args.self.now.groups.items c.requires.tree c.loop-parent.at (reverse c.loop-parent.order.items) c.loop-parent.invariant c.requires.network none in
+      subst (HasBetter c.args.question.now) (sym c.reverse.ensures.items) made;
 }

@@ -5,7 +5,7 @@ use Rattle.std.proofs.lemmas.Int.{ints}
 use Rattle.std.proofs.lemmas.List.{length-set}
 use Rattle.pricing.specs.Tree.{IsGrown, IsTree}
 use Rattle.pricing.specs.declared.found.Found.{Found}
-use Rattle.pricing.proofs.Growing.{grown_by, tree_with}
+use Rattle.pricing.proofs.GrownTrees.{grown_by, tree_with}
 use Rattle.pricing.proofs.found.Tree.push.Goals as goal
 
 pub returns-clause-tree : goal.returns-clause-tree
@@ -18,8 +18,8 @@ returns-clause-tree c =
     let small : unsigned_abs (to_z w128 (of_z w128 c.args.paid)) ≤ 2 ^ 91 = subst (λ z. unsigned_abs z ≤ 2 ^ 91) (sym whole) c.requires.small in
     let more = slice_set groups c.key_of-key.result c.push.new.self in
     let same = length-set groups c.key_of-key.result c.push.new.self in
-    let tree = tree_with c.args.terms.now old groups more new same c.requires.tree c.requires.range small c.requires.elder c.requires.origin in
-    subst (λ (found : List Found). IsTree c.args.terms.now found more) (sym c.in_ok-push-2.ensures.items) tree
+    let tree = tree_with c.args.question.now old groups more new same c.requires.tree c.requires.range small c.requires.elder c.requires.origin in
+    subst (λ (found : List Found). IsTree c.args.question.now found more) (sym c.in_ok-push-2.ensures.items) tree
 
 pub returns-clause-grown : goal.returns-clause-grown
 returns-clause-grown c =

@@ -1,7 +1,7 @@
 use Rattle.std.proofs.Common.{◌≡◌, ◌≤◌, ◌^◌, sym, subst, arith, rules, unsigned_abs, FitsSigned, to_z, of_z}
 use Rattle.std.specs.Int.{w128}
 use Rattle.std.proofs.lemmas.Int.{ints}
-use Rattle.pricing.proofs.Growing.{read}
+use Rattle.pricing.proofs.GrownTrees.{read}
 use Rattle.pricing.proofs.found.Tree.reach_of.Goals as goal
 
 pub margin-requires-clause-own : goal.margin-requires-clause-own

@@ -4,9 +4,9 @@ use Rattle.pricing.proofs.search.Search.force_all.Given as goal
 
 abbrev pub invariant-loop-value : goal.invariant-loop-value
 invariant-loop-value l = record {
-  search : IsSearch l.terms l.self;
+  search : IsSearch l.question l.self;
   listed : length l.fn.self.listed.items + length l.fn.values.items ≤ length l.self.listed.items + length l.values.items;
-  steps : AreSteps l.terms l.self.tree.found.items l.from l.node l.target l.values.items;
+  steps : AreSteps l.question l.self.tree.found.items l.from l.node l.target l.values.items;
 }
 
 abbrev pub decreases-loop-value : goal.decreases-loop-value

@@ -1,15 +1,15 @@
-use Rattle.pricing.proofs.Growing.{read}
-use Rattle.pricing.proofs.Searching.{label_in_range}
+use Rattle.pricing.proofs.GrownTrees.{read}
+use Rattle.pricing.proofs.SearchState.{label_in_range}
 use Rattle.pricing.proofs.search.Search.go.Goals as goal
 
 pub target_at-requires-clause-label : goal.target_at-requires-clause-label
 target_at-requires-clause-label c =
-    label_in_range c.args.terms.now.network c.index-found.result.now.label c.requires.search.network
+    label_in_range c.args.question.now.network c.index-found.result.now.label c.requires.search.network
     (c.requires.search.labels.labels c.args.from c.index-found.result.now (read c.args.self.now.tree.found.items c.args.from c.index-found.result.now c.requires.known c.index-found.ensures)).range
 
 pub values_at-requires-clause-label : goal.values_at-requires-clause-label
 values_at-requires-clause-label c =
-    label_in_range c.args.terms.now.network c.index-found.result.now.label c.requires.search.network
+    label_in_range c.args.question.now.network c.index-found.result.now.label c.requires.search.network
     (c.requires.search.labels.labels c.args.from c.index-found.result.now (read c.args.self.now.tree.found.items c.args.from c.index-found.result.now c.requires.known c.index-found.ensures)).range
 
 pub add_all-requires-clause-steps : goal.add_all-requires-clause-steps

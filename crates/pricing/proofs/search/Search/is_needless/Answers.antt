@@ -1,7 +1,7 @@
 use Rattle.std.proofs.Common.{◌≡◌, ◌≤◌, ◌^◌, sym, subst, arith, rules, unsigned_abs, FitsSigned, to_z, of_z}
 use Rattle.std.specs.Int.{w128}
 use Rattle.std.proofs.lemmas.Int.{ints}
-use Rattle.pricing.proofs.Growing.{read}
+use Rattle.pricing.proofs.GrownTrees.{read}
 use Rattle.pricing.proofs.search.Search.is_needless.Goals as goal
 
 pub makes_needless-requires-clause-range : goal.makes_needless-requires-clause-range

@@ -1,9 +1,9 @@
-use Rattle.pricing.proofs.Growing.{read}
-use Rattle.pricing.proofs.Mending.{earns_there, home_within}
+use Rattle.pricing.proofs.GrownTrees.{read}
+use Rattle.pricing.proofs.ListFaults.{earns_there, home_within}
 use Rattle.pricing.proofs.search.Search.keep_listed.Goals as goal
 
 pub keep_route-requires-clause-earns : goal.keep_route-requires-clause-earns
 keep_route-requires-clause-earns c f at =
-    let less = home_within c.args.terms.now c.args.self.now.tree.found.items c.args.self.now.listed.items c.args.labels.now c.requires.copies c.args.label c.requires.earns in
+    let less = home_within c.args.question.now c.args.self.now.tree.found.items c.args.self.now.listed.items c.args.labels.now c.requires.copies c.args.label c.requires.earns in
     let number = read c.args.self.now.listed.items c.args.label c.index-number.result.now less c.index-number.ensures in
-    earns_there c.args.terms.now c.args.self.now.tree.found.items c.args.self.now.listed.items c.args.labels.now c.requires.copies c.args.label c.index-number.result.now f c.requires.earns number at
+    earns_there c.args.question.now c.args.self.now.tree.found.items c.args.self.now.listed.items c.args.labels.now c.requires.copies c.args.label c.index-number.result.now f c.requires.earns number at

@@ -4,9 +4,9 @@ use Rattle.std.specs.Prelude.{slice_get}
 use Rattle.std.proofs.lemmas.List.{get_or_default, length-append}
 use Rattle.piece_fn.specs.declared.label.Label.{Label}
 use Rattle.pricing.specs.Answers.{HasPoints, IsInRange}
-use Rattle.pricing.proofs.Growing.{read}
-use Rattle.pricing.proofs.Mending.{copies_more}
-use Rattle.pricing.proofs.Searching.{has_points, one_more}
+use Rattle.pricing.proofs.GrownTrees.{read}
+use Rattle.pricing.proofs.ListFaults.{copies_more}
+use Rattle.pricing.proofs.SearchState.{has_points, one_more}
 use Rattle.pricing.proofs.search.Search.labels.Goals as goal
 
 pub loop-number-preserved : goal.loop-number-preserved
@@ -21,12 +21,12 @@ loop-number-preserved c =
     let number : slice_get c.args.self.now.listed.items c.loop-number.number-index ≡ Some m = read c.args.self.now.listed.items c.loop-number.number-index m less same_number in
     let inside : m < length c.args.self.now.tree.found.items = subst (λ n. n < length c.args.self.now.tree.found.items) (sym same_number) (c.requires.listed_within c.loop-number.number-index m less) in
     let here : slice_get c.args.self.now.tree.found.items m ≡ Some c.index.result.now = read c.args.self.now.tree.found.items m c.index.result.now inside c.index.ensures in
-    let range : IsInRange c.args.terms.now.network c.in_ok-copy_of.field-0 = subst (λ (l : Label). IsInRange c.args.terms.now.network l) (sym c.in_ok-copy_of.ensures.same) (c.requires.labels.labels m c.index.result.now here).range in
+    let range : IsInRange c.args.question.now.network c.in_ok-copy_of.field-0 = subst (λ (l : Label). IsInRange c.args.question.now.network l) (sym c.in_ok-copy_of.ensures.same) (c.requires.labels.labels m c.index.result.now here).range in
     record {
       count = ap length c.in_ok-push.ensures.items ∙ length-append c.loop-number.labels.items (c.in_ok-copy_of.field-0 ∷ []) ∙ ap (λ n. n + 1) c.loop-number.invariant.count;
       same = copies_more found listed c.loop-number.labels.items c.push.new.self.items c.in_ok-copy_of.field-0 i m c.index.result.now c.loop-number.invariant.same c.loop-number.invariant.count c.in_ok-push.ensures.items number here c.in_ok-copy_of.ensures.same;
-      ranges = subst (λ (ls : List Label). All (IsInRange c.args.terms.now.network) ls) (sym c.in_ok-push.ensures.items) (one_more (IsInRange c.args.terms.now.network) c.loop-number.labels.items c.in_ok-copy_of.field-0 c.loop-number.invariant.ranges range);
-      points = subst (λ (ls : List Label). All (HasPoints c.args.terms.now.network) ls) (sym c.in_ok-push.ensures.items) (one_more (HasPoints c.args.terms.now.network) c.loop-number.labels.items c.in_ok-copy_of.field-0 c.loop-number.invariant.points (has_points c.args.terms.now.network c.in_ok-copy_of.field-0 range c.in_ok-copy_of.ensures.valid));
+      ranges = subst (λ (ls : List Label). All (IsInRange c.args.question.now.network) ls) (sym c.in_ok-push.ensures.items) (one_more (IsInRange c.args.question.now.network) c.loop-number.labels.items c.in_ok-copy_of.field-0 c.loop-number.invariant.ranges range);
+      points = subst (λ (ls : List Label). All (HasPoints c.args.question.now.network) ls) (sym c.in_ok-push.ensures.items) (one_more (HasPoints c.args.question.now.network) c.loop-number.labels.items c.in_ok-copy_of.field-0 c.loop-number.invariant.points (has_points c.args.question.now.network c.in_ok-copy_of.field-0 range c.in_ok-copy_of.ensures.valid));
     }
 
 pub returns-clause-copies : goal.returns-clause-copies

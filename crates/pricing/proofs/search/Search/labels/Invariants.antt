@@ -8,6 +8,6 @@ abbrev pub invariant-loop-number : goal.invariant-loop-number
 invariant-loop-number l = record {
   count : length l.labels.items ≡ l.number-index;
   same : AreCopiesAt l.self.tree.found.items l.self.listed.items l.labels.items;
-  ranges : All (IsInRange l.terms.network) l.labels.items;
-  points : All (HasPoints l.terms.network) l.labels.items;
+  ranges : All (IsInRange l.question.network) l.labels.items;
+  points : All (HasPoints l.question.network) l.labels.items;
 }

@@ -1,9 +1,9 @@
-use Rattle.pricing.proofs.Growing.{read}
-use Rattle.pricing.proofs.Mending.{step_within, still_uncovered}
+use Rattle.pricing.proofs.GrownTrees.{read}
+use Rattle.pricing.proofs.ListFaults.{step_within, still_uncovered}
 use Rattle.pricing.proofs.search.Search.make_step.Goals as goal
 
 pub force-requires-clause-leads : goal.force-requires-clause-leads
 force-requires-clause-leads c f at =
-    let less = step_within c.args.terms.now c.args.self.now.tree.found.items c.args.self.now.listed.items c.args.labels.now c.requires.copies c.args.label c.args.node c.requires.step in
+    let less = step_within c.args.question.now c.args.self.now.tree.found.items c.args.self.now.listed.items c.args.labels.now c.requires.copies c.args.label c.args.node c.requires.step in
     let number = read c.args.self.now.listed.items c.args.label c.index-number.result.now less c.index-number.ensures in
-    still_uncovered c.args.terms.now c.args.labels.now c.args.self.now.tree.found.items c.args.self.now.listed.items c.requires.copies c.args.label c.args.node c.index-number.result.now f c.requires.none c.requires.step number at
+    still_uncovered c.args.question.now c.args.labels.now c.args.self.now.tree.found.items c.args.self.now.listed.items c.requires.copies c.args.label c.args.node c.index-number.result.now f c.requires.none c.requires.step number at

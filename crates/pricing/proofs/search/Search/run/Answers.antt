@@ -1,5 +1,5 @@
 use Rattle.std.proofs.Common.{◌≡◌, ◌∙◌, ◌+◌, ◌<◌, ◌^◌, length, ap, arith, inl, inr}
-use Rattle.pricing.proofs.Ending.{fewer_wait, held_count, held_fewer, held_most, listed_more}
+use Rattle.pricing.proofs.SearchEnds.{fewer_wait, held_count, held_fewer, held_most, listed_more}
 use Rattle.pricing.proofs.search.Search.run.Goals as goal
 
 pub loop-alloc-smaller : goal.loop-alloc-smaller

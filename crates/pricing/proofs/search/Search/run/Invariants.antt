@@ -1,11 +1,11 @@
 use Rattle.std.proofs.Common.{◌+◌, ◌-◌, ◌*◌, ◌≤◌, ◌^◌, length}
 use Rattle.pricing.specs.Tree.{IsSearch}
-use Rattle.pricing.proofs.Ending.{held_count}
+use Rattle.pricing.proofs.SearchEnds.{held_count}
 use Rattle.pricing.proofs.search.Search.run.Given as goal
 
 abbrev pub invariant-loop-alloc : goal.invariant-loop-alloc
 invariant-loop-alloc l = record {
-  search : IsSearch l.terms l.self;
+  search : IsSearch l.question l.self;
   listed : length l.fn.self.listed.items ≤ length l.self.listed.items;
 }
 

@@ -1,7 +1,7 @@
 use Rattle.label_steps.specs.Covering.{IsCoveredTo}
 use Rattle.piece_fn.specs.PieceFn.{IsReach, level_times}
 use Rattle.route_judge.specs.Asking.{covers}
-use Rattle.route_judge.proofs.Looking.{reach_covers}
+use Rattle.route_judge.proofs.EntryLooks.{reach_covers}
 use Rattle.route_judge.proofs.Options.{some_map}
 use Rattle.route_judge.proofs.asking.Asked.reach_by.Goals as goal
 

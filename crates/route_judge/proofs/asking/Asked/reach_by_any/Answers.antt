@@ -2,7 +2,7 @@ use Rattle.std.proofs.Common.{◌∙◌, ap, subst}
 use Rattle.ev_model.specs.Network.{Network, node_count}
 use Rattle.route_judge.specs.Asking.{vehicle}
 use Rattle.route_judge.specs.Links.{TellsTime, key_of}
-use Rattle.route_judge.proofs.Looking.{left_nothing}
+use Rattle.route_judge.proofs.EntryLooks.{left_nothing}
 use Rattle.route_judge.proofs.asking.Asked.reach_by_any.Goals as goal
 
 pub returns-clause-none : goal.returns-clause-none

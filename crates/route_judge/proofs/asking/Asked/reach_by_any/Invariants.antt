@@ -1,6 +1,6 @@
 use Rattle.std.proofs.Common.{◌-◌, length}
 use Rattle.route_judge.specs.Asking.{vehicle}
-use Rattle.route_judge.proofs.Looking.{IsLeft}
+use Rattle.route_judge.proofs.EntryLooks.{IsLeft}
 use Rattle.route_judge.proofs.asking.Asked.reach_by_any.Given as goal
 
 abbrev pub invariant-loop-entries : goal.invariant-loop-entries

@@ -1,5 +1,5 @@
 use Rattle.std.proofs.Common.{arith}
-use Rattle.route_judge.proofs.Looking.{past_bar}
+use Rattle.route_judge.proofs.EntryLooks.{past_bar}
 use Rattle.route_judge.proofs.asking.AskedCovering.reach.Goals as goal
 
 pub returns-then-bar-time-clause-some : goal.returns-then-bar-time-clause-some

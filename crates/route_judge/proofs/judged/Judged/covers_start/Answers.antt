@@ -1,5 +1,5 @@
 use Rattle.std.proofs.Common.{◌∙◌, [], ◌∷◌, ap}
-use Rattle.route_judge.proofs.Starting.{start_tells}
+use Rattle.route_judge.proofs.StartState.{start_tells}
 use Rattle.route_judge.proofs.judged.Judged.covers_start.Goals as goal
 
 pub returns : goal.returns

@@ -2,7 +2,7 @@ use Rattle.std.proofs.Common.{◌++◌, codes, false}
 use Rattle.ev_model.specs.declared.Stop.{Stop}
 use Rattle.ev_text.specs.Texts.{parted_texts}
 use Rattle.route_plan.specs.PlanTexts.{stop_text}
-use Rattle.route_plan.proofs.Writing.{writes_on}
+use Rattle.route_plan.proofs.PlanWriting.{writes_on}
 use Rattle.route_plan.proofs.text.writing.write_stops.Goals as goal
 
 pub loop-at-preserved : goal.loop-at-preserved

@@ -1,7 +1,7 @@
 use Rattle.std.proofs.Common.{◌≡◌, ◌++◌, codes, drop}
 use Rattle.ev_text.specs.Texts.{parted_texts}
 use Rattle.route_plan.specs.PlanTexts.{stop_text}
-use Rattle.route_plan.proofs.Writing.{left_text}
+use Rattle.route_plan.proofs.PlanWriting.{left_text}
 use Rattle.route_plan.proofs.text.writing.write_stops.Given as goal
 
 abbrev pub invariant-loop-at : goal.invariant-loop-at

@@ -1,7 +1,7 @@
 use Rattle.std.proofs.Common.{◌∙◌, ap, is_some, List}
 use Rattle.pricing.specs.declared.priced.PricedRoute.{PricedRoute}
 use Rattle.route_pool.specs.Pool.{held}
-use Rattle.route_pool.proofs.Putting.{held_where_found}
+use Rattle.route_pool.proofs.PutPlans.{held_where_found}
 use Rattle.route_pool.proofs.pool.ColumnPool.has.Goals as goal
 
 pub returns : goal.returns

@@ -5,8 +5,8 @@ use Rattle.pricing.specs.declared.priced.PricedRoute.{PricedRoute}
 use Rattle.route_plan.specs.declared.plan.RoutePlan.{RoutePlan}
 use Rattle.route_pool.specs.Placed.{IsRouteAt}
 use Rattle.route_pool.specs.Pool.{held}
-use Rattle.route_pool.proofs.Placing.{place_found, place_is}
-use Rattle.route_pool.proofs.Putting.{at_order}
+use Rattle.route_pool.proofs.RoutePlaces.{place_found, place_is}
+use Rattle.route_pool.proofs.PutPlans.{at_order}
 use Rattle.route_pool.proofs.pool.ColumnPool.place.Goals as goal
 
 pub returns-clause-found : goal.returns-clause-found

@@ -5,7 +5,7 @@ use Rattle.indexmap.specs.IndexMap.{insert_entry}
 use Rattle.pricing.specs.declared.priced.PricedRoute.{PricedRoute}
 use Rattle.route_pool.specs.Pool.{AreApart, IsColumn, IsPool, IsPut, orders_after, orders_of}
 use Rattle.route_pool.specs.declared.pooled.Pooled.{Pooled}
-use Rattle.route_pool.proofs.Putting.{apart_keys, at_order, column_found, Entries, orders_new, orders_replaced, pool_pushed, pool_replaced, put_new, put_replaced, routes_of, same_entries, same_order}
+use Rattle.route_pool.proofs.PutPlans.{apart_keys, at_order, column_found, Entries, orders_new, orders_replaced, pool_pushed, pool_replaced, put_new, put_replaced, routes_of, same_entries, same_order}
 use Rattle.route_pool.proofs.pool.ColumnPool.put.Goals as goal
 
 -- ---- an order that the pool has

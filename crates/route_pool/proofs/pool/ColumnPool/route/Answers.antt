@@ -3,8 +3,8 @@ use Rattle.pricing.specs.declared.priced.PricedRoute.{PricedRoute}
 use Rattle.route_pool.specs.Pool.{IsPool}
 use Rattle.std.specs.Prelude.{IfSome}
 use Rattle.route_pool.specs.Placed.{IsRouteAt}
-use Rattle.route_pool.proofs.Placing.{placed}
-use Rattle.route_pool.proofs.Putting.{column_got}
+use Rattle.route_pool.proofs.RoutePlaces.{placed}
+use Rattle.route_pool.proofs.PutPlans.{column_got}
 use Rattle.route_pool.proofs.pool.ColumnPool.route.Goals as goal
 
 pub returns-clause-column : goal.returns-clause-column
