@@ -13,7 +13,7 @@ ghost use Rattle.closed_lists.specs.Targets.{state_of};
 
 use crate::links::{Entry, first, is_in_time};
 use crate::paid::{is_too_dear, margin};
-use crate::places::TRIES;
+use crate::places::{BLOCK, TRIES};
 use crate::question::Question;
 use customer_sets::CustSet;
 use label_steps::Covering;
@@ -134,13 +134,45 @@ impl Asked<'_> {
         ensures some { IfSome result
             (IsCoveredTo (covers self.now) (level_times value.now) level) }
     {
+        let places = self.question.places();
         let entries = self.question.entries();
-        let mut at = first(entries, self.key);
-        while is_in_time(entries, at, self.key, time) {
-            if let Some(to) = self.reach_of(&entries[at], value, level, time) {
+        let begin = places.first(self.key)?;
+        for block in begin / BLOCK..entries.len().div_ceil(BLOCK) {
+            let at = begin.max(block.wrapping_mul(BLOCK));
+            if !is_in_time(entries, at, self.key, time) {
+                return None;
+            }
+            let later = u64::MAX.wrapping_shl((at % BLOCK) as u32);
+            let labels = places.within(block, self.target.set) & later;
+            if let Some(to) = self.reach_in(block, labels, value, level, time) {
                 return Some(to);
             }
-            at = self.question.places().after(at, entries.len());
+        }
+        None
+    }
+
+    /// The same by a label of a block whose bit is set; `None` says nothing.
+    fn reach_in(
+        &self,
+        block: usize,
+        labels: u64,
+        value: &PieceFn,
+        level: u64,
+        time: u64,
+    ) -> Option<u64>
+        requires level { IsLevel (level_times value.now) level }
+        requires time { time ≡ time_at (level_times value.now) level }
+        ensures some { IfSome result
+            (IsCoveredTo (covers self.now) (level_times value.now) level) }
+    {
+        let mut left = labels;
+        for _ in 0..labels.count_ones() {
+            let bit = left.trailing_zeros() as usize;
+            left &= left.wrapping_sub(1);
+            let at = block.wrapping_mul(BLOCK).wrapping_add(bit);
+            if let Some(to) = self.reach_at(at, value, level, time) {
+                return Some(to);
+            }
         }
         None
     }

@@ -9,12 +9,12 @@ mod fault;
 mod links;
 mod paid;
 mod places;
-mod ranges;
 mod question;
+mod ranges;
 mod steps;
 
 pub use check::check_closed;
 pub use fault::ClosedFault;
 pub use paid::{margin, price_sum};
-pub use ranges::is_label_of;
 pub use question::Question;
+pub use ranges::is_label_of;

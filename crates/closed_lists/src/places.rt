@@ -1,8 +1,6 @@
 //! Which entries are looked at first for one that covers a state: those of the state's own set, and
-//! then those that no other makes needless. What is answered never rests on this choice, so little
-//! is said of it.
-
-ghost use Rattle.std.specs.Prelude.{◌<◌};
+//! then those whose sets are within it and that no other makes needless. What is answered never
+//! rests on this choice, so nothing is said of it.
 
 use crate::links::Entry;
 use customer_sets::CustSet;
@@ -13,16 +11,24 @@ use std::alloc::{AllocError, Global};
 /// In how many slots, one behind another, an entry may stand.
 pub(crate) const TRIES: usize = 64;
 
+/// How many entries a word has a bit for.
+pub(crate) const BLOCK: usize = 64;
+
 /// Where entries stand, by key and set, without those that are seen to be needless: an earlier one
 /// of the same key and set covers what they cover.
 #[derive(Drop)]
 pub(crate) struct Places {
     /// How many customers there are.
     customers: usize,
-    /// Places of entries, in slots by their keys and sets.
-    slots: Vec<Option<usize>>,
-    /// Of each entry that isn't needless the place of the next such entry.
-    next: Vec<usize>,
+    /// Places of entries, in slots by their keys and sets: one more than the place, 0 where the
+    /// slot is free.
+    slots: Vec<u32>,
+    /// By key: the place of the first entry with it or a greater one.
+    firsts: Vec<usize>,
+    /// A word for each block of 64 entries: which of them aren't needless.
+    kept: Vec<u64>,
+    /// For each block of 64 entries a word a customer: whose labels have served him.
+    servers: Vec<u64>,
 }
 
 /// What becomes of an entry.
@@ -44,21 +50,46 @@ impl Places {
         labels: &[Label],
     ) -> Result<Places, AllocError> {
         let count = entries.len().saturating_mul(2).saturating_add(1);
-        let slots = vec![in alloc; None; count]?;
-        let next = vec![in alloc; entries.len(); entries.len()]?;
+        let blocks = entries.len().div_ceil(BLOCK);
         let mut places = Places {
             customers,
-            slots,
-            next,
+            slots: vec![in alloc; 0; count]?,
+            firsts: Vec::new(alloc),
+            kept: vec![in alloc; 0; blocks]?,
+            servers: vec![in alloc; 0; blocks.saturating_mul(customers)]?,
         };
-        let mut last = 0;
-        for at in 0..entries.len() {
+        for (at, entry) in entries.iter().enumerate() {
+            places.begin(entry.key, at)?;
             if places.keep(entries, labels, at) {
-                places.link(last, at);
-                last = at;
+                places.stand(entry.set, at);
             }
         }
         Ok(places)
+    }
+
+    /// Says that the entries with a key begin at a place or before it.
+    fn begin(&mut self, key: usize, at: usize) -> Result<(), AllocError> {
+        if self.firsts.len() <= key {
+            self.firsts.resize(key.saturating_add(1), at)?;
+        }
+        Ok(())
+    }
+
+    /// Says that the entry at a place isn't needless, and has this set.
+    fn stand(&mut self, set: CustSet, at: usize) {
+        let block = at / BLOCK;
+        let bit = 1u64.wrapping_shl((at % BLOCK) as u32);
+        if let Some(word) = self.kept.get_mut(block) {
+            *word |= bit;
+        }
+        let begin = block.wrapping_mul(self.customers);
+        for c in 0..self.customers.min(128) {
+            if set.has(c) {
+                if let Some(word) = self.servers.get_mut(begin.wrapping_add(c)) {
+                    *word |= bit;
+                }
+            }
+        }
     }
 
     /// A number for a key and a set.
@@ -75,18 +106,27 @@ impl Places {
     /// The place in a slot, of those where entries with the mark may stand.
     pub(crate) fn at(&self, mark: u64, tried: usize) -> Option<usize> {
         let slot = slot_of(self.slots.len(), mark, tried)?;
-        *self.slots.get(slot)?
+        let next = *self.slots.get(slot)?;
+        (next as usize).checked_sub(1)
     }
 
-    /// The place of the entry to be looked at behind the one at a place.
-    pub(crate) fn after(&self, at: usize, end: usize) -> usize
-        requires { at < end }
-        ensures { at < result }
-    {
-        match self.next.get(at) {
-            Some(next) if at < *next => *next,
-            _ => at + 1,
+    /// The place of the first entry with a key, if there is one.
+    pub(crate) fn first(&self, key: usize) -> Option<usize> {
+        self.firsts.get(key).copied()
+    }
+
+    /// The entries of a block that aren't needless and whose sets are within one, as bits.
+    pub(crate) fn within(&self, block: usize, set: CustSet) -> u64 {
+        let begin = block.wrapping_mul(self.customers);
+        let end = begin.wrapping_add(self.customers);
+        let words = self.servers.get(begin..end).unwrap_or(&[]);
+        let mut beyond = 0;
+        for (c, word) in words.iter().enumerate() {
+            if c < 128 && !set.has(c) {
+                beyond |= *word;
+            }
         }
+        self.kept.get(block).copied().unwrap_or(0) & !beyond
     }
 
     /// Puts an entry into its slot, and answers whether it isn't needless.
@@ -94,19 +134,12 @@ impl Places {
         match self.room_for(entries, labels, at) {
             Room::Slot(slot) => {
                 if let Some(free) = self.slots.get_mut(slot) {
-                    *free = Some(at);
+                    *free = u32::try_from(at.saturating_add(1)).unwrap_or(0);
                 }
                 true
             }
             Room::Full => true,
             Room::Needless => false,
-        }
-    }
-
-    /// Says that one entry stands behind another.
-    fn link(&mut self, at: usize, behind: usize) {
-        if let Some(next) = self.next.get_mut(at) {
-            *next = behind;
         }
     }
 

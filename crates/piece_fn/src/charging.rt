@@ -10,7 +10,7 @@ use smallvec::SmallVec;
 use std::alloc::{AllocError, Global};
 
 /// How many points a value keeps without an allocation.
-pub(crate) const INLINE_POINTS: usize = 8;
+pub(crate) const INLINE_POINTS: usize = 4;
 
 /// The supporting points of a value.
 pub(crate) type Points = SmallVec<(u64, u64), INLINE_POINTS>;

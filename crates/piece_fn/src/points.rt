@@ -62,6 +62,9 @@ pub(crate) fn time_on_piece(points: &[(u64, u64)], level: u64) -> u64
             if level <= point.0 {
                 return point.1;
             }
+            if level == next.0 {
+                return next.1;
+            }
             let slope = (next.1 - point.1) / (next.0 - point.0);
             point.1 + slope * (level - point.0)
         }
