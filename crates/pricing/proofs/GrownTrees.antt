@@ -1,9 +1,8 @@
 -- A tree with one label more.
-use Rattle.std.proofs.Common.{◌≡◌, ◌∙◌, ℕ, zero, suc, ◌<◌, ◌≤◌, ◌^◌, refl, sym, subst, List, [], ◌∷◌, ◌++◌, length, arith, inl, inr, Option, Some, None, replicate, unsigned_abs}
+use Rattle.std.proofs.Common.{◌≡◌, ◌∙◌, ℕ, ◌<◌, ◌≤◌, ◌^◌, sym, subst, List, [], ◌∷◌, ◌++◌, length, arith, inl, inr, Option, Some, None, unsigned_abs}
 use Rattle.std.specs.Prelude.{IfSome, slice_get, slice_index_or}
 use Rattle.std.proofs.lemmas.List.{length-append}
 use Rattle.closed_lists.specs.Questions.{Question}
-use Rattle.index_links.specs.Queue.{key_at}
 use Rattle.label_pool.proofs.Elements.{appended_before, appended_cases, element_at, read_at}
 use Rattle.piece_fn.specs.declared.label.Label.{Label}
 use Rattle.pricing.specs.Answers.{IsInRange}
@@ -62,10 +61,3 @@ tree_with q old groups more new same tree range small elder origin =
       ];
       room = same ∙ tree.room;
     }
-
--- the next number has no key
-pub no_key : (keys : List (Option ℕ)) (n i : ℕ) → i ≡ length keys → key_at (keys ++ replicate n None) i ≡ None
-no_key [] zero i is = refl
-no_key [] (suc n) i is = rw is refl
-no_key (k ∷ ks) n zero is = absurd (omega (arith, is))
-no_key (k ∷ ks) n (suc i) is = no_key ks n i (omega (arith, is))

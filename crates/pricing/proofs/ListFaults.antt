@@ -1,5 +1,5 @@
 -- The listed labels as a list of their own, and what its faults tell.
-use Rattle.std.proofs.Common.{◌≡◌, ◌∙◌, ℕ, zero, suc, ◌*◌, ◌<◌, Bool, true, pos, ◌<ℤ◌, refl, sym, ap, subst, List, ℤ, [], ◌∷◌, ◌++◌, length, map, arith, inl, inr, Option, Some}
+use Rattle.std.proofs.Common.{◌≡◌, ◌∙◌, ℕ, zero, suc, ◌*◌, ◌<◌, Bool, true, pos, ◌<ℤ◌, refl, sym, ap, subst, List, ℤ, [], ◌∷◌, ◌++◌, length, map, arith, inl, inr, Some}
 use Rattle.std.specs.Prelude.{slice_get}
 use Rattle.std.specs.List.{Contains}
 use Rattle.std.proofs.lemmas.Option.{none-some, same_Some, slice_get_within}
@@ -10,7 +10,6 @@ use Rattle.fleet_model.specs.Labels.{Label as PaidLabel, State, state_at}
 use Rattle.fleet_model.specs.Places.{place_of}
 use Rattle.fleet_model.specs.Section.{Section}
 use Rattle.fleet_model.specs.Steps.{at_customer, at_station, time_at}
-use Rattle.index_links.specs.Queue.{HasPair}
 use Rattle.label_pool.proofs.Elements.{appended_cases}
 use Rattle.piece_fn.specs.declared.label.Label.{Label}
 use Rattle.closed_lists.specs.Questions.{Question, section}
@@ -79,12 +78,6 @@ module _ (q : Question) (found : List Found) (numbers : List ℕ) (labels : List
       let label : there.0 ≡ f.label = sym copied.2 ∙ ap (λ (k : Found). k.label) same in
       let earns : EarnsAtHome q.network (section q) (paid_label q.prices there.0) = subst (λ (l : PaidLabel). EarnsAtHome q.network (section q) l) (sym there.2) (earns_still q (section_of q.pairs q.weight q.prices labels) fault.0 refl refl fault.2) in
       subst (λ (l : Label). EarnsAtHome q.network (section q) (paid_label q.prices l)) label earns
-
--- a number with a key is in the queue
-pub held_within : (keys : List (Option ℕ)) (key i : ℕ) → HasPair keys key i → i < length keys
-held_within [] key i held = absurd (none-some key held)
-held_within (k ∷ ks) key zero held = omega arith
-held_within (k ∷ ks) key (suc i) held = omega (arith, held_within ks key i held)
 
 -- no state is covered by no label
 no_member : (x : PaidLabel) → Contains [] x → ⊥

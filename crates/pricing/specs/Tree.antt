@@ -46,7 +46,6 @@ pub record IsSearch (q : Question) (s : Search) : Type 0 where
   pub network : IsNetwork q.network
   pub some : 0 < length s.tree.found.items
   pub labels : IsTree q s.tree.found.items s.tree.groups.items
-  pub queue_room : length s.queue ≡ length s.tree.found.items
   pub listed_within : All (λ n. n < length s.tree.found.items) s.listed.items
   pub are_better : All (IsBetterRoute q) s.routes.items
 

@@ -2,7 +2,7 @@
 
 ghost use Rattle.std.specs.Prelude.{◌≡◌, ◌<◌, ◌≤◌, ◌^◌, [], All, IfOk, length, unsigned_abs};
 ghost use Rattle.instance_reader.specs.Instance.{customer_nodes};
-ghost use Rattle.pricing.specs.Answers.{IsPriced};
+ghost use Rattle.pricing.specs.Answers.{IsBetterRoute, IsPriced};
 ghost use Rattle.pricing.specs.Tree.{IsSearch};
 
 use crate::completion::table_of;
@@ -49,18 +49,56 @@ pub fn price(
 {
     let of = prices.of.as_slice();
     let question = Question::new(alloc, inst, pairs, prices.weight, of, &[])?;
-    let table = table_of(alloc, &question)?;
-    let mut quick = Search::new(alloc, &question, &table, Care::Quick)?;
-    quick.run(alloc, &question)?;
-    if !quick.routes.is_empty() {
-        return Ok(better_of(&question, quick));
-    }
-    let mut exact = Search::new(alloc, &question, &table, Care::Exact)?;
-    exact.run(alloc, &question)?;
-    if !exact.routes.is_empty() {
-        return Ok(better_of(&question, exact));
+    let routes = sought(alloc, &question)?;
+    if !routes.is_empty() {
+        return Ok(better_of(&question, routes));
     }
     closed(alloc, inst, pairs, prices, &question)
+}
+
+/// Routes that earn more by the prices of their customers than they take, as `price` finds them,
+/// but no list where none is found: no route says nothing.
+///
+/// It takes a part of the time that `price` takes where nothing earns. The only `Err` is want of
+/// memory.
+pub fn seek(
+    alloc: Global,
+    inst: &Instance,
+    pairs: &Pairs,
+    prices: &Prices,
+) -> Result<Vec<PricedRoute>, AllocError>
+    requires few { length (customer_nodes inst.now) ≤ 128 }
+    requires pairs { pairs.now.customers ≡ length (customer_nodes inst.now) }
+    requires weight { prices.now.weight ≤ 2 ^ 40 }
+    requires one_price { length prices.now.of.items ≡ length (customer_nodes inst.now) }
+    requires small_prices { All (λ price. unsigned_abs price ≤ 2 ^ 84) prices.now.of.items }
+    ensures { IfOk result (λ routes. All (IsBetterRoute (record {
+      network = inst.now;
+      pairs = pairs.now;
+      weight = prices.now.weight;
+      prices = prices.now.of.items;
+      labels = [];
+    })) routes.items) }
+{
+    let of = prices.of.as_slice();
+    let question = Question::new(alloc, inst, pairs, prices.weight, of, &[])?;
+    sought(alloc, &question)
+}
+
+/// Routes that earn: those of a quick search, or where it finds none those of an exact one. Both
+/// leave out what can't earn, by a table.
+fn sought(alloc: Global, question: &Question<'_>) -> Result<Vec<PricedRoute>, AllocError>
+    ensures { IfOk result (λ routes. All (IsBetterRoute question.now) routes.items) }
+{
+    let table = table_of(alloc, question)?;
+    let mut quick = Search::new(alloc, question, &table, Care::Quick)?;
+    quick.run(alloc, question)?;
+    if !quick.routes.is_empty() {
+        return Ok(routes_of(question, quick));
+    }
+    let mut exact = Search::new(alloc, question, &table, Care::Exact)?;
+    exact.run(alloc, question)?;
+    Ok(routes_of(question, exact))
 }
 
 /// The answer of the exact search that leaves nothing out.
@@ -91,7 +129,7 @@ fn closed(
     while search.routes.is_empty() {
         search.run(alloc, question)?;
         if !search.routes.is_empty() {
-            return Ok(better_of(question, search));
+            return Ok(better_of(question, routes_of(question, search)));
         }
         let labels = search.labels(alloc, question)?;
         match check_closed(alloc, inst, pairs, prices.weight, of, &labels) {
@@ -99,23 +137,34 @@ fn closed(
             Err(fault) => search.mend(alloc, question, &labels, fault)?,
         }
     }
-    Ok(better_of(question, search))
+    Ok(better_of(question, routes_of(question, search)))
 }
 
 /// The routes that a search found.
-fn better_of(question: &Question<'_>, search: Search<'_>) -> Priced
-    requires search { IsSearch question.now search }
-    requires some { 0 < length search.routes.items }
-    ensures { IsPriced question.now result }
+fn routes_of(question: &Question<'_>, search: Search<'_>) -> Vec<PricedRoute>
+    requires { IsSearch question.now search }
+    ensures same { result.items ≡ search.entry.routes.items }
+    ensures earn { All (IsBetterRoute question.now) result.items }
 {
+    let _terms = question;
     let Search {
         table: _,
         tree: _,
         queue: _,
         listed: _,
-        mut routes,
+        routes,
         left_out: _,
     } = search;
+    routes
+}
+
+/// The answer with routes that earn.
+fn better_of(question: &Question<'_>, mut routes: Vec<PricedRoute>) -> Priced
+    requires earn { All (IsBetterRoute question.now) routes.items }
+    requires some { 0 < length routes.items }
+    ensures { IsPriced question.now result }
+{
+    let _terms = question;
     let Some(last) = routes.pop() else {
         unreachable!();
     };

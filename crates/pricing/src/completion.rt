@@ -9,7 +9,7 @@ use customer_sets::CustSet;
 use std::alloc::{AllocError, Global};
 
 /// A table has about so many layers.
-const LAYERS: u64 = 300;
+const LAYERS: u64 = 150;
 
 /// The table of a section: customers are served once, and keep its pairs.
 pub(crate) fn table_of(alloc: Global, question: &Question<'_>) -> Result<Completion, AllocError> {
@@ -37,7 +37,9 @@ fn horizon(question: &Question<'_>) -> u64 {
     let time = paid
         .checked_div(u128::from(question.weight()))
         .unwrap_or(u128::MAX);
-    u64::try_from(time).unwrap_or(u64::MAX).min(question.scaled_limit())
+    u64::try_from(time)
+        .unwrap_or(u64::MAX)
+        .min(question.scaled_limit())
 }
 
 /// All customers, for each of them.

@@ -50,10 +50,10 @@ impl Asked<'_> {
     /// time, has a level that is not below one, and costs no more at its least time than the one
     /// asked for does at the time. Else it is later, lower or dearer at each of its levels.
     fn is_met(&self, other: &Brief, weight: u64, time: u64, level: u64) -> bool {
-        if other.top < level || other.key > self.key {
+        if u64::from(other.top) < level || other.key > self.key {
             return false;
         }
-        if other.key == self.key && other.number >= self.number {
+        if other.key == self.key && other.number as usize >= self.number {
             return false;
         }
         let Some(earlier) = time.checked_sub(other.key) else {
@@ -95,7 +95,12 @@ impl Tree {
     ///
     /// Those that it was compared with leave the level of the gap open, so the later ones are asked
     /// first whether they close it.
-    pub(crate) fn makes_needless(&self, question: &Question<'_>, asked: &Asked<'_>, gap: Gap) -> bool
+    pub(crate) fn makes_needless(
+        &self,
+        question: &Question<'_>,
+        asked: &Asked<'_>,
+        gap: Gap,
+    ) -> bool
         requires tree { IsTree question.now self.now.found.items self.now.groups.items }
         requires range { IsInRange question.now.network asked.now.label.now }
         requires small { unsigned_abs asked.now.paid ≤ 2 ^ 91 }
@@ -151,7 +156,6 @@ impl Tree {
         level: u64,
         time: u64,
     ) -> Option<u64>
-        requires tree { IsTree question.now self.now.found.items self.now.groups.items }
         requires small { unsigned_abs asked.now.paid ≤ 2 ^ 91 }
         requires level { IsLevel (level_times asked.now.label.now.value) level }
         ensures up { IfSome result (λ to. level ≤ to) }
@@ -166,35 +170,34 @@ impl Tree {
             let Some(brief) = group.briefs.get(place) else {
                 continue;
             };
-            if brief.number >= self.found.len() || !asked.is_met(brief, weight, time, level) {
+            if !asked.is_met(brief, weight, time, level) {
                 continue;
             }
-            if let Some(to) = self.reach_of(question, asked, brief.number, level) {
+            if let Some(to) = self.reach_of(question, asked, brief, level) {
                 return Some(to);
             }
         }
         None
     }
 
-    /// The same by the label with a number.
+    /// The same by the label of which so much was read.
     fn reach_of(
         &self,
         question: &Question<'_>,
         asked: &Asked<'_>,
-        number: usize,
+        brief: &Brief,
         level: u64,
     ) -> Option<u64>
-        requires tree { IsTree question.now self.now.found.items self.now.groups.items }
         requires small { unsigned_abs asked.now.paid ≤ 2 ^ 91 }
-        requires number { number < length self.now.found.items }
         requires level { IsLevel (level_times asked.now.label.now.value) level }
         ensures up { IfSome result (λ to. level ≤ to) }
         ensures ends { IfSome result (λ to. IsLevel (level_times asked.now.label.now.value) to) }
     {
-        let own = &self.found[number];
-        match margin(question.weight(), own.paid, asked.paid) {
-            Some(extra) => own.label.value.reach(&asked.label.value, extra, level),
-            None => None,
+        if brief.paid.unsigned_abs() > 1 << 91 {
+            return None;
         }
+        let own = self.found.get(brief.number as usize)?;
+        let extra = margin(question.weight(), brief.paid, asked.paid)?;
+        own.label.value.reach(&asked.label.value, extra, level)
     }
 }

@@ -75,7 +75,8 @@ impl Tree {
         requires small { unsigned_abs paid ≤ 2 ^ 91 }
         requires elder { IfSome parent (λ p. p < length self.old.found.items) }
         requires origin { HasOrigin question.now self.old.found.items parent label }
-        ensures tree { OnOk result (IsTree question.now self.new.found.items self.new.groups.items) }
+        ensures tree { OnOk result
+            (IsTree question.now self.new.found.items self.new.groups.items) }
         ensures grown { OnOk result (IsGrown self.old.found.items self.new.found.items) }
         ensures count { OnOk result (length self.new.found.items
             ≡ length self.old.found.items + 1) }

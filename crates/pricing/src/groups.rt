@@ -16,12 +16,27 @@ pub(crate) const BLOCK: usize = 64;
 pub(crate) struct Brief {
     /// The least time of the label.
     pub(crate) key: u64,
-    /// Its greatest level.
-    pub(crate) top: u64,
+    /// Its greatest level, or 0 where that is past 2^32.
+    pub(crate) top: u32,
+    /// Its number, by which the tree has it; no number of the tree where it is past 2^32.
+    pub(crate) number: u32,
     /// The price sum of its set.
     pub(crate) paid: i128,
-    /// Its number, by which the tree has it.
-    pub(crate) number: usize,
+}
+
+impl Brief {
+    /// What is read of a label with a price sum and a number.
+    fn of(label: &Label, paid: i128, number: usize) -> Brief {
+        let (_, key) = label.value.least();
+        let points = label.value.points();
+        let (top, _) = points[points.len() - 1];
+        Brief {
+            key,
+            top: u32::try_from(top).unwrap_or(0),
+            number: u32::try_from(number).unwrap_or(u32::MAX),
+            paid,
+        }
+    }
 }
 
 /// Labels with the same last customer and node, in the order of their numbers.
@@ -51,16 +66,8 @@ impl Group {
         paid: i128,
         number: usize,
     ) -> Result<(), AllocError> {
-        let (_, key) = label.value.least();
-        let points = label.value.points();
-        let (top, _) = points[points.len() - 1];
         let place = self.briefs.len();
-        self.briefs.push(Brief {
-            key,
-            top,
-            paid,
-            number,
-        })?;
+        self.briefs.push(Brief::of(label, paid, number))?;
         self.serve(customers, label.set, place)
     }
 

@@ -14,5 +14,5 @@ mod route;
 mod search;
 mod steps;
 
-pub use answer::price;
+pub use answer::{price, seek};
 pub use priced::{Priced, PricedRoute, Prices};

@@ -27,7 +27,8 @@ pub(crate) fn route_of(
     requires tree { IsTree question.now tree.now.found.items tree.now.groups.items }
     requires known { home < length tree.now.found.items }
     requires earns { (f : Found) → slice_get tree.now.found.items home ≡ Some f →
-        EarnsAtHome question.now.network (section question.now) (paid_label question.now.prices f.label) }
+        EarnsAtHome question.now.network (section question.now)
+        (paid_label question.now.prices f.label) }
     ensures better { IfOk result (IsBetterRoute question.now) }
 {
     let order = tree.order_of(alloc, question, home)?;
@@ -90,7 +91,11 @@ impl Tree {
 }
 
 /// Appends the node, if it is a customer.
-fn push_customer(order: &mut Vec<usize>, question: &Question<'_>, node: usize) -> Result<(), AllocError>
+fn push_customer(
+    order: &mut Vec<usize>,
+    question: &Question<'_>,
+    node: usize,
+) -> Result<(), AllocError>
     requires { node < node_count question.now.network }
     ensures { OnOk result (order.new.items ≡ (if is_customer question.now.network node
         then order.old.items ++ node ∷ [] else order.old.items)) }

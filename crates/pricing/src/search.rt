@@ -1,6 +1,6 @@
 //! The search for labels.
 
-ghost use Rattle.std.specs.Prelude.{[], All, ◌≡◌, ◌<◌, ◌≤◌, ◌+◌, IfOk, IfSome, OnOk, Some, ◌^◌, length, slice_get, unsigned_abs};
+ghost use Rattle.std.specs.Prelude.{[], All, List, ℕ, ◌≡◌, ◌<◌, ◌≤◌, ◌+◌, IfOk, IfSome, OnOk, Some, ◌^◌, length, slice_get, unsigned_abs};
 ghost use Rattle.ev_model.specs.Network.{node_count};
 ghost use Rattle.fleet_model.specs.ClosedListRules.{EarnsAtHome, IsFault, at_home, at_step};
 ghost use Rattle.closed_lists.specs.Questions.{section};
@@ -9,22 +9,25 @@ ghost use Rattle.closed_lists.specs.Tellings.{IsUncovered, TellsHome};
 ghost use Rattle.closed_lists.specs.Verdicts.{IsTold};
 ghost use Rattle.charge_curve.specs.Points.{ArePoints};
 ghost use Rattle.pricing.specs.Answers.{HasPoints, IsInRange};
+ghost use Rattle.pricing.specs.Steps.{label_of, Leads};
 ghost use Rattle.pricing.specs.Tree.{AreCopies, AreSteps, HasOrigin, IsFurther, IsGrown, IsMended, IsSearch, IsTree};
 ghost use Rattle.pricing.specs.declared.found.Found.{Found};
 
 use crate::coverage::{Asked, Care, leave_out};
-use crate::found::Tree;
+use crate::found::{Found, Tree};
 use crate::groups::Gap;
 use crate::priced::PricedRoute;
 use crate::route::route_of;
-use crate::steps::{Target, target_at, values_at};
+use crate::steps::{Target, arrived_at, target_at, values_at};
 use closed_lists::{ClosedFault, Question, price_sum};
 use completion_bounds::Completion;
 use customer_sets::CustSet;
 use dominance::LabelValue;
-use index_links::IndexHeap;
+use label_steps::drive_time;
 use piece_fn::{Label, PieceFn};
 use std::alloc::{AllocError, Global};
+use std::cmp::Reverse;
+use std::collections::BinaryHeap;
 
 /// A search takes no further label once it has found so many routes.
 const MOST_ROUTES: usize = 80;
@@ -35,12 +38,13 @@ pub(crate) struct Search<'a> {
     /// By which it leaves out what can't earn.
     pub(crate) table: &'a Completion,
     pub(crate) tree: Tree,
-    /// The labels that wait, by their least time.
-    pub(crate) queue: IndexHeap,
+    /// The labels that wait, by their least time and their number.
+    pub(crate) queue: BinaryHeap<Reverse<(u64, usize)>>,
     /// The numbers of the labels that were taken and not needless, whose steps are all made.
     pub(crate) listed: Vec<usize>,
     pub(crate) routes: Vec<PricedRoute>,
-    /// Who is left out of the labels that may make the present one needless.
+    /// Who is left out of the labels that may make the present one needless: all but those whom the
+    /// label has served whose steps are made, and whom such a step serves.
     pub(crate) left_out: [u64; 128],
 }
 
@@ -59,7 +63,7 @@ impl<'a> Search<'a> {
             Care::Exact => question.prices().len(),
         };
         let mut tree = Tree::new(alloc, question, customers)?;
-        let mut queue = IndexHeap::new(alloc);
+        let mut queue = BinaryHeap::new(alloc);
         let start = Label {
             last: 0,
             node: 0,
@@ -86,7 +90,7 @@ impl<'a> Search<'a> {
         ensures listed { OnOk result (length self.old.listed.items ≤ length self.new.listed.items) }
     {
         while self.routes.len() < MOST_ROUTES {
-            let Some(number) = self.queue.take_least() else {
+            let Some(Reverse((_, number))) = self.queue.pop() else {
                 return Ok(());
             };
             self.take(alloc, question, number)?;
@@ -95,13 +99,17 @@ impl<'a> Search<'a> {
     }
 
     /// Lists a label and makes its steps, unless it is needless.
-    fn take(&mut self, alloc: Global, question: &Question<'_>, number: usize) -> Result<(), AllocError>
+    fn take(
+        &mut self,
+        alloc: Global,
+        question: &Question<'_>,
+        number: usize,
+    ) -> Result<(), AllocError>
         requires search { IsSearch question.now self.old }
-        requires known { number < length self.old.tree.found.items }
         ensures search { OnOk result (IsSearch question.now self.new) }
         ensures listed { OnOk result (IsFurther self.old self.new) }
     {
-        if self.is_needless(question, number) {
+        if number >= self.tree.found.len() || self.is_needless(question, number) {
             return Ok(());
         }
         self.settle(alloc, question, number)
@@ -142,7 +150,9 @@ impl<'a> Search<'a> {
     {
         self.listed.push(number)?;
         self.look_home(alloc, question, number)?;
-        let budget = self.table.budget(&self.tree.found[number].label.value);
+        let label = &self.tree.found[number].label;
+        let budget = self.table.budget(&label.value);
+        leave_out(&mut self.left_out, self.tree.customers, label.set);
         for node in 0..question.instance().nodes() {
             self.go(alloc, question, number, node, budget)?;
         }
@@ -162,6 +172,9 @@ impl<'a> Search<'a> {
         ensures same { OnOk result (self.new.tree.found.items ≡ self.old.tree.found.items) }
         ensures listed { OnOk result (self.new.listed.items ≡ self.old.listed.items) }
     {
+        if !may_earn(question, &self.tree.found[number]) {
+            return Ok(());
+        }
         if !earns(question, &self.tree.found[number].label)? {
             return Ok(());
         }
@@ -216,8 +229,41 @@ impl<'a> Search<'a> {
         if table.leaves_out(budget, label.node, node, target.set, paid) {
             return Ok(());
         }
+        if question.instance().curve_at(node).is_none() {
+            return self.serve(question, from, node, &target, paid);
+        }
         let values = values_at(alloc, question, label, node)?;
         self.add_all(question, from, node, &target, paid, values)
+    }
+
+    /// Lets the label wait that the step from a label to a customer leads to, where it is not
+    /// needless.
+    fn serve(
+        &mut self,
+        question: &Question<'_>,
+        from: usize,
+        node: usize,
+        target: &Target,
+        paid: i128,
+    ) -> Result<(), AllocError>
+        requires search { IsSearch question.now self.old }
+        requires known { from < length self.old.tree.found.items }
+        requires node { node < node_count question.now.network }
+        requires small { unsigned_abs paid ≤ 2 ^ 91 }
+        requires leads { (f : Found) → slice_get self.old.tree.found.items from ≡ Some f →
+            (value : List (ℕ × ℕ)) → Leads question.now f.label (label_of target.now node value) }
+        ensures search { OnOk result (IsSearch question.now self.new) }
+        ensures grown { OnOk result (IsGrown self.old.tree.found.items self.new.tree.found.items) }
+        ensures listed { OnOk result (self.new.listed.items ≡ self.old.listed.items) }
+    {
+        let Some(value) = arrived_at(question, &self.tree.found[from].label, node)? else {
+            return Ok(());
+        };
+        let customer = question.customer_number(node);
+        set_word(&mut self.left_out, customer, 0);
+        self.add(question, from, paid, target.label(node, value))?;
+        set_word(&mut self.left_out, customer, u64::MAX);
+        Ok(())
     }
 
     /// Lets the labels with these values wait, where they are not needless.
@@ -266,7 +312,6 @@ impl<'a> Search<'a> {
         if self.table.is_beyond(budget, label.node, label.set, paid) {
             return Ok(());
         }
-        leave_out(&mut self.left_out, self.tree.customers, label.set);
         let asked = Asked {
             label: &label,
             paid,
@@ -324,13 +369,16 @@ impl Search<'_> {
         requires none { question.now.labels ≡ [] }
         requires copies { AreCopies self.old.tree.found.items self.old.listed.items labels.now }
         requires told { IsTold question.now.network
-            (section_of question.now.pairs question.now.weight question.now.prices labels.now) fault }
+            (section_of question.now.pairs question.now.weight question.now.prices labels.now)
+            fault }
         ensures search { OnOk result (IsSearch question.now self.new) }
         ensures further { OnOk result (IsMended self.old self.new) }
     {
         match fault {
             ClosedFault::Start => self.settle(alloc, question, 0),
-            ClosedFault::Step { label, node } => self.make_step(alloc, question, labels, label, node),
+            ClosedFault::Step { label, node } => self.make_step(
+                alloc, question, labels, label, node,
+            ),
             ClosedFault::End { label } => self.keep_listed(alloc, question, labels, label),
             ClosedFault::Memory => Err(AllocError),
         }
@@ -488,7 +536,7 @@ fn copy_of(alloc: Global, label: &Label) -> Result<Label, AllocError>
 /// Puts a label behind the others, lets it wait, and answers its number.
 fn put(
     tree: &mut Tree,
-    queue: &mut IndexHeap,
+    queue: &mut BinaryHeap<Reverse<(u64, usize)>>,
     question: &Question<'_>,
     label: Label,
     paid: i128,
@@ -496,22 +544,39 @@ fn put(
     gap: Gap,
 ) -> Result<usize, AllocError>
     requires tree { IsTree question.now tree.old.found.items tree.old.groups.items }
-    requires room { length queue.old ≡ length tree.old.found.items }
     requires range { IsInRange question.now.network label }
     requires small { unsigned_abs paid ≤ 2 ^ 91 }
     requires elder { IfSome parent (λ p. p < length tree.old.found.items) }
     requires origin { HasOrigin question.now tree.old.found.items parent label }
     ensures tree { OnOk result (IsTree question.now tree.new.found.items tree.new.groups.items) }
     ensures grown { OnOk result (IsGrown tree.old.found.items tree.new.found.items) }
-    ensures room { OnOk result (length queue.new ≡ length tree.new.found.items) }
     ensures some { OnOk result (0 < length tree.new.found.items) }
     ensures number { IfOk result (λ i. i < length tree.new.found.items) }
 {
     let (_, key) = label.value.least();
     let number = tree.push(question, label, paid, parent, gap)?;
-    queue.grow(number + 1)?;
-    queue.put(number, key);
+    queue.push(Reverse((key, number)))?;
     Ok(number)
+}
+
+/// Sets the word of a customer, if there is one.
+fn set_word(words: &mut [u64; 128], customer: Option<usize>, word: u64) {
+    if let Some(number) = customer {
+        if let Some(place) = words.get_mut(number) {
+            *place = word;
+        }
+    }
+}
+
+/// Whether a label may earn more than a way home from it takes, by its least time and that of the
+/// arc home.
+fn may_earn(question: &Question<'_>, found: &Found) -> bool
+    requires { IsLabelOf question.now.network found.now.label }
+{
+    let (_, time) = found.label.value.least();
+    let home = drive_time(question.instance(), found.label.node, 0);
+    let owed = u128::from(question.weight()) * u128::from(time.saturating_add(home));
+    found.paid > 0 && owed < found.paid.unsigned_abs()
 }
 
 /// Whether the label earns, by the price sum of its customers, more than a way home from it takes.

@@ -66,6 +66,22 @@ pub(crate) fn target_at(question: &Question<'_>, from: &Label, node: usize) -> O
     })
 }
 
+/// The value as the vehicle arrives at a node that is gone to from a label, and leaves it if it
+/// charges nothing there. There is none where the battery or the limit does not let the vehicle
+/// come so far.
+pub(crate) fn arrived_at(
+    question: &Question<'_>,
+    from: &Label,
+    node: usize,
+) -> Result<Option<PieceFn>, AllocError>
+    requires label { IsLabelOf question.now.network from.now }
+    requires node { node < node_count question.now.network }
+    ensures { IfOk result (λ arrived. IfSome arrived (IsLeft question.now.network from.now node)) }
+{
+    let inst = question.instance();
+    arrival(inst, &from.value, from.node, node, inst.min_q())
+}
+
 /// The values on leaving a node that is gone to from a label: first as the vehicle arrives, and
 /// where the node has a curve those after plugging in and charging. There is none where the battery
 /// or the limit does not let the vehicle come so far.

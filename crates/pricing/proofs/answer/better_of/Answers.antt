@@ -7,5 +7,5 @@ use Rattle.pricing.proofs.answer.better_of.Goals as goal
 
 pub returns : goal.returns
 returns c =
-    let all = subst (λ (rs : List PricedRoute). All (IsBetterRoute c.args.question.now) rs) c.in-Some.ensures.items c.requires.search.are_better in
+    let all = subst (λ (rs : List PricedRoute). All (IsBetterRoute c.args.question.now) rs) c.in-Some.ensures.items c.requires.earn in
     (of_last (IsBetterRoute c.args.question.now) c.pop.new.self.items c.in-Some.last all, all_but_last (IsBetterRoute c.args.question.now) c.pop.new.self.items c.in-Some.last all)

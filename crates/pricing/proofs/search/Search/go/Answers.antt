@@ -1,3 +1,7 @@
+use Rattle.std.proofs.Common.{◌≡◌, ◌∙◌, sym, subst}
+use Rattle.std.proofs.lemmas.Option.{same_Some}
+use Rattle.pricing.specs.Steps.{label_of, Leads}
+use Rattle.pricing.specs.declared.found.Found.{Found}
 use Rattle.pricing.proofs.GrownTrees.{read}
 use Rattle.pricing.proofs.SearchState.{label_in_range}
 use Rattle.pricing.proofs.search.Search.go.Goals as goal
@@ -19,3 +23,9 @@ add_all-requires-clause-steps c = record {
   leads = c.in-Some.ensures.leads;
   left = c.in_ok-values.ensures.left;
 }
+
+pub serve-requires-clause-leads : goal.serve-requires-clause-leads
+serve-requires-clause-leads c f at value =
+    let here = read c.args.self.now.tree.found.items c.args.from c.index-found.result.now c.requires.known c.index-found.ensures in
+    let same : c.index-found.result.now ≡ f = same_Some c.index-found.result.now f (sym here ∙ at) in
+    subst (λ (k : Found). Leads c.args.question.now k.label (label_of c.in-Some.target c.args.node value)) same (c.in-Some.ensures.leads value)

@@ -10,7 +10,6 @@ returns-clause-search c = record {
   network = c.requires.search.network;
   some = c.requires.search.some;
   labels = c.requires.search.labels;
-  queue_room = c.requires.search.queue_room;
   listed_within = c.requires.search.listed_within;
   are_better = subst (λ (rs : List PricedRoute). All (IsBetterRoute c.args.question.now) rs) (sym c.in_ok-push.ensures.items) (one_more (IsBetterRoute c.args.question.now) c.args.self.now.routes.items c.in_ok-route.route c.requires.search.are_better c.in_ok-route.ensures.better);
 }

@@ -1,6 +1,6 @@
 use Rattle.std.proofs.Common.{◌+◌, ◌-◌, ◌*◌, ◌≤◌, ◌^◌, length}
 use Rattle.pricing.specs.Tree.{IsSearch}
-use Rattle.pricing.proofs.SearchEnds.{held_count}
+use Rattle.std.specs.BinaryHeap.{heap_len}
 use Rattle.pricing.proofs.search.Search.run.Given as goal
 
 abbrev pub invariant-loop-alloc : goal.invariant-loop-alloc
@@ -10,4 +10,4 @@ invariant-loop-alloc l = record {
 }
 
 abbrev pub decreases-loop-alloc : goal.decreases-loop-alloc
-decreases-loop-alloc l = (2 ^ 63 - length l.self.listed.items) * 2 ^ 64 + held_count l.self.queue
+decreases-loop-alloc l = (2 ^ 63 - length l.self.listed.items) * 2 ^ 64 + heap_len l.self.queue
