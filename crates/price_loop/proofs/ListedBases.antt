@@ -6,7 +6,7 @@ use Rattle.fleet_model.specs.Basis.{AreIndependent}
 use Rattle.fleet_model.specs.Equations.{Column, column_at, helpers, route}
 use Rattle.fleet_model.specs.Wide.{IsPast, IsTooWide}
 use Rattle.master_table.specs.Tableau.{Limits}
-use Rattle.price_loop.specs.Masters.{IsPastBasis}
+use Rattle.price_loop.specs.Masters.{IsPastBasis, IsTooWideAt}
 use Rattle.price_loop.proofs.Alike.{alike_same, AreAlike, IsAlike, past_alike}
 use Rattle.price_loop.proofs.Dependent.{none_follow}
 
@@ -46,9 +46,9 @@ module _ (n : ℕ) (caps : Limits) (routes listed : List Column) (alike : AreAli
     apart = is.apart;
   }
 
--- a basis past the caps of certificates is too wide
-pub too_wide : (n : ℕ) (routes entries : List Column) → IsPast (2 ^ 40) (2 ^ 84) n (helpers n ++ routes) entries → IsTooWide n routes entries
-too_wide n routes entries is =
+-- a basis past caps is too wide for them
+pub too_wide_at : (body cost n : ℕ) (routes entries : List Column) → IsPast body cost n (helpers n ++ routes) entries → IsTooWideAt body cost n routes entries
+too_wide_at body cost n routes entries is =
     let count = is.is_basis.count in
     let all : take n entries ≡ entries = take_all n entries (omega (arith, count)) in
     record {
@@ -57,5 +57,19 @@ too_wide n routes entries is =
       independent = subst (λ bs. AreIndependent n bs) (sym all) is.is_basis.independent;
       customers = [];
       follow = none_follow n n 0 (take n entries) (ap length all ∙ count);
-      past = subst (λ bs. IsPast (2 ^ 40) (2 ^ 84) n (helpers n ++ routes) bs) (sym (ap (λ bs. bs ++ []) all ∙ append-nil entries)) is;
+      past = subst (λ bs. IsPast body cost n (helpers n ++ routes) bs) (sym (ap (λ bs. bs ++ []) all ∙ append-nil entries)) is;
     }
+
+-- the caps of certificates
+pub at_certificate_caps : (n : ℕ) (routes entries : List Column) → IsTooWideAt (2 ^ 40) (2 ^ 84) n routes entries → IsTooWide n routes entries
+at_certificate_caps n routes entries is = record {
+  m = is.m;
+  some = is.some;
+  independent = is.independent;
+  customers = is.customers;
+  follow = is.follow;
+  past = is.past;
+}
+
+pub too_wide : (n : ℕ) (routes entries : List Column) → IsPast (2 ^ 40) (2 ^ 84) n (helpers n ++ routes) entries → IsTooWide n routes entries
+too_wide n routes entries is = at_certificate_caps n routes entries (too_wide_at (2 ^ 40) (2 ^ 84) n routes entries is)

@@ -15,7 +15,7 @@ use Rattle.fleet_model.specs.Prices.{sum_of}
 use Rattle.master_simplex.specs.Answer.{cost_of_shares, covered, IsAdded, IsOptimum}
 use Rattle.master_simplex.specs.declared.prices.Lp.{Lp}
 use Rattle.master_table.specs.Tableau.{Limits, Tableau}
-use Rattle.price_loop.specs.Columns.{set_of}
+use Rattle.price_loop.specs.Columns.{HasRoute, set_of}
 use Rattle.price_loop.specs.Endings.{IsOver}
 use Rattle.price_loop.specs.Masters.{columns_of}
 use Rattle.price_loop.specs.Problems.{column_of, Problem}
@@ -63,10 +63,6 @@ all_of c (p ∷ prices) = let rest = all_of (suc c) prices in ap (λ z. p +ℤ z
 
 pub sum_is_right : (prices : List ℤ) → right_side prices ≡ sum_of prices
 sum_is_right prices = all_of 0 prices
-
--- a share is of a route: the first n columns are helpers
-abbrev pub HasRoute : {R : Type 0} → ℕ → List R → ℕ × ℕ → Type 0
-HasRoute n routes x = (n ≤ x.0) × (x.0 < n + length routes)
 
 -- ---- shares of columns as shares of routes
 module _ {R C : Type 0} (q : Problem R C) (routes : List R) (none : R) where

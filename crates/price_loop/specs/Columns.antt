@@ -1,5 +1,5 @@
 -- Routes as columns of a master problem.
-use Rattle.std.specs.Prelude.{ℕ, List, [], ◌∷◌, ◌++◌, map}
+use Rattle.std.specs.Prelude.{ℕ, ◌+◌, ◌<◌, ◌≤◌, List, [], ◌∷◌, ◌++◌, length, map}
 use Rattle.customer_sets.specs.CustSet.{with_customer}
 use Rattle.fleet_model.specs.Equations.{Column, helpers, route}
 
@@ -15,3 +15,7 @@ column served cost = route (set_of [] served) cost
 -- the columns of a master problem of n customers: their helpers, then the routes
 abbrev pub columns : {R : Type 0} → ℕ → (R → Column) → List R → List Column
 columns n of routes = helpers n ++ map of routes
+
+-- a share is of a route's column: the first n columns are helpers
+abbrev pub HasRoute : {R : Type 0} → ℕ → List R → ℕ × ℕ → Type 0
+HasRoute n routes x = (n ≤ x.0) × (x.0 < n + length routes)

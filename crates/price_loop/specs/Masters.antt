@@ -1,8 +1,9 @@
 -- The master problem: its table, and the routes of the table's columns.
-use Rattle.std.specs.Prelude.{◌≡◌, ◌≢◌, ℕ, ◌<◌, ◌≤◌, ◌^◌, List, map, get_or, length, Option, Some, None, Result, Ok}
+use Rattle.std.specs.Prelude.{◌≡◌, ◌≢◌, ℕ, ◌<◌, ◌≤◌, ◌^◌, List, ◌++◌, map, get_or, length, take, Option, Some, None, Result, Ok}
 use Rattle.std.specs.List.{All}
-use Rattle.fleet_model.specs.Equations.{Column, column_at}
-use Rattle.fleet_model.specs.Wide.{IsPast}
+use Rattle.fleet_model.specs.Basis.{AreIndependent}
+use Rattle.fleet_model.specs.Equations.{Column, column_at, helper, helpers}
+use Rattle.fleet_model.specs.Wide.{Follow, IsPast}
 use Rattle.master_table.specs.Tableau.{Limits, size}
 use Rattle.price_loop.specs.Columns.{columns}
 use Rattle.price_loop.specs.Problems.{column_of, Problem}
@@ -34,6 +35,16 @@ pub record IsWide {R C : Type 0} (q : Problem R C) (caps : Limits) (routes : Lis
     (basis : List ℕ) : Type 0 where
   pub routes_are : All q.is_route routes
   pub past : IsPastBasis q.customers caps (columns_of q routes) basis
+
+-- a listed basis is too wide for the caps: its first m entries are independent, and with the helpers that follow they
+-- are a basis past these
+pub record IsTooWideAt (body cost n : ℕ) (routes entries : List Column) : Type 0 where
+  pub m : ℕ
+  pub some : m ≤ length entries
+  pub independent : AreIndependent n (take m entries)
+  pub customers : List ℕ
+  pub follow : Follow n n 0 (take m entries) customers
+  pub past : IsPast body cost n (helpers n ++ routes) (take m entries ++ map helper customers)
 
 -- why a master problem over these routes isn't solved
 abbrev pub IsFault : {R C : Type 0} → Problem R C → Limits → List R → MasterFault → Type 0

@@ -10,11 +10,10 @@ mod fault;
 mod master;
 mod rising;
 mod rounds;
+mod watcher;
 
 pub use earners::{Earned, Earners};
 pub use ended::Ended;
-pub use rising::{Risen, rise};
-pub use rounds::price_out;
-
-#[cfg(test)]
-mod tests;
+pub use rising::{Risen, rise, rise_watched};
+pub use rounds::{price_out, price_out_watched};
+pub use watcher::{Nobody, RisingProgress, RoundProgress, RoundWatcher};

@@ -5,6 +5,7 @@ ghost use Rattle.price_loop.specs.Problems.{worth};
 ghost use Rattle.price_loop.specs.Rising.{AreFixed, ArePayable, CostLess, HasExcess, IsNowhere, IsRisen, StandsNowhere};
 
 use crate::earners::{Earned, Earners};
+use crate::watcher::{Nobody, RoundWatcher, rising_progress};
 use std::alloc::{AllocError, Global};
 
 /// What comes of raising the prices of customers one by one.
@@ -34,12 +35,26 @@ pub fn rise<E: Earners>(
     requires { CostLess (E.problem earners.now) top }
     ensures { IfOk result (IsRisen (E.problem earners.now)) }
 {
+    rise_watched(alloc, earners, top, &mut Nobody {})
+}
+
+/// The same as [`rise`], where a watcher is told behind each customer how far the prices are.
+pub fn rise_watched<E: Earners, W: RoundWatcher>(
+    alloc: Global,
+    earners: &E,
+    top: u64,
+    watcher: &mut W,
+) -> Result<Risen<E::Closing>, AllocError>
+    requires { CostLess (E.problem earners.now) top }
+    ensures { IfOk result (IsRisen (E.problem earners.now)) }
+{
     let customers = earners.customers();
     let mut of = no_prices(alloc, customers)?;
     for customer in 0..customers {
         if !fix(alloc, earners, top, &mut of, customer)? {
             return nowhere(alloc, earners, customer);
         }
+        watcher.watch_rising(rising_progress(&of, customer + 1));
     }
     let (prices, closing) = closed_at(alloc, earners, 1, &of)?;
     Ok(Risen::Priced { prices, closing })

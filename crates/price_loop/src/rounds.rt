@@ -11,6 +11,7 @@ use crate::earners::{Earned, Earners};
 use crate::ended::Ended;
 use crate::fault::MasterFault;
 use crate::master::{Master, add, add_all, basis_of, fresh_master, solve_master};
+use crate::watcher::{Nobody, RoundWatcher, round_progress};
 use master_simplex::Lp;
 use master_table::Caps;
 use std::alloc::{AllocError, Global};
@@ -32,8 +33,26 @@ pub fn price_out<E: Earners>(
     requires cost_cap { caps.cost ≤ 2 ^ 84 }
     ensures { IfOk result (IsEnded (E.problem earners.now) (limits_of caps)) }
 {
+    price_out_watched(alloc, earners, caps, begin, &mut Nobody {})
+}
+
+/// The same as [`price_out`], where a watcher is told behind each round how far the loop is.
+pub fn price_out_watched<E: Earners, W: RoundWatcher>(
+    alloc: Global,
+    earners: &E,
+    caps: Caps,
+    begin: Vec<E::Route>,
+    watcher: &mut W,
+) -> Result<Ended<E::Route, E::Closing>, AllocError>
+    requires begin { All (E.problem earners.now).is_route begin.items }
+    requires body { 1 ≤ caps.body }
+    requires body_cap { caps.body ≤ 2 ^ 40 }
+    requires cost { 128 ≤ caps.cost }
+    requires cost_cap { caps.cost ≤ 2 ^ 84 }
+    ensures { IfOk result (IsEnded (E.problem earners.now) (limits_of caps)) }
+{
     let mut master = fresh_master(alloc, earners, caps)?;
-    match price_in(alloc, earners, &mut master, begin) {
+    match price_in(alloc, earners, &mut master, begin, watcher) {
         Err(MasterFault::Memory) => Err(AllocError),
         Err(MasterFault::Wide { basis }) => Ok(Ended::Wide {
             routes: master.routes,
@@ -53,11 +72,12 @@ pub fn price_out<E: Earners>(
 
 /// Adds the routes to begin with, and then in rounds those that earn, until none does. Answers the
 /// optimum, or the ray, at which none does.
-fn price_in<E: Earners>(
+fn price_in<E: Earners, W: RoundWatcher>(
     alloc: Global,
     earners: &E,
     master: &mut Master<E::Route>,
     begin: Vec<E::Route>,
+    watcher: &mut W,
 ) -> Result<(Lp, E::Closing), MasterFault>
     requires begin { All (E.problem earners.now).is_route begin.items }
     requires master { IsMaster (E.problem earners.now) master.old.table.caps master.old }
@@ -71,8 +91,11 @@ fn price_in<E: Earners>(
         (IsFault (E.problem earners.now) master.old.table.caps master.new.routes.items) }
 {
     add_all(alloc, earners, master, begin)?;
+    let mut rounds: u64 = 0;
     loop {
         let lp = solve_master(alloc, earners, master)?;
+        watcher.watch_rounds(round_progress(rounds, master.routes.len(), &lp));
+        rounds = rounds.saturating_add(1);
         if let Some(closing) = round(alloc, earners, master, &lp)? {
             return Ok((lp, closing));
         }

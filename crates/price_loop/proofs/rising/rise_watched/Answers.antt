@@ -1,7 +1,7 @@
 use Rattle.std.proofs.Common.{List, ℕ, subst, sym}
 use Rattle.price_loop.specs.Rising.{AreFixed}
 use Rattle.price_loop.proofs.Final.{none_fixed}
-use Rattle.price_loop.proofs.rising.rise.Goals as goal
+use Rattle.price_loop.proofs.rising.rise_watched.Goals as goal
 
 pub loop-customer-init : goal.loop-customer-init
 loop-customer-init g c =
