@@ -1,26 +1,30 @@
--- The answer of the simplex method bounds a node where no further route earns.
-use Rattle.std.proofs.Common.{◌≡◌, ◌∙◌, ℕ, ◌+◌, ◌-◌, ◌*◌, ◌<◌, ◌≤◌, ◌^◌, sym, ap, arith, List, [], ◌∷◌, map, length, ℤ, pos, ◌*ℤ◌}
+-- The shares of an optimum are a cover by routes of the node that costs the price sum over the weight.
+use Rattle.std.proofs.Common.{◌≡◌, ◌∙◌, ℕ, ◌-◌, ◌*◌, ◌<◌, ◌≤◌, ◌^◌, refl, sym, ap, arith, true, List, [], ◌∷◌, map, length, get_or, pos}
 use Rattle.std.specs.List.{All}
-use Rattle.std.proofs.lemmas.Int.{ints}
 use Rattle.std.proofs.lemmas.List.Elements.{All-cons, All-get_or, All-head, All-nil, All-tail, All-weaker}
 use Rattle.customer_sets.specs.Pairs.{allows_of, ForbiddenPairs}
-use Rattle.ev_model.specs.Network.{IsNetwork, Network, node_count}
-use Rattle.fleet_model.specs.Cover.{cost_of_shares as cost_of_routes, CoverKeepsPairs, IsExactRoot, IsFleetRoute, IsFractionalCover, Share as RouteShare}
+use Rattle.ev_model.specs.Fleet.{customers_of, times_in}
+use Rattle.ev_model.specs.Network.{is_customer, IsNetwork, Network, node_count}
+use Rattle.ev_model.specs.Route.{route_of}
+use Rattle.ev_model.specs.Time.{time_of}
+use Rattle.fleet_model.specs.Cover.{cost_of_shares as cost_of_routes, CoverKeepsPairs, IsExactRoot, IsFleetRoute, IsFractionalCover, Share as RouteShare, shares_of}
 use Rattle.fleet_model.specs.Pairs.{PlanKeepsPairs}
-use Rattle.fleet_model.specs.Places.{customer_number}
-use Rattle.fleet_model.specs.Prices.{sum_of}
+use Rattle.fleet_model.specs.Places.{customer_number, numbers_of}
 use Rattle.fleet_model.specs.Section.{Section as PricedSection}
-use Rattle.fleet_model.proofs.Counts.{number_less}
+use Rattle.fleet_model.proofs.Counts.{count_numbers, number_less}
 use Rattle.fleet_model.proofs.Numbers.{counted}
+use Rattle.fleet_model.proofs.Plans.{filtered}
 use Rattle.instance_reader.specs.Instance.{customer_nodes}
-use Rattle.master_simplex.specs.Answer.{covered, cost_of_shares, IsAdded, IsCover, IsOptimum}
-use Rattle.master_table.specs.Tableau.{Tableau}
-use Rattle.route_plan.specs.declared.plan.RoutePlan.{RoutePlan}
+use Rattle.master_table.specs.Tableau.{Limits}
+use Rattle.price_loop.specs.Columns.{HasRoute}
+use Rattle.price_loop.proofs.Optimum.{AreShares, cost_shared, times_shared}
 use Rattle.bound_certificate.specs.Meaning.{route_shares}
 use Rattle.bound_certificate.specs.Ranges.{ShareFits}
 use Rattle.bound_certificate.specs.declared.certificate.Share.{Share}
-use Rattle.column_pool.specs.Columns.{AreNodeRoutes, HasPlan, IsNodeRoute, IsTabled, share_of}
-use Rattle.column_pool.proofs.OptimalCovers.{cost_is, cover_is, many_columns, sum_is_right}
+use Rattle.column_pool.specs.Columns.{IsNodeRoute, no_route, share_of}
+use Rattle.column_pool.specs.Nodes.{IsTimedRoute, node_problem}
+use Rattle.column_pool.specs.declared.route.NodeRoute.{NodeRoute}
+use Rattle.column_pool.proofs.Routes.{node_route}
 use Rattle.feasible_texts.proofs.PlanRanges.{feasible_fits}
 
 -- what holds of each that is mapped holds of its origin
@@ -46,69 +50,74 @@ shares_fit g p over shares network small all =
     let each = all_mapped (IsShareOf g p over) (λ (x : Share). let r : RouteShare = record { share = x.share; plan = x.plan.stops } in r) shares all in
     All-weaker (λ (x : Share). IsShareOf g p over (record { share = x.share; plan = x.plan.stops })) ShareFits (share_fits g p over network small) shares each
 
--- ---- the shares of an optimum
-module _ (g : Network) (p : ForbiddenPairs) (t : Tableau) (plans : List RoutePlan) (is : IsTabled g t plans) (routes : AreNodeRoutes g p plans) where
+pub keep_pairs : (g : Network) (p : ForbiddenPairs) (over : ℕ) (xs : List RouteShare) → All (IsShareOf g p over) xs → CoverKeepsPairs g (allows_of p) xs
+keep_pairs g p over xs all = All-weaker (IsShareOf g p over) (λ x. PlanKeepsPairs g (allows_of p) x.plan) (λ x s. s.node_route.keeps) xs all
+
+abbrev Part : ℕ → ℕ × ℕ → Type 0
+Part over x = (0 < x.1) × (x.1 ≤ over)
+
+-- ---- shares of columns as shares of routes
+module _ (g : Network) (p : ForbiddenPairs) (routes : List NodeRoute) (are : All (IsTimedRoute g p) routes) where
   abbrev n : ℕ
   n = length (customer_nodes g)
 
-  many : length t.columns ≡ n + length plans
-  many = ap length is.columns ∙ many_columns g n plans
+  abbrev at : ℕ × ℕ → NodeRoute
+  at x = get_or routes (x.0 - n) no_route
 
-  pub has_plan : (x : ℕ × ℕ) → IsAdded t x.0 → HasPlan n plans x
-  has_plan x added = let e = is.count in (omega (arith, added.0, e), omega (arith, added.1, many))
+  abbrev listed : List (ℕ × ℕ) → List RouteShare
+  listed xs = map (share_of n routes) xs
 
-  pub have_plans : (xs : List (ℕ × ℕ)) → All (λ x. IsAdded t x.0) xs → All (HasPlan n plans) xs
-  have_plans xs added = All-weaker (λ (x : ℕ × ℕ). IsAdded t x.0) (HasPlan n plans) has_plan xs added
+  timed_at : (x : ℕ × ℕ) → HasRoute n routes x → IsTimedRoute g p (at x)
+  timed_at x has = All-get_or (IsTimedRoute g p) routes (x.0 - n) no_route (omega (arith, has.0, has.1)) are
 
-  only_routes : All (λ plan. IsFleetRoute g 1 plan.stops) plans
-  only_routes = All-weaker (λ (plan : RoutePlan). IsNodeRoute g p plan.stops) (λ plan. IsFleetRoute g 1 plan.stops) (λ plan r. r.route) plans routes
+  times_listed : (xs : List (ℕ × ℕ)) (node : ℕ) → is_customer g node ≡ true → shares_of g (listed xs) node ≡ times_shared (node_problem g p) routes no_route xs (customer_number g node)
+  times_listed [] node is = refl
+  times_listed (x ∷ xs) node is =
+      let stops = (at x).plan.stops in
+      let count : times_in (numbers_of g stops) (customer_number g node) ≡ times_in (customers_of g stops) node = count_numbers g (customers_of g stops) node (filtered g (route_of stops)) is in
+      let first : x.1 * times_in (customers_of g stops) node ≡ x.1 * times_in (numbers_of g stops) (customer_number g node) = ap (λ k. x.1 * k) (sym count) in
+      let rest = times_listed xs node is in
+      omega (arith, first, rest)
 
-  share_is : (over : ℕ) (x : ℕ × ℕ) → HasPlan n plans x → (0 < x.1) × (x.1 ≤ over) → IsShareOf g p over (share_of n plans x)
-  share_is over x has within = record {
-    some = omega (arith, within.0);
-    few = within.1;
-    node_route = All-get_or (λ (plan : RoutePlan). IsNodeRoute g p plan.stops) plans (x.0 - n) (record { stops = [] }) (omega (arith, has.0, has.1)) routes;
+  cost_listed : (xs : List (ℕ × ℕ)) → All (HasRoute n routes) xs → cost_of_routes g 1 (listed xs) ≡ cost_shared (node_problem g p) routes no_route xs
+  cost_listed [] have = refl
+  cost_listed (x ∷ xs) have =
+      let here = timed_at x (All-head (HasRoute n routes) x xs have) in
+      let rest = cost_listed xs (All-tail (HasRoute n routes) x xs have) in
+      let first : x.1 * time_of g 1 g.capacity (at x).plan.stops ≡ x.1 * (at x).time = ap (λ k. x.1 * k) (sym here.time) in
+      omega (arith, first, rest)
+
+  share_is : (over : ℕ) (x : ℕ × ℕ) → HasRoute n routes x → Part over x → IsShareOf g p over (share_of n routes x)
+  share_is over x has part = record {
+    some = omega (arith, part.0);
+    few = part.1;
+    node_route = node_route g p (at x) (timed_at x has);
   }
 
-  pub are_shares : (over : ℕ) (xs : List (ℕ × ℕ)) → All (HasPlan n plans) xs → All (λ x. (0 < x.1) × (x.1 ≤ over)) xs → All (IsShareOf g p over) (map (share_of n plans) xs)
-  are_shares over [] have within = All-nil (IsShareOf g p over)
-  are_shares over (x ∷ xs) have within =
-      let P = λ (x : ℕ × ℕ). (0 < x.1) × (x.1 ≤ over) in
-      let here = share_is over x (All-head (HasPlan n plans) x xs have) (All-head P x xs within) in
-      let rest = are_shares over xs (All-tail (HasPlan n plans) x xs have) (All-tail P x xs within) in
-      All-cons (IsShareOf g p over) (share_of n plans x) (map (share_of n plans) xs) here rest
+  pub are_shares : (over : ℕ) (xs : List (ℕ × ℕ)) → All (HasRoute n routes) xs → All (Part over) xs → All (IsShareOf g p over) (listed xs)
+  are_shares over [] have parts = All-nil (IsShareOf g p over)
+  are_shares over (x ∷ xs) have parts =
+      let here = share_is over x (All-head (HasRoute n routes) x xs have) (All-head (Part over) x xs parts) in
+      let rest = are_shares over xs (All-tail (HasRoute n routes) x xs have) (All-tail (Part over) x xs parts) in
+      All-cons (IsShareOf g p over) (share_of n routes x) (listed xs) here rest
 
-  pub covers : (over : ℕ) (xs : List (ℕ × ℕ)) → IsCover t over xs → All (λ x. (0 < x.1) × (x.1 ≤ over)) xs → IsFractionalCover g 1 over (map (share_of n plans) xs)
-  covers over xs cover within =
-      let have = have_plans xs cover.added in
-      let all = are_shares over xs have within in
-      let list = map (share_of n plans) xs in
-      record {
-        some_weight = omega (arith, cover.some);
-        some_share = All-weaker (IsShareOf g p over) (λ x. 1 ≤ x.share) (λ x s. s.some) list all;
-        routes = All-weaker (IsShareOf g p over) (λ x. IsFleetRoute g 1 x.plan) (λ x s. s.node_route.route) list all;
-        covers = λ node known customer.
-            let less = number_less g node (node_count g) customer known in
-            let e = is.count in
-            let c = counted g in
-            let exact = cover.exact (customer_number g node) (omega (arith, less, e, c)) in
-            let columns = ap (λ bs. covered bs xs (customer_number g node)) is.columns in
-            sym (cover_is g n plans xs node only_routes have customer) ∙ sym columns ∙ exact;
-      }
+  module _ (caps : Limits) (s : PricedSection) (over : ℕ) (xs : List (ℕ × ℕ)) (is : AreShares (node_problem g p) routes no_route caps s.weight s.prices over xs) where
+    covers : IsFractionalCover g 1 over (listed xs)
+    covers =
+        let all = are_shares over xs is.placed is.parts in
+        record {
+          some_weight = is.some;
+          some_share = All-weaker (IsShareOf g p over) (λ x. 1 ≤ x.share) (λ x s. s.some) (listed xs) all;
+          routes = All-weaker (IsShareOf g p over) (λ x. IsFleetRoute g 1 x.plan) (λ x s. s.node_route.route) (listed xs) all;
+          covers = λ node known customer.
+              let less = number_less g node (node_count g) customer known in
+              let c = counted g in
+              times_listed xs node customer ∙ is.exact (customer_number g node) (omega (arith, less, c));
+        }
 
-  pub cost_same : (weight over : ℕ) (prices : List ℤ) (xs : List (ℕ × ℕ)) → IsOptimum t weight prices over xs → pos (cost_of_routes g 1 (map (share_of n plans) xs) * weight) ≡ sum_of prices *ℤ pos over
-  cost_same weight over prices xs optimum =
-      let have = have_plans xs optimum.cover.added in
-      let cost : cost_of_shares t.columns xs ≡ cost_of_routes g 1 (map (share_of n plans) xs) = ap (λ bs. cost_of_shares bs xs) is.columns ∙ cost_is g n plans xs have in
-      let turned : cost_of_routes g 1 (map (share_of n plans) xs) * weight ≡ weight * cost_of_shares t.columns xs = ap (λ k. k * weight) (sym cost) ∙ omega arith in
-      ap pos turned ∙ optimum.cost ∙ ap (λ z. pos over *ℤ z) (sum_is_right prices) ∙ omega (arith, ints)
-
-  pub exact_root : (s : PricedSection) (over : ℕ) (xs : List (ℕ × ℕ)) → IsOptimum t s.weight s.prices over xs → All (λ x. (0 < x.1) × (x.1 ≤ over)) xs → IsExactRoot g s over (map (share_of n plans) xs)
-  exact_root s over xs optimum within = record {
-    cover = covers over xs optimum.cover within;
-    some_weight = omega (arith, optimum.weighty);
-    cost = cost_same s.weight over s.prices xs optimum;
-  }
-
-  pub keep_pairs : (over : ℕ) (xs : List RouteShare) → All (IsShareOf g p over) xs → CoverKeepsPairs g (allows_of p) xs
-  keep_pairs over xs all = All-weaker (IsShareOf g p over) (λ x. PlanKeepsPairs g (allows_of p) x.plan) (λ x s. s.node_route.keeps) xs all
+    pub exact_root : IsExactRoot g s over (listed xs)
+    exact_root = record {
+      cover = covers;
+      some_weight = is.some_weight;
+      cost = ap (λ k. pos (k * s.weight)) (cost_listed xs is.placed) ∙ is.cost;
+    }

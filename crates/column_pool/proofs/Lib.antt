@@ -1,5 +1,3 @@
-mod Alike
-mod OptimalCovers
 mod Sections
 mod Routes
 mod Ends
@@ -15,5 +13,4 @@ mod FleetChains
 mod Through
 mod RisingPrices
 mod Raised
-mod Dependent
 mod WideBases

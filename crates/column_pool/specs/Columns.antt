@@ -1,20 +1,19 @@
 -- The routes of a node as columns of the master problem.
-use Rattle.std.specs.Prelude.{◌≡◌, ℕ, ◌+◌, ◌-◌, ◌<◌, ◌≤◌, ◌^◌, List, [], ◌++◌, map, get_or, length}
+use Rattle.std.specs.Prelude.{ℕ, ◌-◌, ◌≤◌, ◌^◌, List, [], get_or, Vec}
+use Rattle.std.specs.Global.{Global}
 use Rattle.std.specs.List.{All}
 use Rattle.customer_sets.specs.Pairs.{allows_of, ForbiddenPairs}
 use Rattle.ev_model.specs.Network.{Network}
 use Rattle.ev_model.specs.declared.Stop.{Stop}
 use Rattle.fleet_model.specs.Cover.{IsFleetRoute, Share as RouteShare}
-use Rattle.fleet_model.specs.Equations.{Column, helpers}
 use Rattle.fleet_model.specs.Pairs.{PlanKeepsPairs}
-use Rattle.fleet_model.specs.Places.{numbers_of}
-use Rattle.instance_reader.specs.Instance.{customer_nodes}
-use Rattle.master_simplex.specs.Answer.{IsAnswer, IsLpWithin}
 use Rattle.master_simplex.specs.declared.prices.Lp.{Lp}
-use Rattle.master_table.specs.Tableau.{size, Tableau}
-use Rattle.price_loop.specs.Columns.{column}
+use Rattle.master_table.specs.Tableau.{Limits}
+use Rattle.piece_fn.specs.declared.label.Label.{Label}
+use Rattle.price_loop.specs.Endings.{IsOver}
 use Rattle.route_plan.specs.declared.plan.RoutePlan.{RoutePlan}
-use Rattle.route_pool.specs.Pool.{full_time}
+use Rattle.column_pool.specs.Nodes.{node_problem}
+use Rattle.column_pool.specs.declared.route.NodeRoute.{NodeRoute}
 
 -- a feasible plan from full that serves no customer twice and keeps the pairs
 pub record IsNodeRoute (g : Network) (p : ForbiddenPairs) (stops : List Stop) : Type 0 where
@@ -24,30 +23,20 @@ pub record IsNodeRoute (g : Network) (p : ForbiddenPairs) (stops : List Stop) : 
 abbrev pub AreNodeRoutes : Network → ForbiddenPairs → List RoutePlan → Type 0
 AreNodeRoutes g p plans = All (λ plan. IsNodeRoute g p plan.stops) plans
 
--- a route as a column: the set of its customers, and its time
-abbrev pub column_of : Network → RoutePlan → Column
-column_of g plan = column (numbers_of g plan.stops) (full_time g plan.stops)
+-- the price loop has ended with these routes, at an answer of the simplex method and labels that show that none earns; its
+-- caps are no more than a certificate's ranges
+pub record IsPricedOut (g : Network) (p : ForbiddenPairs) (routes : List NodeRoute) (lp : Lp)
+    (labels : Vec Label Global) : Type 0 where
+  pub caps : Limits
+  pub body : caps.body ≤ 2 ^ 40
+  pub cost : caps.cost ≤ 2 ^ 84
+  pub basis : List ℕ
+  pub over : IsOver (node_problem g p) caps lp routes basis labels
 
--- the added columns of the table are the plans', in order, and its caps are no more than a certificate's ranges
-pub record IsTabled (g : Network) (t : Tableau) (plans : List RoutePlan) : Type 0 where
-  pub count : size t ≡ length (customer_nodes g)
-  pub columns : t.columns ≡ helpers (length (customer_nodes g)) ++ map (column_of g) plans
-  pub body : t.caps.body ≤ 2 ^ 40
-  pub cost : t.caps.cost ≤ 2 ^ 84
+-- a route without stops: what a number past the end stands for
+abbrev pub no_route : NodeRoute
+no_route = record { plan = record { stops = [] }; order = []; time = 0 }
 
--- the answer of the simplex method over the plans' columns
-pub record IsAnswered (g : Network) (plans : List RoutePlan) (lp : Lp) : Type 0 where
-  pub table : Tableau
-  pub tabled : IsTabled g table plans
-  pub answer : IsAnswer table lp
-  pub within : IsLpWithin table lp
-  pub one_price : length lp.prices.items ≡ length (customer_nodes g)
-
--- the share of a column, with the plan of the column; the first n columns are helpers
-abbrev pub share_of : ℕ → List RoutePlan → ℕ × ℕ → RouteShare
-share_of n plans x =
-    record { share = x.1; plan = (get_or plans (x.0 - n) (record { stops = [] })).stops }
-
--- a share is of an added column
-abbrev pub HasPlan : ℕ → List RoutePlan → ℕ × ℕ → Type 0
-HasPlan n plans x = (n ≤ x.0) × (x.0 < n + length plans)
+-- the share of a column, with the plan of the column's route; the first n columns are helpers
+abbrev pub share_of : ℕ → List NodeRoute → ℕ × ℕ → RouteShare
+share_of n routes x = record { share = x.1; plan = (get_or routes (x.0 - n) no_route).plan.stops }

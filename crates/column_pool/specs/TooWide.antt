@@ -1,36 +1,23 @@
 -- Bounds by a basis that is too wide, at caps of any size.
-use Rattle.std.specs.Prelude.{◌≡◌, ℕ, ◌≤◌, List, ◌++◌, length, map, take, nat_lt, ◌-◌, if◌then◌else◌}
+use Rattle.std.specs.Prelude.{◌≡◌, ℕ, List, ◌++◌, map}
 use Rattle.std.specs.List.{All, Contains}
 use Rattle.customer_sets.specs.Pairs.{allows_of, ForbiddenPairs}
 use Rattle.ev_model.specs.Network.{Network}
 use Rattle.ev_model.specs.declared.Stop.{Stop}
-use Rattle.fleet_model.specs.Basis.{AreIndependent}
 use Rattle.fleet_model.specs.Cover.{IsFleetRoute}
-use Rattle.fleet_model.specs.Equations.{Column, helper, helpers}
+use Rattle.fleet_model.specs.Equations.{Column, helpers}
 use Rattle.fleet_model.specs.Places.{customer_count}
 use Rattle.fleet_model.specs.Strong.{AreRisingPrices, column_of}
-use Rattle.fleet_model.specs.Wide.{Follow, IsPast}
 use Rattle.master_table.specs.Tableau.{Limits}
-use Rattle.price_loop.specs.Masters.{IsPastBasis as IsPastAmong}
+use Rattle.price_loop.specs.Masters.{IsPastBasis as IsPastAmong, IsTooWideAt}
 use Rattle.route_plan.specs.declared.plan.RoutePlan.{RoutePlan}
 use Rattle.bound_certificate.specs.Meaning.{basis_columns}
 use Rattle.bound_certificate.specs.Ranges.{ColumnsFit, customer_count as count_customers}
 use Rattle.certificate_parts.specs.declared.entry.BasisEntry.{BasisEntry}
-use Rattle.certificate_parts.specs.declared.entry.BasisEntry.TheVariants as entry
 use Rattle.bound_certificate.specs.declared.certificate.Section.{Section}
 use Rattle.column_pool.specs.Bounds.{IsEmpty, IsExact, IsNodeSection}
 use Rattle.column_pool.specs.declared.bound.NodeBound.{NodeBound}
 use Rattle.column_pool.specs.declared.bound.NodeBound.TheVariants.{Exact, Empty, Wide}
-
--- a listed basis is too wide for the caps: its first m entries are independent, and with the helpers that follow they
--- are a basis past these
-pub record IsTooWideAt (body cost n : ℕ) (routes entries : List Column) : Type 0 where
-  pub m : ℕ
-  pub some : m ≤ length entries
-  pub independent : AreIndependent n (take m entries)
-  pub customers : List ℕ
-  pub follow : Follow n n 0 (take m entries) customers
-  pub past : IsPast body cost n (helpers n ++ routes) (take m entries ++ map helper customers)
 
 -- entries of a basis that is too wide for the caps: helpers, and columns of feasible routes
 pub record IsWideBasisAt (body cost : ℕ) (g : Network) (plans : List (List Stop))
@@ -64,7 +51,3 @@ columns_of g plans =
 abbrev pub IsPastBasis : Network → Limits → List RoutePlan → List ℕ → Type 0
 IsPastBasis g caps plans basis =
     IsPastAmong (customer_count g) caps (columns_of g plans) basis
-
--- the entry of a basis column: a helper where its number is below that of the helpers, else a listed column
-abbrev pub entry_of : ℕ → ℕ → BasisEntry
-entry_of n j = if nat_lt j n then entry.Helper j else entry.Column (j - n)

@@ -54,8 +54,7 @@ pub(crate) fn bound_by_loop(
             take_all(alloc, inst, pool, &routes)?;
             let recent = places_of(alloc, inst.customers().len(), pool, &routes, &basis)?;
             pool.note_recent(recent);
-            let plans = plans_of(alloc, routes)?;
-            bound_of(alloc, inst, pairs, &plans, lp, closing)
+            bound_of(alloc, inst, pairs, &routes, lp, closing)
         }
         Ended::Wide { routes, basis } => {
             take_all(alloc, inst, pool, &routes)?;

@@ -4,12 +4,12 @@ ghost use Rattle.std.specs.Prelude.{◌≡◌, ◌≤◌, ℕ, IfOk, length, map
 ghost use Rattle.std.specs.List.{All};
 ghost use Rattle.bound_certificate.specs.Meaning.{route_shares};
 ghost use Rattle.instance_reader.specs.Instance.{customer_nodes};
-ghost use Rattle.pricing.specs.Answers.{AreClosed};
-ghost use Rattle.column_pool.specs.Columns.{AreNodeRoutes, HasPlan, IsAnswered, share_of};
-ghost use Rattle.column_pool.specs.Nodes.{asked};
+ghost use Rattle.price_loop.specs.Columns.{HasRoute};
+ghost use Rattle.column_pool.specs.Columns.{IsPricedOut, share_of};
 ghost use Rattle.column_pool.specs.TooWide.{IsNodeBoundAt};
 
 use crate::bound::NodeBound;
+use crate::route::NodeRoute;
 use crate::section::section_of;
 use bound_certificate::Share;
 use customer_sets::Pairs;
@@ -18,23 +18,22 @@ use instance_reader::Instance;
 use master_simplex::Lp;
 use piece_fn::Label;
 use pricing::Prices;
-use route_plan::RoutePlan;
 use std::alloc::{AllocError, Global};
 
-/// The shares of added columns, with the plans of these; the first `helpers` columns are helpers.
+/// The shares of routes, with the plans of these; the first `helpers` columns are helpers.
 fn shares_of(
     alloc: Global,
     helpers: usize,
-    plans: &[RoutePlan],
+    routes: &[NodeRoute],
     shares: &[(usize, u64)],
 ) -> Result<Vec<Share>, AllocError>
-    requires { All (HasPlan helpers plans.now) shares.now }
+    requires { All (HasRoute helpers routes.now) shares.now }
     ensures { IfOk result (λ v.
-        route_shares v.items ≡ map (share_of helpers plans.now) shares.now) }
+        route_shares v.items ≡ map (share_of helpers routes.now) shares.now) }
 {
     let mut found = Vec::with_capacity(alloc, shares.len())?;
     for (column, share) in shares {
-        let plan = plans[*column - helpers].copy(alloc)?;
+        let plan = routes[*column - helpers].plan.copy(alloc)?;
         found.push(Share {
             share: *share,
             plan,
@@ -43,21 +42,19 @@ fn shares_of(
     Ok(found)
 }
 
-/// The bound at the answer of the simplex method over the plans' columns, where the labels show
+/// The bound at the answer of the simplex method over the routes' columns, where the labels show
 /// that no further route earns.
 pub(crate) fn bound_of(
     alloc: Global,
     inst: &Instance,
     pairs: &Pairs,
-    plans: &[RoutePlan],
+    routes: &[NodeRoute],
     lp: Lp,
     labels: Vec<Label>,
 ) -> Result<NodeBound, AllocError>
     requires few { length (customer_nodes inst.now) ≤ 128 }
     requires pairs { pairs.now.customers ≡ length (customer_nodes inst.now) }
-    requires routes { AreNodeRoutes inst.now pairs.now plans.now }
-    requires answered { IsAnswered inst.now plans.now lp }
-    requires closed { AreClosed (asked inst.now pairs.now lp.weight lp.prices.items) labels.items }
+    requires over { IsPricedOut inst.now pairs.now routes.now lp labels }
     ensures { (body cost : ℕ) → IfOk result (IsNodeBoundAt body cost inst.now pairs.now) }
 {
     let Lp {
@@ -72,7 +69,7 @@ pub(crate) fn bound_of(
     if weight == 0 {
         return Ok(NodeBound::Empty { section });
     }
-    let shares = shares_of(alloc, inst.customers().len(), plans, &shares)?;
+    let shares = shares_of(alloc, inst.customers().len(), routes, &shares)?;
     Ok(NodeBound::Exact {
         section,
         over,

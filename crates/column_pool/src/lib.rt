@@ -22,6 +22,3 @@ pub use estimate::estimate_node;
 pub use laws::sections_of_nodes_are_strong;
 pub use node::bound_node;
 pub use route_pool::ColumnPool;
-
-#[cfg(test)]
-mod tests;

@@ -1,20 +1,20 @@
 //! The bound of a node where a basis is too wide.
 
-ghost use Rattle.std.specs.Prelude.{◌≡◌, ◌+◌, ◌≤◌, IfOk, length, map};
+ghost use Rattle.std.specs.Prelude.{◌≡◌, ◌+◌, ◌≤◌, IfOk, length};
 ghost use Rattle.ev_model.specs.Network.{scaled_limit};
 ghost use Rattle.instance_reader.specs.Instance.{customer_nodes};
 ghost use Rattle.master_table.specs.Tableau.{Limits};
 ghost use Rattle.column_pool.specs.Columns.{AreNodeRoutes};
-ghost use Rattle.column_pool.specs.TooWide.{entry_of, IsNodeBoundAt, IsPastBasis};
+ghost use Rattle.column_pool.specs.TooWide.{IsNodeBoundAt, IsPastBasis};
 ghost use Rattle.route_pool.specs.Pool.{IsPool};
 
 use crate::bound::NodeBound;
 use crate::earners::NodeEarners;
 use crate::section::section_of;
-use bound_certificate::BasisEntry;
 use customer_sets::Pairs;
 use ev_list::Listed;
 use instance_reader::Instance;
+use listed_bases::entries_of;
 use price_loop::{Risen, rise};
 use pricing::Prices;
 use route_plan::RoutePlan;
@@ -74,30 +74,8 @@ pub(crate) fn wide_bound(
 }
 
 /// The first time past the limit, scaled: each route takes less.
-pub(crate) fn past_limit(inst: &Instance) -> u64
+fn past_limit(inst: &Instance) -> u64
     ensures { result ≡ scaled_limit inst.now + 1 }
 {
     inst.denominator() * inst.limit() + 1
-}
-
-/// The entries of the columns with these numbers, of which the first `helpers` are helpers.
-fn entries_of(alloc: Global, helpers: usize, basis: &[usize]) -> Result<Vec<BasisEntry>, AllocError>
-    ensures { IfOk result (λ entries. entries.items ≡ map (entry_of helpers) basis.now) }
-{
-    let mut entries = Vec::with_capacity(alloc, basis.len())?;
-    for number in basis {
-        entries.push(entry_of(helpers, *number))?;
-    }
-    Ok(entries)
-}
-
-/// The entry of the column with a number.
-fn entry_of(helpers: usize, number: usize) -> BasisEntry
-    ensures { result ≡ entry_of helpers number }
-{
-    if number < helpers {
-        BasisEntry::Helper(number)
-    } else {
-        BasisEntry::Column(number - helpers)
-    }
 }

@@ -13,6 +13,3 @@ pub use own::{put_own_route, put_own_routes};
 pub use partial_pricing::{earning, kept_places};
 pub use pool::ColumnPool;
 pub use pooled::Pooled;
-
-#[cfg(test)]
-mod tests;

@@ -1,4 +1,4 @@
-use Rattle.std.proofs.Common.{◌∙◌, List, ℕ, Vec, subst, sym}
+use Rattle.std.proofs.Common.{List, ℕ, Vec, subst, sym}
 use Rattle.std.specs.Global.{Global}
 use Rattle.master_table.specs.RowView.{limits_of}
 use Rattle.piece_fn.specs.declared.label.Label.{Label}
@@ -8,30 +8,28 @@ use Rattle.pricing.specs.declared.priced.PricedRoute.{PricedRoute}
 use Rattle.route_plan.specs.declared.plan.RoutePlan.{RoutePlan}
 use Rattle.route_pool.specs.Pool.{IsGrown, IsPool}
 use Rattle.route_pool.proofs.GrownPools.{grown_further}
-use Rattle.column_pool.specs.Columns.{AreNodeRoutes, IsAnswered}
+use Rattle.column_pool.specs.Columns.{AreNodeRoutes, IsPricedOut}
 use Rattle.column_pool.specs.Nodes.{node_problem}
 use Rattle.column_pool.specs.TooWide.{IsPastBasis}
 use Rattle.column_pool.specs.declared.route.NodeRoute.{NodeRoute}
-use Rattle.column_pool.proofs.Ends.{answered, wide_plans}
+use Rattle.column_pool.proofs.Ends.{wide_plans}
 use Rattle.column_pool.proofs.Routes.{node_routes}
 use Rattle.column_pool.proofs.by_loop.bound_by_loop.Goals as goal
 
-pub bound_of-requires-clause-routes : goal.bound_of-requires-clause-routes
-bound_of-requires-clause-routes c =
+pub bound_of-requires-clause-over : goal.bound_of-requires-clause-over
+bound_of-requires-clause-over c =
     let g = c.args.inst.now in
     let p = c.args.pairs.now in
+    let lp = c.in-Closed.lp in
+    let closing = c.in-Closed.closing in
     let over = subst (λ (e : Ended NodeRoute (Vec Label Global)). IsEnded (node_problem g p) (limits_of c.args.caps) e) c.in-Closed.is c.in_ok-lp.ensures in
-    let same = c.deref-in-Closed-3.ensures.value ∙ c.in_ok-plans-in-Closed.ensures in
-    subst (λ (ps : List RoutePlan). AreNodeRoutes g p ps) (sym same) (node_routes g p c.in-Closed.routes.items over.routes_are)
-
-pub bound_of-requires-clause-answered : goal.bound_of-requires-clause-answered
-bound_of-requires-clause-answered c =
-    let g = c.args.inst.now in
-    let p = c.args.pairs.now in
-    let over = subst (λ (e : Ended NodeRoute (Vec Label Global)). IsEnded (node_problem g p) (limits_of c.args.caps) e) c.in-Closed.is c.in_ok-lp.ensures in
-    let same = c.deref-in-Closed-3.ensures.value ∙ c.in_ok-plans-in-Closed.ensures in
-    subst (λ (ps : List RoutePlan). IsAnswered g ps c.in-Closed.lp) (sym same)
-    (answered g p (limits_of c.args.caps) c.in-Closed.lp c.in-Closed.routes.items c.in-Closed.basis.items c.in-Closed.closing c.requires.body_cap c.requires.cost_cap over)
+    subst (λ (rs : List NodeRoute). IsPricedOut g p rs lp closing) (sym c.deref-in-Closed-3.ensures.value) (record {
+      caps = limits_of c.args.caps;
+      body = c.requires.body_cap;
+      cost = c.requires.cost_cap;
+      basis = c.in-Closed.basis.items;
+      over = over;
+    })
 
 pub wide_bound-requires-clause-routes : goal.wide_bound-requires-clause-routes
 wide_bound-requires-clause-routes c =
@@ -40,15 +38,15 @@ wide_bound-requires-clause-routes c =
     let wide = subst (λ (e : Ended NodeRoute (Vec Label Global)). IsEnded (node_problem g p) (limits_of c.args.caps) e) c.in-Wide.is c.in_ok-lp.ensures in
     subst (λ (ps : List RoutePlan). AreNodeRoutes g p ps) (sym c.in_ok-plans-in-Wide.ensures) (node_routes g p c.in-Wide.routes.items wide.routes_are)
 
-pub returns-in_ok-plans-in-Closed-clause-bound : goal.returns-in_ok-plans-in-Closed-clause-bound
-returns-in_ok-plans-in-Closed-clause-bound c = c.bound_of.ensures c.args.caps.body c.args.caps.cost
+pub returns-in_ok-recent-in-Closed-clause-bound : goal.returns-in_ok-recent-in-Closed-clause-bound
+returns-in_ok-recent-in-Closed-clause-bound c = c.bound_of.ensures c.args.caps.body c.args.caps.cost
 
-pub returns-in_ok-plans-in-Closed-clause-pool : goal.returns-in_ok-plans-in-Closed-clause-pool
-returns-in_ok-plans-in-Closed-clause-pool c =
+pub returns-in_ok-recent-in-Closed-clause-pool : goal.returns-in_ok-recent-in-Closed-clause-pool
+returns-in_ok-recent-in-Closed-clause-pool c =
     subst (λ (rs : List PricedRoute). IsPool c.args.inst.now rs) (sym c.note_recent.ensures) c.take_all.ensures.pool
 
-pub returns-in_ok-plans-in-Closed-clause-grown : goal.returns-in_ok-plans-in-Closed-clause-grown
-returns-in_ok-plans-in-Closed-clause-grown c =
+pub returns-in_ok-recent-in-Closed-clause-grown : goal.returns-in_ok-recent-in-Closed-clause-grown
+returns-in_ok-recent-in-Closed-clause-grown c =
     subst (λ (rs : List PricedRoute). IsGrown c.args.inst.now c.args.pool.now rs) (sym c.note_recent.ensures)
     (grown_further c.args.inst.now c.args.pool.now c.put_own_routes.new.pool c.take_all.new.pool c.put_own_routes.ensures.grown c.take_all.ensures.grown)
 

@@ -1,24 +1,20 @@
 //! A worked instance: which routes of a pool keep pairs, which of them earn, and where they stand.
 
-ghost use Rattle.std.specs.Prelude.{◌≡◌, ◌≤◌, IfSome, length};
+ghost use Rattle.std.specs.Prelude.{◌≤◌, IfSome, length};
 ghost use Rattle.instance_reader.specs.Instance.{customer_nodes};
 ghost use Rattle.route_pool.specs.Pool.{IsPool};
 
-use crate::{ColumnPool, earning, kept_places, put_own_routes};
-use customer_sets::Pairs;
-use instance_reader::{Instance, read_instance};
+use crate::instances::{instance, pairs_without};
+use instance_reader::Instance;
+use route_pool::{ColumnPool, earning, kept_places, put_own_routes};
 use std::alloc::Global;
 use worked_instances::THREE_CUSTOMERS;
 
 /// The instance of three customers, each of whom is 8 by a route of his own.
-fn instance(alloc: Global) -> Option<Instance>
+fn three_customers(alloc: Global) -> Option<Instance>
     ensures { IfSome result (λ inst. length (customer_nodes inst) ≤ 128) }
 {
-    let inst = read_instance(alloc, THREE_CUSTOMERS.as_bytes()).ok()?;
-    if inst.customers().len() > 128 {
-        return None;
-    }
-    Some(inst)
+    instance(alloc, THREE_CUSTOMERS, 100)
 }
 
 /// The pool of the customers' own routes.
@@ -30,18 +26,11 @@ fn own_routes(alloc: Global, inst: &Instance) -> Option<ColumnPool>
     Some(pool)
 }
 
-/// Whether the places of the routes that keep the pairs are these, where one pair may be forbidden.
-fn keeps(alloc: Global, pair: Option<(usize, usize)>, places: &[usize]) -> Option<bool> {
-    let inst = instance(alloc)?;
+/// Whether the places of the routes that keep the pairs are these, where some are forbidden.
+fn keeps(alloc: Global, forbidden: &[(usize, usize)], places: &[usize]) -> Option<bool> {
+    let inst = three_customers(alloc)?;
     let pool = own_routes(alloc, &inst)?;
-    let customers = inst.customers().len();
-    let mut pairs = Pairs::new(customers);
-    if let Some((i, j)) = pair {
-        if i > customers || j > customers || i == j {
-            return None;
-        }
-        pairs.forbid(i, j);
-    }
+    let pairs = pairs_without(inst.customers().len(), forbidden)?;
     let kept = kept_places(alloc, &inst, &pairs, &pool).ok()?;
     Some(kept.as_slice() == places)
 }
@@ -49,20 +38,20 @@ fn keeps(alloc: Global, pair: Option<(usize, usize)>, places: &[usize]) -> Optio
 #[test]
 fn own_routes_keep_the_pairs_without_the_depot(rt: HostRuntime) {
     let alloc = rt.alloc();
-    for (pair, places) in [
-        (None, [0usize, 1, 2].as_slice()),
-        (Some((1usize, 2usize)), [0, 1, 2].as_slice()),
-        (Some((0, 2)), [0, 2].as_slice()),
-        (Some((3, 0)), [0, 1].as_slice()),
+    for (forbidden, places) in [
+        ([].as_slice(), [0usize, 1, 2].as_slice()),
+        ([(1usize, 2usize)].as_slice(), [0, 1, 2].as_slice()),
+        ([(0, 2)].as_slice(), [0, 2].as_slice()),
+        ([(3, 0)].as_slice(), [0, 1].as_slice()),
     ] {
-        assert_eq!(rt; keeps(alloc, pair, places), Some(true));
+        assert_eq!(rt; keeps(alloc, forbidden, places), Some(true));
     }
 }
 
 /// Whether the places whose routes earn at the weight and prices are these, of three and of one
 /// where there is no route.
 fn earns(alloc: Global, weight: u64, prices: &[i128], places: &[usize]) -> Option<bool> {
-    let inst = instance(alloc)?;
+    let inst = three_customers(alloc)?;
     let pool = own_routes(alloc, &inst)?;
     let found = earning(alloc, &inst, &pool, &[0, 1, 2, 7], weight, prices).ok()?;
     Some(found.as_slice() == places)
@@ -84,7 +73,7 @@ fn routes_that_earn_most_come_last(rt: HostRuntime) {
 
 /// The place of the route over the nodes, and whether the places that were noted are told.
 fn told(alloc: Global, order: &[usize]) -> Option<(Option<usize>, bool)> {
-    let inst = instance(alloc)?;
+    let inst = three_customers(alloc)?;
     let mut pool = own_routes(alloc, &inst)?;
     let mut noted = Vec::new(alloc);
     noted.push(2usize).ok()?;
@@ -102,7 +91,7 @@ fn places_are_told_and_noted(rt: HostRuntime) {
 
 /// Whether the plan at the place is the copy of itself.
 fn copies(alloc: Global, at: usize) -> Option<bool> {
-    let inst = instance(alloc)?;
+    let inst = three_customers(alloc)?;
     let pool = own_routes(alloc, &inst)?;
     let (_, plan) = pool.route_at(at)?;
     let copy = plan.copy(alloc).ok()?;

@@ -1,0 +1,24 @@
+//! The entries of a basis of helpers and columns.
+
+use certificate_parts::BasisEntry;
+use listed_bases::entries_of;
+use std::alloc::Global;
+
+/// Whether the entries of columns with these numbers, of which the first two are helpers, are
+/// these.
+fn lists(alloc: Global, basis: &[usize], entries: &[BasisEntry]) -> Option<bool> {
+    let found = entries_of(alloc, 2, basis).ok()?;
+    Some(found.as_slice() == entries)
+}
+
+#[test]
+fn columns_are_counted_behind_the_helpers(rt: HostRuntime) {
+    let alloc = rt.alloc();
+    let entries = [
+        BasisEntry::Column(0),
+        BasisEntry::Helper(1),
+        BasisEntry::Column(3),
+    ];
+    assert_eq!(rt; lists(alloc, &[2, 1, 5], &entries), Some(true));
+    assert_eq!(rt; lists(alloc, &[], &[]), Some(true));
+}

@@ -1,0 +1,21 @@
+//! Tests of the price loop and its rising prices, of pools of routes, of listed bases, and of the
+//! bound of a node and its estimate. They stand here so that the crates that they run aren't proved
+//! once more with them.
+#![tactic(auto)]
+
+#[cfg(test)]
+mod bases;
+#[cfg(test)]
+mod chains;
+#[cfg(test)]
+mod instances;
+#[cfg(test)]
+mod nodes;
+#[cfg(test)]
+mod pools;
+#[cfg(test)]
+mod rides;
+#[cfg(test)]
+mod ring;
+#[cfg(test)]
+mod shared_rides;
