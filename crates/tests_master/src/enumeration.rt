@@ -108,7 +108,7 @@ fn cheaper(least: Option<Fraction>, other: Option<Fraction>) -> Option<Fraction>
 }
 
 /// The next number of a draw (Lehmer; Park, Miller 1988).
-fn next(number: u64) -> u64 {
+pub(crate) fn next(number: u64) -> u64 {
     number.wrapping_mul(48_271) % 2_147_483_647
 }
 

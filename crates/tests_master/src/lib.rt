@@ -9,6 +9,8 @@ mod enumeration;
 #[cfg(test)]
 mod optima;
 #[cfg(test)]
+mod partitions;
+#[cfg(test)]
 mod sets;
 #[cfg(test)]
 mod tables;
