@@ -41,7 +41,8 @@ use Rattle.certificate_check.specs.Routes.{served_once}
 use Rattle.certificate_check.specs.Rules.{AllowsEach, at_bound, at_pairs, at_root, CertificateFault, in_section, IsBroken, IsKindBroken, NamesAt}
 use Rattle.certificate_check.specs.Truth.{IsSettled}
 use Rattle.certificate_check.proofs.Along.{leaves_are, leaves_hold_where_under}
-use Rattle.certificate_check.proofs.FleetRoutes.{none_where_none_found, not_only_with_stray, once_from, only_without_stray, some_where_found, twice_is_none}
+use Rattle.certificate_check.proofs.FleetRoutes.{none_where_none_found, once_from, some_where_found, twice_is_none}
+use Rattle.plan_check.proofs.Feasible.{not_only_with_stray, only_without_stray}
 use Rattle.certificate_check.proofs.Truths.{at_number}
 use Rattle.certificate_check.proofs.Verdicts.{accepted, no_bound, no_pairs, no_section}
 

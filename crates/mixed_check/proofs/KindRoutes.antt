@@ -19,7 +19,8 @@ use Rattle.certificate_check.specs.Routes.{IsListedRoute, IsRouteAmong}
 use Rattle.certificate_check.specs.Shares.{listed_cost, shares_at}
 use Rattle.certificate_check.specs.declared.cover.SharedRoute.{SharedRoute}
 use Rattle.certificate_check.proofs.Even.{one_share}
-use Rattle.certificate_check.proofs.FleetRoutes.{plan_known, serves_once}
+use Rattle.certificate_check.proofs.FleetRoutes.{serves_once}
+use Rattle.plan_check.proofs.Feasible.{plan_known}
 use Rattle.mixed_model.specs.Covers.{IsKindRoute, mixed_cost_of_shares, plain_shares}
 use Rattle.mixed_model.specs.Kinds.{Agrees, AreKinds, first_of, network_of, no_network}
 use Rattle.mixed_model.specs.Meaning.{kind_plan, kind_shares, mixed_columns}

@@ -3,6 +3,7 @@ pub mod Strays
 pub mod Walks
 pub mod Customers
 pub mod Served
+pub mod Feasible
 pub mod Routes
 pub mod Firsts
 pub mod FleetPlans

@@ -121,7 +121,8 @@ fn stray<R: HasStops>(inst: &Instance, routes: &[R]) -> Option<PlanFault>
     None
 }
 
-/// The first stop between the ends that wasn't inserted and isn't at a customer. It takes no memory.
+/// The first stop between the ends that wasn't inserted and isn't at a customer. It takes no
+/// memory.
 pub fn stray_stop(inst: &Instance, stops: &[Stop]) -> Option<usize>
     requires { AreKnown inst.now stops.now }
     ensures { result ≡ first_stray inst.now 1 (behind_first stops.now) }

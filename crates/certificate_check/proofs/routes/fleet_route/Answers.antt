@@ -3,7 +3,8 @@ use Rattle.std.specs.Prelude.{is_some}
 use Rattle.std.proofs.lemmas.Bool.{false≢true}
 use Rattle.ev_model.specs.Feasible.{IsFeasible}
 use Rattle.ev_model.specs.Time.{time_of}
-use Rattle.certificate_check.proofs.FleetRoutes.{among_of, none_where_none_found, not_only_with_stray, once_from, only_without_stray, plan_known, some_where_found, twice_is_none}
+use Rattle.certificate_check.proofs.FleetRoutes.{among_of, none_where_none_found, once_from, some_where_found, twice_is_none}
+use Rattle.plan_check.proofs.Feasible.{not_only_with_stray, only_without_stray, plan_known}
 use Rattle.certificate_check.proofs.routes.fleet_route.Goals as goal
 use Rattle.certificate_check.proofs.routes.fleet_route.Goals.{then-is_empty-via-then-is_empty, then-is_empty-via-else-is_empty+then-is_some}
 

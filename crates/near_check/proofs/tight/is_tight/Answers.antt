@@ -9,7 +9,8 @@ use Rattle.ev_model.specs.Feasible.{IsFeasible}
 use Rattle.fleet_model.specs.Places.{customer_count, numbers_of}
 use Rattle.fleet_model.proofs.Numbers.{counted}
 use Rattle.near_proof.specs.Accepted.{terms_of}
-use Rattle.near_check.proofs.TightRoutes.{few_numbers, not_only_with_stray, only_without_stray, plan_known, tight_route}
+use Rattle.near_check.proofs.TightRoutes.{few_numbers, tight_route}
+use Rattle.plan_check.proofs.Feasible.{not_only_with_stray, only_without_stray, plan_known}
 use Rattle.near_check.proofs.tight.is_tight.Goals as goal
 
 pub numbers_of-requires : goal.numbers_of-requires

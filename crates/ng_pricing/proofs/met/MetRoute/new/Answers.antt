@@ -1,6 +1,6 @@
 use Rattle.std.proofs.Common.{List, subst, sym}
 use Rattle.ev_model.specs.declared.Stop.{Stop}
-use Rattle.near_check.proofs.TightRoutes.{plan_known}
+use Rattle.plan_check.proofs.Feasible.{plan_known}
 use Rattle.plan_check.specs.Tallies.{AreKnown}
 use Rattle.ng_pricing.proofs.met.MetRoute.new.Goals as goal
 
