@@ -1,9 +1,9 @@
 mod Once
 mod KindAnswers
+mod SoughtRoutes
 mod Routes
 mod Rises
 mod Exact
-mod Entries
 mod Wides
 mod Best
 mod OwnRoutes

@@ -5,7 +5,6 @@ pub mod Problem
 pub mod Rising
 pub mod Proofs
 pub mod Shares
-pub mod Entries
 pub mod Roots
 pub mod Own
 pub mod Plans

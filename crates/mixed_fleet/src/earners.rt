@@ -11,6 +11,7 @@ ghost use Rattle.route_pool.specs.Pool.{IsPool};
 ghost use Rattle.mixed_fleet.specs.Searched.{searched_of};
 
 use crate::searched::{Searched, as_searched};
+use crate::seeking::seek_from;
 use customer_sets::{CustSet, Pairs};
 use ev_list::Listed;
 use instance_reader::Instance;
@@ -25,9 +26,7 @@ use std::marker::Model;
 #[derive(Drop)]
 pub(crate) struct KindsEarners<'a> {
     kinds: &'a [Instance],
-    /// The kind whose routes were found last, where any were. It is asked first: a kind in which no
-    /// route earns lists its closed labels, which takes long, and is for nothing while another
-    /// earns.
+    /// The kind whose routes were found last, where any were. They are sought in it first.
     last: Cell<usize>,
 }
 
@@ -101,20 +100,19 @@ impl<'a> Earners for KindsEarners<'a> {
     ) -> Result<Earned<Searched, Listed<Listed<Label>>>, AllocError> {
         let kinds = self.kinds;
         let pairs = Pairs::new(prices.len());
-        let last = self.last.get();
-        if last < kinds.len() {
-            let again = earn_by(alloc, kinds, last, &pairs, weight, prices)?;
-            if let Earned::Better { first, further } = again {
-                return Ok(Earned::Better { first, further });
-            }
+        let mut sought = seek_from(alloc, kinds, self.last.get(), &pairs, weight, prices)?;
+        if let Some(first) = sought.pop() {
+            self.last.set(first.route.kind);
+            return Ok(Earned::Better {
+                first,
+                further: sought,
+            });
         }
+        // That no route earns is shown by lists of labels, which take long.
         let mut found = Vec::new(alloc);
         let mut lists = Vec::with_capacity(alloc, kinds.len())?;
         for kind in 0..kinds.len() {
             let earned = earn_by(alloc, kinds, kind, &pairs, weight, prices)?;
-            if matches!(earned, Earned::Better { .. }) {
-                self.last.set(kind);
-            }
             gather(&mut found, &mut lists, earned)?;
         }
         match found.pop() {
@@ -207,7 +205,7 @@ fn gather(
 }
 
 /// What pricing is asked.
-fn asked(alloc: Global, weight: u64, prices: &[i128]) -> Result<Prices, AllocError>
+pub(crate) fn asked(alloc: Global, weight: u64, prices: &[i128]) -> Result<Prices, AllocError>
     ensures weight { IfOk result (λ asked. asked.weight ≡ weight) }
     ensures of { IfOk result (λ asked. asked.of.items ≡ prices.now) }
 {
@@ -217,7 +215,7 @@ fn asked(alloc: Global, weight: u64, prices: &[i128]) -> Result<Prices, AllocErr
 }
 
 /// The routes that pricing found for a kind, as they are searched for.
-fn all_searched(
+pub(crate) fn all_searched(
     alloc: Global,
     inst: &Instance,
     kind: usize,

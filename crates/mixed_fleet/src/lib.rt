@@ -10,10 +10,13 @@ mod held;
 mod listed;
 mod outcome;
 mod own;
+mod partition;
 mod planning;
 mod root;
 mod searched;
+mod seeking;
 mod whole;
 
 pub use outcome::MixedOutcome;
-pub use planning::plan_mixed;
+pub use planning::{plan_mixed, plan_mixed_watched};
+pub use price_loop::{RisingProgress, RoundProgress, RoundWatcher};

@@ -1,12 +1,10 @@
-//! The parts of roots: routes and their shares, and the entries of a basis.
+//! The parts of roots: routes and their shares.
 
 ghost use Rattle.std.specs.Prelude.{◌≡◌, IfOk, map};
 ghost use Rattle.std.specs.List.{All};
-ghost use Rattle.mixed_fleet.specs.Entries.{entry_of};
 ghost use Rattle.mixed_fleet.specs.Shares.{HasRoute, share_at};
 
 use crate::searched::Searched;
-use certificate_parts::BasisEntry;
 use mixed_model::{MixedRoute, MixedShare};
 use std::alloc::{AllocError, Global};
 
@@ -50,30 +48,4 @@ pub(crate) fn copy_of_route(alloc: Global, route: &MixedRoute) -> Result<MixedRo
         kind: route.kind,
         plan: route.plan.copy(alloc)?,
     })
-}
-
-/// The entries of the columns with these numbers, of which the first `helpers` are helpers.
-pub(crate) fn entries_of(
-    alloc: Global,
-    helpers: usize,
-    basis: &[usize],
-) -> Result<Vec<BasisEntry>, AllocError>
-    ensures { IfOk result (λ entries. entries.items ≡ map (entry_of helpers) basis.now) }
-{
-    let mut entries = Vec::with_capacity(alloc, basis.len())?;
-    for number in basis {
-        entries.push(entry_of(helpers, *number))?;
-    }
-    Ok(entries)
-}
-
-/// The entry of the column with a number.
-fn entry_of(helpers: usize, number: usize) -> BasisEntry
-    ensures { result ≡ entry_of helpers number }
-{
-    if number < helpers {
-        BasisEntry::Helper(number)
-    } else {
-        BasisEntry::Column(number - helpers)
-    }
 }

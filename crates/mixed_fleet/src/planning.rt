@@ -16,11 +16,13 @@ use crate::held::{cheaper, own_plan};
 use crate::listed::columns_of;
 use crate::outcome::MixedOutcome;
 use crate::own::own_routes;
+use crate::partition::with_met;
 use crate::root::best_proof;
 use crate::whole::whole_plan;
 use ev_list::Listed;
 use instance_reader::Instance;
 use mixed_model::{MixedProof, MixedRoute};
+use price_loop::{Nobody, RoundWatcher};
 use std::alloc::{AllocError, Global};
 
 /// A plan of a fleet of these kinds of vehicles, as many of each kind as one likes, where one is
@@ -37,14 +39,29 @@ pub fn plan_mixed(alloc: Global, kinds: &[Instance]) -> Result<MixedOutcome, All
     requires few { length (customer_nodes (first_of kinds.now)) ≤ 128 }
     ensures { IfOk result (IsOutcome kinds.now) }
 {
+    plan_mixed_watched(alloc, kinds, &mut Nobody {})
+}
+
+/// The same as [`plan_mixed`], where a watcher is told how far the price loop is, and how far the
+/// prices that rise.
+pub fn plan_mixed_watched<W: RoundWatcher>(
+    alloc: Global,
+    kinds: &[Instance],
+    watcher: &mut W,
+) -> Result<MixedOutcome, AllocError>
+    requires kinds { AreKinds kinds.now }
+    requires few { length (customer_nodes (first_of kinds.now)) ≤ 128 }
+    ensures { IfOk result (IsOutcome kinds.now) }
+{
     know_networks(kinds);
     let own = own_routes(alloc, kinds)?;
     let alone = columns_of(alloc, &own.routes)?;
     let held = own_plan(alloc, kinds, &own)?;
-    let proof = best_proof(alloc, kinds, own.routes)?;
+    let (proof, met) = best_proof(alloc, kinds, own.routes, watcher)?;
     let whole = whole_plan(alloc, kinds, &proof)?;
     let greedy = greedy_routes(alloc, kinds, &proof, &alone)?;
     let held = cheaper(kinds, held, greedy);
+    let held = with_met(alloc, kinds, held, &proof, &met)?;
     Ok(outcome_of(kinds, held, whole, proof))
 }
 

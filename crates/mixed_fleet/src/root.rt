@@ -13,15 +13,16 @@ ghost use Rattle.mixed_fleet.specs.Shares.{certificate_caps, IsClosedAt};
 
 use crate::bound::bound_of;
 use crate::earners::KindsEarners;
-use crate::listed::{columns_of, entries_of, shares_of};
+use crate::listed::{columns_of, shares_of};
 use crate::searched::Searched;
 use ev_list::Listed;
 use instance_reader::Instance;
+use listed_bases::entries_of;
 use master_simplex::Lp;
 use master_table::Caps;
 use mixed_model::{MixedProof, MixedRoot};
 use piece_fn::Label;
-use price_loop::{Ended, Risen, price_out, rise};
+use price_loop::{Ended, Risen, RoundWatcher, price_out_watched, rise_watched};
 use std::alloc::{AllocError, Global};
 
 /// The caps of certificates: on the weight and shares, and on prices.
@@ -34,25 +35,30 @@ const CAPS: Caps = Caps {
 const TOP: u64 = 1_000_000_000_000_000_001;
 
 /// A proof by the prices at which no route of any kind earns, found by the price loop, which begins
-/// with these routes. The only `Err` is want of memory.
-pub(crate) fn best_proof(
+/// with these routes; and all routes that the loop has met. The only `Err` is want of memory.
+pub(crate) fn best_proof<W: RoundWatcher>(
     alloc: Global,
     kinds: &[Instance],
     begin: Vec<Searched>,
-) -> Result<MixedProof, AllocError>
+    watcher: &mut W,
+) -> Result<(MixedProof, Vec<Searched>), AllocError>
     requires fleet { AreFleetKinds kinds.now }
     requires begin { All (IsSearched kinds.now) begin.items }
-    ensures { IfOk result (IsBestProof kinds.now) }
+    ensures proof { IfOk result (λ end. IsBestProof kinds.now end.0) }
+    ensures met { IfOk result (λ end. All (IsSearched kinds.now) end.1.items) }
 {
     let earners = KindsEarners::new(kinds);
-    match price_out(alloc, &earners, CAPS, begin)? {
+    match price_out_watched(alloc, &earners, CAPS, begin, watcher)? {
         Ended::Closed {
             lp,
             routes,
             basis: _,
             closing,
-        } => proof_at_end(alloc, kinds, lp, &routes, closing),
-        Ended::Wide { routes, basis } => wide_proof(alloc, kinds, &routes, &basis),
+        } => Ok((proof_at_end(alloc, kinds, lp, &routes, closing)?, routes)),
+        Ended::Wide { routes, basis } => {
+            let proof = wide_proof(alloc, kinds, &routes, &basis, watcher)?;
+            Ok((proof, routes))
+        }
     }
 }
 
@@ -87,17 +93,18 @@ fn proof_at_end(
 
 /// The proof by rising prices, where the columns with the numbers of `basis` are a basis past the
 /// caps.
-fn wide_proof(
+fn wide_proof<W: RoundWatcher>(
     alloc: Global,
     kinds: &[Instance],
     routes: &[Searched],
     basis: &[usize],
+    watcher: &mut W,
 ) -> Result<MixedProof, AllocError>
     requires fleet { AreFleetKinds kinds.now }
     requires wide { IsWide (problem_of kinds.now) certificate_caps routes.now basis.now }
     ensures { IfOk result (IsBestProof kinds.now) }
 {
-    match rise(alloc, &KindsEarners::new(kinds), TOP)? {
+    match rise_watched(alloc, &KindsEarners::new(kinds), TOP, watcher)? {
         Risen::Nowhere {
             customer: _,
             prices,

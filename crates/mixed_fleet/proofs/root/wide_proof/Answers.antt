@@ -19,32 +19,32 @@ abbrev Rises : List Network → Risen (List (List Label)) → Type 0
 Rises kinds r = IsRisen (problem_of kinds) r
 
 pub proof_with-requires-clause-some : goal.proof_with-requires-clause-some
-proof_with-requires-clause-some c =
+proof_with-requires-clause-some g c =
     let risen = subst (λ (ks : List Network). Rises ks c.in_ok-prices.field-0) c.new.ensures c.in_ok-prices.ensures in
     let is = subst (Rises c.args.kinds.now) c.in-Nowhere.is risen in
     let above = nowhere_sum c.args.kinds.now c.requires.fleet c.in-Nowhere.prices.items c.in-Nowhere.closing c.in-Nowhere.customer is in
     omega (arith, ints, above)
 
 pub proof_with-requires-clause-above : goal.proof_with-requires-clause-above
-proof_with-requires-clause-above c none =
+proof_with-requires-clause-above g c none =
     let risen = subst (λ (ks : List Network). Rises ks c.in_ok-prices.field-0) c.new.ensures c.in_ok-prices.ensures in
     let is = subst (Rises c.args.kinds.now) c.in-Nowhere.is risen in
     nowhere_sum c.args.kinds.now c.requires.fleet c.in-Nowhere.prices.items c.in-Nowhere.closing c.in-Nowhere.customer is
 
 pub proof_with-requires-clause-root : goal.proof_with-requires-clause-root
-proof_with-requires-clause-root c =
+proof_with-requires-clause-root g c =
     let risen = subst (λ (ks : List Network). Rises ks c.in_ok-prices.field-0) c.new.ensures c.in_ok-prices.ensures in
     let is = subst (Rises c.args.kinds.now) c.in-Nowhere.is risen in
     (refl, nowhere_sum c.args.kinds.now c.requires.fleet c.in-Nowhere.prices.items c.in-Nowhere.closing c.in-Nowhere.customer is)
 
 pub proof_with-requires-in-Priced-clause-some : goal.proof_with-requires-in-Priced-clause-some
-proof_with-requires-in-Priced-clause-some c =
+proof_with-requires-in-Priced-clause-some g c =
     let risen = subst (λ (ks : List Network). Rises ks c.in_ok-prices.field-0) c.new.ensures c.in_ok-prices.ensures in
     let is = subst (Rises c.args.kinds.now) c.in-Priced.is risen in
     rising_sum c.args.kinds.now c.requires.fleet c.in-Priced.prices.items c.in-Priced.closing is
 
 pub proof_with-requires-in-Priced-clause-root : goal.proof_with-requires-in-Priced-clause-root
-proof_with-requires-in-Priced-clause-root c =
+proof_with-requires-in-Priced-clause-root g c =
     let kinds = c.args.kinds.now in
     let prices = c.in-Priced.prices.items in
     let risen = subst (λ (ks : List Network). Rises ks c.in_ok-prices.field-0) c.new.ensures c.in_ok-prices.ensures in

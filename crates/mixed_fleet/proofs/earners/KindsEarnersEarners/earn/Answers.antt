@@ -13,8 +13,8 @@ loop-kind-preserved c =
     let at = c.loop-kind in
     gathered_more c.self.inside.kinds.now at.kind c.args.weight c.args.prices.now at.found.items at.lists.items at.invariant c.in_ok-earned.earned c.gather.new.found.items c.gather.new.lists.items c.in_ok-earned.ensures c.in_ok-gather.ensures
 
-pub returns-in-None : goal.returns-in-None
-returns-in-None c =
+pub returns : goal.returns
+returns c =
     let kinds = c.args.self.now in
     let fleet = subst AreFleetKinds c.self.view_is c.self.invariant in
     let at = c.loop-kind in

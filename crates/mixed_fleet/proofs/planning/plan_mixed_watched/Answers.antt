@@ -5,10 +5,10 @@ use Rattle.mixed_model.specs.declared.proof.MixedRoute.{MixedRoute}
 use Rattle.mixed_fleet.specs.Searched.{IsSearched}
 use Rattle.mixed_fleet.specs.declared.searched.Searched.{Searched}
 use Rattle.mixed_fleet.proofs.Wides.{routes_of}
-use Rattle.mixed_fleet.proofs.planning.plan_mixed.Goals as goal
+use Rattle.mixed_fleet.proofs.planning.plan_mixed_watched.Goals as goal
 
 pub greedy_routes-requires-clause-alone : goal.greedy_routes-requires-clause-alone
-greedy_routes-requires-clause-alone c =
+greedy_routes-requires-clause-alone g c =
     let kinds = c.args.kinds.now in
     let rs = c.in_ok-own.own.routes.items in
     let P = λ (r : MixedRoute). r.kind < length kinds in
