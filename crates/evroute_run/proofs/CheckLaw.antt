@@ -1,6 +1,7 @@
 -- The causes of the statuses of `check` exclude each other.
 use Rattle.std.proofs.Common.{◌≡◌, ◌∙◌, ℕ, List, [], ◌∷◌, Option, None, Some, Err, ap, arith, subst, sym}
 use Rattle.bound_certificate.specs.CertificateIn.{certificate_in}
+use Rattle.bound_certificate.specs.Ranges.{customer_count}
 use Rattle.bound_certificate.specs.Written.{written}
 use Rattle.bound_certificate.specs.declared.certificate.Certificate.{Certificate}
 use Rattle.certificate_check.specs.Accepted.{IsAccepted}
@@ -25,7 +26,6 @@ use Rattle.evroute_run.proofs.Instances.{same_fleet}
 use Rattle.job_steps.proofs.LimitedNetworks.{one_limited, refused_has_none}
 use Rattle.evroute_run.proofs.OneCertificate.{AreSame, one_certificate}
 use Rattle.evroute_run.specs.CheckAnswer.{BreaksFirst, CheckAnswers, Holds, IsCertificateOf, IsCheckRefused, IsRejection, IsValid, PutsAccepted, PutsRejected, check_answers, check_task}
-use Rattle.evroute_run.specs.FleetNetwork.{customer_count}
 use Rattle.job_frame.specs.declared.status.Status.{Status}
 use Rattle.job_frame.specs.declared.status.Status.TheVariants as status
 

@@ -1,13 +1,11 @@
 -- What `improve` finds, and which of its reads failed.
 use Rattle.std.specs.Borrow.{Bor}
 use Rattle.std.specs.Option.{option_map}
-use Rattle.std.proofs.Common.{◌≡◌, ◌⊎◌, ℕ, List, [], ◌∷◌, Option, None, Some, Result, Ok, Err, IfErr, IfOk, ap, inl, inr, map, refl, subst, sym}
+use Rattle.std.proofs.Common.{◌≡◌, ◌⊎◌, ℕ, List, [], ◌∷◌, Option, None, Some, Result, Ok, Err, IfOk, ap, inl, inr, map, refl, subst, sym}
 use Rattle.command_line.specs.Words.{ImproveJob}
 use Rattle.ev_model.specs.Fleet.{cost_of}
 use Rattle.ev_model.specs.Network.{Network}
-use Rattle.ev_outside.specs.Shelf.{CountsNeverFall, CountsStay, Files, ShelfState}
-use Rattle.ev_outside.specs.declared.shelf.ShelfFault.{ShelfFault}
-use Rattle.ev_outside.specs.declared.shelf.ShelfFault.TheVariants as shelf
+use Rattle.ev_outside.specs.Shelf.{Files, ShelfState}
 use Rattle.job_steps.specs.Caps.{file_read, most_bytes}
 use Rattle.evroute_run.specs.CheckAnswer.{BreaksFirst, IsValid}
 use Rattle.evroute_run.specs.Ended.{IsImproveEnded}
@@ -16,9 +14,10 @@ use Rattle.evroute_run.specs.ImproveAnswer.{HasPlan, ImproveAnswers, PutsAlone, 
 use Rattle.job_steps.specs.LimitedNetwork.{HasNetwork}
 use Rattle.job_steps.specs.declared.answer.Ended.{Ended}
 use Rattle.job_steps.specs.declared.answer.Ended.TheVariants.{Refused, Memory}
+use Rattle.job_frame.proofs.BehindReads.{IsFoundFor, no_write, one_write}
 use Rattle.job_frame.proofs.FileReads.{finds, some_read}
 use Rattle.job_frame.specs.Faults.{FailsReading, HasFailedRead}
-use Rattle.job_frame.specs.Finds.{Finds, outcome_of, written_by}
+use Rattle.job_frame.specs.Finds.{written_by}
 use Rattle.job_frame.specs.Task.{Answers, AreReadUpTo, IsAnswered}
 use Rattle.job_frame.specs.Writes.{AreDifferent, Written}
 use Rattle.job_frame.specs.declared.found.Found.{Found}
@@ -35,7 +34,6 @@ use Rattle.route_improve.specs.Improved.{CostsNoMore, IsFirstAlone, IsImproved}
 use Rattle.route_improve.specs.ImprovedText.{alone_text, improved_text}
 use Rattle.route_plan.specs.PlanTexts.{fleet_plan_text}
 use Rattle.route_plan.specs.declared.plan.FleetPlan.{FleetPlan}
-use Rattle.route_plan.specs.declared.plan.RoutePlan.{RoutePlan}
 
 -- ---- what is found for a plan
 
@@ -129,12 +127,6 @@ puts_refusal {E} limit outfile bytes plan_bytes ended refusal (Ok f) is refused 
 
 -- ---- what the bytes of both files answer
 
-one_write : (name bytes : List ℕ) (ws : List Written) → ws ≡ record { name = name; bytes = bytes } ∷ [] → AreDifferent ws
-one_write name bytes ws is = subst (λ (xs : List Written). AreDifferent xs) (sym is) (tt, tt)
-
-no_write : (ws : List Written) → ws ≡ [] → AreDifferent ws
-no_write ws is = subst (λ (xs : List Written). AreDifferent xs) (sym is) tt
-
 negative_writes : (limit : Option ℕ) (bytes plan_bytes : List ℕ) (ws : List Written) (text : List ℕ) →
     PutsBrokenPlan limit bytes plan_bytes ws text ⊎ PutsAlone limit bytes plan_bytes ws text → AreDifferent ws
 negative_writes limit bytes plan_bytes ws text (inl broken) = no_write ws broken.none
@@ -150,16 +142,10 @@ answer_is_plain limit outfile bytes plan_bytes status.Fault ws text p = absurd p
 answer_is_plain limit outfile bytes plan_bytes status.Memory ws text p = absurd p
 answer_is_plain limit outfile bytes plan_bytes status.Stopped ws text p = absurd p
 
--- what is found, as an answer of the task
-pub record IsFoundFor (job : ImproveJob) (files : Option Files) (f : Found) : Type 0 where
-  pub answered : IsAnswered f.answer.status
-  pub answers : Answers (improve_task job) files (outcome_of f)
-  pub different : AreDifferent (outcome_of f).writes
-
 pub improve_found : {E : Type 0} (job : ImproveJob) (files : Option Files) (bytes plan_bytes outfile given : List ℕ) (made : Result Found E) →
     AreReadUpTo most_bytes files job.file bytes → AreReadUpTo most_bytes files job.plan plan_bytes → outfile ≡ job.outfile → given ≡ plan_bytes
     → IfOk made (λ f. ImproveAnswers job.limit outfile bytes given f.answer.status (map written_by f.files.items) f.answer.text.items)
-    → IfOk made (λ f. IsFoundFor job files f)
+    → IfOk made (λ f. IsFoundFor (improve_task job) files f)
 improve_found {E} job files bytes plan_bytes outfile given (Err e) read read_plan named same answers = tt
 improve_found {E} job files bytes plan_bytes outfile given (Ok f) read read_plan named same answers =
     let ws = map written_by f.files.items in
@@ -174,14 +160,6 @@ improve_found {E} job files bytes plan_bytes outfile given (Ok f) read read_plan
       };
       different = plain.1;
     }
-
--- what is found is found for the task
-pub finds_improved : (job : ImproveJob) (before after : ShelfState) (found : Result Found ShelfFault) → IfOk found (λ f. IsFoundFor job before.files f)
-    → IfErr found (λ fault. fault ≡ shelf.Memory) → CountsStay before after → CountsNeverFall before after → after.files ≡ before.files
-    → Finds (improve_task job) before after found
-finds_improved job before after (Err fault) is memory stays falls files = finds (improve_task job) before after (Err fault) tt tt tt memory stays falls files
-finds_improved job before after (Ok f) is memory stays falls files =
-    finds (improve_task job) before after (Ok f) is.answered is.answers is.different tt stays falls files
 
 -- a rule that the first steps break is a rule of `improve`
 improve_ended : (limit : Option ℕ) (bs plan_bytes : List ℕ) (e : Ended) → IsNetworkEnded limit bs e → IsImproveEnded limit bs plan_bytes e

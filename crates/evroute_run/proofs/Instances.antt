@@ -1,7 +1,8 @@
 -- Bytes mean one network of a fleet at most, and those that break a rule mean none.
 use Rattle.std.proofs.Common.{◌≡◌, ◌∙◌, ℕ, List, Option, ap, arith}
+use Rattle.bound_certificate.specs.Ranges.{customer_count}
 use Rattle.ev_model.specs.Network.{Network}
-use Rattle.evroute_run.specs.FleetNetwork.{HasFleetNetwork, IsFleetRefused, customer_count}
+use Rattle.evroute_run.specs.FleetNetwork.{HasFleetNetwork, IsFleetRefused}
 use Rattle.job_steps.proofs.LimitedNetworks.{one_limited, refused_has_none}
 use Rattle.plan_writer.specs.RefusalText.{IsRule}
 use Rattle.plan_writer.specs.declared.refusal.Refusal.{Refusal}

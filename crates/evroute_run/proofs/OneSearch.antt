@@ -4,6 +4,7 @@ use Rattle.std.proofs.lemmas.Bool.{false≢true}
 use Rattle.std.proofs.lemmas.List.{length-map}
 use Rattle.std.proofs.lemmas.Option.{same_Some}
 use Rattle.bound_certificate.specs.CertificateTexts.{certificate_text}
+use Rattle.bound_certificate.specs.Ranges.{customer_count}
 use Rattle.bound_certificate.specs.Reading.{certificate_at}
 use Rattle.bound_certificate.specs.Written.{Written, written, written_section}
 use Rattle.bound_certificate.specs.WrittenRanges.{WrittenIs, WrittenLoose}
@@ -21,6 +22,7 @@ use Rattle.ev_text.specs.Texts.{StandsUnlessLonger}
 use Rattle.ev_text.proofs.Results.{Ok-injective}
 use Rattle.ev_text.proofs.WholeLaws.{whole-spells}
 use Rattle.ev_text.proofs.WholeReads.{ranged-spells}
+use Rattle.job_steps.specs.Caps.{most_customers}
 use Rattle.route_plan.proofs.PlanReaders.{AnyBehind, reader-file}
 use Rattle.route_plan.specs.PlanReading.{file_at}
 use Rattle.route_plan.specs.PlanTexts.{FitsFile, fleet_plan_text}
@@ -30,7 +32,6 @@ use Rattle.job_frame.specs.Task.{Outcome as Answered}
 use Rattle.job_frame.specs.Writes.{HoldsAll, Written as NewFile}
 use Rattle.job_steps.proofs.LimitedNetworks.{one_limited}
 use Rattle.evroute_run.proofs.SearchReports.{held_fits}
-use Rattle.evroute_run.specs.FleetNetwork.{customer_count, most_customers}
 use Rattle.evroute_run.specs.FleetAnswer.{IsFound, PutsFound, search_status}
 use Rattle.job_frame.specs.declared.status.Status.{Status}
 

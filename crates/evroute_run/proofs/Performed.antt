@@ -1,5 +1,5 @@
 -- The job that the words name is performed.
-use Rattle.std.proofs.Common.{◌≡◌, ℕ, List, [], Option, None, Some, IfSome, ap, inr, refl, subst, sym}
+use Rattle.std.proofs.Common.{◌≡◌, ℕ, List, [], Option, None, Some, IfSome, Result, ap, inr, refl, subst, sym}
 use Rattle.std.proofs.lemmas.List.{append-nil}
 use Rattle.std.specs.Option.{option_map}
 use Rattle.command_line.specs.JobValue.{job_value}
@@ -8,6 +8,7 @@ use Rattle.command_line.specs.Words.{BoundFleets, CheckBound, CheckMixed, CheckP
 use Rattle.command_line.specs.declared.Job as values
 use Rattle.ev_outside.specs.Shelf.{ShelfState}
 use Rattle.ev_outside.specs.Sink.{AddsPrefix, SinkState}
+use Rattle.ev_outside.specs.declared.shelf.ShelfFault.{ShelfFault}
 use Rattle.evroute_run.proofs.BoundLaw.{bound_lawful}
 use Rattle.evroute_run.proofs.CheckBoundLaw.{check_bound_lawful}
 use Rattle.evroute_run.proofs.CheckLaw.{check_lawful}
@@ -20,7 +21,10 @@ use Rattle.evroute_run.proofs.MakeLaw.{make_lawful}
 use Rattle.evroute_run.proofs.ProveLaw.{prove_lawful}
 use Rattle.evroute_run.specs.Run.{TellsUsage, task_of}
 use Rattle.job_frame.proofs.Performed.{IsLawful, performs_nothing}
+use Rattle.job_frame.specs.Finds.{Finds}
 use Rattle.job_frame.specs.Performs.{Performs}
+use Rattle.job_frame.specs.declared.found.Found.{Found}
+use Rattle.job_frame.specs.declared.status.Status.{Status}
 use Rattle.job_frame.specs.declared.status.Status.TheVariants as status
 use Rattle.mixed_run.proofs.CheckMixedLaw.{check_mixed_lawful}
 use Rattle.mixed_run.proofs.MixedLaw.{mixed_lawful}
@@ -64,3 +68,14 @@ whatever_named (Some job) shelf old = performs_nothing (task_of job) (is_lawful 
 pub named_performs : (found : Option values.Job) (job : values.Job) (named : Option Job) (Holds : Job → Type 0) → found ≡ Some job → option_map job_value found ≡ named → Holds (job_value job) → IfSome named Holds
 named_performs found job named Holds is same holds =
     subst (λ (n : Option Job). IfSome n Holds) same (subst (λ (f : Option values.Job). IfSome (option_map job_value f) Holds) (sym is) holds)
+
+-- ---- what is shown of a job's value holds of the job that has it
+
+pub value_performs : {before after : ShelfState} {old new : SinkState} {ended : Status} (job of : values.Job) → job ≡ of → Performs (task_of (job_value of)) before after old new ended → Performs (task_of (job_value job)) before after old new ended
+value_performs {before} {after} {old} {new} {ended} job of is performs = subst (λ (j : values.Job). Performs (task_of (job_value j)) before after old new ended) (sym is) performs
+
+-- what was found for the value of a job, whichever it is, is written and put
+pub finished : {before between after : ShelfState} {old new : SinkState} {ended : Status} {found : Result Found ShelfFault} (job of : values.Job)
+    → ((any : Job) (start : ShelfState) → Finds (task_of any) start between found → Performs (task_of any) start after old new ended)
+    → job ≡ of → Finds (task_of (job_value of)) before between found → Performs (task_of (job_value job)) before after old new ended
+finished {before} {between} {after} {old} {new} {ended} {found} job of finish is finds = value_performs job of is (finish (job_value of) before finds)

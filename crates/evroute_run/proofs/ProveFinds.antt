@@ -1,15 +1,14 @@
 -- What `prove` finds.
-use Rattle.std.proofs.Common.{◌≡◌, ℕ, List, [], ◌∷◌, Option, None, Some, Result, Ok, Err, IfErr, IfOk, IfSome, ap, map, refl, subst, sym}
+use Rattle.std.proofs.Common.{◌≡◌, ℕ, List, [], ◌∷◌, Option, None, Some, Result, Ok, Err, IfOk, IfSome, ap, map, refl, subst, sym}
 use Rattle.command_line.specs.Words.{ProofJob}
 use Rattle.command_line.specs.declared.Options.{Options}
 use Rattle.ev_model.specs.Feasible.{IsFeasible}
 use Rattle.ev_model.specs.Network.{Network}
-use Rattle.ev_outside.specs.Shelf.{CountsNeverFall, CountsStay, Files, ShelfState}
-use Rattle.ev_outside.specs.declared.shelf.ShelfFault.{ShelfFault}
-use Rattle.ev_outside.specs.declared.shelf.ShelfFault.TheVariants as shelf
+use Rattle.ev_outside.specs.Shelf.{Files}
+use Rattle.job_frame.proofs.BehindReads.{IsFoundFor, no_write, one_write}
 use Rattle.job_frame.proofs.FileReads.{finds}
-use Rattle.job_frame.specs.Finds.{Finds, outcome_of, written_by}
-use Rattle.job_frame.specs.Task.{Answers, AreReadUpTo, IsAnswered}
+use Rattle.job_frame.specs.Finds.{written_by}
+use Rattle.job_frame.specs.Task.{AreReadUpTo, IsAnswered}
 use Rattle.job_frame.specs.Writes.{AreDifferent, Written}
 use Rattle.job_frame.specs.declared.found.Found.{Found}
 use Rattle.job_frame.specs.declared.status.Status.{Status}
@@ -87,12 +86,6 @@ puts_refusal {E} options word cert bytes ended refusal (Ok f) is refused answere
 
 -- ---- what the bytes of the file answer
 
-one_write : (name bytes : List ℕ) (ws : List Written) → ws ≡ record { name = name; bytes = bytes } ∷ [] → AreDifferent ws
-one_write name bytes ws is = subst (λ (xs : List Written). AreDifferent xs) (sym is) (tt, tt)
-
-no_write : (ws : List Written) → ws ≡ [] → AreDifferent ws
-no_write ws is = subst (λ (xs : List Written). AreDifferent xs) (sym is) tt
-
 answer_is_plain : (options : Options) (word cert bytes : List ℕ) (s : Status) (ws : List Written) (text : List ℕ) → ProveAnswers options word cert bytes s ws text → IsAnswered s × AreDifferent ws
 answer_is_plain options word cert bytes status.Done ws text p = (tt, one_write cert (proof_text p.proof) ws p.written)
 answer_is_plain options word cert bytes status.Negative ws text p = (tt, one_write cert (proof_text p.proof) ws p.written)
@@ -102,16 +95,10 @@ answer_is_plain options word cert bytes status.Fault ws text p = absurd p
 answer_is_plain options word cert bytes status.Memory ws text p = absurd p
 answer_is_plain options word cert bytes status.Stopped ws text p = absurd p
 
--- what is found, as an answer of the task
-pub record IsFoundFor (job : ProofJob) (files : Option Files) (f : Found) : Type 0 where
-  pub answered : IsAnswered f.answer.status
-  pub answers : Answers (prove_task job) files (outcome_of f)
-  pub different : AreDifferent (outcome_of f).writes
-
 pub prove_found : {E : Type 0} (job : ProofJob) (files : Option Files) (bytes given word cert : List ℕ) (made : Result Found E) →
     AreReadUpTo most_bytes files job.file bytes → given ≡ bytes → word ≡ job.route → cert ≡ job.cert
     → IfOk made (λ f. ProveAnswers job.options word cert given f.answer.status (map written_by f.files.items) f.answer.text.items)
-    → IfOk made (λ f. IsFoundFor job files f)
+    → IfOk made (λ f. IsFoundFor (prove_task job) files f)
 prove_found {E} job files bytes given word cert (Err e) read same spelled named answers = tt
 prove_found {E} job files bytes given word cert (Ok f) read same spelled named answers =
     let ws = map written_by f.files.items in
@@ -127,10 +114,3 @@ prove_found {E} job files bytes given word cert (Ok f) read same spelled named a
       };
       different = plain.1;
     }
-
--- what is found is found for the task
-pub finds_proved : (job : ProofJob) (before after : ShelfState) (found : Result Found ShelfFault) → IfOk found (λ f. IsFoundFor job before.files f)
-    → IfErr found (λ fault. fault ≡ shelf.Memory) → CountsStay before after → CountsNeverFall before after → after.files ≡ before.files
-    → Finds (prove_task job) before after found
-finds_proved job before after (Err fault) is memory stays falls files = finds (prove_task job) before after (Err fault) tt tt tt memory stays falls files
-finds_proved job before after (Ok f) is memory stays falls files = finds (prove_task job) before after (Ok f) is.answered is.answers is.different tt stays falls files

@@ -3,7 +3,7 @@ use Rattle.std.specs.Prelude.{◌≡◌, ◌≢◌, ℕ, ◌<◌, List, [], ◌�
 use Rattle.std.specs.List.{All}
 use Rattle.bound_certificate.specs.CertificateIn.{certificate_in}
 use Rattle.bound_certificate.specs.Kept.{IsKept}
-use Rattle.bound_certificate.specs.Ranges.{Fits}
+use Rattle.bound_certificate.specs.Ranges.{Fits, customer_count}
 use Rattle.bound_certificate.specs.Written.{written}
 use Rattle.bound_certificate.specs.declared.certificate.Certificate.{Certificate}
 use Rattle.certificate_check.specs.Accepted.{IsAccepted}
@@ -25,8 +25,8 @@ use Rattle.plan_writer.specs.declared.refusal.Refusal.TheVariants as refusal
 use Rattle.route_plan.specs.PlanReading.{fleet_plan_in}
 use Rattle.route_plan.specs.PlanTexts.{SpellsFleetPlan}
 use Rattle.route_plan.specs.declared.plan.FleetPlan.{FleetPlan}
-use Rattle.job_steps.specs.Caps.{certificate_read, file_read}
-use Rattle.evroute_run.specs.FleetNetwork.{HasFleetNetwork, customer_count, most_customers}
+use Rattle.job_steps.specs.Caps.{certificate_read, file_read, most_customers}
+use Rattle.evroute_run.specs.FleetNetwork.{HasFleetNetwork}
 use Rattle.job_steps.specs.LimitedNetwork.{HasNetwork, IsPastLimit}
 use Rattle.job_frame.specs.Task.{Outcome, Task}
 use Rattle.job_frame.specs.declared.status.Status.{Status}

@@ -1,20 +1,14 @@
 -- The instance of a file for a fleet: with the limit of the words, and without too many customers.
-use Rattle.std.specs.Prelude.{◌≡◌, ℕ, ◌<◌, ◌≤◌, List, [], Option, length}
+use Rattle.std.specs.Prelude.{◌≡◌, ℕ, ◌<◌, ◌≤◌, List, [], Option}
+use Rattle.bound_certificate.specs.Ranges.{customer_count}
 use Rattle.ev_model.specs.Network.{Network}
 use Rattle.instance_reader.specs.Faults.{IsFirstFault}
-use Rattle.instance_reader.specs.Instance.{customer_nodes}
+use Rattle.job_steps.specs.Caps.{most_customers}
 use Rattle.plan_writer.specs.RefusalText.{IsRule, refusal_text}
 use Rattle.plan_writer.specs.declared.refusal.Refusal.{Refusal}
 use Rattle.plan_writer.specs.declared.refusal.Refusal.TheVariants as refusal
 use Rattle.job_steps.specs.LimitedNetwork.{HasNetwork, IsPastLimit}
 use Rattle.job_frame.specs.Writes.{Written}
-
--- the most customers of a fleet
-abbrev pub most_customers : ℕ
-most_customers = 128
-
-abbrev pub customer_count : Network → ℕ
-customer_count g = length (customer_nodes g)
 
 -- the bytes are an instance without too many customers, and g is its network with the limit of
 -- the words

@@ -2,12 +2,13 @@
 //! proof that is written.
 
 ghost use Rattle.std.specs.Prelude.{◌≡◌, ◌≤◌, IfOk, map, string_bytes};
+ghost use Rattle.bound_certificate.specs.Ranges.{customer_count};
 ghost use Rattle.command_line.specs.JobValue.{job_value};
 ghost use Rattle.command_line.specs.declared.Job.TheVariants.{Bound};
 ghost use Rattle.evroute_run.specs.BoundAnswer.{IsBoundFound, bound_status};
-ghost use Rattle.evroute_run.specs.FleetNetwork.{customer_count, most_customers};
 ghost use Rattle.evroute_run.specs.Run.{task_of};
 ghost use Rattle.job_frame.specs.Finds.{Finds, written_by};
+ghost use Rattle.job_steps.specs.Caps.{most_customers};
 ghost use Rattle.near_text.specs.NearTexts.{near_text};
 ghost use Rattle.near_text.specs.VerdictText.{near_bound_text};
 ghost use Rattle.near_text.specs.Written.{written_near};

@@ -1,12 +1,13 @@
 //! What `check` finds: a plan file and a certificate are judged on an instance.
 
 ghost use Rattle.std.specs.Prelude.{◌≡◌, ◌≤◌, IfErr, IfOk, List, Option, option_map, string_bytes, ℕ};
+ghost use Rattle.bound_certificate.specs.Ranges.{customer_count};
 ghost use Rattle.command_line.specs.JobValue.{job_value};
 ghost use Rattle.command_line.specs.declared.Job.TheVariants.{Check};
 ghost use Rattle.ev_model.specs.Network.{Network};
-ghost use Rattle.job_steps.specs.Caps.{most_bytes};
+ghost use Rattle.job_steps.specs.Caps.{most_bytes, most_customers};
 ghost use Rattle.evroute_run.specs.CheckAnswer.{HasFleet};
-ghost use Rattle.evroute_run.specs.FleetNetwork.{HasFleetNetwork, customer_count, most_customers};
+ghost use Rattle.evroute_run.specs.FleetNetwork.{HasFleetNetwork};
 ghost use Rattle.evroute_run.specs.Ended.{IsCheckEnded, IsImproveEnded};
 ghost use Rattle.job_steps.specs.Ended.{IsRuleOrMemory};
 ghost use Rattle.job_steps.specs.LimitedNetwork.{HasNetwork};

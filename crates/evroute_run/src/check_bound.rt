@@ -1,13 +1,14 @@
 //! What `check-bound` finds: a proof of what no fleet plan costs less than is judged.
 
 ghost use Rattle.std.specs.Prelude.{◌≡◌, ◌≤◌, IfErr, IfOk, List, Option, string_bytes, ℕ};
+ghost use Rattle.bound_certificate.specs.Ranges.{customer_count};
 ghost use Rattle.command_line.specs.JobValue.{job_value};
 ghost use Rattle.command_line.specs.declared.Job.TheVariants.{CheckBound};
-ghost use Rattle.job_steps.specs.Caps.{most_bytes};
+ghost use Rattle.job_steps.specs.Caps.{most_bytes, most_customers};
 ghost use Rattle.evroute_run.specs.CheckBoundAnswer.{CheckBoundAnswers, HasNear, verdict_status};
 ghost use Rattle.evroute_run.specs.Ended.{IsCheckBoundEnded};
 ghost use Rattle.job_steps.specs.Ended.{IsRuleOrMemory};
-ghost use Rattle.evroute_run.specs.FleetNetwork.{HasFleetNetwork, customer_count, most_customers};
+ghost use Rattle.evroute_run.specs.FleetNetwork.{HasFleetNetwork};
 ghost use Rattle.evroute_run.specs.Run.{task_of};
 ghost use Rattle.job_frame.specs.Finds.{Finds};
 ghost use Rattle.job_frame.specs.Task.{AreReadUpTo, IsAnswered};

@@ -112,7 +112,8 @@ pub fn run<S: Shelf, K: Sink>(alloc: Global, words: &[String], shelf: &mut S, ou
     run_watched(alloc, words, shelf, out, &mut Nobody {})
 }
 
-/// The same as [`run`], where a watcher is told how far a search, a bound or an improvement is.
+/// The same as [`run`], where a watcher is told how far a search, a bound, an improvement or a
+/// fleet of several kinds is.
 pub fn run_watched<S: Shelf, K: Sink, W: JobWatcher>(
     alloc: Global,
     words: &[String],
@@ -175,7 +176,7 @@ fn perform<S: Shelf, K: Sink, W: JobWatcher>(
         Job::Prove(job) => finish(prove(alloc, job, shelf), shelf, out),
         Job::CheckRoute(job) => finish(check_route(alloc, job, shelf), shelf, out),
         Job::Improve(job) => finish(improve(alloc, job, shelf, watcher), shelf, out),
-        Job::Mixed(job) => finish(mixed(alloc, job, shelf), shelf, out),
+        Job::Mixed(job) => finish(mixed(alloc, job, shelf, watcher), shelf, out),
         Job::CheckMixed(job) => finish(check_mixed_files(alloc, job, shelf), shelf, out),
     }
 }

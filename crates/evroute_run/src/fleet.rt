@@ -2,20 +2,21 @@
 //! written.
 
 ghost use Rattle.std.specs.Prelude.{◌≡◌, ◌∷◌, ◌≤◌, [], IfOk, IfSome, List, map, string_bytes, ℕ};
+ghost use Rattle.bound_certificate.specs.Ranges.{customer_count};
 ghost use Rattle.command_line.specs.JobValue.{IsFleetJob, job_value};
 ghost use Rattle.command_line.specs.declared.Job.TheVariants.{Fleet};
-ghost use Rattle.evroute_run.specs.FleetNetwork.{customer_count, most_customers};
 ghost use Rattle.evroute_run.specs.FleetAnswer.{IsFound};
 ghost use Rattle.evroute_run.specs.Run.{task_of};
 ghost use Rattle.job_frame.specs.Finds.{Finds, written_by};
+ghost use Rattle.job_steps.specs.Caps.{most_customers};
 
 use crate::instance::fleet_instance;
-use crate::planning::{Planned, plan_all};
+use crate::planning::plan_all;
 use crate::watcher::JobWatcher;
 use command_line::FleetWords;
 use ev_outside::{Shelf, ShelfFault};
 use instance_reader::Instance;
-use job_frame::{Found, NewFile, read_file};
+use job_frame::{Found, read_file};
 use job_steps::{Ended, MOST_BYTES, refuse_job};
 use std::alloc::{AllocError, Global};
 
@@ -63,11 +64,7 @@ fn plan_on<W: JobWatcher>(
         ∷ record { name = string_bytes job.now.cert; bytes = cert_bytes } ∷ [])) }
 {
     let planned = plan_all(alloc, inst, job.nodes, watcher)?;
-    let Planned { plan, cert, answer } = planned;
-    let plan = NewFile::new(alloc, job.plan.as_str(), plan)?;
-    let cert = NewFile::new(alloc, job.cert.as_str(), cert)?;
-    let mut files = Vec::new(alloc);
-    files.push(plan)?;
-    files.push(cert)?;
-    Ok(Found { answer, files })
+    // By a name of its own its answer and its files are told apart.
+    let found = planned.found(alloc, job.plan.as_str(), job.cert.as_str())?;
+    Ok(found)
 }

@@ -6,12 +6,9 @@ ghost use Rattle.evroute_run.specs.FleetNetwork.{HasFleetNetwork};
 ghost use Rattle.job_steps.specs.Ended.{IsRuleOrMemory};
 
 use instance_reader::Instance;
-use job_steps::{Ended, limited_instance};
+use job_steps::{Ended, MOST_CUSTOMERS, limited_instance};
 use plan_writer::Refusal;
 use std::alloc::Global;
-
-/// The most customers of a fleet.
-const MOST_CUSTOMERS: usize = 128;
 
 /// The instance of the bytes for a fleet: with the limit of the words, and without too many
 /// customers.

@@ -1,10 +1,10 @@
 //! The judgement of `check` on a plan and on the bytes of a certificate.
 
 ghost use Rattle.std.specs.Prelude.{◌≡◌, ◌≤◌, IfErr, IfOk, List, Option, option_map, ℕ};
-ghost use Rattle.bound_certificate.specs.Ranges.{Fits};
+ghost use Rattle.bound_certificate.specs.Ranges.{Fits, customer_count};
 ghost use Rattle.evroute_run.specs.CheckAnswer.{BreaksFirst, CheckAnswers, HasFleet, IsCertificateOf, IsValid};
-ghost use Rattle.evroute_run.specs.FleetNetwork.{customer_count, most_customers};
 ghost use Rattle.evroute_run.specs.Ended.{IsCheckEnded};
+ghost use Rattle.job_steps.specs.Caps.{most_customers};
 ghost use Rattle.job_steps.specs.Ended.{IsRuleOrMemory};
 ghost use Rattle.evroute_run.specs.Judged.{IsJudgementOf, judged_status};
 ghost use Rattle.job_frame.specs.Task.{IsAnswered};

@@ -1,13 +1,13 @@
 //! What `fleet` writes and puts of a search.
 
 ghost use Rattle.std.specs.Prelude.{◌≡◌, ◌*◌, ◌≤◌, IfOk, IfSome, None, Option, Some, if◌then◌else◌, ℕ};
-ghost use Rattle.bound_certificate.specs.Ranges.{Fits, SectionFits};
+ghost use Rattle.bound_certificate.specs.Ranges.{Fits, SectionFits, customer_count};
 ghost use Rattle.certificate_check.specs.Accepted.{IsAccepted};
 ghost use Rattle.ev_fleet.specs.Outcome.{IsOutcome};
 ghost use Rattle.ev_model.specs.Network.{IsNetwork};
-ghost use Rattle.evroute_run.specs.FleetNetwork.{customer_count, most_customers};
 ghost use Rattle.evroute_run.specs.FleetAnswer.{IsFound, TellsRootOf, outcomes_of, search_status};
 ghost use Rattle.fleet_model.specs.Prices.{sum_of};
+ghost use Rattle.job_steps.specs.Caps.{most_customers};
 ghost use Rattle.plan_writer.specs.FleetText.{IsExactLine, IsLowestLine, fleet_text};
 
 use crate::judging::cost_of;
@@ -17,20 +17,10 @@ use certificate_check::price_total;
 use ev_fleet::{Outcome, plan_fleet_watched};
 use instance_reader::Instance;
 use job_frame::{Answer, Status};
+use job_steps::Planned;
 use plan_writer::{Outcomes, RootLine, push_fleet_report};
 use route_plan::push_fleet_plan;
 use std::alloc::{AllocError, Global};
-
-/// What is written and put of a search.
-#[derive(Drop)]
-pub struct Planned {
-    /// The text of the plan file.
-    pub plan: Vec<u8>,
-    /// The text of the certificate.
-    pub cert: Vec<u8>,
-    /// The report, and the status that goes with it.
-    pub answer: Answer,
-}
 
 /// The texts of a fleet plan and of a certificate on an instance without too many customers, and
 /// the report on both; with a budget, which is the greatest number of nodes that are looked at, of

@@ -1,15 +1,15 @@
 //! Who watches a long job.
 
 use ev_fleet::{Progress, Watcher};
+use job_steps::ScaleWatcher;
+use mixed_run::{RisingProgress, RoundProgress, RoundWatcher};
 use ng_pricing::{PriceProgress, PriceWatcher};
 use route_improve::{MoveProgress, MoveWatcher};
 
-/// Who is told how far a search, a bound or an improvement is. Nothing is promised of it: neither
-/// what is written nor what is put, nor the status, depends on it.
-pub trait JobWatcher: Watcher + PriceWatcher + MoveWatcher {
-    /// Is told, before a search, a bound or an improvement begins, by what its times are scaled.
-    fn begin(&mut self, denominator: u64);
-}
+/// Who is told how far a search, a bound, an improvement or the rounds of a fleet of several kinds
+/// are, and by what their times are scaled. Nothing is promised of it: neither what is written nor
+/// what is put, nor the status, depends on it.
+pub trait JobWatcher: Watcher + PriceWatcher + MoveWatcher + RoundWatcher + ScaleWatcher {}
 
 /// Nobody.
 #[derive(Drop)]
@@ -27,6 +27,14 @@ impl MoveWatcher for Nobody {
     fn watch_moves(&mut self, _progress: MoveProgress) {}
 }
 
-impl JobWatcher for Nobody {
+impl RoundWatcher for Nobody {
+    fn watch_rounds(&mut self, _progress: RoundProgress) {}
+
+    fn watch_rising(&mut self, _progress: RisingProgress) {}
+}
+
+impl ScaleWatcher for Nobody {
     fn begin(&mut self, _denominator: u64) {}
 }
+
+impl JobWatcher for Nobody {}

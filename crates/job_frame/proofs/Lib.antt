@@ -1,4 +1,5 @@
 pub mod FileWrites
 pub mod FileReads
+pub mod BehindReads
 pub mod Performed
 pub mod OneStatus

@@ -63,4 +63,21 @@ impl Found {
         files.push(file)?;
         Ok(Found { answer, files })
     }
+
+    /// An answer before which two files are written, in this order.
+    pub fn with_files(
+        alloc: Global,
+        answer: Answer,
+        first: NewFile,
+        second: NewFile,
+    ) -> Result<Found, AllocError>
+        ensures answer { IfOk result (λ f. f.answer ≡ answer) }
+        ensures files { IfOk result (λ f.
+            map written_by f.files.items ≡ written_by first ∷ written_by second ∷ []) }
+    {
+        let mut files = Vec::new(alloc);
+        files.push(first)?;
+        files.push(second)?;
+        Ok(Found { answer, files })
+    }
 }

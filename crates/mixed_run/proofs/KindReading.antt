@@ -5,15 +5,16 @@ use Rattle.std.proofs.lemmas.List.{append_assoc, length-map, take_rest}
 use Rattle.std.proofs.lemmas.List.Elements.{All-cons, All-head}
 use Rattle.std.specs.Prelude.{string_bytes}
 use Rattle.std.specs.declared.alloc.Global.{Global}
+use Rattle.certificate_parts.specs.Ranges.{customer_count}
 use Rattle.ev_model.specs.Network.{IsNetwork, Network}
 use Rattle.ev_outside.specs.Counts.{Rose}
 use Rattle.ev_outside.specs.Shelf.{CountsStay, Files, ShelfState}
 use Rattle.ev_outside.specs.declared.shelf.ShelfFault.TheVariants as shelf
 use Rattle.job_frame.proofs.FileReads.{some_read}
 use Rattle.job_frame.specs.Task.{AreRead, Read}
-use Rattle.job_steps.specs.Caps.{file_read}
-use Rattle.mixed_model.specs.Kinds.{AreKinds}
-use Rattle.mixed_run.specs.KindFiles.{AreUnfit, HasKinds, HaveNetworks, IsFileRefused, IsKindsRefused, IsMixedRule, customer_count, kind_reads, most_customers}
+use Rattle.job_steps.specs.Caps.{file_read, most_customers}
+use Rattle.mixed_model.specs.Kinds.{AreKinds, first_of}
+use Rattle.mixed_run.specs.KindFiles.{AreUnfit, HasKinds, HaveNetworks, IsFileRefused, IsKindsRefused, IsMixedRule, kind_reads}
 use Rattle.mixed_run.specs.KindReading.{AreRefused, IsHalt, ReadAs}
 use Rattle.mixed_run.specs.Names.{names_of}
 use Rattle.mixed_run.specs.declared.refusal.Halt.{Halt}
@@ -152,7 +153,7 @@ halts_behind_files limit names files kinds r is unfit =
 
 -- the files whose networks go with one another
 pub are_kinds : (limit : Option ℕ) (names : List (List ℕ)) (files : Option Files) (kinds : List Network) (is : ReadAs limit names files kinds) →
-    AreKinds kinds → customer_count kinds ≤ most_customers → HasKinds limit is.bytes kinds
+    AreKinds kinds → customer_count (first_of kinds) ≤ most_customers → HasKinds limit is.bytes kinds
 are_kinds limit names files kinds is agree few = record { networks = is.networks; valid = is.valid; agree = agree; few = few }
 
 -- there is one network for each file

@@ -1,11 +1,11 @@
 -- The files of kinds of vehicles: each is an instance that takes the limit of the words, they
 -- agree, and there aren't too many customers; or the first rule that is broken.
-use Rattle.std.specs.Prelude.{◌≡◌, ℕ, ◌⊎◌, ◌<◌, ◌≤◌, List, [], ◌∷◌, Option, codes, length, map}
+use Rattle.std.specs.Prelude.{◌≡◌, ℕ, ◌⊎◌, ◌<◌, ◌≤◌, List, [], ◌∷◌, Option, codes, map}
 use Rattle.std.specs.List.{All}
+use Rattle.certificate_parts.specs.Ranges.{customer_count}
 use Rattle.ev_model.specs.Network.{IsNetwork, Network}
-use Rattle.instance_reader.specs.Instance.{customer_nodes}
 use Rattle.job_frame.specs.Task.{Read}
-use Rattle.job_steps.specs.Caps.{file_read}
+use Rattle.job_steps.specs.Caps.{file_read, most_customers}
 use Rattle.job_steps.specs.LimitedNetwork.{HasNetwork, IsNetworkRefused}
 use Rattle.mixed_model.specs.Kinds.{AreKinds, first_of}
 use Rattle.mixed_plan.specs.Agreement.{IsFirstApart}
@@ -14,14 +14,6 @@ use Rattle.plan_writer.specs.declared.refusal.Refusal.TheVariants as refusal
 use Rattle.report_lines.specs.Lines.{number_line}
 use Rattle.mixed_run.specs.declared.refusal.MixedRefusal.{MixedRefusal}
 use Rattle.mixed_run.specs.declared.refusal.MixedRefusal.TheVariants.{Plain, Kinds}
-
--- the most customers of a fleet
-abbrev pub most_customers : ℕ
-most_customers = 128
-
--- the customers of a fleet, which are those of each kind
-abbrev pub customer_count : List Network → ℕ
-customer_count kinds = length (customer_nodes (first_of kinds))
 
 -- each file is an instance, and these are their networks with the limit of the words
 abbrev pub HaveNetworks : Option ℕ → List (List ℕ) → List Network → Type 0
@@ -36,7 +28,7 @@ pub record HasKinds (limit : Option ℕ) (files : List (List ℕ)) (kinds : List
   pub networks : HaveNetworks limit files kinds
   pub valid : All IsNetwork kinds
   pub agree : AreKinds kinds
-  pub few : customer_count kinds ≤ most_customers
+  pub few : customer_count (first_of kinds) ≤ most_customers
 
 -- the line of a refusal
 abbrev pub mixed_refusal_text : MixedRefusal → List ℕ
@@ -64,7 +56,7 @@ IsFileRefused limit (bytes ∷ files) r =
 abbrev pub AreUnfit : List Network → MixedRefusal → Type 0
 AreUnfit kinds (Kinds kind) = IsFirstApart kinds kind
 AreUnfit kinds (Plain (refusal.Customers count)) =
-    AreKinds kinds × (count ≡ customer_count kinds) × (most_customers < count)
+    AreKinds kinds × (count ≡ customer_count (first_of kinds)) × (most_customers < count)
 AreUnfit kinds (Plain other) = ⊥
 
 -- the first broken rule of the files: of each in order, then of the networks of all

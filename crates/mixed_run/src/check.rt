@@ -1,16 +1,17 @@
 //! What `check-mixed` finds: a plan file and a proof are judged for kinds of vehicles.
 
 ghost use Rattle.std.specs.Prelude.{◌≡◌, ◌≤◌, IfErr, IfOk, List, Option, length, option_map, ℕ};
+ghost use Rattle.certificate_parts.specs.Ranges.{customer_count};
 ghost use Rattle.job_frame.specs.Finds.{Finds};
 ghost use Rattle.job_frame.specs.Task.{AreRead, AreReadUpTo};
-ghost use Rattle.job_steps.specs.Caps.{most_bytes};
+ghost use Rattle.job_steps.specs.Caps.{most_bytes, most_customers};
 ghost use Rattle.job_steps.specs.Ended.{IsRuleOrMemory};
-ghost use Rattle.mixed_model.specs.Kinds.{AreKinds, most_kinds};
+ghost use Rattle.mixed_model.specs.Kinds.{AreKinds, first_of, most_kinds};
 ghost use Rattle.mixed_plan.specs.MixedTexts.{SpellsMixedPlan};
 ghost use Rattle.mixed_run.specs.CheckMixedAnswer.{HasPlan, check_mixed_task};
 ghost use Rattle.command_line.specs.JobValue.{IsMixedJob, mixed_value};
 ghost use Rattle.mixed_run.specs.Judged.{AreKnown, IsPlanEnded};
-ghost use Rattle.mixed_run.specs.KindFiles.{HasKinds, customer_count, kind_reads, most_customers};
+ghost use Rattle.mixed_run.specs.KindFiles.{HasKinds, kind_reads};
 
 use crate::judging::judge_text;
 use crate::kinds::kinds_of_files;
@@ -52,7 +53,7 @@ fn check_on<S: Shelf>(
     shelf: &mut S,
 ) -> Result<Found, ShelfFault>
     requires kinds { AreKinds kinds.now }
-    requires few { customer_count kinds.now ≤ most_customers }
+    requires few { customer_count (first_of kinds.now) ≤ most_customers }
     ensures { (files : List (List ℕ))
         → AreRead (S.state shelf.old).files (kind_reads (mixed_value job.now).files) files
         → HasKinds job.now.limit files kinds.now
@@ -80,7 +81,7 @@ fn check_plan<S: Shelf>(
     shelf: &mut S,
 ) -> Result<Found, ShelfFault>
     requires kinds { AreKinds kinds.now }
-    requires few { customer_count kinds.now ≤ most_customers }
+    requires few { customer_count (first_of kinds.now) ≤ most_customers }
     requires known { AreKnown kinds.now (option_map (λ p. p.now) plan) }
     ensures { (files : List (List ℕ)) (plan_bytes : List ℕ)
         → AreRead (S.state shelf.old).files (kind_reads (mixed_value job.now).files) files

@@ -2,30 +2,38 @@
 //! are written.
 
 ghost use Rattle.std.specs.Prelude.{◌≡◌, ◌∷◌, ◌≤◌, [], IfOk, List, map, ℕ};
+ghost use Rattle.certificate_parts.specs.Ranges.{customer_count};
 ghost use Rattle.job_frame.specs.Finds.{Finds, written_by};
-ghost use Rattle.mixed_model.specs.Kinds.{AreKinds};
+ghost use Rattle.job_steps.specs.Caps.{most_customers};
+ghost use Rattle.mixed_model.specs.Kinds.{AreKinds, first_of};
 ghost use Rattle.command_line.specs.JobValue.{IsMixedJob, mixed_value};
-ghost use Rattle.mixed_run.specs.KindFiles.{customer_count, most_customers};
 ghost use Rattle.mixed_run.specs.MixedAnswer.{IsMixedFound, mixed_task};
 
 use crate::kinds::kinds_of_files;
-use crate::planning::{Planned, plan_all};
+use crate::planning::plan_all;
 use crate::refusal::{Halt, refuse_mixed_job};
 use command_line::MixedWords;
 use ev_outside::{Shelf, ShelfFault};
 use instance_reader::Instance;
-use job_frame::{Found, NewFile};
+use job_frame::Found;
+use job_steps::ScaleWatcher;
+use mixed_fleet::RoundWatcher;
 use std::alloc::{AllocError, Global};
 
 /// What `mixed` finds: the instances of the kinds are read, a fleet of them is planned, and its
 /// plan and a proof of a bound on its cost are written.
-pub fn mixed<S: Shelf>(alloc: Global, job: &MixedWords, shelf: &mut S) -> Result<Found, ShelfFault>
+pub fn mixed<S: Shelf, W: RoundWatcher + ScaleWatcher>(
+    alloc: Global,
+    job: &MixedWords,
+    shelf: &mut S,
+    watcher: &mut W,
+) -> Result<Found, ShelfFault>
     requires { IsMixedJob job.now }
     ensures { Finds (mixed_task (mixed_value job.now))
         (S.state shelf.old) (S.state shelf.new) result }
 {
     match kinds_of_files(alloc, job.files.as_slice(), job.limit, shelf) {
-        Ok(kinds) => match plan_on(alloc, kinds.as_slice(), job) {
+        Ok(kinds) => match plan_on(alloc, kinds.as_slice(), job, watcher) {
             Ok(found) => Ok(found),
             Err(AllocError) => Err(ShelfFault::Memory),
         },
@@ -36,21 +44,20 @@ pub fn mixed<S: Shelf>(alloc: Global, job: &MixedWords, shelf: &mut S) -> Result
 
 /// What `mixed` finds for the kinds of vehicles of its files: the texts of a plan and of a proof,
 /// and the report on both.
-fn plan_on(alloc: Global, kinds: &[Instance], job: &MixedWords) -> Result<Found, AllocError>
+fn plan_on<W: RoundWatcher + ScaleWatcher>(
+    alloc: Global,
+    kinds: &[Instance],
+    job: &MixedWords,
+    watcher: &mut W,
+) -> Result<Found, AllocError>
     requires kinds { AreKinds kinds.now }
-    requires few { customer_count kinds.now ≤ most_customers }
+    requires few { customer_count (first_of kinds.now) ≤ most_customers }
     ensures { IfOk result (λ f. (plan_bytes cert_bytes : List ℕ)
         × IsMixedFound kinds.now plan_bytes cert_bytes f.answer.status f.answer.text.items
         × (map written_by f.files.items
         ≡ record { name = (mixed_value job.now).plan; bytes = plan_bytes }
         ∷ record { name = (mixed_value job.now).cert; bytes = cert_bytes } ∷ [])) }
 {
-    let planned = plan_all(alloc, kinds)?;
-    let Planned { plan, cert, answer } = planned;
-    let plan = NewFile::new(alloc, job.plan.as_str(), plan)?;
-    let cert = NewFile::new(alloc, job.cert.as_str(), cert)?;
-    let mut files = Vec::new(alloc);
-    files.push(plan)?;
-    files.push(cert)?;
-    Ok(Found { answer, files })
+    let planned = plan_all(alloc, kinds, watcher)?;
+    planned.found(alloc, job.plan.as_str(), job.cert.as_str())
 }

@@ -1,13 +1,14 @@
 //! The judgement of `check-mixed` on a plan and on the bytes of a proof.
 
 ghost use Rattle.std.specs.Prelude.{◌≡◌, ◌≤◌, ◌++◌, IfErr, IfOk, List, OnOk, Option, option_map, ℕ};
+ghost use Rattle.certificate_parts.specs.Ranges.{customer_count};
 ghost use Rattle.job_frame.specs.Task.{IsAnswered};
+ghost use Rattle.job_steps.specs.Caps.{most_customers};
 ghost use Rattle.job_steps.specs.Ended.{IsRuleOrMemory};
-ghost use Rattle.mixed_model.specs.Kinds.{AreKinds};
+ghost use Rattle.mixed_model.specs.Kinds.{AreKinds, first_of};
 ghost use Rattle.mixed_model.specs.Ranges.{MixedFits};
 ghost use Rattle.mixed_run.specs.CheckMixedAnswer.{BreaksFirst, CheckMixedAnswers, HasPlan, HasProof, IsValid, judgement_text};
 ghost use Rattle.mixed_run.specs.Judged.{AreKnown, HasLines, IsJudgementOf, IsProofEnded, judged_status};
-ghost use Rattle.mixed_run.specs.KindFiles.{customer_count, most_customers};
 
 use instance_reader::Instance;
 use job_frame::{Answer, Status};
@@ -43,7 +44,7 @@ pub fn judge_text(
     bytes: &[u8],
 ) -> Result<Answer, AllocError>
     requires kinds { AreKinds kinds.now }
-    requires few { customer_count kinds.now ≤ most_customers }
+    requires few { customer_count (first_of kinds.now) ≤ most_customers }
     requires known { AreKnown kinds.now (option_map (λ p. p.now) plan) }
     ensures answered { IfOk result (λ a. IsAnswered a.status) }
     ensures answers { (limit : Option ℕ) (files : List (List ℕ)) (plan_bytes : List ℕ)
@@ -61,7 +62,7 @@ pub fn judge_text(
 /// The proof of a file.
 fn proof_of(alloc: Global, kinds: &[Instance], bytes: &[u8]) -> Result<MixedProof, Ended>
     requires kinds { AreKinds kinds.now }
-    requires few { customer_count kinds.now ≤ most_customers }
+    requires few { customer_count (first_of kinds.now) ≤ most_customers }
     ensures ok { IfOk result (HasProof kinds.now bytes.now) }
     ensures fits { IfOk result (MixedFits kinds.now) }
     ensures rule { IfErr result IsRuleOrMemory }
@@ -82,7 +83,7 @@ fn report_on(
     proof: &MixedProof,
 ) -> Result<Answer, AllocError>
     requires kinds { AreKinds kinds.now }
-    requires few { customer_count kinds.now ≤ most_customers }
+    requires few { customer_count (first_of kinds.now) ≤ most_customers }
     requires known { AreKnown kinds.now (option_map (λ p. p.now) plan) }
     requires fits { MixedFits kinds.now proof.now }
     ensures answered { IfOk result (λ a. IsAnswered a.status) }
@@ -103,7 +104,7 @@ fn judge(
     proof: &MixedProof,
 ) -> Result<MixedJudgement, AllocError>
     requires kinds { AreKinds kinds.now }
-    requires few { customer_count kinds.now ≤ most_customers }
+    requires few { customer_count (first_of kinds.now) ≤ most_customers }
     requires known { AreKnown kinds.now (option_map (λ p. p.now) plan) }
     requires fits { MixedFits kinds.now proof.now }
     ensures found { IfOk result
@@ -127,7 +128,7 @@ fn judge(
 /// The cost of a plan, or none where there is none.
 pub fn cost_of(kinds: &[Instance], plan: Option<&[MixedRoute]>) -> Result<Option<u128>, PlanFault>
     requires kinds { AreKinds kinds.now }
-    requires few { customer_count kinds.now ≤ most_customers }
+    requires few { customer_count (first_of kinds.now) ≤ most_customers }
     requires known { AreKnown kinds.now (option_map (λ p. p.now) plan) }
     ensures ok { IfOk result (IsValid kinds.now (option_map (λ p. p.now) plan.entry)) }
     ensures fault { IfErr result (BreaksFirst kinds.now (option_map (λ p. p.now) plan.entry)) }

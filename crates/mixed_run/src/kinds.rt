@@ -2,10 +2,12 @@
 //! is read, and they are found to go with one another.
 
 ghost use Rattle.std.specs.Prelude.{◌≡◌, ◌++◌, ◌∷◌, ◌≤◌, [], IfErr, IfNone, IfOk, IfSome, IsErrOf, List, OnOk, Result, length, map, string_bytes, ℕ};
+ghost use Rattle.certificate_parts.specs.Ranges.{customer_count};
 ghost use Rattle.ev_model.specs.Network.{Network};
 ghost use Rattle.ev_outside.specs.Shelf.{CountsNeverFall, CountsStay};
-ghost use Rattle.mixed_model.specs.Kinds.{AreKinds, most_kinds};
-ghost use Rattle.mixed_run.specs.KindFiles.{AreUnfit, HasKinds, IsFileRefused, IsKindsRefused, customer_count, kind_reads, most_customers};
+ghost use Rattle.job_steps.specs.Caps.{most_customers};
+ghost use Rattle.mixed_model.specs.Kinds.{AreKinds, first_of, most_kinds};
+ghost use Rattle.mixed_run.specs.KindFiles.{AreUnfit, HasKinds, IsFileRefused, IsKindsRefused, kind_reads};
 ghost use Rattle.mixed_run.specs.KindReading.{IsHalt, ReadAs};
 ghost use Rattle.mixed_run.specs.Names.{names_of};
 ghost use Rattle.job_frame.specs.Task.{AreRead};
@@ -14,13 +16,10 @@ use crate::refusal::{Halt, MixedRefusal};
 use ev_outside::{Shelf, ShelfFault};
 use instance_reader::Instance;
 use job_frame::read_file;
-use job_steps::{Ended, MOST_BYTES, limited_instance};
+use job_steps::{Ended, MOST_BYTES, MOST_CUSTOMERS, limited_instance};
 use mixed_plan::kinds_agree;
 use plan_writer::Refusal;
 use std::alloc::Global;
-
-/// The most customers of a fleet.
-const MOST_CUSTOMERS: usize = 128;
 
 /// The kinds of vehicles of the files, one to eight: each file is an instance that takes the limit
 /// of the words, they agree, and there aren't too many customers. The files are read in their
@@ -120,7 +119,7 @@ fn unfit(kinds: &[Instance]) -> Option<MixedRefusal>
     requires some { 1 ≤ length kinds.now }
     requires few { length kinds.now ≤ most_kinds }
     ensures agree { IfNone result (AreKinds kinds.now) }
-    ensures few { IfNone result (customer_count kinds.now ≤ most_customers) }
+    ensures few { IfNone result (customer_count (first_of kinds.now) ≤ most_customers) }
     ensures unfit { IfSome result (AreUnfit kinds.now) }
 {
     if let Some(kind) = kinds_agree(kinds) {

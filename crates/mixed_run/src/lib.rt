@@ -12,3 +12,4 @@ mod refusal;
 
 pub use check::check_mixed_files;
 pub use fleet::mixed;
+pub use mixed_fleet::{RisingProgress, RoundProgress, RoundWatcher};

@@ -1,10 +1,11 @@
 //! What `mixed` writes and puts of a search.
 
 ghost use Rattle.std.specs.Prelude.{◌≡◌, ◌≤◌, IfOk, option_map};
+ghost use Rattle.certificate_parts.specs.Ranges.{customer_count};
+ghost use Rattle.job_steps.specs.Caps.{most_customers};
 ghost use Rattle.mixed_fleet.specs.Outcome.{IsOutcome};
 ghost use Rattle.mixed_fleet.specs.Proofs.{IsBestProof};
 ghost use Rattle.mixed_model.specs.Kinds.{AreKinds, first_of};
-ghost use Rattle.mixed_run.specs.KindFiles.{customer_count, most_customers};
 ghost use Rattle.mixed_run.specs.MixedAnswer.{IsMixedFound, TellsRoot, mixed_status, outcomes_of};
 ghost use Rattle.plan_writer.specs.FleetText.{IsLowestLine, fleet_text};
 ghost use Rattle.plan_writer.specs.declared.fleet.RootLine.{RootLine};
@@ -14,32 +15,27 @@ use certificate_check::price_total;
 use ev_list::Listed;
 use instance_reader::Instance;
 use job_frame::{Answer, Status};
-use mixed_fleet::{MixedOutcome, plan_mixed};
+use job_steps::{Planned, ScaleWatcher};
+use mixed_fleet::{MixedOutcome, RoundWatcher, plan_mixed_watched};
 use mixed_model::{MixedProof, MixedRoot, MixedRoute};
 use mixed_plan::{mixed_plans_break_no_rule, push_mixed_plan};
 use mixed_text::push_mixed;
 use plan_writer::{Outcomes, RootLine, push_fleet_report};
 use std::alloc::{AllocError, Global};
 
-/// What is written and put of a search.
-#[derive(Drop)]
-pub struct Planned {
-    /// The text of the plan file.
-    pub plan: Vec<u8>,
-    /// The text of the proof.
-    pub cert: Vec<u8>,
-    /// The report, and the status that goes with it.
-    pub answer: Answer,
-}
-
 /// The texts of a plan for these kinds of vehicles and of a proof, and the report on both.
-pub fn plan_all(alloc: Global, kinds: &[Instance]) -> Result<Planned, AllocError>
+pub fn plan_all<W: RoundWatcher + ScaleWatcher>(
+    alloc: Global,
+    kinds: &[Instance],
+    watcher: &mut W,
+) -> Result<Planned, AllocError>
     requires kinds { AreKinds kinds.now }
-    requires few { customer_count kinds.now ≤ most_customers }
+    requires few { customer_count (first_of kinds.now) ≤ most_customers }
     ensures { IfOk result (λ p. IsMixedFound kinds.now p.plan.items p.cert.items
         p.answer.status p.answer.text.items) }
 {
-    let outcome = plan_mixed(alloc, kinds)?;
+    watcher.begin(kinds[0].denominator());
+    let outcome = plan_mixed_watched(alloc, kinds, watcher)?;
     let mut plan = Vec::new(alloc);
     push_mixed_plan(alloc, &mut plan, held_routes(&outcome.plan))?;
     let mut cert = Vec::new(alloc);
@@ -61,7 +57,7 @@ fn held_routes(plan: &Option<Listed<MixedRoute>>) -> Option<&[MixedRoute]>
 /// The report on a search, and its status.
 fn report(alloc: Global, kinds: &[Instance], outcome: &MixedOutcome) -> Result<Answer, AllocError>
     requires kinds { AreKinds kinds.now }
-    requires few { customer_count kinds.now ≤ most_customers }
+    requires few { customer_count (first_of kinds.now) ≤ most_customers }
     requires outcome { IsOutcome kinds.now outcome.now }
     ensures status { IfOk result (λ a. a.status ≡ mixed_status outcome.now.proof.bound) }
     ensures text { IfOk result (λ a. (told : RootLine)
@@ -101,7 +97,7 @@ fn mixed_status(bound: Option<u128>) -> Status
 /// The line of the root of the proof that a search found.
 fn root_line(kinds: &[Instance], proof: &MixedProof) -> RootLine
     requires kinds { AreKinds kinds.now }
-    requires few { customer_count kinds.now ≤ most_customers }
+    requires few { customer_count (first_of kinds.now) ≤ most_customers }
     requires proof { IsBestProof kinds.now proof.now }
     ensures told { TellsRoot kinds.now proof.now proof.now.root result }
     ensures lowest { IsLowestLine result }

@@ -1,6 +1,6 @@
-//! How far a search, a bound or an improvement is, in a line.
+//! How far a search, a bound, an improvement or a fleet of several kinds is, in a line.
 
-use evroute_run::{MoveProgress, PriceProgress, Progress};
+use evroute_run::{MoveProgress, PriceProgress, Progress, RoundProgress};
 use std::fmt::{self, Display, Formatter};
 
 /// How far a search is, with its times scaled by the denominator.
@@ -94,5 +94,27 @@ impl Display for MovesLine {
             "evroute: moves {moves}, cost {cost}/{}",
             self.denominator
         )
+    }
+}
+
+/// How far the rounds of a fleet of several kinds are, with times scaled by the denominator.
+#[derive(Clone, Copy, Drop)]
+pub(crate) struct RoundsLine {
+    pub(crate) progress: RoundProgress,
+    pub(crate) denominator: u64,
+}
+
+impl Display for RoundsLine {
+    fn fmt<W: fmt::Write>(&self, f: &mut Formatter<W>) -> fmt::Result {
+        let RoundProgress {
+            rounds,
+            routes,
+            cost,
+        } = self.progress;
+        write!(f, "evroute: rounds {rounds}, routes {routes}")?;
+        match cost {
+            Some(cost) => write!(f, ", fractional cost {cost}/{}", self.denominator),
+            None => f.write_str(", no fractional cover"),
+        }
     }
 }

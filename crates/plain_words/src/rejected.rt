@@ -132,7 +132,8 @@ fn certificate(alloc: Global, file: &str, rule: &[&str]) -> Result<Option<String
             "{file}: the section of leaf {leaf} doesn't show the bound"
         )?)),
         ["6"] => Ok(Some(format!(in alloc;
-            "{file}: the root is not the least cost of a fractional cover"
+            "{file}: the root is neither the least cost of a fractional cover, nor a basis that is \
+             too wide, nor none where no fleet serves all"
         )?)),
         _ => Ok(None),
     }
@@ -155,7 +156,8 @@ fn mixed(alloc: Global, file: &str, rule: &[&str]) -> Result<Option<String>, All
         )?)),
         ["4"] => Ok(Some(format!(in alloc; "{file}: its prices don't show the bound")?)),
         ["5"] => Ok(Some(format!(in alloc;
-            "{file}: the root is not the least cost of a fractional cover"
+            "{file}: the root is neither the least cost of a fractional cover, nor a basis that is \
+             too wide, nor none where no fleet serves all"
         )?)),
         _ => Ok(None),
     }

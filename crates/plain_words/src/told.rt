@@ -1,9 +1,10 @@
 //! Who tells people how far a long job is.
 
 use crate::pace::Pace;
-use crate::progress::{MovesLine, PricesLine, SearchLine};
+use crate::progress::{MovesLine, PricesLine, RoundsLine, SearchLine};
 use evroute_run::{
-    JobWatcher, MoveProgress, MoveWatcher, PriceProgress, PriceWatcher, Progress, Watcher,
+    JobWatcher, MoveProgress, MoveWatcher, PriceProgress, PriceWatcher, Progress, RisingProgress,
+    RoundProgress, RoundWatcher, ScaleWatcher, Watcher,
 };
 use std::env;
 use std::io::Eprint;
@@ -79,11 +80,37 @@ impl<'a, R: Clock + Eprint> MoveWatcher for ToldProgress<'a, R> {
     }
 }
 
-impl<'a, R: Clock + Eprint> JobWatcher for ToldProgress<'a, R> {
+impl<'a, R: Clock + Eprint> RoundWatcher for ToldProgress<'a, R> {
+    fn watch_rounds(&mut self, progress: RoundProgress) {
+        if self.is_due() {
+            let _ = self.rt.eprintln(RoundsLine {
+                progress,
+                denominator: self.denominator,
+            });
+        }
+    }
+
+    fn watch_rising(&mut self, progress: RisingProgress) {
+        let RisingProgress {
+            customers,
+            fixed,
+            bound,
+        } = progress;
+        self.watch_prices(PriceProgress {
+            customers,
+            fixed,
+            bound,
+        });
+    }
+}
+
+impl<'a, R: Clock + Eprint> ScaleWatcher for ToldProgress<'a, R> {
     fn begin(&mut self, denominator: u64) {
         self.denominator = denominator;
     }
 }
+
+impl<'a, R: Clock + Eprint> JobWatcher for ToldProgress<'a, R> {}
 
 /// Whether people want to be told: unless the variable `EVROUTE_PROGRESS` is `0`.
 pub fn wants_progress<R: Env + Alloc>(rt: &R) -> bool {

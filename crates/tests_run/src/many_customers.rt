@@ -49,8 +49,9 @@ fn customers_alone(alloc: Global) -> Result<String, AllocError> {
     Ok(text)
 }
 
-/// The root of a certificate that lists the routes over three customers each, the customer with this
-/// number, the next and the third behind, as far as they are there, as a basis. It is too wide.
+/// The root of a certificate that lists the routes over three customers each, the customer with
+/// this number, the next and the third behind, as far as they are there, as a basis. It is too
+/// wide.
 fn wide_root(alloc: Global) -> Result<String, AllocError> {
     let mut text = format!(in alloc; "root wide {CUSTOMERS}\n")?;
     for first in 1..CUSTOMERS + 1 {

@@ -2,7 +2,10 @@
 
 use crate::files::{shelf_with, words_of};
 use ev_outside::MemorySink;
-use evroute_run::{MoveProgress, MoveWatcher, Progress, Status, Watcher, run_watched};
+use evroute_run::{
+    MoveProgress, MoveWatcher, Progress, RisingProgress, RoundProgress, RoundWatcher, ScaleWatcher,
+    Status, Watcher, run_watched,
+};
 use plain_words::{ToldProgress, wants_progress};
 use std::alloc::{AllocError, Global};
 use std::cell::Cell;
@@ -116,6 +119,29 @@ fn a_search_is_told_with_its_bound_and_its_gap(rt: HostRuntime) {
     }
 }
 
+#[test]
+fn rounds_and_rising_prices_are_told(rt: HostRuntime) {
+    let desk = Desk::new(rt.alloc(), Some(4000));
+    let mut progress = ToldProgress::new(&desk, true);
+    progress.begin(10);
+    for cost in [None, Some(17)] {
+        progress.watch_rounds(RoundProgress {
+            rounds: 2,
+            routes: 5,
+            cost,
+        });
+    }
+    progress.watch_rising(RisingProgress {
+        customers: 3,
+        fixed: 1,
+        bound: 8,
+    });
+    let want = "8000 ms: evroute: rounds 2, routes 5, no fractional cover\n\
+        12000 ms: evroute: rounds 2, routes 5, fractional cost 17/10\n\
+        16000 ms: evroute: prices 1 of 3, bound 8/10\n";
+    assert_eq!(rt; desk.told().as_str(), want);
+}
+
 /// How the program ends where it is watched, what it puts, what it leaves in the files `P`, `Q` and
 /// `O`, and what people are told.
 #[derive(Drop)]
@@ -167,6 +193,10 @@ fn a_watched_job_ends_as_any(rt: HostRuntime) {
         (
             "improve A P O --limit 11",
             "8000 ms: evroute: moves 0, cost 24/1\n",
+        ),
+        (
+            "mixed P Q A --limit 11",
+            "8000 ms: evroute: rounds 0, routes 3, fractional cost 24/1\n",
         ),
     ] {
         let quick = watched(alloc, line, Some(0), true).expect(&rt, "memory");

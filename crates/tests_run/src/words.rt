@@ -140,7 +140,8 @@ fn jobs_on_several_kinds_are_told_with_their_files(rt: HostRuntime) -> Result<()
         ("rejected mixed 4", "q: its prices don't show the bound"),
         (
             "rejected mixed 5",
-            "q: the root is not the least cost of a fractional cover",
+            "q: the root is neither the least cost of a fractional cover, nor a basis that is too \
+             wide, nor none where no fleet serves all",
         ),
         ("accepted", ""),
     ] {

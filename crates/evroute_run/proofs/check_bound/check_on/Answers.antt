@@ -1,10 +1,8 @@
-use Rattle.std.proofs.Common.{ap}
 use Rattle.std.specs.Prelude.{string_bytes}
 use Rattle.command_line.specs.Words.{BoundCheckJob, bound_check_job_of}
 use Rattle.evroute_run.proofs.CheckBoundFinds.{check_bound_found, proof_fails}
-use Rattle.job_steps.specs.Caps.{most_certificate_bytes}
-use Rattle.evroute_run.specs.CheckBoundAnswer.{check_bound_task}
-use Rattle.job_frame.proofs.FileReads.{finds_alone, finds_none, named_failed, named_read, ok_is_no_error}
+use Rattle.job_frame.proofs.BehindReads.{finds_told, read_fails}
+use Rattle.job_frame.proofs.FileReads.{named_read}
 use Rattle.evroute_run.proofs.check_bound.check_on.Goals as goal
 
 pub returns-in-Err : goal.returns-in-Err
@@ -13,22 +11,18 @@ returns-in-Err g c = λ bytes read fleet.
     let job : BoundCheckJob = bound_check_job_of (string_bytes w.file) (string_bytes w.cert) w.limit in
     let before = g.S.Shelf.state c.args.shelf.now in
     let after = g.S.Shelf.state c.read_file.new.shelf in
-    finds_none (check_bound_task job) before after c.in-Err.fault
-    (λ failed. proof_fails job before after bytes c.args.inst.now read fleet
-    (named_failed before after c.as_str.result.now job.cert c.as_str.ensures.value (c.in-Err.ensures.fault failed)))
-    c.in-Err.ensures.stays c.in-Err.ensures.falls c.in-Err.ensures.files
+    read_fails (proof_fails job before after bytes c.args.inst.now read fleet)
+    c.as_str.ensures.value c.in-Err.ensures.fault c.in-Err.ensures.stays c.in-Err.ensures.falls c.in-Err.ensures.files
 
 pub returns-in-Ok-judge_text : goal.returns-in-Ok-judge_text
 returns-in-Ok-judge_text g c = λ bytes read fleet.
     let w = c.args.job.now in
     let job : BoundCheckJob = bound_check_job_of (string_bytes w.file) (string_bytes w.cert) w.limit in
     let before = g.S.Shelf.state c.args.shelf.now in
-    let mid = g.S.Shelf.state c.read_file.new.shelf in
     let cert_bytes = c.in-Ok.bytes.items in
     let answer = c.in-Ok-judge_text.answer in
-    let read_cert = named_read most_certificate_bytes before.files c.as_str.result.now job.cert cert_bytes c.as_str.ensures.value c.in-Ok.ensures.bytes in
+    let read_cert = named_read _ _ _ _ _ c.as_str.ensures.value c.in-Ok.ensures.bytes in
     let found = check_bound_found job before.files bytes cert_bytes c.as_slice.result.now answer.status answer.text.items read read_cert c.as_slice.ensures.value
     (c.in-Ok-judge_text.ensures.answers w.limit bytes fleet) in
-    finds_alone (check_bound_task job) before mid answer.status answer.text.items _ found c.in-Ok-judge_text.ensures.answered
-    (ap (λ a. a.status) c.alone.ensures.answer) (ap (λ a. a.text.items) c.alone.ensures.answer) c.alone.ensures.files tt
-    (c.in-Ok.ensures.stays (λ failed. ok_is_no_error failed)) c.in-Ok.ensures.falls c.in-Ok.ensures.files
+    finds_told found c.in-Ok-judge_text.ensures.answered c.alone.ensures.answer c.alone.ensures.files
+    c.in-Ok.ensures.stays c.in-Ok.ensures.falls c.in-Ok.ensures.files

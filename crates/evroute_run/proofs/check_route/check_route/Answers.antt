@@ -1,51 +1,34 @@
-use Rattle.std.proofs.Common.{List, [], ◌∷◌, ℕ, refl, subst}
+use Rattle.std.proofs.Common.{List, ℕ, refl, subst}
 use Rattle.std.specs.Prelude.{string_bytes}
 use Rattle.command_line.specs.Words.{ProofJob, proof_job_of}
 use Rattle.evroute_run.proofs.CheckRouteFinds.{refused_early}
-use Rattle.job_steps.specs.Caps.{certificate_read, file_read, most_bytes}
-use Rattle.evroute_run.specs.CheckRouteAnswer.{check_route_task}
 use Rattle.evroute_run.specs.FixedAnswer.{IsTask}
-use Rattle.job_frame.proofs.FileReads.{fails_at_once, finds_alone, finds_none, finds_since, named_failed, named_read, ok_is_no_error, read_still}
-use Rattle.job_frame.specs.declared.status.Status.TheVariants as status
-use Rattle.plan_writer.specs.RefusalText.{refusal_text}
+use Rattle.job_frame.proofs.BehindReads.{finds_behind, finds_refused, first_fails}
+use Rattle.job_frame.proofs.FileReads.{named_read, read_still}
 use Rattle.evroute_run.proofs.check_route.check_route.Goals as goal
 
 pub returns-in-Err : goal.returns-in-Err
-returns-in-Err g c =
-    let w = c.args.job.now in
-    let job : ProofJob = proof_job_of (string_bytes w.file) (string_bytes w.route) (string_bytes w.cert) w.options in
-    let before = g.S.Shelf.state c.args.shelf.now in
-    let after = g.S.Shelf.state c.read_file.new.shelf in
-    finds_none (check_route_task job) before after c.in-Err.fault
-    (λ failed. fails_at_once (check_route_task job) before after (file_read job.file) (certificate_read job.cert ∷ []) refl tt
-    (named_failed before after c.as_str.result.now job.file c.as_str.ensures.value (c.in-Err.ensures.fault failed)))
-    c.in-Err.ensures.stays c.in-Err.ensures.falls c.in-Err.ensures.files
+returns-in-Err g c = first_fails refl tt c.as_str.ensures.value c.in-Err.ensures.fault c.in-Err.ensures.stays c.in-Err.ensures.falls c.in-Err.ensures.files
 
 pub returns-in-Ok-trip_of : goal.returns-in-Ok-trip_of
 returns-in-Ok-trip_of g c =
     let w = c.args.job.now in
-    let job : ProofJob = proof_job_of (string_bytes w.file) (string_bytes w.route) (string_bytes w.cert) w.options in
-    let before = g.S.Shelf.state c.args.shelf.now in
-    let mid = g.S.Shelf.state c.read_file.new.shelf in
     let bytes = c.in-Ok.bytes.items in
     let trip = c.in-Ok-trip_of.trip in
-    let read = named_read most_bytes before.files c.as_str.result.now job.file bytes c.as_str.ensures.value c.in-Ok.ensures.bytes in
+    let read = named_read _ _ _ _ _ c.as_str.ensures.value c.in-Ok.ensures.bytes in
     let here = subst (λ (bs : List ℕ). IsTask w.options c.as_str-2.result.now bs trip.inst trip.route.items) c.as_slice.ensures.value c.in-Ok-trip_of.ensures.task in
     let task = subst (λ (word : List ℕ). IsTask w.options word bytes trip.inst trip.route.items) c.as_str-2.ensures.value here in
-    finds_since (check_route_task job) before mid (g.S.Shelf.state c.check_trip.new.shelf) c.check_trip.result
-    c.in-Ok.ensures.files (c.in-Ok.ensures.stays (λ failed. ok_is_no_error failed)) c.in-Ok.ensures.falls
-    (c.check_trip.ensures bytes (read_still most_bytes before.files mid.files job.file bytes c.in-Ok.ensures.files read) task c.in-Ok-trip_of.ensures.start)
+    finds_behind c.in-Ok.ensures.files c.in-Ok.ensures.stays c.in-Ok.ensures.falls
+    (c.check_trip.ensures bytes (read_still _ _ _ _ _ c.in-Ok.ensures.files read) task c.in-Ok-trip_of.ensures.start)
 
 pub returns-in-Err-Refused : goal.returns-in-Err-Refused
 returns-in-Err-Refused g c =
     let w = c.args.job.now in
     let job : ProofJob = proof_job_of (string_bytes w.file) (string_bytes w.route) (string_bytes w.cert) w.options in
     let before = g.S.Shelf.state c.args.shelf.now in
-    let mid = g.S.Shelf.state c.read_file.new.shelf in
     let bytes = c.in-Ok.bytes.items in
-    let read = named_read most_bytes before.files c.as_str.result.now job.file bytes c.as_str.ensures.value c.in-Ok.ensures.bytes in
+    let read = named_read _ _ _ _ _ c.as_str.ensures.value c.in-Ok.ensures.bytes in
     let line = refused_early job before.files bytes c.as_slice.result.now c.as_str-2.result.now c.in-Err-Refused.field-0 c.in-Err-Refused.refusal
     read c.as_slice.ensures.value c.as_str-2.ensures.value c.in-Err-Refused.field-0-is c.in-Err-Refused.ensures.ended in
-    finds_alone (check_route_task job) before mid status.Refused (refusal_text c.in-Err-Refused.refusal) c.refuse_job.result line tt
-    c.refuse_job.ensures.status c.refuse_job.ensures.text c.refuse_job.ensures.files c.refuse_job.ensures.memory
-    (c.in-Ok.ensures.stays (λ failed. ok_is_no_error failed)) c.in-Ok.ensures.falls c.in-Ok.ensures.files
+    finds_refused line c.refuse_job.ensures.status c.refuse_job.ensures.text c.refuse_job.ensures.files c.refuse_job.ensures.memory
+    c.in-Ok.ensures.stays c.in-Ok.ensures.falls c.in-Ok.ensures.files

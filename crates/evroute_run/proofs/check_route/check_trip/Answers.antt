@@ -1,11 +1,10 @@
-use Rattle.std.proofs.Common.{List, ℕ, ap, subst, sym}
+use Rattle.std.proofs.Common.{List, ℕ, subst, sym}
 use Rattle.std.specs.Prelude.{string_bytes}
 use Rattle.command_line.specs.Words.{ProofJob, proof_job_of}
 use Rattle.evroute_run.proofs.CheckRouteFinds.{check_route_found, proof_fails}
-use Rattle.job_steps.specs.Caps.{most_certificate_bytes}
-use Rattle.evroute_run.specs.CheckRouteAnswer.{check_route_task}
 use Rattle.evroute_run.specs.FixedAnswer.{IsTask}
-use Rattle.job_frame.proofs.FileReads.{finds_alone, finds_none, named_failed, named_read, ok_is_no_error}
+use Rattle.job_frame.proofs.BehindReads.{finds_told, read_fails}
+use Rattle.job_frame.proofs.FileReads.{named_read}
 use Rattle.evroute_run.proofs.check_route.check_trip.Goals as goal
 
 pub returns-in-Err : goal.returns-in-Err
@@ -14,23 +13,19 @@ returns-in-Err g c = λ bytes read task start.
     let job : ProofJob = proof_job_of (string_bytes w.file) (string_bytes w.route) (string_bytes w.cert) w.options in
     let before = g.S.Shelf.state c.args.shelf.now in
     let after = g.S.Shelf.state c.read_file.new.shelf in
-    finds_none (check_route_task job) before after c.in-Err.fault
-    (λ failed. proof_fails job before after bytes c.args.trip.now.inst c.args.trip.now.route.items read task
-    (named_failed before after c.as_str.result.now job.cert c.as_str.ensures.value (c.in-Err.ensures.fault failed)))
-    c.in-Err.ensures.stays c.in-Err.ensures.falls c.in-Err.ensures.files
+    read_fails (proof_fails job before after bytes c.args.trip.now.inst c.args.trip.now.route.items read task)
+    c.as_str.ensures.value c.in-Err.ensures.fault c.in-Err.ensures.stays c.in-Err.ensures.falls c.in-Err.ensures.files
 
 pub returns-in-Ok-judged : goal.returns-in-Ok-judged
 returns-in-Ok-judged g c = λ bytes read task start.
     let w = c.args.job.now in
     let job : ProofJob = proof_job_of (string_bytes w.file) (string_bytes w.route) (string_bytes w.cert) w.options in
     let before = g.S.Shelf.state c.args.shelf.now in
-    let mid = g.S.Shelf.state c.read_file.new.shelf in
     let cert_bytes = c.in-Ok.bytes.items in
     let answer = c.in-Ok-judged.answer in
-    let read_cert = named_read most_certificate_bytes before.files c.as_str.result.now job.cert cert_bytes c.as_str.ensures.value c.in-Ok.ensures.bytes in
+    let read_cert = named_read _ _ _ _ _ c.as_str.ensures.value c.in-Ok.ensures.bytes in
     let here = subst (λ (r : List ℕ). IsTask w.options job.route bytes c.args.trip.now.inst r) (sym c.as_slice.ensures.value) task in
     let found = check_route_found job before.files bytes cert_bytes c.as_slice-2.result.now answer.status answer.text.items read read_cert c.as_slice-2.ensures.value
     (c.in-Ok-judged.ensures.answers w.options job.route bytes here start) in
-    finds_alone (check_route_task job) before mid answer.status answer.text.items _ found c.in-Ok-judged.ensures.answered
-    (ap (λ a. a.status) c.alone.ensures.answer) (ap (λ a. a.text.items) c.alone.ensures.answer) c.alone.ensures.files tt
-    (c.in-Ok.ensures.stays (λ failed. ok_is_no_error failed)) c.in-Ok.ensures.falls c.in-Ok.ensures.files
+    finds_told found c.in-Ok-judged.ensures.answered c.alone.ensures.answer c.alone.ensures.files
+    c.in-Ok.ensures.stays c.in-Ok.ensures.falls c.in-Ok.ensures.files

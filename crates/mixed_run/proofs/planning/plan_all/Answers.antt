@@ -8,7 +8,7 @@ use Rattle.mixed_text.specs.Written.{written_mixed}
 use Rattle.mixed_run.proofs.planning.plan_all.Goals as goal
 
 pub returns : goal.returns
-returns c =
+returns g c =
     let kinds = c.args.kinds.now in
     let o = c.in_ok-outcome.outcome in
     let given = option_map (λ p. p.now) c.held_routes.result in
