@@ -5,10 +5,6 @@
 #[cfg(test)]
 mod crowd;
 #[cfg(test)]
-mod drawn;
-#[cfg(test)]
-mod enumerated;
-#[cfg(test)]
 mod random;
 #[cfg(test)]
 mod several_nodes;

@@ -1,8 +1,7 @@
 //! The search against a plain enumeration, on instances that are drawn.
 
-use crate::drawn::instance_text;
-use crate::enumerated::least_cost;
 use crate::told::{Told, judged};
+use drawn_fleets::{instance_text, least_cost};
 use instance_reader::{Instance, read_instance};
 use std::alloc::Global;
 

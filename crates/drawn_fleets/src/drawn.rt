@@ -25,13 +25,10 @@ impl Draws {
 }
 
 /// The text of an instance of so many customers and stations, without a triangle inequality. The
-/// nodes are the depot, the customers and the stations.
-pub(crate) fn instance_text(
-    alloc: Global,
-    seed: u64,
-    customers: u64,
-    stations: u64,
-) -> Option<String> {
+/// nodes are the depot, the customers and the stations. `None` is want of memory alone.
+///
+/// Whatever the seed, instances of as many customers and stations have the same denominator.
+pub fn instance_text(alloc: Global, seed: u64, customers: u64, stations: u64) -> Option<String> {
     let mut draws = Draws { state: seed };
     let nodes = customers.saturating_add(stations).saturating_add(1);
     let q = draws.below(4).saturating_add(6);

@@ -6,18 +6,26 @@ use level_table::solve_levels;
 use route_plan::{read_route, walk};
 use std::alloc::Global;
 
-/// The least cost, scaled, or `None` where there is no plan. The customers are the nodes from 1 on.
-pub(crate) fn least_cost(alloc: Global, inst: &Instance, customers: usize) -> Option<Option<u128>> {
+/// The least cost, scaled, or `None` inside where there is no plan. The customers are the nodes
+/// from 1 on, so many. Else `None` is want of memory.
+pub fn least_cost(alloc: Global, inst: &Instance, customers: usize) -> Option<Option<u128>> {
     let times = least_times(alloc, inst, customers)?;
-    let mut least = None;
-    for code in 0..power(customers, customers) {
-        least = lesser(least, partition_cost(times.as_slice(), customers, code));
-    }
-    Some(least)
+    Some(least_partition(times.as_slice(), customers))
 }
 
-/// The least time of a route by the set of its customers, each a binary digit.
-fn least_times(alloc: Global, inst: &Instance, customers: usize) -> Option<Vec<Option<u128>>> {
+/// The least cost of a partition of the customers into sets with these times, `None` where a time
+/// is none.
+pub fn least_partition(times: &[Option<u128>], customers: usize) -> Option<u128> {
+    let mut least = None;
+    for code in 0..power(customers, customers) {
+        least = lesser(least, partition_cost(times, customers, code));
+    }
+    least
+}
+
+/// The least scaled time of a route by the set of its customers, of which the node `c` from 1 on is
+/// the binary digit `c - 1`; `None` inside where no order of a set has a plan.
+pub fn least_times(alloc: Global, inst: &Instance, customers: usize) -> Option<Vec<Option<u128>>> {
     let mut times = Vec::new(alloc);
     for _ in 0..power(2, customers) {
         times.push(None).ok()?;
@@ -111,7 +119,7 @@ fn block_of(customers: usize, code: usize, block: usize) -> usize {
 }
 
 /// The lesser of two costs; `None` is above every number.
-fn lesser(first: Option<u128>, second: Option<u128>) -> Option<u128> {
+pub fn lesser(first: Option<u128>, second: Option<u128>) -> Option<u128> {
     match (first, second) {
         (Some(first), Some(second)) => Some(first.min(second)),
         (Some(_), None) => first,
