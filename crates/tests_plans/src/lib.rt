@@ -14,3 +14,5 @@ mod plan_texts;
 mod routes;
 #[cfg(test)]
 mod stops;
+#[cfg(test)]
+mod units;
