@@ -156,8 +156,8 @@ fn compare_limits(
     }
 }
 
-/// Compares the verdicts on changes of the proof of the instance of a text: of the last label, which
-/// is the start's, of a drawn one, and of other parts.
+/// Compares the verdicts on changes of the proof of the instance of a text: of the last label,
+/// which is the start's, of a drawn one, and of other parts.
 fn compare_text(
     rt: &impl Abort,
     alloc: Global,
