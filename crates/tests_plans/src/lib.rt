@@ -14,5 +14,3 @@ mod plan_texts;
 mod routes;
 #[cfg(test)]
 mod stops;
-#[cfg(test)]
-mod units;
