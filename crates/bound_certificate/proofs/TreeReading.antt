@@ -7,10 +7,9 @@ use Rattle.ev_text.specs.Scans.{and_then, rest_of}
 use Rattle.ev_text.specs.Texts.{Begins, IsTextOf, StandsUnlessLonger, fault_place, joined_texts}
 use Rattle.ev_text.specs.declared.TextFault.{TextFault}
 use Rattle.ev_text.specs.declared.TextFault.TheVariants.{End}
-use Rattle.ev_text.proofs.Grown.{Within, grown}
+use Rattle.ev_text.proofs.Grown.{Stays, Within, grown, stays-then}
 use Rattle.ev_text.proofs.Mended.{IsMended, behind, mended-behind, mended-here, mended-map}
-use Rattle.ev_text.proofs.ReaderLaws.{Takes}
-use Rattle.ev_text.proofs.ReadingLaws.{Reads, Stays, reads-moves, stays-then}
+use Rattle.ev_text.proofs.ReadingLaws.{Reads, Takes, reads-moves}
 use Rattle.ev_text.proofs.Results.{Err-ne-Ok, Ok-injective, and_then-ok, fault_of_two, no_bytes}
 use Rattle.bound_certificate.specs.Reading.{few_lines, tree_at}
 use Rattle.bound_certificate.specs.Trees.{Closes, open_behind}

@@ -4,7 +4,8 @@ use Rattle.ev_model.specs.declared.Stop.{Stop}
 use Rattle.ev_text.specs.Readers.{list_at}
 use Rattle.ev_text.specs.Texts.{StandsUnlessLonger, parted_texts}
 use Rattle.ev_text.proofs.ListLaws.{AreParted, reader-parted}
-use Rattle.ev_text.proofs.ReadingLaws.{Reads, reads-reader}
+use Rattle.ev_text.proofs.ReadingLaws.{Reads}
+use Rattle.ev_text.proofs.ReaderLaws.{reads-reader}
 use Rattle.text_records.proofs.Numbers.{Anything}
 use Rattle.text_records.proofs.Records.{parts-last, reads-record}
 use Rattle.route_plan.specs.PlanReading.{stop_at}

@@ -8,9 +8,10 @@ use Rattle.ev_text.specs.declared.TextFault.{TextFault}
 use Rattle.ev_text.specs.declared.TextFault.TheVariants.{End, NotWhole, TooLarge, Word}
 use Rattle.ev_text.proofs.Grown.{Keeps, Within, grown, keeps-ok, no_list_is_shorter, past_within, rest_of-grown, word_at-grown}
 use Rattle.ev_text.proofs.Mended.{IsMended, mended-word}
-use Rattle.ev_text.proofs.ReaderLaws.{IsReader, Takes}
+use Rattle.ev_text.proofs.ReaderLaws.{IsReader}
 use Rattle.ev_text.proofs.Readings.{TakesWord-from_word_at, word_at-at_end, word_at-differs, word_at-other_byte, word_read}
 use Rattle.ev_text.proofs.Results.{Err-ne-Ok, Ok-injective}
+use Rattle.ev_text.proofs.ReadingLaws.{Takes}
 
 -- a word that may stand there, by whether it was taken
 pub optional_taken : (word : List ℕ) (s t : List ℕ × ℕ) → optional_at word s ≡ Ok (true, t) → (rest_of s ≡ word ++ rest_of t) × (t ≡ past word s)
@@ -91,9 +92,10 @@ BeforeOptional b false rest = BeginsOtherwise b rest
 pub reader-optional : (b : ℕ) → IsReader (optional_at (b ∷ [])) (optional_text (b ∷ [])) (λ stands. Unit {0}) (BeforeOptional b)
 reader-optional b = record {
   example = (true, tt);
+  loose = λ stands any. any;
   standing = stood;
   taken = takes;
-  keeps = λ more s within. keeps-optional b more s within;
+  stays = λ more s within. keeps-optional b more s within;
   mended = λ s fault within is. absurd (optional_never_fails (b ∷ []) s fault is);
 }
   where
@@ -120,12 +122,13 @@ other_word b c word rest other = (λ h. other (first_byte h.1), λ h. other (sym
 pub reader-choice : (b : ℕ) (bs : List ℕ) → IsReader (choice_at (b ∷ bs)) (optional_text (b ∷ bs)) (λ stands. Unit {0}) (BeforeChoice (b ∷ bs))
 reader-choice b bs = record {
   example = (true, tt);
+  loose = λ stands any. any;
   standing = λ s t stands is. stood s t stands (word_at word s) refl is;
   taken = takes;
-  keeps = λ more s within.
+  stays = λ more s within.
       word_at-grown b bs more s (λ here later. Keeps more s (unless_cut s here) (unless_cut (grown more s) later)) within
       (λ t inside moved some. (ap (λ (u : List ℕ × ℕ). u.0) moved, inside, λ none. absurd (some none), λ left. refl))
-      (λ later short. (λ none no_end. no_end, λ no_end. absurd no_end))
+      (λ later short. (λ none no_end. no_end, λ no_end always. absurd no_end))
       (λ some. keeps-ok more s false within);
   mended = λ s fault within is. cut s fault (word_at word s) refl is;
 }

@@ -8,11 +8,10 @@ use Rattle.ev_text.specs.Texts.{AllFrom, Begins, IsTextOf, fault_place, marked_t
 use Rattle.ev_text.specs.declared.TextFault.{TextFault}
 use Rattle.ev_text.specs.declared.TextFault.TheVariants.{End}
 use Rattle.ev_text.proofs.ChoiceLaws.{keeps-optional, optional_is_left, optional_left, optional_never_fails, optional_stands, optional_taken}
-use Rattle.ev_text.proofs.Grown.{Within, grown, past_within}
+use Rattle.ev_text.proofs.Grown.{Stays, Within, grown, past_within, stays-of_keeps, stays-then, stays-word}
 use Rattle.ev_text.proofs.MarkedLaws.{ended_text}
 use Rattle.ev_text.proofs.Mended.{IsMended, behind, mended-behind, mended-here, mended-map, mended-word}
-use Rattle.ev_text.proofs.ReaderLaws.{Takes}
-use Rattle.ev_text.proofs.ReadingLaws.{Reads, Stays, reads-moves, stays-of_keeps, stays-then, stays-word}
+use Rattle.ev_text.proofs.ReadingLaws.{Reads, Takes, reads-moves}
 use Rattle.ev_text.proofs.Readings.{TakesWord-from_word_at, word_read}
 use Rattle.ev_text.proofs.Results.{Err-ne-Ok, Ok-injective, and_then-ok, fault_of_two, no_bytes}
 

@@ -18,35 +18,49 @@ pub rest_of-grown : (more : List ℕ) (s : List ℕ × ℕ) → Within s → res
 rest_of-grown more s within = drop-append-le s.1 s.0 more within
 
 -- what an answer tells of the answer in a text that goes on: a value stands if something is left behind it, a fault if it is no
--- early end; and at the end of the text there is no other fault
+-- early end and Still says that it stands however the text goes on; and at the end of the text there is no other fault
+abbrev pub Stays : {A : Type 0} → (TextFault → List ℕ → List ℕ → Type 0) → List ℕ → List ℕ × ℕ → Result (A × (List ℕ × ℕ)) TextFault → Result (A × (List ℕ × ℕ)) TextFault → Type 0
+Stays Still more s (Ok found) later = (found.1.0 ≡ s.0) × Within found.1 × (rest_of s ≡ [] → rest_of found.1 ≡ []) × (rest_of found.1 ≢ [] → later ≡ Ok (found.0, grown more found.1))
+Stays Still more s (Err fault) later = (rest_of s ≡ [] → IsNoEnd fault → ⊥) × (IsNoEnd fault → Still fault s.0 more → later ≡ Err fault)
+
+-- each fault that is no early end stands
+abbrev pub Always : TextFault → List ℕ → List ℕ → Type 0
+Always fault text more = Unit {0}
+
 abbrev pub Keeps : {A : Type 0} → List ℕ → List ℕ × ℕ → Result (A × (List ℕ × ℕ)) TextFault → Result (A × (List ℕ × ℕ)) TextFault → Type 0
-Keeps more s (Ok found) later = (found.1.0 ≡ s.0) × Within found.1 × (rest_of s ≡ [] → rest_of found.1 ≡ []) × (rest_of found.1 ≢ [] → later ≡ Ok (found.0, grown more found.1))
-Keeps more s (Err fault) later = (rest_of s ≡ [] → IsNoEnd fault → ⊥) × (IsNoEnd fault → later ≡ Err fault)
+Keeps more s here later = Stays Always more s here later
 
--- from a later place on
-pub keeps-from : {A : Type 0} (more : List ℕ) (s t : List ℕ × ℕ) (answer later : Result (A × (List ℕ × ℕ)) TextFault) → t.0 ≡ s.0 → (rest_of s ≡ [] → rest_of t ≡ []) → Keeps more t answer later → Keeps more s answer later
-keeps-from more s t (Ok found) later same ended keeps = (keeps.0 ∙ same, keeps.1, λ none. keeps.2 (ended none), keeps.3)
-keeps-from more s t (Err fault) later same ended keeps = (λ none. keeps.0 (ended none), keeps.1)
+module _ (Still : TextFault → List ℕ → List ℕ → Type 0) where
+  -- what always stands
+  pub stays-of_keeps : {A : Type 0} (more : List ℕ) (s : List ℕ × ℕ) (here later : Result (A × (List ℕ × ℕ)) TextFault) → Keeps more s here later → Stays Still more s here later
+  stays-of_keeps more s (Ok found) later keeps = keeps
+  stays-of_keeps more s (Err fault) later keeps = (keeps.0, λ no_end still. keeps.1 no_end tt)
 
--- one reader behind another
-pub keeps-then : {A B : Type 0} (more : List ℕ) (s : List ℕ × ℕ) (answer later : Result (A × (List ℕ × ℕ)) TextFault) (next next_later : A × (List ℕ × ℕ) → Result (B × (List ℕ × ℕ)) TextFault)
-    → Keeps more s answer later
-    → ((value : A) (t : List ℕ × ℕ) → answer ≡ Ok (value, t) → Within t → Keeps more t (next (value, t)) (next_later (value, grown more t)))
-    → Keeps more s (and_then answer next) (and_then later next_later)
-keeps-then more s (Err fault) later next next_later keeps nexts = (keeps.0, λ no_end. ap (λ r. and_then r next_later) (keeps.1 no_end))
-keeps-then {A} {B} more s (Ok (value, t)) later next next_later keeps nexts = by (next (value, t)) (nexts value t refl keeps.1)
-  where
-    by : (answer : Result (B × (List ℕ × ℕ)) TextFault) → Keeps more t answer (next_later (value, grown more t)) → Keeps more s answer (and_then later next_later)
-    by (Ok found) then = (
-      then.0 ∙ keeps.0,
-      then.1,
-      λ none. then.2 (keeps.2 none),
-      λ some. ap (λ r. and_then r next_later) (keeps.3 (λ none. some (then.2 none))) ∙ then.3 some,
-    )
-    by (Err fault) then = (
-      λ none. then.0 (keeps.2 none),
-      λ no_end. ap (λ r. and_then r next_later) (keeps.3 (λ none. then.0 none no_end)) ∙ then.1 no_end,
-    )
+  -- from a later place on
+  stays-from : {A : Type 0} (more : List ℕ) (s t : List ℕ × ℕ) (here later : Result (A × (List ℕ × ℕ)) TextFault) → t.0 ≡ s.0 → (rest_of s ≡ [] → rest_of t ≡ []) → Stays Still more t here later → Stays Still more s here later
+  stays-from more s t (Ok found) later same ended stays = (stays.0 ∙ same, stays.1, λ none. stays.2 (ended none), stays.3)
+  stays-from more s t (Err fault) later same ended stays =
+      (λ none. stays.0 (ended none), λ no_end still. stays.1 no_end (subst (λ (xs : List ℕ). Still fault xs more) (sym same) still))
+
+  -- one reader behind another
+  pub stays-then : {A B : Type 0} (more : List ℕ) (s : List ℕ × ℕ) (here later : Result (A × (List ℕ × ℕ)) TextFault) (next next_later : A × (List ℕ × ℕ) → Result (B × (List ℕ × ℕ)) TextFault)
+      → Stays Still more s here later
+      → ((value : A) (t : List ℕ × ℕ) → here ≡ Ok (value, t) → Within t → Stays Still more t (next (value, t)) (next_later (value, grown more t)))
+      → Stays Still more s (and_then here next) (and_then later next_later)
+  stays-then more s (Err fault) later next next_later stays nexts = (stays.0, λ no_end still. ap (λ r. and_then r next_later) (stays.1 no_end still))
+  stays-then {A} {B} more s (Ok (value, t)) later next next_later stays nexts = by (next (value, t)) (nexts value t refl stays.1)
+    where
+      by : (answer : Result (B × (List ℕ × ℕ)) TextFault) → Stays Still more t answer (next_later (value, grown more t)) → Stays Still more s answer (and_then later next_later)
+      by (Ok found) then = (
+        then.0 ∙ stays.0,
+        then.1,
+        λ none. then.2 (stays.2 none),
+        λ some. ap (λ r. and_then r next_later) (stays.3 (λ none. some (then.2 none))) ∙ then.3 some,
+      )
+      by (Err fault) then = (
+        λ none. then.0 (stays.2 none),
+        λ no_end still. ap (λ r. and_then r next_later) (stays.3 (λ none. then.0 none no_end)) ∙ then.1 no_end (subst (λ (xs : List ℕ). Still fault xs more) (sym stays.0) still),
+      )
 
 pub keeps-ok : {A : Type 0} (more : List ℕ) (s : List ℕ × ℕ) (value : A) → Within s → Keeps more s (Ok (value, s)) (Ok (value, grown more s))
 keeps-ok more s value within = (refl, within, λ none. none, λ some. refl)
@@ -106,13 +120,14 @@ word_at-grown b bs more s P within stands cut differs =
     is : rest_of (grown more s) ≡ rest_of s ++ more
     is = rest_of-grown more s within
 
--- a word, and what follows it
-pub keeps-word : {B : Type 0} (b : ℕ) (bs more : List ℕ) (s : List ℕ × ℕ) (next next_later : List ℕ × ℕ → Result (B × (List ℕ × ℕ)) TextFault)
-    → Within s
-    → ((t : List ℕ × ℕ) → Within t → Keeps more t (next t) (next_later (grown more t)))
-    → Keeps more s (and_then (word_at (b ∷ bs) s) next) (and_then (word_at (b ∷ bs) (grown more s)) next_later)
-keeps-word {B} b bs more s next next_later within nexts =
-    word_at-grown b bs more s (λ here later. Keeps more s (and_then here next) (and_then later next_later)) within
-    (λ t inside moved some. keeps-from more s t (next t) (next_later (grown more t)) (ap (λ (u : List ℕ × ℕ). u.0) moved) (λ none. absurd (some none)) (nexts t inside))
-    (λ later short. (λ none no_end. no_end, λ no_end. absurd no_end))
-    (λ some. (λ none no_end. some none, λ no_end. refl))
+module _ (Still : TextFault → List ℕ → List ℕ → Type 0) where
+  -- a word, and what follows it
+  pub stays-word : {B : Type 0} (b : ℕ) (bs more : List ℕ) (s : List ℕ × ℕ) (next next_later : List ℕ × ℕ → Result (B × (List ℕ × ℕ)) TextFault)
+      → Within s
+      → ((t : List ℕ × ℕ) → Within t → Stays Still more t (next t) (next_later (grown more t)))
+      → Stays Still more s (and_then (word_at (b ∷ bs) s) next) (and_then (word_at (b ∷ bs) (grown more s)) next_later)
+  stays-word {B} b bs more s next next_later within nexts =
+      word_at-grown b bs more s (λ here later. Stays Still more s (and_then here next) (and_then later next_later)) within
+      (λ t inside moved some. stays-from Still more s t (next t) (next_later (grown more t)) (ap (λ (u : List ℕ × ℕ). u.0) moved) (λ none. absurd (some none)) (nexts t inside))
+      (λ later short. (λ none no_end. no_end, λ no_end still. absurd no_end))
+      (λ some. (λ none no_end. some none, λ no_end still. refl))

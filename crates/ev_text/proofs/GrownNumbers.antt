@@ -109,9 +109,9 @@ module _ (limit : ℕ) (more : List ℕ) (s : List ℕ × ℕ) (within : Within 
   pub keeps-whole : Keeps more s (whole_at limit s) (whole_at limit (grown more s))
   keeps-whole =
       whole_at-cases limit s (λ r. Keeps more s r (whole_at limit (grown more s)))
-      (λ none. (λ _ no_end. no_end, λ no_end. absurd no_end))
-      (λ some spoiled. (λ none no_end. some none, λ no_end. still_not_whole some spoiled))
-      (λ canonical large. (λ none no_end. no_digits (rest_of s) none canonical, λ no_end. still_too_large canonical large))
+      (λ none. (λ _ no_end. no_end, λ no_end always. absurd no_end))
+      (λ some spoiled. (λ none no_end. some none, λ no_end always. still_not_whole some spoiled))
+      (λ canonical large. (λ none no_end. no_digits (rest_of s) none canonical, λ no_end always. still_too_large canonical large))
       (λ canonical fits. (
         refl,
         past_within (leading_digits (rest_of s)) (drop (length (leading_digits (rest_of s))) (rest_of s)) s within (run_and_rest (rest_of s)),
@@ -150,7 +150,7 @@ pub keeps-positive : (limit : ℕ) (more : List ℕ) (s : List ℕ × ℕ) → l
 keeps-positive limit more s small_limit within = by (whole_at limit s) refl (keeps-whole limit more s within)
   where
     by : (answer : Result (ℕ × (List ℕ × ℕ)) TextFault) → whole_at limit s ≡ answer → Keeps more s answer (whole_at limit (grown more s)) → Keeps more s (and_then answer (unless_zero s)) (positive_at limit (grown more s))
-    by (Err fault) is keeps = (keeps.0, λ no_end. ap (λ r. and_then r (unless_zero s)) (keeps.1 no_end))
+    by (Err fault) is keeps = (keeps.0, λ no_end always. ap (λ r. and_then r (unless_zero s)) (keeps.1 no_end always))
     by (Ok (n, t)) is keeps = by_value (nat_eq n 0) refl
       where
         by_value : (none : Bool) → nat_eq n 0 ≡ none → Keeps more s (if none then Err (NotWhole s.1) else Ok (n, t)) (positive_at limit (grown more s))
@@ -164,5 +164,5 @@ keeps-positive limit more s small_limit within = by (whole_at limit s) refl (kee
             let takes = TakesNumber-from_whole_at limit s n t small_limit is in
             let digit : rest_of s ≡ 48 ∷ rest_of t = takes.number.spelled ∙ ap (λ m. decimal m ++ rest_of t) (eqb-true n 0 none) ∙ ap (λ ds. ds ++ rest_of t) (decimal_digit 0 (omega arith)) in (
               λ empty no_end. let same : 48 ∷ rest_of t ≡ [] = sym digit ∙ empty in cc,
-              λ no_end. no_positive limit (rest_of t ++ more) (grown more s) (rest_of-grown more s within ∙ ap (λ xs. xs ++ more) digit),
+              λ no_end always. no_positive limit (rest_of t ++ more) (grown more s) (rest_of-grown more s within ∙ ap (λ xs. xs ++ more) digit),
             )

@@ -8,11 +8,12 @@ use Rattle.ev_text.specs.Texts.{Begins, IsTextOf, fault_place, marked_texts}
 use Rattle.ev_text.specs.declared.TextFault.{TextFault}
 use Rattle.ev_text.specs.declared.TextFault.TheVariants.{End}
 use Rattle.ev_text.proofs.ChoiceLaws.{keeps-optional, optional_is_left, optional_left, optional_never_fails, optional_stands, optional_taken}
-use Rattle.ev_text.proofs.Grown.{Keeps, Within, grown, keeps-ok, keeps-then, keeps-word, past_within}
+use Rattle.ev_text.proofs.Grown.{Always, Keeps, Within, grown, keeps-ok, stays-then, stays-word, past_within}
 use Rattle.ev_text.proofs.Mended.{IsMended, behind, mended-behind, mended-here, mended-map, mended-word}
-use Rattle.ev_text.proofs.ReaderLaws.{IsReader, Takes, reader-moves}
+use Rattle.ev_text.proofs.ReaderLaws.{IsReader, reader-moves}
 use Rattle.ev_text.proofs.Readings.{TakesWord-from_word_at, word_read}
 use Rattle.ev_text.proofs.Results.{Err-ne-Ok, Ok-injective, and_then-ok, fault_of_two, no_bytes}
+use Rattle.ev_text.proofs.ReadingLaws.{Takes}
 
 -- items, each behind a byte, and the word that ends them
 abbrev pub ended_text : {A : Type 0} → ℕ → ℕ → List ℕ → (A → List ℕ) → List A → List ℕ
@@ -83,18 +84,18 @@ module _ {A : Type 0} (b e : ℕ) (es : List ℕ) (read : Reader A) (text : A �
 
   -- a text that goes on is read as before; a longer text allows more items
   few_keep : (most most_later : ℕ) (more : List ℕ) (s : List ℕ × ℕ) → most ≤ most_later → Within s → Keeps more s (few_behind (b ∷ []) (e ∷ es) read most s) (few_behind (b ∷ []) (e ∷ es) read most_later (grown more s))
-  few_keep zero most_later more s le within = (λ none no_end. no_end, λ no_end. absurd no_end)
+  few_keep zero most_later more s le within = (λ none no_end. no_end, λ no_end always. absurd no_end)
   few_keep (suc most) zero more s le within = absurd (omega (arith, le))
   few_keep (suc most) (suc most_later) more s le within =
-      keeps-then more s (optional_at (b ∷ []) s) (optional_at (b ∷ []) (grown more s)) (by_mark most) (by_mark most_later) (keeps-optional b more s within) (λ marked t is inside. by marked t inside (λ u still. few_keep most most_later more u (omega (arith, le)) still))
+      stays-then Always more s (optional_at (b ∷ []) s) (optional_at (b ∷ []) (grown more s)) (by_mark most) (by_mark most_later) (keeps-optional b more s within) (λ marked t is inside. by marked t inside (λ u still. few_keep most most_later more u (omega (arith, le)) still))
     where
       by : (marked : Bool) (t : List ℕ × ℕ) → Within t → ((u : List ℕ × ℕ) → Within u → Keeps more u (few_behind (b ∷ []) (e ∷ es) read most u) (few_behind (b ∷ []) (e ∷ es) read most_later (grown more u)))
           → Keeps more t (by_mark most (marked, t)) (by_mark most_later (marked, grown more t))
       by true t inside later =
-          keeps-then more t (read t) (read (grown more t)) (others most) (others most_later) (reader.keeps more t inside)
-          (λ item u is still. keeps-then more u (few_behind (b ∷ []) (e ∷ es) read most u) (few_behind (b ∷ []) (e ∷ es) read most_later (grown more u)) (λ items. Ok (item ∷ items.0, items.1)) (λ items. Ok (item ∷ items.0, items.1)) (later u still)
+          stays-then Always more t (read t) (read (grown more t)) (others most) (others most_later) (reader.stays more t inside)
+          (λ item u is still. stays-then Always more u (few_behind (b ∷ []) (e ∷ es) read most u) (few_behind (b ∷ []) (e ∷ es) read most_later (grown more u)) (λ items. Ok (item ∷ items.0, items.1)) (λ items. Ok (item ∷ items.0, items.1)) (later u still)
           (λ items v is last. keeps-ok more v (item ∷ items) last))
-      by false t inside later = keeps-word e es more t (λ u. Ok ([], u)) (λ u. Ok ([], u)) inside (λ u still. keeps-ok more u [] still)
+      by false t inside later = stays-word Always e es more t (λ u. Ok ([], u)) (λ u. Ok ([], u)) inside (λ u still. keeps-ok more u [] still)
 
   -- what stands before a fault can be continued
   few_mended : (most : ℕ) (s : List ℕ × ℕ) (fault : TextFault) → Within s → length (rest_of s) ≤ most → few_behind (b ∷ []) (e ∷ es) read most s ≡ Err fault → IsMended (IsTextOf (ended_text b e es text) (All Fits)) s fault
@@ -168,9 +169,10 @@ module _ {A : Type 0} (b e : ℕ) (es : List ℕ) (read : Reader A) (text : A �
   pub reader-each : IsReader (each_behind (b ∷ []) (e ∷ es) read) (ended_text b e es text) (All Fits) (λ items rest. Unit {0})
   reader-each = record {
     example = ([], All-nil Fits);
+    loose = λ items fit. fit;
     standing = λ s t items is. few_stand (length s.0) s t items is;
     taken = λ items rest s fits before is.
         few_taken (length s.0) items rest s (omega (arith, fewer_than_bytes items rest, ap (λ xs. length xs) is, length-drop s.1 s.0)) fits is;
-    keeps = λ more s within. few_keep (length s.0) (length (s.0 ++ more)) more s (omega (arith, length-append s.0 more)) within;
+    stays = λ more s within. few_keep (length s.0) (length (s.0 ++ more)) more s (omega (arith, length-append s.0 more)) within;
     mended = λ s fault within is. few_mended (length s.0) s fault within (omega (arith, length-drop s.1 s.0)) is;
   }

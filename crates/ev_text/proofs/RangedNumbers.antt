@@ -10,12 +10,11 @@ use Rattle.ev_text.specs.Texts.{AreOfNumber, BeginsWithDigit, IsLonger, IsNoEnd,
 use Rattle.ev_text.specs.declared.TextFault.{TextFault}
 use Rattle.ev_text.specs.declared.TextFault.TheVariants.{TooLarge}
 use Rattle.ev_text.proofs.DigitRuns.{test_from_digit}
-use Rattle.ev_text.proofs.Grown.{Keeps, Within, grown, rest_of-grown}
+use Rattle.ev_text.proofs.Grown.{Keeps, Stays, Within, grown, rest_of-grown}
 use Rattle.ev_text.proofs.GrownNumbers.{keeps-whole}
 use Rattle.ev_text.proofs.Mended.{IsMended, mended-here, mended-whole}
-use Rattle.ev_text.proofs.ReaderLaws.{Takes}
 use Rattle.ev_text.proofs.Readings.{TakesNumber-from_whole_at, first_digit, number_read}
-use Rattle.ev_text.proofs.ReadingLaws.{Reads, Stays}
+use Rattle.ev_text.proofs.ReadingLaws.{Reads, Takes}
 use Rattle.ev_text.proofs.Results.{Err-ne-Ok, Ok-injective, and_then-ok}
 
 -- digits are bytes of a number
@@ -91,7 +90,7 @@ module _ (Still : TextFault → List ℕ → List ℕ → Type 0) (still_shorter
   where_stays more s within = by (whole_at limit s) refl (keeps-whole limit more s within)
     where
       by : (here : Result (ℕ × (List ℕ × ℕ)) TextFault) → whole_at limit s ≡ here → Keeps more s here (whole_at limit (grown more s)) → Stays Still more s (and_then here (tested s)) (number_where limit keeps (grown more s))
-      by (Err fault) is stay = (stay.0, λ no_end still. ap (λ r. and_then r (tested (grown more s))) (stay.1 no_end))
+      by (Err fault) is stay = (stay.0, λ no_end still. ap (λ r. and_then r (tested (grown more s))) (stay.1 no_end tt))
       by (Ok (n, t)) is stay = by_test (keeps n) refl
         where
           some_number : rest_of s ≡ [] → ⊥

@@ -3,18 +3,18 @@
 use Rattle.std.proofs.Common.{◌≡◌, ◌≢◌, ◌∙◌, inl, inr, ℕ, ◌+◌, List, [], ◌∷◌, ◌++◌, length, length-append, length-drop, Result, Ok, Err, refl, sym, ap, subst, append_assoc, arith}
 use Rattle.ev_text.specs.Readers.{Reader, behind_word, answer, then_reads}
 use Rattle.ev_text.specs.Scans.{and_then, past, rest_of, word_at}
-use Rattle.ev_text.specs.Texts.{Begins, IsNoEnd, IsTextOf}
+use Rattle.ev_text.specs.Texts.{Begins, IsTextOf}
 use Rattle.ev_text.specs.declared.TextFault.{TextFault}
-use Rattle.ev_text.proofs.Grown.{Keeps, Within, grown, past_within, word_at-grown}
+use Rattle.ev_text.proofs.Grown.{Stays, Within, grown, past_within, stays-then, stays-word}
 use Rattle.ev_text.proofs.Mended.{IsMended, behind, mended-behind, mended-map, mended-word}
-use Rattle.ev_text.proofs.ReaderLaws.{IsReader, Takes}
 use Rattle.ev_text.proofs.Readings.{TakesWord-from_word_at, word_read}
 use Rattle.ev_text.proofs.Results.{Err-ne-Ok, Ok-injective, and_then-ok, fault_of_two}
 
--- what an answer tells of the answer in a text that goes on, where Still says which faults stand however it goes on
-abbrev pub Stays : {A : Type 0} → (TextFault → List ℕ → List ℕ → Type 0) → List ℕ → List ℕ × ℕ → Result (A × (List ℕ × ℕ)) TextFault → Result (A × (List ℕ × ℕ)) TextFault → Type 0
-Stays Still more s (Ok found) later = (found.1.0 ≡ s.0) × Within found.1 × (rest_of s ≡ [] → rest_of found.1 ≡ []) × (rest_of found.1 ≢ [] → later ≡ Ok (found.0, grown more found.1))
-Stays Still more s (Err fault) later = (rest_of s ≡ [] → IsNoEnd fault → ⊥) × (IsNoEnd fault → Still fault s.0 more → later ≡ Err fault)
+-- a value was taken, and the rest of the text is left
+pub record Takes {A : Type 0} (answer : Result (A × (List ℕ × ℕ)) TextFault) (value : A) (rest : List ℕ) : Type 0 where
+  pub after : List ℕ × ℕ
+  pub is : answer ≡ Ok (value, after)
+  pub left : rest_of after ≡ rest
 
 -- a reader reads the texts of values that fit, in front of what may stand behind each; what stands before a fault begins the
 -- text of a value that fits loosely
@@ -31,21 +31,6 @@ pub record Reads {A : Type 0} (Still : TextFault → List ℕ → List ℕ → T
   pub mended : (s : List ℕ × ℕ) (fault : TextFault) → Within s → read s ≡ Err fault → IsMended (IsTextOf text Loose) s fault
 
 module _ {A : Type 0} (Still : TextFault → List ℕ → List ℕ → Type 0) where
-  pub stays-of_keeps : (more : List ℕ) (s : List ℕ × ℕ) (here later : Result (A × (List ℕ × ℕ)) TextFault) → Keeps more s here later → Stays Still more s here later
-  stays-of_keeps more s (Ok found) later keeps = keeps
-  stays-of_keeps more s (Err fault) later keeps = (keeps.0, λ no_end still. keeps.1 no_end)
-
-  -- a reader without range rules
-  pub reads-reader : (read : Reader A) (text : A → List ℕ) (Fits : A → Type 0) (Before : A → List ℕ → Type 0) → IsReader read text Fits Before → Reads Still read text Fits Fits Before
-  reads-reader read text Fits Before reader = record {
-    example = reader.example;
-    loose = λ value fits. fits;
-    standing = reader.standing;
-    taken = reader.taken;
-    stays = λ more s within. stays-of_keeps more s (read s) (read (grown more s)) (reader.keeps more s within);
-    mended = reader.mended;
-  }
-
   -- what was taken moves the scan by its text
   pub reads-moves : (read : Reader A) (text : A → List ℕ) (Fits Loose : A → Type 0) (Before : A → List ℕ → Type 0) → Reads Still read text Fits Loose Before
       → (s t : List ℕ × ℕ) (value : A) → Within s → read s ≡ Ok (value, t) → (t.1 ≡ s.1 + length (text value)) × Within t × (t.0 ≡ s.0)
@@ -91,43 +76,6 @@ reads-as {A} Still read text other Fits Others Loose Looser Before Behind same r
 }
 
 module _ (Still : TextFault → List ℕ → List ℕ → Type 0) where
-  -- from a later place on
-  stays-from : {A : Type 0} (more : List ℕ) (s t : List ℕ × ℕ) (here later : Result (A × (List ℕ × ℕ)) TextFault) → t.0 ≡ s.0 → (rest_of s ≡ [] → rest_of t ≡ []) → Stays Still more t here later → Stays Still more s here later
-  stays-from more s t (Ok found) later same ended stays = (stays.0 ∙ same, stays.1, λ none. stays.2 (ended none), stays.3)
-  stays-from more s t (Err fault) later same ended stays =
-      (λ none. stays.0 (ended none), λ no_end still. stays.1 no_end (subst (λ (xs : List ℕ). Still fault xs more) (sym same) still))
-
-  -- one reader behind another
-  pub stays-then : {A B : Type 0} (more : List ℕ) (s : List ℕ × ℕ) (here later : Result (A × (List ℕ × ℕ)) TextFault) (next next_later : A × (List ℕ × ℕ) → Result (B × (List ℕ × ℕ)) TextFault)
-      → Stays Still more s here later
-      → ((value : A) (t : List ℕ × ℕ) → here ≡ Ok (value, t) → Within t → Stays Still more t (next (value, t)) (next_later (value, grown more t)))
-      → Stays Still more s (and_then here next) (and_then later next_later)
-  stays-then more s (Err fault) later next next_later stays nexts = (stays.0, λ no_end still. ap (λ r. and_then r next_later) (stays.1 no_end still))
-  stays-then {A} {B} more s (Ok (value, t)) later next next_later stays nexts = by (next (value, t)) (nexts value t refl stays.1)
-    where
-      by : (answer : Result (B × (List ℕ × ℕ)) TextFault) → Stays Still more t answer (next_later (value, grown more t)) → Stays Still more s answer (and_then later next_later)
-      by (Ok found) then = (
-        then.0 ∙ stays.0,
-        then.1,
-        λ none. then.2 (stays.2 none),
-        λ some. ap (λ r. and_then r next_later) (stays.3 (λ none. some (then.2 none))) ∙ then.3 some,
-      )
-      by (Err fault) then = (
-        λ none. then.0 (stays.2 none),
-        λ no_end still. ap (λ r. and_then r next_later) (stays.3 (λ none. then.0 none no_end)) ∙ then.1 no_end (subst (λ (xs : List ℕ). Still fault xs more) (sym stays.0) still),
-      )
-
-  -- a word, and what follows it
-  pub stays-word : {B : Type 0} (b : ℕ) (bs more : List ℕ) (s : List ℕ × ℕ) (next next_later : List ℕ × ℕ → Result (B × (List ℕ × ℕ)) TextFault)
-      → Within s
-      → ((t : List ℕ × ℕ) → Within t → Stays Still more t (next t) (next_later (grown more t)))
-      → Stays Still more s (and_then (word_at (b ∷ bs) s) next) (and_then (word_at (b ∷ bs) (grown more s)) next_later)
-  stays-word {B} b bs more s next next_later within nexts =
-      word_at-grown b bs more s (λ here later. Stays Still more s (and_then here next) (and_then later next_later)) within
-      (λ t inside moved some. stays-from more s t (next t) (next_later (grown more t)) (ap (λ (u : List ℕ × ℕ). u.0) moved) (λ none. absurd (some none)) (nexts t inside))
-      (λ later short. (λ none no_end. no_end, λ no_end still. absurd no_end))
-      (λ some. (λ none no_end. some none, λ no_end still. refl))
-
   -- a word, and what stands behind it
   pub reads-behind : {A : Type 0} (b : ℕ) (bs : List ℕ) (read : Reader A) (text : A → List ℕ) (Fits Loose : A → Type 0) (Before : A → List ℕ → Type 0)
       → Reads Still read text Fits Loose Before → Reads Still (behind_word (b ∷ bs) read) (λ value. (b ∷ bs) ++ text value) Fits Loose Before
@@ -143,7 +91,7 @@ module _ (Still : TextFault → List ℕ → List ℕ → Type 0) where
         let word = word_read (b ∷ bs) (text value ++ rest) s (e ∙ append_assoc (b ∷ bs) (text value) rest) in
         let takes = reader.taken value rest (past (b ∷ bs) s) fits before word.1 in
         record { after = takes.after; is = ap (λ r. and_then r read) word.0 ∙ takes.is; left = takes.left };
-    stays = λ more s within. stays-word b bs more s read read within (λ t inside. reader.stays more t inside);
+    stays = λ more s within. stays-word Still b bs more s read read within (λ t inside. reader.stays more t inside);
     mended = λ s fault within is. elim (fault_of_two (word_at (b ∷ bs) s) read fault is) [
       | inl none ↦ mended-word (IsTextOf (λ value. (b ∷ bs) ++ text value) Loose) s fault (b ∷ bs) (text reader.example.0) none (reader.example.0, reader.example.1, refl)
       | inr h ↦

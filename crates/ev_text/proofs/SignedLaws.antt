@@ -10,13 +10,12 @@ use Rattle.ev_text.specs.Texts.{AreOfNumber, BeginsWithDigit, IsLonger, IsNoEnd,
 use Rattle.ev_text.specs.declared.TextFault.{TextFault}
 use Rattle.ev_text.specs.declared.TextFault.TheVariants.{End, NotWhole, TooLarge, Word}
 use Rattle.ev_text.proofs.ChoiceLaws.{keeps-optional, optional_is_none, optional_left, optional_never_fails, optional_stands, optional_taken}
-use Rattle.ev_text.proofs.Grown.{Keeps, Within, grown, rest_of-grown}
+use Rattle.ev_text.proofs.Grown.{Keeps, Stays, Within, grown, rest_of-grown, stays-of_keeps, stays-then}
 use Rattle.ev_text.proofs.GrownNumbers.{keeps-whole}
 use Rattle.ev_text.proofs.Mended.{IsMended, behind, mended-behind, mended-here, mended-whole}
 use Rattle.ev_text.proofs.RangedNumbers.{digit_or_not, of_number}
-use Rattle.ev_text.proofs.ReaderLaws.{Takes}
 use Rattle.ev_text.proofs.Readings.{TakesNumber-from_whole_at, first_digit, number_read, word_read}
-use Rattle.ev_text.proofs.ReadingLaws.{Reads, Stays, stays-of_keeps, stays-then}
+use Rattle.ev_text.proofs.ReadingLaws.{Reads, Takes}
 use Rattle.ev_text.proofs.Results.{Err-ne-Ok, Ok-injective, and_then-ok, fault_of_two}
 
 module _ (Still : TextFault → List ℕ → List ℕ → Type 0) (still_shorter : (at : ℕ) (text more : List ℕ) → Still (TooLarge at) text more → IsLonger at text more → ⊥)
@@ -101,9 +100,9 @@ module _ (Still : TextFault → List ℕ → List ℕ → Type 0) (still_shorter
           by_rest : (rest : List ℕ) → rest_of u ≡ rest → Still (TooLarge s.1) t.0 more → below_zero s.1 (whole_at limit (grown more t)) ≡ Err (TooLarge s.1)
           by_rest [] none still = at_end none (digit_or_not more) still
           by_rest (b ∷ bs) more_left still = ap (λ r. below_zero s.1 r) (stay.3 (λ none. absurd (let same : b ∷ bs ≡ [] = sym more_left ∙ none in cc)))
-      by (Err (NotWhole there)) is stay = (stay.0, λ no_end still. ap (λ r. below_zero s.1 r) (stay.1 no_end))
-      by (Err (TooLarge there)) is stay = (stay.0, λ no_end still. ap (λ r. below_zero s.1 r) (stay.1 no_end))
-      by (Err (Word there)) is stay = (stay.0, λ no_end still. ap (λ r. below_zero s.1 r) (stay.1 no_end))
+      by (Err (NotWhole there)) is stay = (stay.0, λ no_end still. ap (λ r. below_zero s.1 r) (stay.1 no_end tt))
+      by (Err (TooLarge there)) is stay = (stay.0, λ no_end still. ap (λ r. below_zero s.1 r) (stay.1 no_end tt))
+      by (Err (Word there)) is stay = (stay.0, λ no_end still. ap (λ r. below_zero s.1 r) (stay.1 no_end tt))
       by (Err (End there)) is stay = (stay.0, λ no_end still. absurd no_end)
 
   signed_stays : (more : List ℕ) (s : List ℕ × ℕ) → Within s → Stays Still more s (signed_at limit s) (signed_at limit (grown more s))

@@ -9,8 +9,9 @@ use Rattle.ev_text.specs.declared.TextFault.{TextFault}
 use Rattle.ev_text.specs.declared.TextFault.TheVariants.{End, Word}
 use Rattle.ev_text.proofs.Grown.{Keeps, grown, rest_of-grown}
 use Rattle.ev_text.proofs.Mended.{IsMended}
-use Rattle.ev_text.proofs.ReaderLaws.{IsReader, Takes, reader-moves}
+use Rattle.ev_text.proofs.ReaderLaws.{IsReader, reader-moves}
 use Rattle.ev_text.proofs.Results.{Err-ne-Ok, Ok-injective, and_then-ok, fault_of_two, no_bytes}
+use Rattle.ev_text.proofs.ReadingLaws.{Takes}
 
 pub whole_text-end : {A : Type 0} (value : A) (t : List ℕ × ℕ) → rest_of t ≡ [] → whole_text (value, t) ≡ Ok value
 whole_text-end value t none = rw none refl
@@ -85,7 +86,7 @@ module _ {A : Type 0} (read : Reader A) (text : A → List ℕ) (Fits : A → Ty
 
   -- and no continuation mends another fault
   hopeless : (bytes : List ℕ) (fault : TextFault) → whole_with read bytes ≡ Err fault → IsNoEnd fault → (more : List ℕ) (value : A) → Fits value → text value ≡ bytes ++ more → ⊥
-  hopeless bytes fault is no_end more value fits text_is = by (read (bytes, 0)) is (reader.keeps more (bytes, 0) (omega arith))
+  hopeless bytes fault is no_end more value fits text_is = by (read (bytes, 0)) is (reader.stays more (bytes, 0) (omega arith))
     where
       takes : Takes (read (bytes ++ more, 0)) value []
       takes = reader.taken value [] (bytes ++ more, 0) fits (ends value fits) (sym text_is ∙ sym (append-nil (text value)))
@@ -93,7 +94,7 @@ module _ {A : Type 0} (read : Reader A) (text : A → List ℕ) (Fits : A → Ty
       by : (found : Result (A × (List ℕ × ℕ)) TextFault) → and_then found whole_text ≡ Err fault → Keeps more (bytes, 0) found (read (bytes ++ more, 0)) → ⊥
       by (Err other) is keeps =
           let same : other ≡ fault = cc in
-          Err-ne-Ok other (value, takes.after) (sym (keeps.1 (subst IsNoEnd (sym same) no_end)) ∙ takes.is)
+          Err-ne-Ok other (value, takes.after) (sym (keeps.1 (subst IsNoEnd (sym same) no_end) tt) ∙ takes.is)
       by (Ok (first, u)) is keeps =
           let behind = something_behind first u fault is in
           let same = Ok-injective (first, grown more u) (value, takes.after) (sym (keeps.3 behind.1) ∙ takes.is) in

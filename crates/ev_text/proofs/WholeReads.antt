@@ -6,10 +6,9 @@ use Rattle.ev_text.specs.Scans.{and_then, rest_of}
 use Rattle.ev_text.specs.Texts.{Begins, IsNoEnd, IsTextOf, fault_place}
 use Rattle.ev_text.specs.declared.TextFault.{TextFault}
 use Rattle.ev_text.specs.declared.TextFault.TheVariants.{End}
-use Rattle.ev_text.proofs.Grown.{grown, rest_of-grown}
+use Rattle.ev_text.proofs.Grown.{Stays, grown, rest_of-grown}
 use Rattle.ev_text.proofs.Mended.{IsMended}
-use Rattle.ev_text.proofs.ReaderLaws.{Takes}
-use Rattle.ev_text.proofs.ReadingLaws.{Reads, Stays, reads-moves}
+use Rattle.ev_text.proofs.ReadingLaws.{Reads, Takes, reads-moves}
 use Rattle.ev_text.proofs.Results.{Err-ne-Ok, Ok-injective, and_then-ok, fault_of_two}
 use Rattle.ev_text.proofs.WholeLaws.{something_behind, whole_text-end, whole_text-ok}
 

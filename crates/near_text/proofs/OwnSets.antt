@@ -11,10 +11,9 @@ use Rattle.ev_text.specs.Texts.{AllFrom, Begins, IsNoEnd, IsTextOf, StandsUnless
 use Rattle.ev_text.specs.declared.TextFault.{TextFault}
 use Rattle.ev_text.specs.declared.TextFault.TheVariants.{End, TooLarge}
 use Rattle.ev_text.proofs.ChoiceLaws.{BeginsOtherwise, keeps-optional, optional_is_left, optional_is_none, optional_left, optional_never_fails, optional_stands, optional_taken}
-use Rattle.ev_text.proofs.Grown.{Keeps, Within, grown, past_within, rest_of-grown}
+use Rattle.ev_text.proofs.Grown.{Keeps, Stays, Within, grown, past_within, rest_of-grown, stays-of_keeps, stays-then, stays-word}
 use Rattle.ev_text.proofs.Mended.{IsMended, behind, mended-behind, mended-here, mended-map, mended-word}
-use Rattle.ev_text.proofs.ReaderLaws.{Takes}
-use Rattle.ev_text.proofs.ReadingLaws.{Reads, Stays, reads-moves, stays-of_keeps, stays-then, stays-word}
+use Rattle.ev_text.proofs.ReadingLaws.{Reads, Takes, reads-moves}
 use Rattle.ev_text.proofs.Readings.{TakesWord-from_word_at, word_read}
 use Rattle.ev_text.proofs.Results.{Err-ne-Ok, Ok-injective, and_then-ok, fault_of_two, no_bytes}
 use Rattle.text_records.specs.Numbers.{UpTo}

@@ -81,7 +81,7 @@ module _ (s : List ℕ × ℕ) (within : Within s) where
       let text : rest_of (grown more s) ≡ decimal m ++ behind_commas ms = rest_of-grown more s within ∙ spells.text ∙ route_text-cons m ms in
       let later = number_read (10 ^ 9) m (behind_commas ms) (grown more s) (omega (arith, little)) little text (begins_without_digit ms) in
       let keeps = subst (λ (r : Result (ℕ × (List ℕ × ℕ)) TextFault). Keeps more s r (whole_at (10 ^ 9) (grown more s))) is (keeps-whole (10 ^ 9) more s within) in
-      let refused = keeps.1 (no_end other less is) in
+      let refused = keeps.1 (no_end other less is) tt in
       Err-ne-Ok other (m, (s.0 ++ more, s.1 + length (decimal m))) (sym refused ∙ later.0)
 
   no_number : (fault : RouteFault) → read_node s ≡ Err fault → IsFirst s fault

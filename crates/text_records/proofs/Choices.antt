@@ -4,7 +4,8 @@ use Rattle.ev_text.specs.Readers.{Reader, choice_at, optional_at, then_reads}
 use Rattle.ev_text.specs.Texts.{optional_text}
 use Rattle.ev_text.specs.declared.TextFault.{TextFault}
 use Rattle.ev_text.proofs.ChoiceLaws.{BeforeChoice, BeforeOptional, reader-choice, reader-optional}
-use Rattle.ev_text.proofs.ReadingLaws.{Reads, reads-reader}
+use Rattle.ev_text.proofs.ReadingLaws.{Reads}
+use Rattle.ev_text.proofs.ReaderLaws.{reads-reader}
 use Rattle.text_records.proofs.Records.{BothFit, ReadsParts, both_text, parts-as, parts-then}
 
 -- by which of two readers parts were read

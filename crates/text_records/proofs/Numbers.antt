@@ -9,9 +9,9 @@ use Rattle.ev_text.specs.Texts.{IsLonger, StandsUnlessLonger}
 use Rattle.ev_text.specs.declared.TextFault.TheVariants.{TooLarge}
 use Rattle.ev_text.proofs.ChoiceLaws.{BeforeChoice, BeginsOtherwise, other_word}
 use Rattle.ev_text.proofs.RangedNumbers.{reads-where}
-use Rattle.ev_text.proofs.ReaderLaws.{reader-number}
+use Rattle.ev_text.proofs.ReaderLaws.{reader-number, reads-reader}
 use Rattle.ev_text.proofs.Readings.{first_digit}
-use Rattle.ev_text.proofs.ReadingLaws.{Reads, reads-reader}
+use Rattle.ev_text.proofs.ReadingLaws.{Reads}
 use Rattle.text_records.specs.Numbers.{Keeping, UpTo}
 
 -- what may stand behind a value: anything, or no digit

@@ -5,11 +5,10 @@ use Rattle.ev_text.specs.Readers.{Reader, answer, behind_word, then_reads}
 use Rattle.ev_text.specs.Scans.{and_then, past, rest_of, word_at}
 use Rattle.ev_text.specs.Texts.{Begins, IsTextOf}
 use Rattle.ev_text.specs.declared.TextFault.{TextFault}
-use Rattle.ev_text.proofs.Grown.{Within, grown, past_within}
+use Rattle.ev_text.proofs.Grown.{Stays, Within, grown, past_within, stays-then, stays-word}
 use Rattle.ev_text.proofs.Mended.{IsMended, behind, mended-behind, mended-map, mended-word}
-use Rattle.ev_text.proofs.ReaderLaws.{Takes}
 use Rattle.ev_text.proofs.Readings.{TakesWord-from_word_at, word_read}
-use Rattle.ev_text.proofs.ReadingLaws.{Reads, Stays, reads-moves, stays-then, stays-word}
+use Rattle.ev_text.proofs.ReadingLaws.{Reads, Takes, reads-moves}
 use Rattle.ev_text.proofs.Results.{Err-ne-Ok, Ok-injective, and_then-ok, fault_of_two}
 
 -- a reader reads the texts of parts that fit, in front of what may stand behind them, and answers what is made of them; what
