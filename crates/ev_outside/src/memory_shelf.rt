@@ -126,11 +126,15 @@ fn add_name(names: &mut Vec<String>, name: &str) -> Result<(), AllocError>
 }
 
 impl Shelf for MemoryShelf {
-    ghost use Rattle.std.specs.Prelude.{◌≡◌, ◌⊎◌, ◌++◌, ◌∷◌, [], Some, OnOk, OnErr, IsErrOf, IsNone, IsSome};
+    ghost use Rattle.std.specs.Prelude.{◌≡◌, ◌⊎◌, ◌++◌, ◌∷◌, [], Some};
+    ghost use Rattle.std.specs.Prelude.{OnOk, OnErr, IsErrOf, IsNone, IsSome};
     ghost use Rattle.ev_outside.specs.Counts.{one_more, Rose};
     ghost use Rattle.ev_text.specs.Scans.{IsPrefixOf};
-    ghost use Rattle.ev_outside.specs.Shelf.{AppendsFile, CountsNeverFall, CountsStay, HoldsUnder, KeepsOthers};
-    ghost use Rattle.ev_outside.specs.MemoryShelf.{one_call_more, read_failed, state_of, told_by, write_failed, IsNextToFail, ChangesFile};
+    ghost use Rattle.ev_outside.specs.Shelf.{AppendsFile, CountsNeverFall, CountsStay};
+    ghost use Rattle.ev_outside.specs.Shelf.{HoldsUnder, KeepsOthers};
+    ghost use Rattle.ev_outside.specs.MemoryShelf.{one_call_more, state_of, told_by};
+    ghost use Rattle.ev_outside.specs.MemoryShelf.{read_failed, write_failed};
+    ghost use Rattle.ev_outside.specs.MemoryShelf.{IsNextToFail, ChangesFile};
 
     ghost state = { told_by };
 

@@ -16,7 +16,8 @@ pub(crate) struct Pace {
 }
 
 impl Pace {
-    ghost use Rattle.std.specs.Prelude.{◌≡◌, ◌+◌, ◌*◌, ◌^◌, ◌≤◌, ◌↔◌, IfSome, IsTrue, MatchOption, false};
+    ghost use Rattle.std.specs.Prelude.{◌≡◌, ◌+◌, ◌*◌, ◌^◌, ◌≤◌, ◌↔◌};
+    ghost use Rattle.std.specs.Prelude.{IfSome, IsTrue, MatchOption, false};
     ghost use Rattle.std.specs.Duration.{as_nanos};
 
     /// The pace of what begins at a time: the first line is due 3 seconds later.
