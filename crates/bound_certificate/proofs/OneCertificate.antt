@@ -33,6 +33,7 @@ use Rattle.certificate_parts.proofs.Chosen.{chosen, same_chosen, split_same}
 use Rattle.text_records.proofs.Numbers.{Anything}
 use Rattle.bound_certificate.proofs.WrittenWhole.{written_is}
 use Rattle.certificate_parts.proofs.OneWritten.{LabelIs, one_entry, one_label, same_items, same_maps}
+use Rattle.instance_reader.specs.Instance.{most_customers}
 
 -- ---- forbidden pairs
 
@@ -240,7 +241,7 @@ one_written g c d fits fit kept keeps same =
 pub spelled_where_read : (g : Network) → IsNetwork g → (bytes : List ℕ) (c : Certificate) → certificate_in g bytes ≡ Ok (written g c) → Fits g c → All IsKept c.sections → IsSpelledBy g bytes c
 spelled_where_read g network bytes c is fits kept = record { fits = fits; kept = kept; text = ((certificate_is_spelled g network bytes (written g c)).0 is).text }
 
-module _ (g : Network) (network : IsNetwork g) (few : customer_count g ≤ 128) where
+module _ (g : Network) (network : IsNetwork g) (few : customer_count g ≤ most_customers) where
   -- the text of a certificate is read as what is written of it
   text_tells : (bytes : List ℕ) (c : Certificate) → IsSpelledBy g bytes c → whole_with (certificate_at g) bytes ≡ Ok (written g c)
   text_tells bytes c is =

@@ -14,6 +14,7 @@ use Rattle.bound_certificate.specs.Written.{if_forbidden, pairs_after, pairs_fro
 use Rattle.bound_certificate.specs.WrittenRanges.{PairFits, next_pair}
 use Rattle.certificate_parts.proofs.PlaceOrder.{places_in_order, same_by_node}
 use Rattle.certificate_parts.proofs.WrittenParts.{or_true, place_is}
+use Rattle.instance_reader.specs.Instance.{most_customers}
 
 module _ (g : Network) (network : IsNetwork g) where
   -- pairs from a place on are above another
@@ -100,7 +101,7 @@ module _ (g : Network) (network : IsNetwork g) where
       let rest = few_from p (a + 1) more in
       omega (arith, row, rest, length-append (pairs_after g p a 0 (customer_count g + 1)) (pairs_from g p (a + 1) more))
 
-  pub few_pairs : (p : ForbiddenPairs) → customer_count g ≤ 128 → length (written_pairs g p) ≤ most_pairs
+  pub few_pairs : (p : ForbiddenPairs) → customer_count g ≤ most_customers → length (written_pairs g p) ≤ most_pairs
   few_pairs p few =
       let all = few_from p 0 (customer_count g + 1) in
       let le : customer_count g + 1 ≤ 129 = omega (arith, few) in

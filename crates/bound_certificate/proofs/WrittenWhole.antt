@@ -25,12 +25,13 @@ use Rattle.certificate_parts.proofs.WrittenParts.{all_map, weight_is}
 use Rattle.bound_certificate.proofs.WrittenLabels.{few_pairs, pairs_are}
 use Rattle.certificate_parts.proofs.WrittenSets.{label_is}
 use Rattle.certificate_parts.proofs.WrittenBasis.{basis_is, bound_is, prices_run}
+use Rattle.instance_reader.specs.Instance.{most_customers}
 
 all_as : {A : Type 0} (P Q : A → Type 0) (xs : List A) → ((a : A) → P a → Q a) → All P xs → All Q xs
 all_as P Q [] step all = All-nil Q
 all_as P Q (x ∷ xs) step all = All-cons Q x xs (step x (All-head P x xs all)) (all_as P Q xs step (All-tail P x xs all))
 
-module _ (g : Network) (network : IsNetwork g) (few : customer_count g ≤ 128) where
+module _ (g : Network) (network : IsNetwork g) (few : customer_count g ≤ most_customers) where
   root_is : (r : Root) → RootFits (customer_count g) r → RootIs g (written_root g r)
   root_is root.None fits = tt
   root_is (root.Exact over shares) fits = (weight_is over fits.over_weight, fits.few, all_as ShareFits ShareIs shares share_is fits.each)

@@ -2,7 +2,7 @@
 
 ghost use Rattle.std.specs.Prelude.{◌↔◌, ◌≤◌, IsTrue, length};
 ghost use Rattle.std.specs.List.{All};
-ghost use Rattle.instance_reader.specs.Instance.{customer_nodes};
+ghost use Rattle.instance_reader.specs.Instance.{customer_nodes, most_customers};
 ghost use Rattle.bound_certificate.specs.Ranges.{Fits, SectionFits};
 
 mod root;
@@ -30,7 +30,7 @@ impl Certificate {
     /// two of them the same, each a customer's helper or a listed column. Routes have a stop, and
     /// numbers that may stand in the text of a plan.
     pub fn fits(&self, inst: &Instance) -> bool
-        requires { length (customer_nodes inst.now) ≤ 128 }
+        requires { length (customer_nodes inst.now) ≤ most_customers }
         ensures { IsTrue result ↔ Fits inst.now self.now }
     {
         let customers = inst.customers().len();
@@ -45,7 +45,7 @@ impl Certificate {
 
 /// Whether each section is in its ranges.
 fn sections_fit(inst: &Instance, sections: &[Section]) -> bool
-    requires { length (customer_nodes inst.now) ≤ 128 }
+    requires { length (customer_nodes inst.now) ≤ most_customers }
     ensures { IsTrue result ↔ All (SectionFits inst.now) sections.now }
 {
     for section in sections {

@@ -5,7 +5,7 @@ ghost use Rattle.bound_certificate.specs.Ranges.{Fits};
 ghost use Rattle.certificate_check.specs.Truth.{IsTrueCertificate};
 ghost use Rattle.certificate_check.specs.Verdicts.{IsVerdict};
 ghost use Rattle.certificate_check.specs.declared.verdict.Verdict.TheVariants.{Accepted};
-ghost use Rattle.instance_reader.specs.Instance.{customer_nodes};
+ghost use Rattle.instance_reader.specs.Instance.{customer_nodes, most_customers};
 
 use crate::leaves::leaf_fault;
 use crate::root::root_holds;
@@ -48,7 +48,7 @@ pub fn check_certificate(
     inst: &Instance,
     cert: &Certificate,
 ) -> Result<Verdict, AllocError>
-    requires few { length (customer_nodes inst.now) ≤ 128 }
+    requires few { length (customer_nodes inst.now) ≤ most_customers }
     requires fits { Fits inst.now cert.now }
     ensures verdict { IfOk result (IsVerdict inst.now cert.now) }
     ensures shows { IfOk result (λ v. v ≡ Accepted → IsTrueCertificate inst.now cert.now) }
@@ -60,7 +60,7 @@ pub fn check_certificate(
 
 /// That a certificate is accepted, or the first rule that it breaks.
 fn verdict_on(alloc: Global, inst: &Instance, cert: &Certificate) -> Result<Verdict, AllocError>
-    requires few { length (customer_nodes inst.now) ≤ 128 }
+    requires few { length (customer_nodes inst.now) ≤ most_customers }
     requires fits { Fits inst.now cert.now }
     ensures { IfOk result (IsVerdict inst.now cert.now) }
 {

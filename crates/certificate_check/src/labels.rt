@@ -8,7 +8,7 @@ ghost use Rattle.certificate_check.specs.Labels.{priced_labels};
 ghost use Rattle.closed_lists.specs.Verdicts.{IsTold};
 ghost use Rattle.customer_sets.specs.Pairs.{allows_of};
 ghost use Rattle.fleet_model.specs.ClosedList.{IsClosed};
-ghost use Rattle.instance_reader.specs.Instance.{customer_nodes};
+ghost use Rattle.instance_reader.specs.Instance.{customer_nodes, most_customers};
 
 use closed_lists::{ClosedFault, check_closed};
 use customer_sets::Pairs;
@@ -26,7 +26,7 @@ pub fn check_labels(
     prices: &[i128],
     labels: &[Label],
 ) -> Result<(), ClosedFault>
-    requires few { length (customer_nodes inst.now) ≤ 128 }
+    requires few { length (customer_nodes inst.now) ≤ most_customers }
     requires pairs { pairs.now.customers ≡ customer_count inst.now }
     requires weight { weight ≤ greatest_weight }
     requires one_price { length prices.now ≡ customer_count inst.now }

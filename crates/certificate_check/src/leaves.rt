@@ -10,7 +10,7 @@ ghost use Rattle.certificate_check.specs.Bounds.{AreChildren};
 ghost use Rattle.certificate_check.specs.Firsts.{HoldsUnder, IsBrokenUnder, IsLeafFault, LeafHolds, Tells, TellsFirst, leaves_along};
 ghost use Rattle.certificate_check.specs.Rules.{AllowsEach};
 ghost use Rattle.customer_sets.specs.Pairs.{ForbiddenPairs, IsPairs, allows_of, any_pair};
-ghost use Rattle.instance_reader.specs.Instance.{customer_nodes};
+ghost use Rattle.instance_reader.specs.Instance.{customer_nodes, most_customers};
 
 use crate::bound::is_bounded;
 use crate::verdict::Verdict;
@@ -28,7 +28,7 @@ pub(crate) fn leaf_fault(
     inst: &Instance,
     cert: &Certificate,
 ) -> Result<Option<Verdict>, AllocError>
-    requires few { length (customer_nodes inst.now) ≤ 128 }
+    requires few { length (customer_nodes inst.now) ≤ most_customers }
     requires fits { Fits inst.now cert.now }
     ensures { IfOk result (TellsFirst (LeafHolds (priced_sections cert.now.sections) cert.now.bound)
         (IsLeafFault (priced_sections cert.now.sections) cert.now.bound)

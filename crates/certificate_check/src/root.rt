@@ -4,7 +4,7 @@ ghost use Rattle.std.specs.Prelude.{◌≤◌, IfOk, length};
 ghost use Rattle.bound_certificate.specs.Meaning.{priced_section};
 ghost use Rattle.bound_certificate.specs.Ranges.{RootFits, SectionFits, customer_count};
 ghost use Rattle.certificate_check.specs.Bounds.{TellsRoot};
-ghost use Rattle.instance_reader.specs.Instance.{customer_nodes};
+ghost use Rattle.instance_reader.specs.Instance.{customer_nodes, most_customers};
 
 use crate::bound::bound_of;
 use crate::shares::is_exact;
@@ -21,7 +21,7 @@ pub(crate) fn root_holds(
     section: &Section,
     root: &Root,
 ) -> Result<bool, AllocError>
-    requires few { length (customer_nodes inst.now) ≤ 128 }
+    requires few { length (customer_nodes inst.now) ≤ most_customers }
     requires fits { SectionFits inst.now section.now }
     requires root { RootFits (customer_count inst.now) root.now }
     ensures { IfOk result (TellsRoot inst.now (priced_section section.now) root.now) }

@@ -5,7 +5,7 @@ ghost use Rattle.certificate_check.specs.Routes.{IsListedRoute, IsRouteAmong, Is
 ghost use Rattle.ev_model.specs.Network.{node_count};
 ghost use Rattle.fleet_model.specs.Cover.{IsFleetRoute};
 ghost use Rattle.fleet_model.specs.Places.{customer_count};
-ghost use Rattle.instance_reader.specs.Instance.{customer_nodes};
+ghost use Rattle.instance_reader.specs.Instance.{customer_nodes, most_customers};
 ghost use Rattle.plan_check.specs.Tallies.{AreKnown};
 
 use customer_sets::CustSet;
@@ -18,7 +18,7 @@ use wide_bases::ListedRoute;
 /// customers alone, one at least and each once. `None` exactly where the stops are none. It takes
 /// no memory.
 pub fn fleet_route(inst: &Instance, stops: &[Stop]) -> Option<ListedRoute>
-    requires few { length (customer_nodes inst.now) ≤ 128 }
+    requires few { length (customer_nodes inst.now) ≤ most_customers }
     ensures route { IfSome result (IsListedRoute inst.now stops.now) }
     ensures among { IfSome result (IsRouteAmong (customer_count inst.now)) }
     ensures none { IfNone result (IsFleetRoute inst.now 1 stops.now → ⊥) }
@@ -42,7 +42,7 @@ pub fn fleet_route(inst: &Instance, stops: &[Stop]) -> Option<ListedRoute>
 
 /// The customers that the stops serve, or `None` where they serve one twice.
 fn served_once(inst: &Instance, stops: &[Stop]) -> Option<CustSet>
-    requires few { length (customer_nodes inst.now) ≤ 128 }
+    requires few { length (customer_nodes inst.now) ≤ most_customers }
     requires known { AreKnown inst.now stops.now }
     ensures { result ≡ served_once inst.now [] stops.now }
 {
@@ -60,7 +60,7 @@ fn served_once(inst: &Instance, stops: &[Stop]) -> Option<CustSet>
 
 /// The number of the customer whom a stop serves, if it serves one.
 fn served_by(inst: &Instance, stop: Stop) -> Option<usize>
-    requires few { length (customer_nodes inst.now) ≤ 128 }
+    requires few { length (customer_nodes inst.now) ≤ most_customers }
     requires known { stop.node < node_count inst.now }
     ensures number { IsServedBy inst.now stop result }
     ensures small { IfSome result (λ number. number < 128) }

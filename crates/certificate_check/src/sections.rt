@@ -6,7 +6,7 @@ ghost use Rattle.bound_certificate.specs.Meaning.{priced_section, priced_section
 ghost use Rattle.bound_certificate.specs.Ranges.{SectionFits};
 ghost use Rattle.certificate_check.specs.Firsts.{IsSectionFault, Tells, TellsFirst, ToldAs};
 ghost use Rattle.fleet_model.specs.ClosedList.{IsClosed};
-ghost use Rattle.instance_reader.specs.Instance.{customer_nodes};
+ghost use Rattle.instance_reader.specs.Instance.{customer_nodes, most_customers};
 
 use crate::labels::check_labels;
 use crate::verdict::Verdict;
@@ -21,7 +21,7 @@ pub(crate) fn section_fault(
     inst: &Instance,
     sections: &[Section],
 ) -> Result<Option<Verdict>, AllocError>
-    requires few { length (customer_nodes inst.now) ≤ 128 }
+    requires few { length (customer_nodes inst.now) ≤ most_customers }
     requires fits { All (SectionFits inst.now) sections.now }
     ensures { IfOk result (TellsFirst (IsClosed inst.now) (IsSectionFault inst.now)
         (priced_sections sections.now)) }
@@ -41,7 +41,7 @@ fn fault_in(
     number: usize,
     section: &Section,
 ) -> Result<Option<Verdict>, AllocError>
-    requires few { length (customer_nodes inst.now) ≤ 128 }
+    requires few { length (customer_nodes inst.now) ≤ most_customers }
     requires fits { SectionFits inst.now section.now }
     ensures { IfOk result (Tells (IsClosed inst.now) (IsSectionFault inst.now) number
         (priced_section section.now)) }

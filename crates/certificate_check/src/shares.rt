@@ -5,7 +5,7 @@ ghost use Rattle.std.specs.Prelude.{◌≤◌, IfOk, length, option_map};
 ghost use Rattle.bound_certificate.specs.Meaning.{priced_section, route_shares};
 ghost use Rattle.bound_certificate.specs.Ranges.{SectionFits, SharesFit};
 ghost use Rattle.certificate_check.specs.Shares.{TellsExact, TellsShared};
-ghost use Rattle.instance_reader.specs.Instance.{customer_nodes};
+ghost use Rattle.instance_reader.specs.Instance.{customer_nodes, most_customers};
 
 use crate::cover::{SharedRoute, cover_exactly};
 use crate::routes::fleet_route;
@@ -22,7 +22,7 @@ pub(crate) fn is_exact(
     over: u64,
     shares: &[Share],
 ) -> Result<bool, AllocError>
-    requires few { length (customer_nodes inst.now) ≤ 128 }
+    requires few { length (customer_nodes inst.now) ≤ most_customers }
     requires fits { SectionFits inst.now section.now }
     requires shares { SharesFit over shares.now }
     ensures { IfOk result
@@ -42,7 +42,7 @@ fn shared_routes(
     inst: &Instance,
     shares: &[Share],
 ) -> Result<Option<Vec<SharedRoute>>, AllocError>
-    requires few { length (customer_nodes inst.now) ≤ 128 }
+    requires few { length (customer_nodes inst.now) ≤ most_customers }
     ensures { IfOk result (λ routes.
         TellsShared inst.now shares.now (option_map (λ v. v.items) routes)) }
 {

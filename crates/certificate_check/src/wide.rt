@@ -3,7 +3,7 @@
 ghost use Rattle.std.specs.Prelude.{◌≤◌, IfOk, length, option_map};
 ghost use Rattle.bound_certificate.specs.Ranges.{BasisFits, customer_count};
 ghost use Rattle.certificate_check.specs.Columns.{TellsColumns, TellsWide};
-ghost use Rattle.instance_reader.specs.Instance.{customer_nodes};
+ghost use Rattle.instance_reader.specs.Instance.{customer_nodes, most_customers};
 
 use crate::basis::is_wide_basis;
 use crate::routes::fleet_route;
@@ -20,7 +20,7 @@ pub(crate) fn is_wide(
     columns: &[RoutePlan],
     basis: &[BasisEntry],
 ) -> Result<bool, AllocError>
-    requires few { length (customer_nodes inst.now) ≤ 128 }
+    requires few { length (customer_nodes inst.now) ≤ most_customers }
     requires basis { BasisFits (customer_count inst.now) (length columns.now) basis.now }
     ensures { IfOk result (TellsWide inst.now columns.now basis.now) }
 {
@@ -36,7 +36,7 @@ fn listed_routes(
     inst: &Instance,
     columns: &[RoutePlan],
 ) -> Result<Option<Vec<ListedRoute>>, AllocError>
-    requires few { length (customer_nodes inst.now) ≤ 128 }
+    requires few { length (customer_nodes inst.now) ≤ most_customers }
     ensures { IfOk result (λ routes.
         TellsColumns inst.now columns.now (option_map (λ v. v.items) routes)) }
 {

@@ -17,10 +17,6 @@ greatest_price = 2 ^ 84
 abbrev pub most_items : ℕ
 most_items = 2 ^ 64 - 1
 
--- the most customers
-abbrev pub most_customers : ℕ
-most_customers = 128
-
 -- the most bytes of a text
 abbrev pub most_bytes : ℕ
 most_bytes = 2 ^ 28

@@ -3,7 +3,7 @@ use Rattle.std.specs.Prelude.{◌≡◌, ℕ, ◌^◌, ◌≤◌, List, All, len
 use Rattle.customer_sets.specs.Pairs.{ForbiddenPairs}
 use Rattle.ev_model.specs.Network.{Network}
 use Rattle.fleet_model.specs.Section.{Section}
-use Rattle.instance_reader.specs.Instance.{customer_nodes}
+use Rattle.instance_reader.specs.Instance.{customer_nodes, most_customers}
 use Rattle.piece_fn.specs.declared.label.Label.{Label}
 use Rattle.closed_lists.specs.Sections.{IsLabelOf, section_of}
 
@@ -19,7 +19,7 @@ section q = section_of q.pairs q.weight q.prices q.labels
 
 -- the ranges in which it may be asked
 pub record IsQuestion (q : Question) : Type 0 where
-  pub few : length (customer_nodes q.network) ≤ 128
+  pub few : length (customer_nodes q.network) ≤ most_customers
   pub pairs : q.pairs.customers ≡ length (customer_nodes q.network)
   pub weight : q.weight ≤ 2 ^ 40
   pub one_price : length q.prices ≡ length (customer_nodes q.network)

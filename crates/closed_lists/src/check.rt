@@ -4,7 +4,7 @@ ghost use Rattle.std.specs.Prelude.{◌≡◌, ◌^◌, ◌≤◌, All, IfErr, I
 ghost use Rattle.fleet_model.specs.ClosedList.{IsClosed};
 ghost use Rattle.fleet_model.specs.Coverage.{IsCovered};
 ghost use Rattle.fleet_model.specs.Steps.{start};
-ghost use Rattle.instance_reader.specs.Instance.{customer_nodes};
+ghost use Rattle.instance_reader.specs.Instance.{customer_nodes, most_customers};
 ghost use Rattle.closed_lists.specs.Questions.{section};
 ghost use Rattle.closed_lists.specs.Sections.{IsLabelOf, section_of};
 ghost use Rattle.closed_lists.specs.Verdicts.{HasNoBadEnd, HasNoBadStep, IsFirstEnd, IsFirstStep, IsTold};
@@ -43,7 +43,7 @@ pub fn check_closed(
     prices: &[i128],
     labels: &[Label],
 ) -> Result<(), ClosedFault>
-    requires few { length (customer_nodes inst.now) ≤ 128 }
+    requires few { length (customer_nodes inst.now) ≤ most_customers }
     requires pairs { pairs.now.customers ≡ length (customer_nodes inst.now) }
     requires weight { weight ≤ 2 ^ 40 }
     requires one_price { length prices.now ≡ length (customer_nodes inst.now) }

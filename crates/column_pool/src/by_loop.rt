@@ -1,7 +1,7 @@
 //! The bound of a node by the price loop.
 
 ghost use Rattle.std.specs.Prelude.{◌≡◌, ◌≤◌, ◌^◌, IfOk, length};
-ghost use Rattle.instance_reader.specs.Instance.{customer_nodes};
+ghost use Rattle.instance_reader.specs.Instance.{customer_nodes, most_customers};
 ghost use Rattle.master_table.specs.RowView.{limits_of};
 ghost use Rattle.price_loop.specs.Endings.{IsEnded};
 ghost use Rattle.route_pool.specs.Pool.{IsGrown, IsPool};
@@ -32,7 +32,7 @@ pub(crate) fn bound_by_loop(
     pool: &mut ColumnPool,
     caps: Caps,
 ) -> Result<NodeBound, AllocError>
-    requires few { length (customer_nodes inst.now) ≤ 128 }
+    requires few { length (customer_nodes inst.now) ≤ most_customers }
     requires pairs { pairs.now.customers ≡ length (customer_nodes inst.now) }
     requires pool { IsPool inst.now pool.old }
     requires body { 1 ≤ caps.body }
@@ -73,7 +73,7 @@ fn end_of(
     pool: &ColumnPool,
     caps: Caps,
 ) -> Result<Ended<NodeRoute, Vec<Label>>, AllocError>
-    requires few { length (customer_nodes inst.now) ≤ 128 }
+    requires few { length (customer_nodes inst.now) ≤ most_customers }
     requires pairs { pairs.now.customers ≡ length (customer_nodes inst.now) }
     requires pool { IsPool inst.now pool.now }
     requires body { 1 ≤ caps.body }

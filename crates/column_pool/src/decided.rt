@@ -5,7 +5,7 @@ ghost use Rattle.std.specs.Prelude.{◌≡◌, ◌+◌, ◌++◌, ◌∷◌, ◌
 ghost use Rattle.customer_sets.specs.Pairs.{IsDecided};
 ghost use Rattle.ev_model.specs.Network.{is_customer, node_count};
 ghost use Rattle.fleet_model.specs.Places.{customer_number};
-ghost use Rattle.instance_reader.specs.Instance.{customer_nodes};
+ghost use Rattle.instance_reader.specs.Instance.{customer_nodes, most_customers};
 ghost use Rattle.column_pool.specs.Bounds.{IsBoundOfDecided, IsNodeBound};
 ghost use Rattle.column_pool.specs.Chains.{AreChains, HasChains, IsChainThrough, is_served, lone_price, serves};
 ghost use Rattle.route_pool.specs.Pool.{IsGrown, IsPool};
@@ -48,7 +48,7 @@ pub(crate) fn bound_of_decided(
     pairs: &Pairs,
     pool: &mut ColumnPool,
 ) -> Result<NodeBound, AllocError>
-    requires few { length (customer_nodes inst.now) ≤ 128 }
+    requires few { length (customer_nodes inst.now) ≤ most_customers }
     requires pairs { pairs.now.customers ≡ length (customer_nodes inst.now) }
     requires pool { IsPool inst.now pool.old }
     requires decided { IsDecided pairs.now }
@@ -80,7 +80,7 @@ impl Chains {
         number: usize,
         node: usize,
     ) -> Result<Option<Section>, AllocError>
-        requires few { length (customer_nodes inst.now) ≤ 128 }
+        requires few { length (customer_nodes inst.now) ≤ most_customers }
         requires pairs { pairs.now.customers ≡ length (customer_nodes inst.now) }
         requires pool { IsPool inst.now pool.old }
         requires decided { IsDecided pairs.now }
@@ -117,7 +117,7 @@ impl Chains {
         inst: &Instance,
         pairs: &Pairs,
     ) -> Result<NodeBound, AllocError>
-        requires few { length (customer_nodes inst.now) ≤ 128 }
+        requires few { length (customer_nodes inst.now) ≤ most_customers }
         requires pairs { pairs.now.customers ≡ length (customer_nodes inst.now) }
         requires decided { IsDecided pairs.now }
         requires chains { AreChains inst.now pairs.now (length (customer_nodes inst.now))
@@ -166,7 +166,7 @@ fn chain_through(
     number: usize,
     node: usize,
 ) -> Result<Chain, AllocError>
-    requires few { length (customer_nodes inst.now) ≤ 128 }
+    requires few { length (customer_nodes inst.now) ≤ most_customers }
     requires pairs { pairs.now.customers ≡ length (customer_nodes inst.now) }
     requires known { node < node_count inst.now }
     requires customer { is_customer inst.now node ≡ true }

@@ -1,7 +1,7 @@
 //! Who finds a node's routes that earn.
 
 ghost use Rattle.std.specs.Prelude.{◌≡◌, ◌≤◌, IfOk, length};
-ghost use Rattle.instance_reader.specs.Instance.{customer_nodes};
+ghost use Rattle.instance_reader.specs.Instance.{customer_nodes, most_customers};
 ghost use Rattle.route_pool.specs.Pool.{IsPool};
 
 use crate::pricing_problem::earn;
@@ -44,7 +44,7 @@ impl<'a> NodeEarners<'a> {
         pairs: &'a Pairs,
         pool: &'a ColumnPool,
     ) -> Result<NodeEarners<'a>, AllocError>
-        requires few { length (customer_nodes inst.now) ≤ 128 }
+        requires few { length (customer_nodes inst.now) ≤ most_customers }
         requires pairs { pairs.now.customers ≡ length (customer_nodes inst.now) }
         requires pool { IsPool inst.now pool.now }
         ensures { IfOk result (λ earners. earners ≡ record {

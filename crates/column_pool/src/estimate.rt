@@ -1,7 +1,7 @@
 //! What the bound of a node may come to, without pricing.
 
 ghost use Rattle.std.specs.Prelude.{◌≡◌, ◌≤◌, length};
-ghost use Rattle.instance_reader.specs.Instance.{customer_nodes};
+ghost use Rattle.instance_reader.specs.Instance.{customer_nodes, most_customers};
 ghost use Rattle.route_pool.specs.Pool.{IsColumn, IsPool};
 
 use crate::route::set_of;
@@ -25,7 +25,7 @@ pub fn estimate_node(
     pairs: &Pairs,
     pool: &ColumnPool,
 ) -> Result<Option<u128>, AllocError>
-    requires few { length (customer_nodes inst.now) ≤ 128 }
+    requires few { length (customer_nodes inst.now) ≤ most_customers }
     requires pairs { pairs.now.customers ≡ length (customer_nodes inst.now) }
     requires pool { IsPool inst.now pool.now }
 {
@@ -69,7 +69,7 @@ fn add_at(
     table: &mut Table,
     places: &[usize],
 ) -> Result<bool, AllocError>
-    requires few { length (customer_nodes inst.now) ≤ 128 }
+    requires few { length (customer_nodes inst.now) ≤ most_customers }
     requires pairs { pairs.now.customers ≡ length (customer_nodes inst.now) }
     requires pool { IsPool inst.now pool.now }
 {
@@ -91,7 +91,7 @@ fn add_if_kept(
     order: &[usize],
     plan: &RoutePlan,
 ) -> Result<bool, AllocError>
-    requires few { length (customer_nodes inst.now) ≤ 128 }
+    requires few { length (customer_nodes inst.now) ≤ most_customers }
     requires pairs { pairs.now.customers ≡ length (customer_nodes inst.now) }
     requires column { IsColumn inst.now order.now plan.now.stops }
 {

@@ -3,7 +3,7 @@
 ghost use Rattle.std.specs.Prelude.{◌≡◌, ◌≤◌, ℕ, IfOk, length, map};
 ghost use Rattle.std.specs.List.{All};
 ghost use Rattle.bound_certificate.specs.Meaning.{route_shares};
-ghost use Rattle.instance_reader.specs.Instance.{customer_nodes};
+ghost use Rattle.instance_reader.specs.Instance.{customer_nodes, most_customers};
 ghost use Rattle.price_loop.specs.Columns.{HasRoute};
 ghost use Rattle.column_pool.specs.Columns.{IsPricedOut, share_of};
 ghost use Rattle.column_pool.specs.TooWide.{IsNodeBoundAt};
@@ -52,7 +52,7 @@ pub(crate) fn bound_of(
     lp: Lp,
     labels: Vec<Label>,
 ) -> Result<NodeBound, AllocError>
-    requires few { length (customer_nodes inst.now) ≤ 128 }
+    requires few { length (customer_nodes inst.now) ≤ most_customers }
     requires pairs { pairs.now.customers ≡ length (customer_nodes inst.now) }
     requires over { IsPricedOut inst.now pairs.now routes.now lp labels }
     ensures { (body cost : ℕ) → IfOk result (IsNodeBoundAt body cost inst.now pairs.now) }

@@ -2,7 +2,7 @@
 
 ghost use Rattle.std.specs.Prelude.{◌≡◌, ◌≤◌, IfOk, length};
 ghost use Rattle.customer_sets.specs.Pairs.{IsDecided};
-ghost use Rattle.instance_reader.specs.Instance.{customer_nodes};
+ghost use Rattle.instance_reader.specs.Instance.{customer_nodes, most_customers};
 ghost use Rattle.column_pool.specs.Bounds.{IsBoundOfDecided, IsNodeBound};
 ghost use Rattle.route_pool.specs.Pool.{IsGrown, IsPool};
 
@@ -31,7 +31,7 @@ pub fn bound_node(
     pairs: &Pairs,
     pool: &mut ColumnPool,
 ) -> Result<NodeBound, AllocError>
-    requires few { length (customer_nodes inst.now) ≤ 128 }
+    requires few { length (customer_nodes inst.now) ≤ most_customers }
     requires pairs { pairs.now.customers ≡ length (customer_nodes inst.now) }
     requires pool { IsPool inst.now pool.old }
     ensures bound { IfOk result (IsNodeBound inst.now pairs.now) }

@@ -2,7 +2,7 @@
 
 ghost use Rattle.std.specs.Prelude.{◌≡◌, ◌≤◌, ◌^◌, IfOk, length, unsigned_abs};
 ghost use Rattle.std.specs.List.{All};
-ghost use Rattle.instance_reader.specs.Instance.{customer_nodes};
+ghost use Rattle.instance_reader.specs.Instance.{customer_nodes, most_customers};
 ghost use Rattle.price_loop.specs.Problems.{IsEarned};
 ghost use Rattle.column_pool.specs.Nodes.{node_problem};
 
@@ -23,7 +23,7 @@ pub(crate) fn earn(
     weight: u64,
     prices: &[i128],
 ) -> Result<Earned<NodeRoute, Vec<Label>>, AllocError>
-    requires few { length (customer_nodes inst.now) ≤ 128 }
+    requires few { length (customer_nodes inst.now) ≤ most_customers }
     requires pairs { pairs.now.customers ≡ length (customer_nodes inst.now) }
     requires weight { weight ≤ 2 ^ 40 }
     requires one_price { length prices.now ≡ length (customer_nodes inst.now) }

@@ -4,7 +4,7 @@ ghost use Rattle.std.specs.Prelude.{◌≡◌, ◌<◌, ◌≤◌, [], IfOk, IfS
 ghost use Rattle.std.specs.List.{All};
 ghost use Rattle.ev_model.specs.Network.{is_customer, node_count};
 ghost use Rattle.fleet_model.specs.Places.{customer_number};
-ghost use Rattle.instance_reader.specs.Instance.{customer_nodes};
+ghost use Rattle.instance_reader.specs.Instance.{customer_nodes, most_customers};
 ghost use Rattle.price_loop.specs.Columns.{set_of};
 ghost use Rattle.price_loop.specs.Problems.{worth};
 ghost use Rattle.route_pool.specs.Pool.{full_time, IsColumn, IsPool};
@@ -65,7 +65,7 @@ pub(crate) fn routes_at(
     pool: &ColumnPool,
     places: &[usize],
 ) -> Result<Vec<NodeRoute>, AllocError>
-    requires few { length (customer_nodes inst.now) ≤ 128 }
+    requires few { length (customer_nodes inst.now) ≤ most_customers }
     requires pairs { pairs.now.customers ≡ length (customer_nodes inst.now) }
     requires pool { IsPool inst.now pool.now }
     ensures { IfOk result (λ found. All (IsTimedRoute inst.now pairs.now) found.items) }
@@ -87,7 +87,7 @@ fn kept_at(
     pool: &ColumnPool,
     at: usize,
 ) -> Result<Option<NodeRoute>, AllocError>
-    requires few { length (customer_nodes inst.now) ≤ 128 }
+    requires few { length (customer_nodes inst.now) ≤ most_customers }
     requires pairs { pairs.now.customers ≡ length (customer_nodes inst.now) }
     requires pool { IsPool inst.now pool.now }
     ensures { IfOk result (λ found. IfSome found (IsTimedRoute inst.now pairs.now)) }
@@ -141,7 +141,7 @@ fn plan_of(route: NodeRoute) -> RoutePlan
 
 /// The customers at the nodes.
 pub(crate) fn set_of(inst: &Instance, order: &[usize]) -> CustSet
-    requires few { length (customer_nodes inst.now) ≤ 128 }
+    requires few { length (customer_nodes inst.now) ≤ most_customers }
     requires known { All (λ node. node < node_count inst.now) order.now }
     requires customers { All (λ node. is_customer inst.now node ≡ true) order.now }
     ensures { result ≡ set_of [] (map (customer_number inst.now) order.now) }

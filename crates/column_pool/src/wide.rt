@@ -2,7 +2,7 @@
 
 ghost use Rattle.std.specs.Prelude.{◌≡◌, ◌+◌, ◌≤◌, IfOk, length};
 ghost use Rattle.ev_model.specs.Network.{scaled_limit};
-ghost use Rattle.instance_reader.specs.Instance.{customer_nodes};
+ghost use Rattle.instance_reader.specs.Instance.{customer_nodes, most_customers};
 ghost use Rattle.master_table.specs.Tableau.{Limits};
 ghost use Rattle.column_pool.specs.Columns.{AreNodeRoutes};
 ghost use Rattle.column_pool.specs.TooWide.{IsNodeBoundAt, IsPastBasis};
@@ -32,7 +32,7 @@ pub(crate) fn wide_bound(
     plans: Vec<RoutePlan>,
     basis: &[usize],
 ) -> Result<NodeBound, AllocError>
-    requires few { length (customer_nodes inst.now) ≤ 128 }
+    requires few { length (customer_nodes inst.now) ≤ most_customers }
     requires pairs { pairs.now.customers ≡ length (customer_nodes inst.now) }
     requires pool { IsPool inst.now pool.now }
     requires routes { AreNodeRoutes inst.now pairs.now plans.items }

@@ -1,7 +1,7 @@
 //! What ways home are judged by.
 
 use customer_sets::CustSet;
-use instance_reader::Instance;
+use instance_reader::{Instance, MOST_CUSTOMERS};
 
 /// Who may be served where on a route.
 #[derive(Drop)]
@@ -66,7 +66,7 @@ impl Terms<'_> {
 /// Whether there is a set that has a customer.
 pub(crate) fn is_in(set: Option<&CustSet>, customer: usize) -> bool {
     match set {
-        Some(set) => customer < 128 && set.has(customer),
+        Some(set) => customer < MOST_CUSTOMERS && set.has(customer),
         None => false,
     }
 }

@@ -49,13 +49,14 @@ use Rattle.ev_fleet.proofs.Named.{branches-named}
 use Rattle.ev_fleet.proofs.Outcomes.{all_strong, bound_at_root, certificate_accepted, certificate_fits}
 use Rattle.ev_fleet.proofs.OwnCosts.{cost_of_held, own_plan}
 use Rattle.ev_fleet.proofs.Under.{get_priced}
+use Rattle.instance_reader.specs.Instance.{most_customers}
 
 -- the tree of sections is that of the lines
 named_lines : (g : Network) (tree : SearchTree) (sections : List Section) (cost : Option ℕ) (is : IsSearch g tree sections cost) → branches_of (named tree.nodes is.standing) ≡ sections_named tree.nodes tree.tree
 named_lines g tree sections cost is = branches-named tree.nodes is.standing ∙ ap (sections_named tree.nodes) is.is.keys
 
 -- what a walk over the lines needs
-pub sums : (g : Network) (tree : SearchTree) (sections : List Section) (cost : Option ℕ) → customer_count g ≤ 128 → IsSearch g tree sections cost → All IsSummable sections
+pub sums : (g : Network) (tree : SearchTree) (sections : List Section) (cost : Option ℕ) → customer_count g ≤ most_customers → IsSearch g tree sections cost → All IsSummable sections
 sums g tree sections cost few is = All-weaker (IsFound g) IsSummable (λ s found. summable g s few found) sections is.found
 
 pub names : (g : Network) (tree : SearchTree) (sections : List Section) (cost : Option ℕ) (lines : List TreeLine) → IsSearch g tree sections cost → IsTreeOf lines (sections_named tree.nodes tree.tree)
@@ -116,7 +117,7 @@ used_up (Some most) nodes within used =
     let le = used.2 in
     ap Some (omega (arith, same, within, le))
 
-module _ (g : Network) (tree : SearchTree) (c : Certificate) (held : Option Held) (few : customer_count g ≤ 128) (network : IsNetwork g) (true_ : Fits g c → IsAccepted g c → IsTrueBound g c.bound)
+module _ (g : Network) (tree : SearchTree) (c : Certificate) (held : Option Held) (few : customer_count g ≤ most_customers) (network : IsNetwork g) (true_ : Fits g c → IsAccepted g c → IsTrueBound g c.bound)
     (is : IsSearch g tree c.sections (cost_at held)) (may : MayHold g held) (own : IsOwnCost g (cost_at held)) (sound : IsSearchTree tree) (shows : ShowsRoot g c.sections c.root)
     (lines : IsTreeOf c.tree (sections_named tree.nodes tree.tree)) (walk : IsLeastFrom c.sections None c.tree c.bound)
     (small : IfSome c.bound (λ b. b ≤ greatest_bound)) (many : length c.sections ≤ most_items)

@@ -17,6 +17,7 @@ use Rattle.column_pool.specs.Bounds.{IsNodeBound, IsNodeSection}
 use Rattle.ev_fleet.specs.Answers.{answer_of}
 use Rattle.ev_fleet.specs.LeafNames.{IsSummable}
 use Rattle.ev_fleet.specs.State.{IsFound}
+use Rattle.instance_reader.specs.Instance.{most_customers}
 
 negative_product : (a over : ℕ) (p : ℤ) → p <ℤ pos 0 → 1 ≤ over → pos a ≢ p *ℤ pos over
 negative_product a over (pos p) less some same = omega (arith, ints, less)
@@ -76,7 +77,7 @@ found_of g p s r is =
     let section = node_section g p s r is in
     record { closed = section.closed; strong = strong_of g p s r is; fits = section.fits }
 
-pub summable : (g : Network) (s : Section) → customer_count g ≤ 128 → IsFound g s → IsSummable s
+pub summable : (g : Network) (s : Section) → customer_count g ≤ most_customers → IsFound g s → IsSummable s
 summable g s few found =
     let one = found.fits.one_price in
     record { few = omega (arith, one, few); small = found.fits.prices; some = strong_sum g s found.strong }

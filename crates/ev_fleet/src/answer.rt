@@ -3,7 +3,7 @@
 ghost use Rattle.std.specs.Prelude.{◌≡◌, ◌≢◌, ◌<◌, ◌≤◌, length, false, IfOk, IfSome, IsTrue, None, [], ◌∷◌};
 ghost use Rattle.std.specs.List.{All};
 ghost use Rattle.bound_certificate.specs.Limits.{greatest_bound};
-ghost use Rattle.instance_reader.specs.Instance.{customer_nodes};
+ghost use Rattle.instance_reader.specs.Instance.{customer_nodes, most_customers};
 ghost use Rattle.ev_fleet.specs.Answers.{shares_in};
 ghost use Rattle.ev_fleet.specs.Held.{cost_at};
 ghost use Rattle.ev_fleet.specs.LeafNames.{IsLeastFrom, IsLesserAt, IsSummable, NameSections, leaf_names, lesser};
@@ -29,7 +29,7 @@ pub(crate) fn outcome_of(
     search: Search,
     root: Root,
 ) -> Result<Outcome, AllocError>
-    requires few { length (customer_nodes inst.now) ≤ 128 }
+    requires few { length (customer_nodes inst.now) ≤ most_customers }
     requires searching { IsSearching inst.now search }
     requires root { ShowsRoot inst.now search.sections.items root }
     requires taken { TakesShares inst.now (shares_in root) (cost_at search.held) }

@@ -1,7 +1,7 @@
 //! The routes of which a fleet plan may be made.
 
 ghost use Rattle.std.specs.Prelude.{◌<◌, ◌≤◌, IfSome, length};
-ghost use Rattle.instance_reader.specs.Instance.{customer_nodes};
+ghost use Rattle.instance_reader.specs.Instance.{customer_nodes, most_customers};
 
 use bound_certificate::Section;
 use column_pool::ColumnPool;
@@ -20,7 +20,7 @@ pub(crate) fn candidates_of(
     pool: &ColumnPool,
     section: &Section,
 ) -> Result<Vec<Candidate>, AllocError>
-    requires few { length (customer_nodes inst.now) ≤ 128 }
+    requires few { length (customer_nodes inst.now) ≤ most_customers }
 {
     let mut candidates = Vec::new(alloc);
     for at in 0..pool.len() {
@@ -42,7 +42,7 @@ fn candidate_at(
     section: &Section,
     at: usize,
 ) -> Option<Candidate>
-    requires few { length (customer_nodes inst.now) ≤ 128 }
+    requires few { length (customer_nodes inst.now) ≤ most_customers }
 {
     let (order, plan) = pool.route_at(at)?;
     let time = walk(inst, inst.max_q(), plan.stops.as_slice()).ok()?.time;
@@ -59,7 +59,7 @@ fn candidate_at(
 
 /// The number of the customer at a node.
 fn number_of(inst: &Instance, node: usize) -> Option<usize>
-    requires few { length (customer_nodes inst.now) ≤ 128 }
+    requires few { length (customer_nodes inst.now) ≤ most_customers }
     ensures { IfSome result (λ number. number < 128) }
 {
     if node >= inst.nodes() {

@@ -3,7 +3,7 @@
 ghost use Rattle.std.specs.Prelude.{◌≤◌, map, length, Some};
 ghost use Rattle.std.specs.List.Sorted.{IsStrictlyIncreasing};
 ghost use Rattle.ev_model.specs.Fleet.{IsFleetPlan};
-ghost use Rattle.instance_reader.specs.Instance.{customer_nodes};
+ghost use Rattle.instance_reader.specs.Instance.{customer_nodes, most_customers};
 ghost use Rattle.plan_check.specs.FleetRules.{stops_of};
 ghost use Rattle.route_plan.specs.PlanTexts.{FitsFile};
 ghost use Rattle.ev_fleet.specs.Bounds.{IsAtMost};
@@ -23,7 +23,7 @@ pub(crate) struct Held {
 
 /// Takes the routes as the plan that is held where they are a fleet plan, and cheaper.
 pub(crate) fn offer(inst: &Instance, held: &mut Option<Held>, plan: FleetPlan)
-    requires few { length (customer_nodes inst.now) ≤ 128 }
+    requires few { length (customer_nodes inst.now) ≤ most_customers }
     requires order { IsStrictlyIncreasing (map (first_customer inst.now) plan.routes) }
     requires text { FitsFile (Some plan) }
     requires held { MayHold inst.now held.old }

@@ -2,7 +2,7 @@
 
 ghost use Rattle.std.specs.Prelude.{◌≡◌, ◌⊎◌, ◌<◌, ◌≤◌, ◌+◌, IfOk, IfSome, IsNone, length, Some};
 ghost use Rattle.std.specs.List.{All};
-ghost use Rattle.instance_reader.specs.Instance.{customer_nodes};
+ghost use Rattle.instance_reader.specs.Instance.{customer_nodes, most_customers};
 ghost use Rattle.branching.specs.Nodes.{HasNode, IsLive};
 ghost use Rattle.route_pool.specs.Pool.{IsPool};
 ghost use Rattle.ev_fleet.specs.Splitting.{CanSplit, CannotSplit, CannotSplitTo, IsChoice, MayChoose};
@@ -42,7 +42,7 @@ pub(crate) fn choose_pair(
     shares: &[Share],
     over: u64,
 ) -> Result<Option<(usize, usize)>, AllocError>
-    requires few { length (customer_nodes inst.now) ≤ 128 }
+    requires few { length (customer_nodes inst.now) ≤ most_customers }
     requires customers { tree.now.customers ≡ length (customer_nodes inst.now) }
     requires live { HasNode tree.now.nodes key IsLive }
     requires pool { IsPool inst.now pool.now }
@@ -70,7 +70,7 @@ fn partly_used(
     shares: &[Share],
     over: u64,
 ) -> Result<Vec<Choice>, AllocError>
-    requires few { length (customer_nodes inst.now) ≤ 128 }
+    requires few { length (customer_nodes inst.now) ≤ most_customers }
     requires live { HasNode tree.now.nodes key IsLive }
     ensures { IfOk result (λ chosen. All (IsChoice tree.now key) chosen.items) }
 {
@@ -93,7 +93,7 @@ fn nearest(
     over: u64,
     chosen: &[Choice],
 ) -> Option<Choice>
-    requires few { length (customer_nodes inst.now) ≤ 128 }
+    requires few { length (customer_nodes inst.now) ≤ most_customers }
     requires live { HasNode tree.now.nodes key IsLive }
     ensures { MayChoose tree.now key result }
 {
@@ -115,7 +115,7 @@ fn nearer_on(
     plan: &RoutePlan,
     best: Option<Choice>,
 ) -> Option<Choice>
-    requires few { length (customer_nodes inst.now) ≤ 128 }
+    requires few { length (customer_nodes inst.now) ≤ most_customers }
     requires live { HasNode tree.now.nodes key IsLive }
     requires best { MayChoose tree.now key best }
     ensures { MayChoose tree.now key result }
@@ -150,7 +150,7 @@ fn with_pair(
     j: usize,
     best: Option<Choice>,
 ) -> Option<Choice>
-    requires few { length (customer_nodes inst.now) ≤ 128 }
+    requires few { length (customer_nodes inst.now) ≤ most_customers }
     requires live { HasNode tree.now.nodes key IsLive }
     requires best { MayChoose tree.now key best }
     ensures { MayChoose tree.now key result }
@@ -179,7 +179,7 @@ fn nearer(best: Option<Choice>, choice: Choice) -> Option<Choice>
 
 /// The shares of the routes on which the second place follows the first.
 fn used_by(inst: &Instance, shares: &[Share], i: usize, j: usize) -> u64
-    requires { length (customer_nodes inst.now) ≤ 128 }
+    requires { length (customer_nodes inst.now) ≤ most_customers }
 {
     let mut used = 0u64;
     for share in shares {
@@ -192,7 +192,7 @@ fn used_by(inst: &Instance, shares: &[Share], i: usize, j: usize) -> u64
 
 /// Whether the second place follows the first on the route.
 fn follows(inst: &Instance, plan: &RoutePlan, i: usize, j: usize) -> bool
-    requires { length (customer_nodes inst.now) ≤ 128 }
+    requires { length (customer_nodes inst.now) ≤ most_customers }
 {
     let mut before = 0;
     for stop in plan.stops.as_slice() {
@@ -209,7 +209,7 @@ fn follows(inst: &Instance, plan: &RoutePlan, i: usize, j: usize) -> bool
 
 /// The place of a node: one more than the number of the customer there, 0 where there is none.
 fn place_of(inst: &Instance, node: usize) -> usize
-    requires { length (customer_nodes inst.now) ≤ 128 }
+    requires { length (customer_nodes inst.now) ≤ most_customers }
 {
     if node >= inst.nodes() {
         return 0;

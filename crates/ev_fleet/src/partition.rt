@@ -2,7 +2,7 @@
 //! rests on how it is found.
 
 ghost use Rattle.std.specs.Prelude.{◌≤◌, IfOk, IfSome, length};
-ghost use Rattle.instance_reader.specs.Instance.{customer_nodes};
+ghost use Rattle.instance_reader.specs.Instance.{customer_nodes, most_customers};
 ghost use Rattle.ev_fleet.specs.Plans.{IsHeld};
 
 use crate::candidates::candidates_of;
@@ -25,7 +25,7 @@ pub(crate) fn plan_of_pool(
     cost: Option<u128>,
     looks: u64,
 ) -> Result<Option<FleetPlan>, AllocError>
-    requires few { length (customer_nodes inst.now) ≤ 128 }
+    requires few { length (customer_nodes inst.now) ≤ most_customers }
     ensures { IfOk result (λ found. IfSome found (IsHeld inst.now)) }
 {
     let room = room_of(section, cost);

@@ -1,7 +1,7 @@
 //! The search.
 
 ghost use Rattle.std.specs.Prelude.{◌≡◌, ◌≤◌, false, IfOk, IfSome, IsTrue, length};
-ghost use Rattle.instance_reader.specs.Instance.{customer_nodes};
+ghost use Rattle.instance_reader.specs.Instance.{customer_nodes, most_customers};
 ghost use Rattle.ev_fleet.specs.Held.{cost_at};
 ghost use Rattle.ev_fleet.specs.Outcome.{IsOutcome};
 ghost use Rattle.ev_fleet.specs.Searching.{IsDone, IsFurtherWithin, IsPromising, IsUsedUp, MayEnd};
@@ -27,7 +27,7 @@ pub fn plan_fleet(
     inst: &Instance,
     budget: Option<u64>,
 ) -> Result<Outcome, AllocError>
-    requires few { length (customer_nodes inst.now) ≤ 128 }
+    requires few { length (customer_nodes inst.now) ≤ most_customers }
     requires budget { IfSome budget (λ most. 1 ≤ most) }
     ensures { IfOk result (IsOutcome inst.now budget) }
 {
@@ -41,7 +41,7 @@ pub fn plan_fleet_watched<W: Watcher>(
     budget: Option<u64>,
     watcher: &mut W,
 ) -> Result<Outcome, AllocError>
-    requires few { length (customer_nodes inst.now) ≤ 128 }
+    requires few { length (customer_nodes inst.now) ≤ most_customers }
     requires budget { IfSome budget (λ most. 1 ≤ most) }
     ensures { IfOk result (IsOutcome inst.now budget) }
 {

@@ -3,7 +3,7 @@
 ghost use Rattle.std.specs.Prelude.{◌≡◌, ◌≤◌, map, length, IfOk, MatchOption};
 ghost use Rattle.std.specs.List.Sorted.{IsNonDecreasingBy, IsPermutation};
 ghost use Rattle.ev_model.specs.Fleet.{IsFleetPlan};
-ghost use Rattle.instance_reader.specs.Instance.{customer_nodes};
+ghost use Rattle.instance_reader.specs.Instance.{customer_nodes, most_customers};
 ghost use Rattle.route_plan.specs.declared.plan.RoutePlan.{RoutePlan};
 ghost use Rattle.column_pool.specs.Bounds.{plans_of};
 ghost use Rattle.plan_check.specs.FleetRules.{stops_of};
@@ -24,7 +24,7 @@ pub(crate) fn plan_of_shares(
     inst: &Instance,
     shares: &[Share],
 ) -> Result<Option<FleetPlan>, AllocError>
-    requires few { length (customer_nodes inst.now) ≤ 128 }
+    requires few { length (customer_nodes inst.now) ≤ most_customers }
     ensures { IfOk result (λ answer. MatchOption answer
         (IsFleetPlan inst.now 1 (plans_of shares.now) → ⊥)
         (IsPlanOf inst.now (plans_of shares.now))) }
@@ -36,7 +36,7 @@ pub(crate) fn plan_of_shares(
 /// The routes as a fleet plan, in rising order of their first customers; `None` exactly where they
 /// are no fleet plan. It takes no memory.
 pub(crate) fn plan_of_routes(inst: &Instance, mut routes: Vec<RoutePlan>) -> Option<FleetPlan>
-    requires few { length (customer_nodes inst.now) ≤ 128 }
+    requires few { length (customer_nodes inst.now) ≤ most_customers }
     ensures { MatchOption result (IsFleetPlan inst.now 1 (stops_of routes.items) → ⊥)
         (IsPlanOf inst.now (stops_of routes.items)) }
 {

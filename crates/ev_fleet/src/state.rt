@@ -3,7 +3,7 @@
 ghost use Rattle.std.specs.Prelude.{◌≡◌, ◌<◌, ◌≤◌, IfOk, IfSome, length, OnOk};
 ghost use Rattle.branching.specs.Nodes.{NoneIsOpen};
 ghost use Rattle.branching.specs.Work.{work_left};
-ghost use Rattle.instance_reader.specs.Instance.{customer_nodes};
+ghost use Rattle.instance_reader.specs.Instance.{customer_nodes, most_customers};
 ghost use Rattle.route_pool.specs.Pool.{IsPool};
 ghost use Rattle.ev_fleet.specs.Bounds.{IsAtMost};
 ghost use Rattle.ev_fleet.specs.Held.{MayHold, cost_at};
@@ -43,7 +43,7 @@ pub(crate) struct Search {
 
 /// A search of which the bound of the root was found, and what shows it.
 pub(crate) fn begin(alloc: Global, inst: &Instance) -> Result<(Search, Root), AllocError>
-    requires few { length (customer_nodes inst.now) ≤ 128 }
+    requires few { length (customer_nodes inst.now) ≤ most_customers }
     ensures { IfOk result (λ begun. IsBegun inst.now begun.0 begun.1) }
 {
     let mut search = first_search(alloc, inst)?;
@@ -53,7 +53,7 @@ pub(crate) fn begin(alloc: Global, inst: &Instance) -> Result<(Search, Root), Al
 
 /// A search of which no bound was found yet. It holds the plan of own routes, if there is one.
 fn first_search(alloc: Global, inst: &Instance) -> Result<Search, AllocError>
-    requires few { length (customer_nodes inst.now) ≤ 128 }
+    requires few { length (customer_nodes inst.now) ≤ most_customers }
     ensures { IfOk result (IsFirst inst.now) }
 {
     let mut pool = ColumnPool::new(alloc);
@@ -73,7 +73,7 @@ fn hold_own(
     inst: &Instance,
     pool: &mut ColumnPool,
 ) -> Result<Option<Held>, AllocError>
-    requires few { length (customer_nodes inst.now) ≤ 128 }
+    requires few { length (customer_nodes inst.now) ≤ most_customers }
     requires pool { IsPool inst.now pool.old }
     ensures pool { IsPool inst.now pool.new }
     ensures held { IfOk result (MayHold inst.now) }
@@ -85,7 +85,7 @@ fn hold_own(
 
 /// A plan, if there is one, with its cost.
 fn held_of(inst: &Instance, plan: Option<FleetPlan>) -> Option<Held>
-    requires few { length (customer_nodes inst.now) ≤ 128 }
+    requires few { length (customer_nodes inst.now) ≤ most_customers }
     requires plan { IfSome plan (IsHeld inst.now) }
     ensures held { MayHold inst.now result }
     ensures cost { IsAtMost (cost_at result) (cost_held inst.now plan) }
@@ -101,7 +101,7 @@ fn held_of(inst: &Instance, plan: Option<FleetPlan>) -> Option<Held>
 /// Takes the open node of least bound, finds its section, and closes or splits it. Some open node
 /// has a bound below the cost of the plan that is held, or none is held.
 pub(crate) fn step(alloc: Global, inst: &Instance, search: &mut Search) -> Result<(), AllocError>
-    requires few { length (customer_nodes inst.now) ≤ 128 }
+    requires few { length (customer_nodes inst.now) ≤ most_customers }
     requires searching { IsSearching inst.now search.old }
     requires promising { IsPromising search.old.tree (cost_at search.old.held) }
     ensures searching { OnOk result (IsSearching inst.now search.new) }
@@ -117,7 +117,7 @@ pub(crate) fn step(alloc: Global, inst: &Instance, search: &mut Search) -> Resul
 /// Takes the open node of least bound, finds its section, and closes or splits it. The answer is
 /// what shows the bound of this section.
 fn advance(alloc: Global, inst: &Instance, search: &mut Search) -> Result<Root, AllocError>
-    requires few { length (customer_nodes inst.now) ≤ 128 }
+    requires few { length (customer_nodes inst.now) ≤ most_customers }
     requires customers { search.old.tree.customers ≡ length (customer_nodes inst.now) }
     requires open { NoneIsOpen search.old.tree.nodes → ⊥ }
     requires held { MayHold inst.now search.old.held }

@@ -3,7 +3,7 @@
 
 ghost use Rattle.std.specs.Prelude.{◌≡◌, ◌≤◌, IfOk, length};
 ghost use Rattle.std.specs.List.{All};
-ghost use Rattle.instance_reader.specs.Instance.{customer_nodes};
+ghost use Rattle.instance_reader.specs.Instance.{customer_nodes, most_customers};
 ghost use Rattle.branching.specs.Nodes.{HasNode, IsLive};
 ghost use Rattle.route_pool.specs.Pool.{IsPool};
 ghost use Rattle.ev_fleet.specs.Splitting.{IsChoice};
@@ -50,7 +50,7 @@ pub(crate) fn strongest(
     first: Choice,
     others: &[Choice],
 ) -> Result<Choice, AllocError>
-    requires few { length (customer_nodes inst.now) ≤ 128 }
+    requires few { length (customer_nodes inst.now) ≤ most_customers }
     requires customers { tree.now.customers ≡ length (customer_nodes inst.now) }
     requires live { HasNode tree.now.nodes key IsLive }
     requires pool { IsPool inst.now pool.now }
@@ -85,7 +85,7 @@ fn gains(
     choice: Choice,
     most: u128,
 ) -> Result<u128, AllocError>
-    requires few { length (customer_nodes inst.now) ≤ 128 }
+    requires few { length (customer_nodes inst.now) ≤ most_customers }
     requires customers { tree.now.customers ≡ length (customer_nodes inst.now) }
     requires live { HasNode tree.now.nodes key IsLive }
     requires pool { IsPool inst.now pool.now }
@@ -108,7 +108,7 @@ fn estimate(
     pairs: &Pairs,
     pool: &ColumnPool,
 ) -> Result<u128, AllocError>
-    requires few { length (customer_nodes inst.now) ≤ 128 }
+    requires few { length (customer_nodes inst.now) ≤ most_customers }
     requires pairs { pairs.now.customers ≡ length (customer_nodes inst.now) }
     requires pool { IsPool inst.now pool.now }
 {

@@ -5,7 +5,7 @@ ghost use Rattle.customer_sets.specs.Pairs.{IsDecided};
 ghost use Rattle.branching.specs.Nodes.{HasNode, IsTaken, NoneIsOpen};
 ghost use Rattle.branching.specs.Work.{work_left};
 ghost use Rattle.ev_model.specs.Fleet.{IsFleetPlan};
-ghost use Rattle.instance_reader.specs.Instance.{customer_nodes};
+ghost use Rattle.instance_reader.specs.Instance.{customer_nodes, most_customers};
 ghost use Rattle.column_pool.specs.Bounds.{IsNodeBound, plans_of};
 ghost use Rattle.route_pool.specs.Pool.{IsPool};
 ghost use Rattle.ev_fleet.specs.Answers.{answer_of, shares_in};
@@ -71,7 +71,7 @@ pub(crate) fn bound_pairs(
     pairs: &Pairs,
     looks: u64,
 ) -> Result<(Section, Root), AllocError>
-    requires few { length (customer_nodes inst.now) ≤ 128 }
+    requires few { length (customer_nodes inst.now) ≤ most_customers }
     requires pairs { pairs.now.customers ≡ length (customer_nodes inst.now) }
     requires pool { IsPool inst.now pool.old }
     requires held { MayHold inst.now held.old }
@@ -99,7 +99,7 @@ fn bound_shares(
     held: &mut Option<Held>,
     pairs: &Pairs,
 ) -> Result<(Section, Root), AllocError>
-    requires few { length (customer_nodes inst.now) ≤ 128 }
+    requires few { length (customer_nodes inst.now) ≤ most_customers }
     requires pairs { pairs.now.customers ≡ length (customer_nodes inst.now) }
     requires pool { IsPool inst.now pool.old }
     requires held { MayHold inst.now held.old }
@@ -129,7 +129,7 @@ fn offer_pool(
     section: &Section,
     looks: u64,
 ) -> Result<(), AllocError>
-    requires few { length (customer_nodes inst.now) ≤ 128 }
+    requires few { length (customer_nodes inst.now) ≤ most_customers }
     requires held { MayHold inst.now held.old }
     ensures held { MayHold inst.now held.new }
     ensures kept { IsAtMost (cost_at held.new) (cost_at held.old) }
@@ -148,7 +148,7 @@ fn offer_shares(
     held: &mut Option<Held>,
     shares: &[Share],
 ) -> Result<(), AllocError>
-    requires few { length (customer_nodes inst.now) ≤ 128 }
+    requires few { length (customer_nodes inst.now) ≤ most_customers }
     requires held { MayHold inst.now held.old }
     ensures held { MayHold inst.now held.new }
     ensures kept { IsAtMost (cost_at held.new) (cost_at held.old) }
@@ -181,7 +181,7 @@ pub(crate) fn settle(
     cost: Option<u128>,
     root: &Root,
 ) -> Result<bool, AllocError>
-    requires few { length (customer_nodes inst.now) ≤ 128 }
+    requires few { length (customer_nodes inst.now) ≤ most_customers }
     requires customers { tree.old.customers ≡ length (customer_nodes inst.now) }
     requires pool { IsPool inst.now pool.now }
     requires taken { HasNode tree.old.nodes key IsTaken }

@@ -22,7 +22,7 @@ use Rattle.ev_text.specs.Texts.{StandsUnlessLonger}
 use Rattle.ev_text.proofs.Results.{Ok-injective}
 use Rattle.ev_text.proofs.WholeLaws.{whole-spells}
 use Rattle.ev_text.proofs.WholeReads.{ranged-spells}
-use Rattle.job_steps.specs.Caps.{most_customers}
+use Rattle.instance_reader.specs.Instance.{most_customers}
 use Rattle.route_plan.proofs.PlanReaders.{AnyBehind, reader-file}
 use Rattle.route_plan.specs.PlanReading.{file_at}
 use Rattle.route_plan.specs.PlanTexts.{FitsFile, fleet_plan_text}

@@ -25,7 +25,8 @@ use Rattle.plan_writer.specs.declared.refusal.Refusal.TheVariants as refusal
 use Rattle.route_plan.specs.PlanReading.{fleet_plan_in}
 use Rattle.route_plan.specs.PlanTexts.{SpellsFleetPlan}
 use Rattle.route_plan.specs.declared.plan.FleetPlan.{FleetPlan}
-use Rattle.job_steps.specs.Caps.{certificate_read, file_read, most_customers}
+use Rattle.job_steps.specs.Caps.{certificate_read, file_read}
+use Rattle.instance_reader.specs.Instance.{most_customers}
 use Rattle.evroute_run.specs.FleetNetwork.{HasFleetNetwork}
 use Rattle.job_steps.specs.LimitedNetwork.{HasNetwork, IsPastLimit}
 use Rattle.job_frame.specs.Task.{Outcome, Task}

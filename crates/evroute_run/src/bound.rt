@@ -8,7 +8,7 @@ ghost use Rattle.command_line.specs.declared.Job.TheVariants.{Bound};
 ghost use Rattle.evroute_run.specs.BoundAnswer.{IsBoundFound, bound_status};
 ghost use Rattle.evroute_run.specs.Run.{task_of};
 ghost use Rattle.job_frame.specs.Finds.{Finds, written_by};
-ghost use Rattle.job_steps.specs.Caps.{most_customers};
+ghost use Rattle.instance_reader.specs.Instance.{most_customers};
 ghost use Rattle.near_text.specs.NearTexts.{near_text};
 ghost use Rattle.near_text.specs.VerdictText.{near_bound_text};
 ghost use Rattle.near_text.specs.Written.{written_near};

@@ -4,7 +4,8 @@ ghost use Rattle.std.specs.Prelude.{◌≡◌, ◌≤◌, IfErr, IfOk, List, Opt
 ghost use Rattle.bound_certificate.specs.Ranges.{customer_count};
 ghost use Rattle.command_line.specs.JobValue.{job_value};
 ghost use Rattle.command_line.specs.declared.Job.TheVariants.{CheckBound};
-ghost use Rattle.job_steps.specs.Caps.{most_bytes, most_customers};
+ghost use Rattle.job_steps.specs.Caps.{most_bytes};
+ghost use Rattle.instance_reader.specs.Instance.{most_customers};
 ghost use Rattle.evroute_run.specs.CheckBoundAnswer.{CheckBoundAnswers, HasNear, verdict_status};
 ghost use Rattle.evroute_run.specs.Ended.{IsCheckBoundEnded};
 ghost use Rattle.job_steps.specs.Ended.{IsRuleOrMemory};

@@ -8,7 +8,7 @@ ghost use Rattle.command_line.specs.declared.Job.TheVariants.{Fleet};
 ghost use Rattle.evroute_run.specs.FleetAnswer.{IsFound};
 ghost use Rattle.evroute_run.specs.Run.{task_of};
 ghost use Rattle.job_frame.specs.Finds.{Finds, written_by};
-ghost use Rattle.job_steps.specs.Caps.{most_customers};
+ghost use Rattle.instance_reader.specs.Instance.{most_customers};
 
 use crate::instance::fleet_instance;
 use crate::planning::plan_all;

@@ -5,8 +5,8 @@ ghost use Rattle.evroute_run.specs.Ended.{IsCheckEnded, IsFleetEnded};
 ghost use Rattle.evroute_run.specs.FleetNetwork.{HasFleetNetwork};
 ghost use Rattle.job_steps.specs.Ended.{IsRuleOrMemory};
 
-use instance_reader::Instance;
-use job_steps::{Ended, MOST_CUSTOMERS, limited_instance};
+use instance_reader::{Instance, MOST_CUSTOMERS};
+use job_steps::{Ended, limited_instance};
 use plan_writer::Refusal;
 use std::alloc::Global;
 

@@ -4,7 +4,7 @@ ghost use Rattle.std.specs.Prelude.{◌≡◌, ◌≤◌, IfErr, IfOk, List, Opt
 ghost use Rattle.bound_certificate.specs.Ranges.{Fits, customer_count};
 ghost use Rattle.evroute_run.specs.CheckAnswer.{BreaksFirst, CheckAnswers, HasFleet, IsCertificateOf, IsValid};
 ghost use Rattle.evroute_run.specs.Ended.{IsCheckEnded};
-ghost use Rattle.job_steps.specs.Caps.{most_customers};
+ghost use Rattle.instance_reader.specs.Instance.{most_customers};
 ghost use Rattle.job_steps.specs.Ended.{IsRuleOrMemory};
 ghost use Rattle.evroute_run.specs.Judged.{IsJudgementOf, judged_status};
 ghost use Rattle.job_frame.specs.Task.{IsAnswered};

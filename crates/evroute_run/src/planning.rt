@@ -7,7 +7,7 @@ ghost use Rattle.ev_fleet.specs.Outcome.{IsOutcome};
 ghost use Rattle.ev_model.specs.Network.{IsNetwork};
 ghost use Rattle.evroute_run.specs.FleetAnswer.{IsFound, TellsRootOf, outcomes_of, search_status};
 ghost use Rattle.fleet_model.specs.Prices.{sum_of};
-ghost use Rattle.job_steps.specs.Caps.{most_customers};
+ghost use Rattle.instance_reader.specs.Instance.{most_customers};
 ghost use Rattle.plan_writer.specs.FleetText.{IsExactLine, IsLowestLine, fleet_text};
 
 use crate::judging::cost_of;

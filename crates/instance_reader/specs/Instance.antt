@@ -10,6 +10,10 @@ use Rattle.charge_curve.specs.Scaled.{breaks_of}
 abbrev pub customer_nodes : Network → List ℕ
 customer_nodes g = filter (is_customer g) (range_with_len 0 (node_count g))
 
+-- the most customers of a fleet that is planned or judged, and so of a certificate
+abbrev pub most_customers : ℕ
+most_customers = 128
+
 -- the number of the customer at a node; None exactly where no customer is there
 abbrev pub IsCustomerNumber : Network → ℕ → Option ℕ → Type 0
 IsCustomerNumber g node None = is_customer g node ≡ false

@@ -5,6 +5,9 @@ ghost use Rattle.instance_reader.specs.Customers.{AreCustomers, has_customer};
 
 use std::alloc::{AllocError, Global};
 
+/// The most customers of a fleet that is planned or judged, and so of a certificate.
+pub const MOST_CUSTOMERS: usize = 128;
+
 /// The customers' nodes in rising order, and by node the index of its customer.
 #[derive(Drop)]
 pub(crate) struct Customers {

@@ -26,6 +26,7 @@ mod sizes;
 mod stations;
 mod types;
 
+pub use customers::MOST_CUSTOMERS;
 pub use faults::{LimitFault, ReadFault};
 pub use instance::Instance;
 pub use laws::bytes_mean_one_thing;

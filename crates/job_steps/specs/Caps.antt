@@ -1,4 +1,4 @@
--- How many bytes of a file are read, and how many customers a fleet has at most.
+-- How many bytes of a file are read.
 use Rattle.std.specs.Prelude.{ℕ, ◌+◌, ◌^◌, List}
 use Rattle.job_frame.specs.Task.{Read}
 
@@ -16,7 +16,3 @@ file_read name = record { name = name; most = most_bytes }
 
 abbrev pub certificate_read : List ℕ → Read
 certificate_read name = record { name = name; most = most_certificate_bytes }
-
--- the most customers of a fleet
-abbrev pub most_customers : ℕ
-most_customers = 128

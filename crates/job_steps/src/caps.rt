@@ -1,10 +1,7 @@
-//! How many bytes of a file are read, and how many customers a fleet has at most.
+//! How many bytes of a file are read.
 
 /// One byte more than the longest file that is read, but for certificates.
 pub const MOST_BYTES: usize = (1 << 26) + 1;
 
 /// One byte more than the longest certificate that is read.
 pub const MOST_CERTIFICATE_BYTES: usize = (1 << 28) + 1;
-
-/// The most customers of a fleet.
-pub const MOST_CUSTOMERS: usize = 128;

@@ -10,7 +10,7 @@ mod planned;
 mod scale;
 
 pub use answer::{Ended, refuse, refuse_job};
-pub use caps::{MOST_BYTES, MOST_CERTIFICATE_BYTES, MOST_CUSTOMERS};
+pub use caps::{MOST_BYTES, MOST_CERTIFICATE_BYTES};
 pub use instance::limited_instance;
 pub use planned::Planned;
 pub use scale::ScaleWatcher;

@@ -12,7 +12,7 @@ use Rattle.ev_model.specs.declared.Stop.{Stop}
 use Rattle.fleet_model.specs.Cover.{IsFleetRoute, shares_of}
 use Rattle.fleet_model.specs.Places.{customer_count, customer_number}
 use Rattle.fleet_model.proofs.Numbers.{counted}
-use Rattle.instance_reader.specs.Instance.{customer_nodes}
+use Rattle.instance_reader.specs.Instance.{customer_nodes, most_customers}
 use Rattle.wide_bases.specs.declared.listed.ListedRoute.{ListedRoute}
 use Rattle.certificate_check.specs.Columns.{StandFor}
 use Rattle.certificate_check.specs.Routes.{IsListedRoute, IsRouteAmong}
@@ -48,7 +48,7 @@ module _ (kinds : List Network) (are : AreKinds kinds) where
   pub agrees_at : (kind : ℕ) → kind < length kinds → Agrees (first_of kinds) (network_of kinds kind)
   agrees_at kind known = All-get_or (Agrees (first_of kinds)) kinds kind no_network known are.agree
 
-  pub few_at : (kind : ℕ) → kind < length kinds → length (customer_nodes (first_of kinds)) ≤ 128 → length (customer_nodes (network_of kinds kind)) ≤ 128
+  pub few_at : (kind : ℕ) → kind < length kinds → length (customer_nodes (first_of kinds)) ≤ most_customers → length (customer_nodes (network_of kinds kind)) ≤ most_customers
   few_at kind known few = subst (λ (nodes : List ℕ). length nodes ≤ 128) (sym (agrees_at kind known).customers) few
 
   pub count_at : (kind : ℕ) → kind < length kinds → customer_count (network_of kinds kind) ≡ customer_count (first_of kinds)

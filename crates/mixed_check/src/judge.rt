@@ -1,7 +1,7 @@
 //! The judge of proofs for several kinds of vehicles.
 
 ghost use Rattle.std.specs.Prelude.{◌≡◌, ◌≤◌, IfOk, length};
-ghost use Rattle.instance_reader.specs.Instance.{customer_nodes};
+ghost use Rattle.instance_reader.specs.Instance.{customer_nodes, most_customers};
 ghost use Rattle.mixed_model.specs.Kinds.{AreKinds, first_of};
 ghost use Rattle.mixed_model.specs.Ranges.{MixedFits};
 ghost use Rattle.mixed_model.specs.Truth.{IsTrueProof};
@@ -48,7 +48,7 @@ pub fn check_mixed(
     p: &MixedProof,
 ) -> Result<MixedVerdict, AllocError>
     requires kinds { AreKinds kinds.now }
-    requires few { length (customer_nodes (first_of kinds.now)) ≤ 128 }
+    requires few { length (customer_nodes (first_of kinds.now)) ≤ most_customers }
     requires fits { MixedFits kinds.now p.now }
     ensures verdict { IfOk result (IsVerdict kinds.now p.now) }
     ensures truth { IfOk result (λ verdict. verdict ≡ Accepted → IsTrueProof kinds.now p.now) }

@@ -2,7 +2,7 @@
 
 ghost use Rattle.std.specs.Prelude.{◌<◌, ◌≤◌, IfOk, IfSome, IsSome, length};
 ghost use Rattle.ev_model.specs.Network.{IsNetwork};
-ghost use Rattle.instance_reader.specs.Instance.{customer_nodes};
+ghost use Rattle.instance_reader.specs.Instance.{customer_nodes, most_customers};
 ghost use Rattle.mixed_check.specs.Tellings.{TellsKind, TellsKinds, ToldAs};
 ghost use Rattle.mixed_model.specs.Kinds.{AreKinds, first_of, network_of};
 ghost use Rattle.mixed_model.specs.Ranges.{MixedFits};
@@ -21,7 +21,7 @@ pub(crate) fn kind_fault(
     p: &MixedProof,
 ) -> Result<Option<MixedVerdict>, AllocError>
     requires kinds { AreKinds kinds.now }
-    requires few { length (customer_nodes (first_of kinds.now)) ≤ 128 }
+    requires few { length (customer_nodes (first_of kinds.now)) ≤ most_customers }
     requires fits { MixedFits kinds.now p.now }
     ensures { IfOk result (TellsKinds kinds.now p.now) }
 {
@@ -41,7 +41,7 @@ fn fault_in(
     kind: usize,
 ) -> Result<Option<MixedVerdict>, AllocError>
     requires kinds { AreKinds kinds.now }
-    requires few { length (customer_nodes (first_of kinds.now)) ≤ 128 }
+    requires few { length (customer_nodes (first_of kinds.now)) ≤ most_customers }
     requires fits { MixedFits kinds.now p.now }
     requires known { kind < length kinds.now }
     ensures told { IfOk result (TellsKind kinds.now p.now kind) }

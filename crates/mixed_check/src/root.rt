@@ -2,7 +2,7 @@
 
 ghost use Rattle.std.specs.Prelude.{◌≤◌, IfOk, length};
 ghost use Rattle.std.specs.List.{All};
-ghost use Rattle.instance_reader.specs.Instance.{customer_nodes};
+ghost use Rattle.instance_reader.specs.Instance.{customer_nodes, most_customers};
 ghost use Rattle.certificate_parts.specs.Ranges.{BasisFits, customer_count};
 ghost use Rattle.mixed_check.specs.Tellings.{TellsExact, TellsRoot, TellsWide};
 ghost use Rattle.mixed_model.specs.Kinds.{AreKinds, first_of};
@@ -22,7 +22,7 @@ pub(crate) fn root_holds(
     p: &MixedProof,
 ) -> Result<bool, AllocError>
     requires kinds { AreKinds kinds.now }
-    requires few { length (customer_nodes (first_of kinds.now)) ≤ 128 }
+    requires few { length (customer_nodes (first_of kinds.now)) ≤ most_customers }
     requires fits { MixedFits kinds.now p.now }
     ensures { IfOk result (TellsRoot kinds.now p.now p.now.root) }
 {
@@ -45,7 +45,7 @@ fn is_exact(
     shares: &[MixedShare],
 ) -> Result<bool, AllocError>
     requires kinds { AreKinds kinds.now }
-    requires few { length (customer_nodes (first_of kinds.now)) ≤ 128 }
+    requires few { length (customer_nodes (first_of kinds.now)) ≤ most_customers }
     requires fits { MixedFits kinds.now p.now }
     requires shares { SharesFit (length kinds.now) over shares.now }
     ensures { IfOk result (TellsExact kinds.now p.now over shares.now) }
@@ -72,7 +72,7 @@ fn is_wide(
     basis: &[BasisEntry],
 ) -> Result<bool, AllocError>
     requires kinds { AreKinds kinds.now }
-    requires few { length (customer_nodes (first_of kinds.now)) ≤ 128 }
+    requires few { length (customer_nodes (first_of kinds.now)) ≤ most_customers }
     requires columns { All (RouteFits (length kinds.now)) columns.now }
     requires basis { BasisFits (customer_count (first_of kinds.now)) (length columns.now)
         basis.now }

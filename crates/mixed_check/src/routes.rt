@@ -2,7 +2,7 @@
 
 ghost use Rattle.std.specs.Prelude.{◌<◌, ◌≤◌, IfNone, IfOk, IfSome, length, option_map};
 ghost use Rattle.std.specs.List.{All};
-ghost use Rattle.instance_reader.specs.Instance.{customer_nodes};
+ghost use Rattle.instance_reader.specs.Instance.{customer_nodes, most_customers};
 ghost use Rattle.mixed_check.specs.Tellings.{IsListedIn, TellsColumns, TellsShares};
 ghost use Rattle.mixed_model.specs.Covers.{IsKindRoute};
 ghost use Rattle.mixed_model.specs.Kinds.{AreKinds, first_of};
@@ -22,7 +22,7 @@ pub(crate) fn shared_routes(
     shares: &[MixedShare],
 ) -> Result<Option<Vec<SharedRoute>>, AllocError>
     requires kinds { AreKinds kinds.now }
-    requires few { length (customer_nodes (first_of kinds.now)) ≤ 128 }
+    requires few { length (customer_nodes (first_of kinds.now)) ≤ most_customers }
     requires shares { All (ShareFits (length kinds.now)) shares.now }
     ensures { IfOk result (λ routes.
         TellsShares kinds.now shares.now (option_map (λ v. v.items) routes)) }
@@ -47,7 +47,7 @@ pub(crate) fn listed_routes(
     columns: &[MixedRoute],
 ) -> Result<Option<Vec<ListedRoute>>, AllocError>
     requires kinds { AreKinds kinds.now }
-    requires few { length (customer_nodes (first_of kinds.now)) ≤ 128 }
+    requires few { length (customer_nodes (first_of kinds.now)) ≤ most_customers }
     requires columns { All (RouteFits (length kinds.now)) columns.now }
     ensures { IfOk result (λ routes.
         TellsColumns kinds.now columns.now (option_map (λ v. v.items) routes)) }
@@ -66,7 +66,7 @@ pub(crate) fn listed_routes(
 /// where it is no route of a fleet for that kind.
 fn route_of_kind(kinds: &[Instance], route: &MixedRoute) -> Option<ListedRoute>
     requires kinds { AreKinds kinds.now }
-    requires few { length (customer_nodes (first_of kinds.now)) ≤ 128 }
+    requires few { length (customer_nodes (first_of kinds.now)) ≤ most_customers }
     requires known { route.now.kind < length kinds.now }
     ensures listed { IfSome result (IsListedIn kinds.now route.now) }
     ensures none { IfNone result (IsKindRoute kinds.now 1 (kind_plan route.now) → ⊥) }

@@ -2,7 +2,7 @@
 
 ghost use Rattle.std.specs.Prelude.{◌<◌, ◌≤◌, IfOk, length};
 ghost use Rattle.std.specs.List.{All};
-ghost use Rattle.instance_reader.specs.Instance.{customer_nodes};
+ghost use Rattle.instance_reader.specs.Instance.{customer_nodes, most_customers};
 ghost use Rattle.mixed_fleet.specs.Fleets.{AreFleetKinds};
 ghost use Rattle.mixed_fleet.specs.Proofs.{IsBestProof};
 
@@ -54,7 +54,7 @@ fn take_shares(
     taken: &mut Taken,
     shares: &[MixedShare],
 ) -> Result<(), AllocError>
-    requires few { length (customer_nodes inst.now) ≤ 128 }
+    requires few { length (customer_nodes inst.now) ≤ most_customers }
     requires shares { All (λ x. x.route.kind < kinds) shares.now }
     requires taken { All (λ r. r.kind < kinds) taken.old.routes.items }
     ensures { All (λ r. r.kind < kinds) taken.new.routes.items }
@@ -85,7 +85,7 @@ fn take_all(
     taken: &mut Taken,
     routes: &[MixedRoute],
 ) -> Result<(), AllocError>
-    requires few { length (customer_nodes inst.now) ≤ 128 }
+    requires few { length (customer_nodes inst.now) ≤ most_customers }
     requires routes { All (λ r. r.kind < kinds) routes.now }
     requires taken { All (λ r. r.kind < kinds) taken.old.routes.items }
     ensures { All (λ r. r.kind < kinds) taken.new.routes.items }
@@ -104,7 +104,7 @@ fn take(
     taken: &mut Taken,
     route: &MixedRoute,
 ) -> Result<(), AllocError>
-    requires few { length (customer_nodes inst.now) ≤ 128 }
+    requires few { length (customer_nodes inst.now) ≤ most_customers }
     requires route { route.now.kind < kinds }
     requires taken { All (λ r. r.kind < kinds) taken.old.routes.items }
     ensures { All (λ r. r.kind < kinds) taken.new.routes.items }
@@ -119,7 +119,7 @@ fn take(
 
 /// The set with the customers of a route, and whether none of these was in it.
 fn with_customers(inst: &Instance, served: CustSet, route: &MixedRoute) -> (CustSet, bool)
-    requires { length (customer_nodes inst.now) ≤ 128 }
+    requires { length (customer_nodes inst.now) ≤ most_customers }
 {
     let mut set = served;
     let mut free = true;

@@ -3,7 +3,7 @@
 ghost use Rattle.std.specs.Prelude.{◌≤◌, IfOk, IfSome, length, MatchOption};
 ghost use Rattle.std.specs.List.{All};
 ghost use Rattle.ev_model.specs.Network.{IsNetwork};
-ghost use Rattle.instance_reader.specs.Instance.{customer_nodes};
+ghost use Rattle.instance_reader.specs.Instance.{customer_nodes, most_customers};
 ghost use Rattle.mixed_model.specs.Kinds.{AreKinds, first_of};
 ghost use Rattle.mixed_fleet.specs.Fleets.{AreFleetKinds};
 ghost use Rattle.mixed_fleet.specs.Outcome.{IsOutcome};
@@ -36,7 +36,7 @@ use std::alloc::{AllocError, Global};
 /// scaled by the denominator that all kinds share. The only `Err` is want of memory.
 pub fn plan_mixed(alloc: Global, kinds: &[Instance]) -> Result<MixedOutcome, AllocError>
     requires kinds { AreKinds kinds.now }
-    requires few { length (customer_nodes (first_of kinds.now)) ≤ 128 }
+    requires few { length (customer_nodes (first_of kinds.now)) ≤ most_customers }
     ensures { IfOk result (IsOutcome kinds.now) }
 {
     plan_mixed_watched(alloc, kinds, &mut Nobody {})
@@ -50,7 +50,7 @@ pub fn plan_mixed_watched<W: RoundWatcher>(
     watcher: &mut W,
 ) -> Result<MixedOutcome, AllocError>
     requires kinds { AreKinds kinds.now }
-    requires few { length (customer_nodes (first_of kinds.now)) ≤ 128 }
+    requires few { length (customer_nodes (first_of kinds.now)) ≤ most_customers }
     ensures { IfOk result (IsOutcome kinds.now) }
 {
     know_networks(kinds);

@@ -2,7 +2,7 @@
 
 ghost use Rattle.std.specs.Prelude.{◌≡◌, ◌<◌, ◌≤◌, IfErr, IfOk, length};
 ghost use Rattle.std.specs.List.{All};
-ghost use Rattle.instance_reader.specs.Instance.{customer_nodes};
+ghost use Rattle.instance_reader.specs.Instance.{customer_nodes, most_customers};
 ghost use Rattle.mixed_model.specs.Kinds.{AreKinds, first_of};
 ghost use Rattle.mixed_model.specs.Meaning.{kind_plan, kind_plans};
 ghost use Rattle.mixed_model.specs.Plans.{IsFeasibleIn, IsMixedPlan, mixed_cost, time_in};
@@ -30,7 +30,7 @@ use route_plan::{Walk, WalkFault, walk};
 /// least node, and of a route its first stray stop.
 pub fn check_mixed_plan(kinds: &[Instance], plan: &[MixedRoute]) -> Result<u128, PlanFault>
     requires kinds { AreKinds kinds.now }
-    requires few { length (customer_nodes (first_of kinds.now)) ≤ 128 }
+    requires few { length (customer_nodes (first_of kinds.now)) ≤ most_customers }
     requires known { All (λ r. r.kind < length kinds.now) plan.now }
     ensures valid { IfOk result (λ cost. IsMixedPlan kinds.now 1 (kind_plans plan.now)) }
     ensures cost { IfOk result (λ cost. cost ≡ mixed_cost kinds.now 1 (kind_plans plan.now)) }

@@ -12,7 +12,8 @@ use Rattle.ev_outside.specs.Shelf.{CountsStay, Files, ShelfState}
 use Rattle.ev_outside.specs.declared.shelf.ShelfFault.TheVariants as shelf
 use Rattle.job_frame.proofs.FileReads.{some_read}
 use Rattle.job_frame.specs.Task.{AreRead, Read}
-use Rattle.job_steps.specs.Caps.{file_read, most_customers}
+use Rattle.job_steps.specs.Caps.{file_read}
+use Rattle.instance_reader.specs.Instance.{most_customers}
 use Rattle.mixed_model.specs.Kinds.{AreKinds, first_of}
 use Rattle.mixed_run.specs.KindFiles.{AreUnfit, HasKinds, HaveNetworks, IsFileRefused, IsKindsRefused, IsMixedRule, kind_reads}
 use Rattle.mixed_run.specs.KindReading.{AreRefused, IsHalt, ReadAs}

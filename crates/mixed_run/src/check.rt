@@ -4,7 +4,8 @@ ghost use Rattle.std.specs.Prelude.{◌≡◌, ◌≤◌, IfErr, IfOk, List, Opt
 ghost use Rattle.certificate_parts.specs.Ranges.{customer_count};
 ghost use Rattle.job_frame.specs.Finds.{Finds};
 ghost use Rattle.job_frame.specs.Task.{AreRead, AreReadUpTo};
-ghost use Rattle.job_steps.specs.Caps.{most_bytes, most_customers};
+ghost use Rattle.job_steps.specs.Caps.{most_bytes};
+ghost use Rattle.instance_reader.specs.Instance.{most_customers};
 ghost use Rattle.job_steps.specs.Ended.{IsRuleOrMemory};
 ghost use Rattle.mixed_model.specs.Kinds.{AreKinds, first_of, most_kinds};
 ghost use Rattle.mixed_plan.specs.MixedTexts.{SpellsMixedPlan};

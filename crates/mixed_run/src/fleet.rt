@@ -4,7 +4,7 @@
 ghost use Rattle.std.specs.Prelude.{◌≡◌, ◌∷◌, ◌≤◌, [], IfOk, List, map, ℕ};
 ghost use Rattle.certificate_parts.specs.Ranges.{customer_count};
 ghost use Rattle.job_frame.specs.Finds.{Finds, written_by};
-ghost use Rattle.job_steps.specs.Caps.{most_customers};
+ghost use Rattle.instance_reader.specs.Instance.{most_customers};
 ghost use Rattle.mixed_model.specs.Kinds.{AreKinds, first_of};
 ghost use Rattle.command_line.specs.JobValue.{IsMixedJob, mixed_value};
 ghost use Rattle.mixed_run.specs.MixedAnswer.{IsMixedFound, mixed_task};

@@ -3,7 +3,7 @@
 ghost use Rattle.std.specs.Prelude.{◌≡◌, ◌≤◌, ◌++◌, IfErr, IfOk, List, OnOk, Option, option_map, ℕ};
 ghost use Rattle.certificate_parts.specs.Ranges.{customer_count};
 ghost use Rattle.job_frame.specs.Task.{IsAnswered};
-ghost use Rattle.job_steps.specs.Caps.{most_customers};
+ghost use Rattle.instance_reader.specs.Instance.{most_customers};
 ghost use Rattle.job_steps.specs.Ended.{IsRuleOrMemory};
 ghost use Rattle.mixed_model.specs.Kinds.{AreKinds, first_of};
 ghost use Rattle.mixed_model.specs.Ranges.{MixedFits};

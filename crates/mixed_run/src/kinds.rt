@@ -5,7 +5,7 @@ ghost use Rattle.std.specs.Prelude.{◌≡◌, ◌++◌, ◌∷◌, ◌≤◌, [
 ghost use Rattle.certificate_parts.specs.Ranges.{customer_count};
 ghost use Rattle.ev_model.specs.Network.{Network};
 ghost use Rattle.ev_outside.specs.Shelf.{CountsNeverFall, CountsStay};
-ghost use Rattle.job_steps.specs.Caps.{most_customers};
+ghost use Rattle.instance_reader.specs.Instance.{most_customers};
 ghost use Rattle.mixed_model.specs.Kinds.{AreKinds, first_of, most_kinds};
 ghost use Rattle.mixed_run.specs.KindFiles.{AreUnfit, HasKinds, IsFileRefused, IsKindsRefused, kind_reads};
 ghost use Rattle.mixed_run.specs.KindReading.{IsHalt, ReadAs};
@@ -14,9 +14,9 @@ ghost use Rattle.job_frame.specs.Task.{AreRead};
 
 use crate::refusal::{Halt, MixedRefusal};
 use ev_outside::{Shelf, ShelfFault};
-use instance_reader::Instance;
+use instance_reader::{Instance, MOST_CUSTOMERS};
 use job_frame::read_file;
-use job_steps::{Ended, MOST_BYTES, MOST_CUSTOMERS, limited_instance};
+use job_steps::{Ended, MOST_BYTES, limited_instance};
 use mixed_plan::kinds_agree;
 use plan_writer::Refusal;
 use std::alloc::Global;

@@ -3,7 +3,7 @@
 ghost use Rattle.std.specs.Prelude.{◌≡◌, ◌≢◌, ◌≤◌, Err, IfErr, IfOk, IfSome, Ok, length};
 ghost use Rattle.std.specs.List.{All};
 ghost use Rattle.ev_model.specs.Network.{IsNetwork};
-ghost use Rattle.instance_reader.specs.Instance.{customer_nodes};
+ghost use Rattle.instance_reader.specs.Instance.{customer_nodes, most_customers};
 ghost use Rattle.certificate_parts.specs.Limits.{greatest_bound, greatest_weight};
 ghost use Rattle.certificate_parts.specs.Ranges.{customer_count};
 ghost use Rattle.certificate_parts.specs.Refusals.{or_refused};
@@ -47,7 +47,7 @@ const GREATEST_WEIGHT: u128 = 1 << 40;
 /// `Memory`: memory was refused. A count is never allocated for ahead.
 pub fn read_mixed(alloc: Global, kinds: &[Instance], bytes: &[u8]) -> Result<MixedProof, CertText>
     requires kinds { AreKinds kinds.now }
-    requires few { length (customer_nodes (first_of kinds.now)) ≤ 128 }
+    requires few { length (customer_nodes (first_of kinds.now)) ≤ most_customers }
     ensures ok { IfOk result (λ p. mixed_in kinds.now bytes.now
         ≡ Ok (written_mixed kinds.now p)) }
     ensures fits { IfOk result (MixedFits kinds.now) }
@@ -84,7 +84,7 @@ fn take_proof(
     scan: &mut Scan<'_>,
 ) -> Result<MixedProof, CertText>
     requires kinds { AreKinds kinds.now }
-    requires few { length (customer_nodes (first_of kinds.now)) ≤ 128 }
+    requires few { length (customer_nodes (first_of kinds.now)) ≤ most_customers }
     ensures ok { IfOk result (λ p. mixed_proof_at kinds.now scan.old
         ≡ Ok (written_mixed kinds.now p, scan.new)) }
     ensures fits { IfOk result (MixedFits kinds.now) }
@@ -103,7 +103,7 @@ fn take_proof(
 /// Takes the lines behind that with the number of kinds.
 fn take_body(alloc: Global, kinds: &[Instance], scan: &mut Scan<'_>) -> Result<MixedProof, CertText>
     requires kinds { AreKinds kinds.now }
-    requires few { length (customer_nodes (first_of kinds.now)) ≤ 128 }
+    requires few { length (customer_nodes (first_of kinds.now)) ≤ most_customers }
     ensures ok { IfOk result (λ p. mixed_body_at kinds.now scan.old
         ≡ Ok (written_mixed kinds.now p, scan.new)) }
     ensures fits { IfOk result (MixedFits kinds.now) }
@@ -130,7 +130,7 @@ fn take_lines(
     weight: u64,
 ) -> Result<MixedProof, CertText>
     requires kinds { AreKinds kinds.now }
-    requires few { length (customer_nodes (first_of kinds.now)) ≤ 128 }
+    requires few { length (customer_nodes (first_of kinds.now)) ≤ most_customers }
     requires bound { IfSome bound (λ b. b ≤ greatest_bound) }
     requires root { RootFits (length kinds.now) (customer_count (first_of kinds.now)) root }
     requires weight { weight ≤ greatest_weight }

@@ -1,7 +1,7 @@
 //! The text of a proof for several kinds of vehicles, written.
 
 ghost use Rattle.std.specs.Prelude.{◌≡◌, ◌≤◌, ◌∷◌, ◌++◌, OnErr, OnOk, codes, length, map};
-ghost use Rattle.instance_reader.specs.Instance.{customer_nodes};
+ghost use Rattle.instance_reader.specs.Instance.{customer_nodes, most_customers};
 ghost use Rattle.mixed_model.specs.Kinds.{AreKinds, first_of};
 ghost use Rattle.mixed_text.specs.MixedTexts.{kind_line, kind_text, kinds_line, kinds_text, mixed_body_text, mixed_text, weight_line};
 ghost use Rattle.mixed_text.specs.Written.{written_labels, written_mixed};
@@ -33,7 +33,7 @@ pub fn push_mixed(
     p: &MixedProof,
 ) -> Result<(), AllocError>
     requires kinds { AreKinds kinds.now }
-    requires few { length (customer_nodes (first_of kinds.now)) ≤ 128 }
+    requires few { length (customer_nodes (first_of kinds.now)) ≤ most_customers }
     ensures ok { OnOk result
         (out.new.items ≡ out.old.items ++ mixed_text (written_mixed kinds.now p.now)) }
     ensures err { OnErr result (out.new.items ≡ out.old.items) }
@@ -51,7 +51,7 @@ fn write_text(
     p: &MixedProof,
 ) -> Result<(), AllocError>
     requires kinds { AreKinds kinds.now }
-    requires few { length (customer_nodes (first_of kinds.now)) ≤ 128 }
+    requires few { length (customer_nodes (first_of kinds.now)) ≤ most_customers }
     ensures { OnOk result
         (text.new.items ≡ text.old.items ++ mixed_text (written_mixed kinds.now p.now)) }
 {
@@ -76,7 +76,7 @@ fn write_body(
     p: &MixedProof,
 ) -> Result<(), AllocError>
     requires kinds { AreKinds kinds.now }
-    requires few { length (customer_nodes (first_of kinds.now)) ≤ 128 }
+    requires few { length (customer_nodes (first_of kinds.now)) ≤ most_customers }
     ensures { OnOk result
         (text.new.items ≡ text.old.items ++ mixed_body_text (written_mixed kinds.now p.now)) }
 {
@@ -103,7 +103,7 @@ fn write_kinds(
     inst: &Instance,
     lists: &[Listed<Label>],
 ) -> Result<(), AllocError>
-    requires { length (customer_nodes inst.now) ≤ 128 }
+    requires { length (customer_nodes inst.now) ≤ most_customers }
     ensures { OnOk result (text.new.items ≡ text.old.items
         ++ kinds_text 0 (map (written_labels inst.now) lists.now)) }
 {
@@ -121,7 +121,7 @@ fn write_kind(
     kind: usize,
     labels: &[Label],
 ) -> Result<(), AllocError>
-    requires { length (customer_nodes inst.now) ≤ 128 }
+    requires { length (customer_nodes inst.now) ≤ most_customers }
     ensures { OnOk result (text.new.items ≡ text.old.items
         ++ kind_text kind (written_labels inst.now labels.now)) }
 {

@@ -5,7 +5,7 @@ use Rattle.customer_sets.specs.CustSet.{has}
 use Rattle.ev_model.specs.Network.{is_customer, Network, node_count}
 use Rattle.fleet_model.specs.Labels.{IsLevel}
 use Rattle.fleet_model.specs.Places.{customer_number}
-use Rattle.instance_reader.specs.Instance.{customer_nodes}
+use Rattle.instance_reader.specs.Instance.{customer_nodes, most_customers}
 use Rattle.near_proof.specs.Accepted.{HasTight, terms_of}
 use Rattle.near_proof.specs.Broken.{at_home, at_step, EarnsHome, MissesStep}
 use Rattle.near_proof.specs.Covered.{IsNearCovered}
@@ -39,7 +39,7 @@ abbrev pub judged : Judge → Judged
 judged j = record { terms = terms_in j.terms; labels = j.labels.now }
 
 pub record IsJudge (j : Judge) : Type 0 where
-  pub few : length (customer_nodes j.inst.now) ≤ 128
+  pub few : length (customer_nodes j.inst.now) ≤ most_customers
   pub weight : j.terms.weight ≤ 1
   pub one_price : length j.terms.prices.now ≡ length (customer_nodes j.inst.now)
   pub sets : SetsFit (length (customer_nodes j.inst.now)) j.terms.sets.now

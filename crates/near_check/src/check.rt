@@ -2,7 +2,7 @@
 
 ghost use Rattle.std.specs.Prelude.{◌≡◌, ◌↔◌, ◌<◌, ◌≤◌, IfOk, IsTrue, length};
 ghost use Rattle.ev_model.specs.Network.{node_count};
-ghost use Rattle.instance_reader.specs.Instance.{customer_nodes};
+ghost use Rattle.instance_reader.specs.Instance.{customer_nodes, most_customers};
 ghost use Rattle.near_proof.specs.Accepted.{HasTight};
 ghost use Rattle.near_proof.specs.Ranges.{NearFits};
 ghost use Rattle.near_proof.specs.Truth.{IsTrue as IsTrueProof};
@@ -51,7 +51,7 @@ pub fn check_near(
     inst: &Instance,
     proof: &NearProof,
 ) -> Result<NearVerdict, AllocError>
-    requires few { length (customer_nodes inst.now) ≤ 128 }
+    requires few { length (customer_nodes inst.now) ≤ most_customers }
     requires fits { NearFits inst.now proof.now }
     ensures verdict { IfOk result (IsVerdict inst.now proof.now) }
     ensures shows { IfOk result (λ v. v ≡ Accepted → IsTrueProof inst.now proof.now) }
@@ -63,7 +63,7 @@ pub fn check_near(
 
 /// That a near proof is accepted, or the first rule that it breaks.
 fn verdict_on(alloc: Global, inst: &Instance, proof: &NearProof) -> Result<NearVerdict, AllocError>
-    requires few { length (customer_nodes inst.now) ≤ 128 }
+    requires few { length (customer_nodes inst.now) ≤ most_customers }
     requires fits { NearFits inst.now proof.now }
     ensures { IfOk result (IsVerdict inst.now proof.now) }
 {
@@ -99,7 +99,7 @@ fn fault_of(
     inst: &Instance,
     proof: &NearProof,
 ) -> Result<Option<LabelFault>, AllocError>
-    requires few { length (customer_nodes inst.now) ≤ 128 }
+    requires few { length (customer_nodes inst.now) ≤ most_customers }
     requires fits { NearFits inst.now proof.now }
     ensures { IfOk result (TellsFault inst.now (judged_in proof.now)) }
 {
@@ -117,7 +117,7 @@ fn loose_customer(
     inst: &Instance,
     proof: &NearProof,
 ) -> Result<Option<usize>, AllocError>
-    requires few { length (customer_nodes inst.now) ≤ 128 }
+    requires few { length (customer_nodes inst.now) ≤ most_customers }
     requires fits { NearFits inst.now proof.now }
     ensures { IfOk result (TellsLoose inst.now proof.now) }
 {
@@ -136,7 +136,7 @@ fn is_settled(
     proof: &NearProof,
     node: usize,
 ) -> Result<bool, AllocError>
-    requires few { length (customer_nodes inst.now) ≤ 128 }
+    requires few { length (customer_nodes inst.now) ≤ most_customers }
     requires fits { NearFits inst.now proof.now }
     requires node { node < node_count inst.now }
     ensures { IfOk result (TellsTight inst.now proof.now node) }
@@ -154,7 +154,7 @@ fn has_tight(
     proof: &NearProof,
     customer: usize,
 ) -> Result<bool, AllocError>
-    requires few { length (customer_nodes inst.now) ≤ 128 }
+    requires few { length (customer_nodes inst.now) ≤ most_customers }
     requires fits { NearFits inst.now proof.now }
     ensures { IfOk result (λ tight. IsTrue tight ↔ HasTight inst.now proof.now customer) }
 {

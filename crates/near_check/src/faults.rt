@@ -2,7 +2,7 @@
 
 ghost use Rattle.std.specs.Prelude.{◌≡◌, ◌≤◌, IfOk, length};
 ghost use Rattle.std.specs.List.{All};
-ghost use Rattle.instance_reader.specs.Instance.{customer_nodes};
+ghost use Rattle.instance_reader.specs.Instance.{customer_nodes, most_customers};
 ghost use Rattle.near_proof.specs.Ranges.{NearLabelFits, SetsFit};
 ghost use Rattle.near_check.specs.Faults.{TellsFault, terms_in};
 ghost use Rattle.near_check.specs.Judging.{IsJudge, TellsBadEnd, TellsBadStep, judged};
@@ -52,7 +52,7 @@ pub fn first_fault(
     terms: NearTerms<'_>,
     labels: &[NearLabel],
 ) -> Result<Option<LabelFault>, AllocError>
-    requires few { length (customer_nodes inst.now) ≤ 128 }
+    requires few { length (customer_nodes inst.now) ≤ most_customers }
     requires weight { terms.weight ≤ 1 }
     requires one_price { length terms.prices.now ≡ length (customer_nodes inst.now) }
     requires sets { SetsFit (length (customer_nodes inst.now)) terms.sets.now }

@@ -5,6 +5,7 @@ ghost use Rattle.customer_sets.specs.CustSet.{has};
 ghost use Rattle.near_check.specs.Members.{AreMembers};
 
 use customer_sets::CustSet;
+use instance_reader::MOST_CUSTOMERS;
 use std::alloc::{AllocError, Global};
 
 /// The customer, and those remembered before who are in the customer's near set.
@@ -26,7 +27,7 @@ fn common(one: CustSet, other: CustSet) -> CustSet
         return one;
     }
     let mut both = CustSet::empty();
-    for c in 0..128 {
+    for c in 0..MOST_CUSTOMERS {
         if one.has(c) && other.has(c) {
             both = both.with(c);
         }
@@ -39,7 +40,7 @@ pub(crate) fn members_of(alloc: Global, set: CustSet) -> Result<Vec<usize>, Allo
     ensures { IfOk result (λ members. AreMembers members.items set) }
 {
     let mut members = Vec::with_capacity(alloc, set.len())?;
-    for c in 0..128 {
+    for c in 0..MOST_CUSTOMERS {
         if set.has(c) {
             members.push(c)?;
         }

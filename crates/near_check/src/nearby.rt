@@ -2,7 +2,7 @@
 
 ghost use Rattle.std.specs.Prelude.{◌≡◌, ◌<◌, ◌≤◌, IfOk, length, nat_lt};
 ghost use Rattle.ev_model.specs.Network.{node_count};
-ghost use Rattle.instance_reader.specs.Instance.{customer_nodes};
+ghost use Rattle.instance_reader.specs.Instance.{customer_nodes, most_customers};
 ghost use Rattle.near_check.specs.NearSets.{AreNearSets, belongs, IsNearSet, is_sooner, sooner_count};
 
 use customer_sets::CustSet;
@@ -13,7 +13,7 @@ use std::alloc::{AllocError, Global};
 /// time from it, of two with the same time the one with the smaller number, or with all where there
 /// are fewer. The only `Err` is want of memory.
 pub fn near_sets(alloc: Global, inst: &Instance, near: usize) -> Result<Vec<CustSet>, AllocError>
-    requires few { length (customer_nodes inst.now) ≤ 128 }
+    requires few { length (customer_nodes inst.now) ≤ most_customers }
     ensures { IfOk result (λ sets. AreNearSets inst.now near sets.items) }
 {
     let customers = inst.customers();
@@ -26,7 +26,7 @@ pub fn near_sets(alloc: Global, inst: &Instance, near: usize) -> Result<Vec<Cust
 
 /// The near set of the customer at a node.
 fn near_set(inst: &Instance, near: usize, node: usize) -> CustSet
-    requires few { length (customer_nodes inst.now) ≤ 128 }
+    requires few { length (customer_nodes inst.now) ≤ most_customers }
     requires node { node < node_count inst.now }
     ensures { IsNearSet inst.now near node result }
 {

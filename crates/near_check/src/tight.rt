@@ -4,7 +4,7 @@ ghost use Rattle.std.specs.Prelude.{◌↔◌, ◌*◌, ◌<◌, ◌^◌, ◌≤
 ghost use Rattle.std.specs.List.{All};
 ghost use Rattle.ev_model.specs.Fleet.{times_in};
 ghost use Rattle.fleet_model.specs.Places.{numbers_of};
-ghost use Rattle.instance_reader.specs.Instance.{customer_nodes};
+ghost use Rattle.instance_reader.specs.Instance.{customer_nodes, most_customers};
 ghost use Rattle.near_proof.specs.Accepted.{IsTight, terms_of};
 ghost use Rattle.near_proof.specs.Ranges.{NearFits};
 ghost use Rattle.near_proof.specs.Routes.{KeepsMemory};
@@ -28,7 +28,7 @@ pub(crate) fn is_tight(
     customer: usize,
     stops: &[Stop],
 ) -> Result<bool, AllocError>
-    requires few { length (customer_nodes inst.now) ≤ 128 }
+    requires few { length (customer_nodes inst.now) ≤ most_customers }
     requires fits { NearFits inst.now proof.now }
     ensures { IfOk result (λ tight.
         IsTrue tight ↔ IsTight inst.now (terms_of proof.now) customer stops.now) }

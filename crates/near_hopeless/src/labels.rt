@@ -3,7 +3,7 @@
 ghost use Rattle.std.specs.Prelude.{◌≡◌, ◌<◌, ◌≤◌, IfOk, OnOk, length};
 ghost use Rattle.std.specs.List.{All};
 ghost use Rattle.ev_model.specs.Network.{node_count};
-ghost use Rattle.instance_reader.specs.Instance.{customer_nodes};
+ghost use Rattle.instance_reader.specs.Instance.{customer_nodes, most_customers};
 ghost use Rattle.near_proof.specs.Ranges.{AreAmong, NearLabelFits};
 
 use crate::value::value_after;
@@ -60,7 +60,7 @@ pub fn hopeless_labels(
     inst: &Instance,
     table: &Completion,
 ) -> Result<Vec<NearLabel>, AllocError>
-    requires few { length (customer_nodes inst.now) ≤ 128 }
+    requires few { length (customer_nodes inst.now) ≤ most_customers }
     ensures { IfOk result (λ labels. All (NearLabelFits inst.now) labels.items) }
 {
     let mut labels = Vec::new(alloc);
@@ -78,7 +78,7 @@ fn push_labels_at(
     table: &Completion,
     node: usize,
 ) -> Result<(), AllocError>
-    requires few { length (customer_nodes inst.now) ≤ 128 }
+    requires few { length (customer_nodes inst.now) ≤ most_customers }
     requires node { node < node_count inst.now }
     requires labels { All (NearLabelFits inst.now) labels.old.items }
     ensures { OnOk result (All (NearLabelFits inst.now) labels.new.items) }
@@ -99,7 +99,7 @@ fn push_labels_in(
     node: usize,
     layer: usize,
 ) -> Result<(), AllocError>
-    requires few { length (customer_nodes inst.now) ≤ 128 }
+    requires few { length (customer_nodes inst.now) ≤ most_customers }
     requires node { node < node_count inst.now }
     requires labels { All (NearLabelFits inst.now) labels.old.items }
     ensures { OnOk result (All (NearLabelFits inst.now) labels.new.items) }
@@ -187,7 +187,7 @@ fn second_above(rest: &Rest, above: Option<&Rest>) -> Option<i128> {
 
 /// Whom each vehicle at a node remembers: the customer there.
 fn own_memory(inst: &Instance, node: usize) -> CustSet
-    requires few { length (customer_nodes inst.now) ≤ 128 }
+    requires few { length (customer_nodes inst.now) ≤ most_customers }
     requires node { node < node_count inst.now }
     ensures { AreAmong (length (customer_nodes inst.now)) result }
 {
@@ -196,7 +196,7 @@ fn own_memory(inst: &Instance, node: usize) -> CustSet
 
 /// A set with a customer, if there is one.
 fn with_known(inst: &Instance, set: CustSet, customer: Option<usize>) -> CustSet
-    requires few { length (customer_nodes inst.now) ≤ 128 }
+    requires few { length (customer_nodes inst.now) ≤ most_customers }
     requires set { AreAmong (length (customer_nodes inst.now)) set }
     ensures { AreAmong (length (customer_nodes inst.now)) result }
 {

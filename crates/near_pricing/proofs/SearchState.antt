@@ -8,7 +8,7 @@ use Rattle.certificate_parts.specs.Ranges.{PointFits}
 use Rattle.customer_sets.specs.CustSet.{has}
 use Rattle.ev_model.specs.Network.{is_customer, Network, node_count}
 use Rattle.fleet_model.specs.Places.{customer_count, customer_number}
-use Rattle.instance_reader.specs.Instance.{customer_nodes}
+use Rattle.instance_reader.specs.Instance.{customer_nodes, most_customers}
 use Rattle.fleet_model.proofs.Counts.{number_less}
 use Rattle.fleet_model.proofs.Numbers.{counted}
 use Rattle.charge_curve.specs.Points.{ArePoints, time_on}
@@ -45,7 +45,7 @@ little count customers earned much few small =
     let most = mul-le-mul_right most_price small in
     omega (arith, much, more, most)
 
-few_customers : (q : Question) → IsQuestion q → customer_count q.network ≤ 128
+few_customers : (q : Question) → IsQuestion q → customer_count q.network ≤ most_customers
 few_customers q is = omega (arith, is.few, counted q.network)
 
 pub label_placed : (q : Question) (l : NearLabel) → IsQuestion q → IsInRange q.network l → IsPlaced q.network l

@@ -2,7 +2,7 @@
 use Rattle.std.specs.Prelude.{◌≡◌, ℕ, ◌+◌, ◌^◌, ◌≤◌, length}
 use Rattle.std.specs.List.{All}
 use Rattle.ev_model.specs.Network.{IsNetwork, Network}
-use Rattle.instance_reader.specs.Instance.{customer_nodes}
+use Rattle.instance_reader.specs.Instance.{customer_nodes, most_customers}
 use Rattle.near_proof.specs.Ranges.{SetsFit}
 use Rattle.near_proof.specs.Terms.{Terms}
 
@@ -17,7 +17,7 @@ most_price = 10 ^ 18 + 1
 
 pub record IsQuestion (q : Question) : Type 0 where
   pub network : IsNetwork q.network
-  pub few : length (customer_nodes q.network) ≤ 128
+  pub few : length (customer_nodes q.network) ≤ most_customers
   pub weight : q.terms.weight ≤ 1
   pub one_price : length q.terms.prices ≡ length (customer_nodes q.network)
   pub sets : SetsFit (length (customer_nodes q.network)) q.terms.sets

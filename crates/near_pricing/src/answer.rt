@@ -2,7 +2,7 @@
 
 ghost use Rattle.std.specs.Prelude.{◌≡◌, ◌<◌, ◌≤◌, ◌+◌, ◌^◌, IfOk, length};
 ghost use Rattle.std.specs.List.{All};
-ghost use Rattle.instance_reader.specs.Instance.{customer_nodes};
+ghost use Rattle.instance_reader.specs.Instance.{customer_nodes, most_customers};
 ghost use Rattle.near_proof.specs.Closed.{AreClosed};
 ghost use Rattle.near_proof.specs.Ranges.{NearLabelFits, SetsFit};
 ghost use Rattle.near_pricing.specs.Answers.{IsNearPriced};
@@ -48,7 +48,7 @@ pub fn near_price(
     sets: &[CustSet],
     prices: &Prices,
 ) -> Result<NearPriced, AllocError>
-    requires few { length (customer_nodes inst.now) ≤ 128 }
+    requires few { length (customer_nodes inst.now) ≤ most_customers }
     requires sets { SetsFit (length (customer_nodes inst.now)) sets.now }
     requires weight { prices.now.weight ≤ 1 }
     requires one_price { length prices.now.of ≡ length (customer_nodes inst.now) }

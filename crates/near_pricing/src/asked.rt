@@ -2,7 +2,7 @@
 
 ghost use Rattle.std.specs.Prelude.{◌≡◌, ◌≤◌, IfOk, length};
 ghost use Rattle.std.specs.List.{All};
-ghost use Rattle.instance_reader.specs.Instance.{customer_nodes};
+ghost use Rattle.instance_reader.specs.Instance.{customer_nodes, most_customers};
 ghost use Rattle.near_check.specs.Faults.{TellsFault, terms_in};
 ghost use Rattle.near_proof.specs.Ranges.{NearLabelFits, SetsFit};
 ghost use Rattle.near_pricing.specs.Questions.{IsQuestion, most_price};
@@ -36,7 +36,7 @@ impl<'a> Model for Pricing<'a> {
 impl<'a> Pricing<'a> {
     /// The question.
     pub(crate) fn new(inst: &'a Instance, terms: NearTerms<'a>) -> Pricing<'a>
-        requires few { length (customer_nodes inst.now) ≤ 128 }
+        requires few { length (customer_nodes inst.now) ≤ most_customers }
         requires weight { terms.weight ≤ 1 }
         requires one_price { length terms.prices.now ≡ length (customer_nodes inst.now) }
         requires sets { SetsFit (length (customer_nodes inst.now)) terms.sets.now }

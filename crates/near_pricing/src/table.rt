@@ -6,7 +6,7 @@ ghost use Rattle.ev_model.specs.Network.{node_count};
 use crate::asked::Pricing;
 use completion_bounds::{Completion, Terms};
 use customer_sets::CustSet;
-use instance_reader::Instance;
+use instance_reader::{Instance, MOST_CUSTOMERS};
 use near_proof::NearLabel;
 use std::alloc::{AllocError, Global};
 
@@ -66,7 +66,7 @@ pub(crate) fn is_left_out(
     let Some(customer) = pricing.instance().customer_number(node) else {
         return false;
     };
-    if customer >= 128 {
+    if customer >= MOST_CUSTOMERS {
         return false;
     }
     let price = pricing.terms().prices.get(customer).copied().unwrap_or(0);

@@ -22,6 +22,7 @@ use Rattle.near_text.specs.Written.{WrittenNear, written_near}
 use Rattle.near_text.specs.WrittenRanges.{NearIs, NearLoose}
 use Rattle.near_text.proofs.NearReading.{reads-near_proof}
 use Rattle.near_text.proofs.WrittenNears.{near_is, one_written}
+use Rattle.instance_reader.specs.Instance.{most_customers}
 
 -- a near proof's text begins with its version
 own_line : (w : WrittenNear) → (rest : List ℕ) × (near_text w ≡ version_line near_word 1 ++ rest)
@@ -35,7 +36,7 @@ version_told g bytes = parts.version_told 101 (codes "vroute near ") 1 (near_pro
 pub length_told : (g : Network) (bytes : List ℕ) (len : ℕ) → (near_in g bytes ≡ Err (TooLong len)) ↔ ((most_bytes < length bytes) × (len ≡ length bytes))
 length_told g bytes len = parts.length_told 101 (codes "vroute near ") 1 (near_proof_at g) bytes len
 
-module _ (g : Network) (network : IsNetwork g) (few : customer_count g ≤ 128) where
+module _ (g : Network) (network : IsNetwork g) (few : customer_count g ≤ most_customers) where
   reads : Reads StandsUnlessLonger (near_proof_at g) near_text (NearIs g) (NearLoose g) Anything
   reads = reads-near_proof g few (omega (arith, network.small_capacity)) (omega (arith, network.small_limit))
 

@@ -20,6 +20,7 @@ use Rattle.near_text.specs.Reading.{near_proof_at}
 use Rattle.near_text.specs.Written.{WrittenNear, WrittenNearLabel}
 use Rattle.near_text.specs.WrittenRanges.{NearIs, NearLabelLoose, NearLoose}
 use Rattle.near_text.proofs.PartReading.{reads-each_tight, reads-labels, reads-nears, reads-prices}
+use Rattle.instance_reader.specs.Instance.{most_customers}
 
 abbrev Run : List ℕ → Type 0
 Run prices = AllFrom {S = Unit {0}} (λ none price. UpTo greatest_near_price price) (λ none price. none) (tt {0}) prices
@@ -42,7 +43,7 @@ same_body bound weight n prices sets labels tight many =
     let w : WrittenNear = record { bound = bound; weight = weight; prices = prices; sets = sets; labels = labels; tight = tight } in
     subst (λ (k : ℕ). lines bound weight k prices sets labels tight ≡ near_body_text w) many (simp append_assoc)
 
-pub reads-near_proof : (g : Network) → customer_count g ≤ 128 → g.capacity < 10 ^ 64 → scaled_limit g < 10 ^ 64 → Reads StandsUnlessLonger (near_proof_at g) near_text (NearIs g) (NearLoose g) Anything
+pub reads-near_proof : (g : Network) → customer_count g ≤ most_customers → g.capacity < 10 ^ 64 → scaled_limit g < 10 ^ 64 → Reads StandsUnlessLonger (near_proof_at g) near_text (NearIs g) (NearLoose g) Anything
 reads-near_proof g few small_capacity small_limit =
     reads-record
     (parts-behind 101 (codes "vroute near 1" ++ 10 ∷ [])

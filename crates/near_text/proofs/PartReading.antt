@@ -26,6 +26,7 @@ use Rattle.near_text.specs.NearTexts.{near_label_text, near_line, price_line, ti
 use Rattle.near_text.specs.Reading.{near_at, near_label_at, nears_at, price_at, prices_at, tight_at}
 use Rattle.near_text.specs.WrittenRanges.{NearLabelIs, NearLabelLoose, NearSetIs, NearSetLoose, next_number}
 use Rattle.near_text.proofs.OwnSets.{reads-own}
+use Rattle.instance_reader.specs.Instance.{most_customers}
 
 abbrev pub PricesAre : ℕ → List ℕ → Type 0
 PricesAre count = AreRun {S = Unit {0}} (λ none price. UpTo greatest_near_price price) (λ none price. none) count (tt {0})
@@ -57,7 +58,7 @@ reads-tight =
 pub reads-each_tight : (count : ℕ) → Reads StandsUnlessLonger (so_many count tight_at) (joined_texts tight_line) (λ plans. All ColumnFits plans × (length plans ≡ count)) (AreLooseRun ColumnFits count) Anything
 reads-each_tight count = reads-so_many StandsUnlessLonger tight_at tight_line ColumnFits ColumnFits Anything reads-tight (λ plan rest. tt) count
 
-module _ (g : Network) (few : customer_count g ≤ 128) (small_capacity : g.capacity < 10 ^ 64) (small_limit : scaled_limit g < 10 ^ 64) where
+module _ (g : Network) (few : customer_count g ≤ most_customers) (small_capacity : g.capacity < 10 ^ 64) (small_limit : scaled_limit g < 10 ^ 64) where
   same_label : (node : ℕ) (memory : List ℕ) (count earned : ℕ) (points : List (ℕ × ℕ)) → PointsLoose g points
       → codes "label " ++ (decimal node ++ (codes " " ++ ((set_text memory ++ codes " ") ++ (decimal count ++ (codes " " ++ (decimal earned ++ (codes " " ++ cons_text point_text (ended_text 32 10 [] point_text) points)))))))
       ≡ (codes "label " ++ (decimal node ++ (codes " " ++ (set_text memory ++ (codes " " ++ (decimal count ++ (codes " " ++ decimal earned))))))) ++ (marked_texts (codes " ") point_text points ++ 10 ∷ [])

@@ -12,25 +12,26 @@ ghost use Rattle.near_text.specs.NearIn.{BeginsLoosely, BeginsOtherVersion, IsSp
 ghost use Rattle.near_text.specs.NearTexts.{near_text};
 ghost use Rattle.near_text.specs.Written.{WrittenNear, written_near};
 ghost use Rattle.near_text.specs.WrittenRanges.{NearIs};
+ghost use Rattle.instance_reader.specs.Instance.{most_customers};
 
 /// Bytes are read as a near proof exactly where they spell it: each near proof in the ranges of a
 /// network has one text.
 pub fn texts_spell_near_proofs()
-    ensures { (g : Network) → IsNetwork g → customer_count g ≤ 128 →
+    ensures { (g : Network) → IsNetwork g → customer_count g ≤ most_customers →
         (bytes : List ℕ) (w : WrittenNear) → (near_in g bytes ≡ Ok w) ↔ SpellsWritten g bytes w }
 {}
 
 /// What `push_near` writes of a near proof in its ranges is read as that proof, where it is not too
 /// long.
 pub fn written_near_proofs_are_read()
-    ensures { (g : Network) → IsNetwork g → customer_count g ≤ 128 → (p : NearProof) →
+    ensures { (g : Network) → IsNetwork g → customer_count g ≤ most_customers → (p : NearProof) →
         NearFits g p → length (near_text (written_near g p)) ≤ most_bytes →
         near_in g (near_text (written_near g p)) ≡ Ok (written_near g p) }
 {}
 
 /// A text means one near proof: bytes are the text of no two that are in their ranges.
 pub fn texts_mean_one_near_proof()
-    ensures { (g : Network) → IsNetwork g → customer_count g ≤ 128 → (bytes : List ℕ)
+    ensures { (g : Network) → IsNetwork g → customer_count g ≤ most_customers → (bytes : List ℕ)
         (p q : NearProof) → IsSpelledBy g bytes p → IsSpelledBy g bytes q → p ≡ q }
 {}
 
@@ -39,12 +40,12 @@ pub fn texts_mean_one_near_proof()
 /// number breaks a rule and ends the text, further digits may mend it, and a text that ends too
 /// early begins a text in which each number is in its range by itself.
 pub fn near_faults_are_first()
-    ensures range { (g : Network) → IsNetwork g → customer_count g ≤ 128 →
+    ensures range { (g : Network) → IsNetwork g → customer_count g ≤ most_customers →
         (bytes : List ℕ) (at : ℕ) → near_in g bytes ≡ Err (Range at) →
         BeginsLoosely g (take at bytes) × (at ≤ length bytes) ×
         ((more : List ℕ) → (IsLonger at bytes more → ⊥) →
         (w : WrittenNear) → NearIs g w → near_text w ≡ bytes ++ more → ⊥) }
-    ensures text { (g : Network) → IsNetwork g → customer_count g ≤ 128 →
+    ensures text { (g : Network) → IsNetwork g → customer_count g ≤ most_customers →
         (bytes : List ℕ) (at : ℕ) → near_in g bytes ≡ Err (Text at) →
         BeginsLoosely g (take at bytes) × (at ≤ length bytes) ×
         (BeginsLoosely g bytes ⊎ ((more : List ℕ)

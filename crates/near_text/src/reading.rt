@@ -1,7 +1,7 @@
 //! Reading the text of a near proof.
 
 ghost use Rattle.std.specs.Prelude.{◌≡◌, ◌≢◌, ◌≤◌, Err, IfErr, IfOk, IfSome, Ok, length};
-ghost use Rattle.instance_reader.specs.Instance.{customer_nodes};
+ghost use Rattle.instance_reader.specs.Instance.{customer_nodes, most_customers};
 ghost use Rattle.certificate_parts.specs.Limits.{greatest_bound, most_items};
 ghost use Rattle.certificate_parts.specs.Ranges.{customer_count};
 ghost use Rattle.certificate_parts.specs.Refusals.{or_refused};
@@ -45,7 +45,7 @@ const MOST_LABELS: u128 = u64::MAX as u128;
 /// last number, or at the `-` of a set without a member; where the text ends behind that number it
 /// is `Text` there. `Memory`: memory was refused. A count is never allocated for ahead.
 pub fn read_near(alloc: Global, inst: &Instance, bytes: &[u8]) -> Result<NearProof, CertText>
-    requires { length (customer_nodes inst.now) ≤ 128 }
+    requires { length (customer_nodes inst.now) ≤ most_customers }
     ensures ok { IfOk result (λ p. near_in inst.now bytes.now ≡ Ok (written_near inst.now p)) }
     ensures fits { IfOk result (NearFits inst.now) }
     ensures spelled { IfOk result (IsSpelledBy inst.now bytes.now) }
@@ -77,7 +77,7 @@ fn has_other_version(bytes: &[u8]) -> bool
 
 /// Takes the text of a near proof.
 fn take_proof(alloc: Global, inst: &Instance, scan: &mut Scan<'_>) -> Result<NearProof, CertText>
-    requires { length (customer_nodes inst.now) ≤ 128 }
+    requires { length (customer_nodes inst.now) ≤ most_customers }
     ensures ok { IfOk result (λ p. near_proof_at inst.now scan.old
         ≡ Ok (written_near inst.now p, scan.new)) }
     ensures fits { IfOk result (NearFits inst.now) }
@@ -104,7 +104,7 @@ fn take_lines(
     weight: u64,
     count: u128,
 ) -> Result<NearProof, CertText>
-    requires few { length (customer_nodes inst.now) ≤ 128 }
+    requires few { length (customer_nodes inst.now) ≤ most_customers }
     requires bound { IfSome bound (λ b. b ≤ greatest_bound) }
     requires weight { weight ≤ 1 }
     requires count { count ≤ most_items }

@@ -2,7 +2,7 @@
 
 ghost use Rattle.std.specs.Prelude.{◌≡◌, ◌≤◌, ◌++◌, OnErr, OnOk, codes, decimal, length, map};
 ghost use Rattle.ev_text.specs.Texts.{joined_texts, marked_texts};
-ghost use Rattle.instance_reader.specs.Instance.{customer_nodes};
+ghost use Rattle.instance_reader.specs.Instance.{customer_nodes, most_customers};
 ghost use Rattle.near_text.specs.NearTexts.{near_body_text, near_label_text, near_line, near_text, price_line, section_line, tight_line};
 ghost use Rattle.near_text.specs.Written.{written_near, written_near_label, written_set};
 
@@ -24,7 +24,7 @@ pub fn push_near(
     inst: &Instance,
     p: &NearProof,
 ) -> Result<(), AllocError>
-    requires { length (customer_nodes inst.now) ≤ 128 }
+    requires { length (customer_nodes inst.now) ≤ most_customers }
     ensures ok { OnOk result
         (out.new.items ≡ out.old.items ++ near_text (written_near inst.now p.now)) }
     ensures err { OnErr result (out.new.items ≡ out.old.items) }
@@ -42,7 +42,7 @@ fn write_body(
     inst: &Instance,
     p: &NearProof,
 ) -> Result<(), AllocError>
-    requires { length (customer_nodes inst.now) ≤ 128 }
+    requires { length (customer_nodes inst.now) ≤ most_customers }
     ensures { OnOk result
         (text.new.items ≡ text.old.items ++ near_body_text (written_near inst.now p.now)) }
 {
@@ -101,7 +101,7 @@ fn write_sets(
     inst: &Instance,
     sets: &[CustSet],
 ) -> Result<(), AllocError>
-    requires { length (customer_nodes inst.now) ≤ 128 }
+    requires { length (customer_nodes inst.now) ≤ most_customers }
     ensures { OnOk result (text.new.items ≡ text.old.items
         ++ joined_texts near_line (map (written_set inst.now) sets.now)) }
 {
@@ -118,7 +118,7 @@ fn write_near(
     inst: &Instance,
     set: CustSet,
 ) -> Result<(), AllocError>
-    requires { length (customer_nodes inst.now) ≤ 128 }
+    requires { length (customer_nodes inst.now) ≤ most_customers }
     ensures { OnOk result
         (text.new.items ≡ text.old.items ++ near_line (written_set inst.now set)) }
 {
@@ -134,7 +134,7 @@ fn write_labels(
     inst: &Instance,
     labels: &[NearLabel],
 ) -> Result<(), AllocError>
-    requires { length (customer_nodes inst.now) ≤ 128 }
+    requires { length (customer_nodes inst.now) ≤ most_customers }
     ensures { OnOk result (text.new.items ≡ text.old.items
         ++ joined_texts near_label_text (map (written_near_label inst.now) labels.now)) }
 {
@@ -151,7 +151,7 @@ fn write_label(
     inst: &Instance,
     label: &NearLabel,
 ) -> Result<(), AllocError>
-    requires { length (customer_nodes inst.now) ≤ 128 }
+    requires { length (customer_nodes inst.now) ≤ most_customers }
     ensures { OnOk result (text.new.items ≡ text.old.items
         ++ near_label_text (written_near_label inst.now label.now)) }
 {

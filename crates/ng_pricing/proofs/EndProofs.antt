@@ -17,7 +17,7 @@ use Rattle.ev_model.specs.declared.Stop.{Stop}
 use Rattle.fleet_model.specs.Places.{customer_count, customer_number, numbers_of}
 use Rattle.fleet_model.proofs.Counts.{number_less}
 use Rattle.fleet_model.proofs.Numbers.{counted}
-use Rattle.instance_reader.specs.Instance.{customer_nodes}
+use Rattle.instance_reader.specs.Instance.{customer_nodes, most_customers}
 use Rattle.near_check.specs.NearSets.{AreNearSets, belongs, sooner_count}
 use Rattle.near_proof.specs.Accepted.{HasTight, IsAccepted, IsTight, terms_of}
 use Rattle.near_proof.specs.Ranges.{AreAmong, NearFits, SetsFit}
@@ -106,7 +106,7 @@ module _ (g : Network) (sets : List (List ℕ)) (prices : List ℕ) (c : ℕ) (l
   }
 
 -- ---- a proof with a bound
-module _ (g : Network) (near : ℕ) (sets : List (List ℕ)) (network : IsNetwork g) (few : length (customer_nodes g) ≤ 128) (near_are : AreNearSets g near sets) where
+module _ (g : Network) (near : ℕ) (sets : List (List ℕ)) (network : IsNetwork g) (few : length (customer_nodes g) ≤ most_customers) (near_are : AreNearSets g near sets) where
   module _ (r : Rising) (is : IsRising g sets (length (customer_nodes g)) r) where
     pay : NearRoutesPay g (terms_at sets r.prices.items)
     pay = closed_pay g (terms_at sets r.prices.items) r.labels network is.labels

@@ -14,7 +14,7 @@ use Rattle.ev_model.specs.Time.{time_of}
 use Rattle.ev_model.specs.declared.Stop.{Stop}
 use Rattle.fleet_model.specs.Places.{customer_count, customer_number, numbers_of}
 use Rattle.fleet_model.proofs.Numbers.{counted}
-use Rattle.instance_reader.specs.Instance.{customer_nodes}
+use Rattle.instance_reader.specs.Instance.{customer_nodes, most_customers}
 use Rattle.instance_reader.proofs.ListLemmas.{slice_get-append, slice_get-seam}
 use Rattle.near_proof.specs.Accepted.{IsTight}
 use Rattle.near_proof.specs.Routes.{IsNearRoute}
@@ -97,7 +97,7 @@ module _ (g : Network) (sets : List (List ℕ)) where
       let long = length-map (customers_of g r.plan.stops) (customer_number g) in
       omega (arith, ap length is.measured.numbers, long, is.route.few, counted g)
 
-  pub all_few : (met : List MetRoute) → length (customer_nodes g) ≤ 128 → AreMet g sets met → All (λ (r : MetRoute). length r.numbers ≤ 128) met
+  pub all_few : (met : List MetRoute) → length (customer_nodes g) ≤ most_customers → AreMet g sets met → All (λ (r : MetRoute). length r.numbers ≤ 128) met
   all_few met few are = All-weaker (IsMet g sets) (λ (r : MetRoute). length r.numbers ≤ 128) (λ r is. (let n = few_numbers r is in omega (arith, n, few))) met are
 
   pub known_by : (n : ℕ) (numbers : List ℕ) → n ≡ length (customer_nodes g) → All (λ c. c < length (customer_nodes g)) numbers → All (λ c. c < n) numbers

@@ -3,7 +3,7 @@ use Rattle.std.specs.Prelude.{◌≡◌, ℕ, ◌<◌, ◌≤◌, List, [], None
 use Rattle.std.specs.List.{All}
 use Rattle.certificate_parts.specs.Ranges.{ColumnFits}
 use Rattle.ev_model.specs.Network.{IsNetwork, Network, scaled_limit}
-use Rattle.instance_reader.specs.Instance.{customer_nodes}
+use Rattle.instance_reader.specs.Instance.{customer_nodes, most_customers}
 use Rattle.near_pricing.specs.Answers.{AreClosedLabels}
 use Rattle.near_proof.specs.Accepted.{IsTight}
 use Rattle.near_proof.specs.Ranges.{SetsFit}
@@ -26,7 +26,7 @@ use Rattle.ng_pricing.specs.declared.setting.Setting.{Setting}
 -- an instance of at most 128 customers, with a near set for each
 pub record IsSetting (s : Setting) : Type 0 where
   pub network : IsNetwork s.inst.now
-  pub few : length (customer_nodes s.inst.now) ≤ 128
+  pub few : length (customer_nodes s.inst.now) ≤ most_customers
   pub sets : SetsFit (length (customer_nodes s.inst.now)) s.sets.now
 
 -- prices that every near route pays, where that of the customer is 0

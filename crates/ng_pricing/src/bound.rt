@@ -1,7 +1,7 @@
 //! The bound of an instance by near routes.
 
 ghost use Rattle.std.specs.Prelude.{◌≡◌, ◌≤◌, IfOk, length};
-ghost use Rattle.instance_reader.specs.Instance.{customer_nodes};
+ghost use Rattle.instance_reader.specs.Instance.{customer_nodes, most_customers};
 ghost use Rattle.ng_pricing.specs.Fixing.{proof_of, proof_of_none};
 ghost use Rattle.ng_pricing.specs.NearBound.{IsNearBound};
 
@@ -24,7 +24,7 @@ use std::alloc::{AllocError, Global};
 /// each is the greatest whole number for which, with the earlier prices as they are fixed and the
 /// later ones 0, every near route takes at least what it earns. The only `Err` is want of memory.
 pub fn near_bound(alloc: Global, inst: &Instance, near: usize) -> Result<NearProof, AllocError>
-    requires few { length (customer_nodes inst.now) ≤ 128 }
+    requires few { length (customer_nodes inst.now) ≤ most_customers }
     ensures { IfOk result (IsNearBound inst.now near) }
 {
     near_bound_watched(alloc, inst, near, &mut Nobody {})
@@ -37,7 +37,7 @@ pub fn near_bound_watched<W: PriceWatcher>(
     near: usize,
     watcher: &mut W,
 ) -> Result<NearProof, AllocError>
-    requires few { length (customer_nodes inst.now) ≤ 128 }
+    requires few { length (customer_nodes inst.now) ≤ most_customers }
     ensures { IfOk result (IsNearBound inst.now near) }
 {
     // That the instance's network is one is told by its calls.

@@ -2,14 +2,14 @@
 
 ghost use Rattle.std.specs.Prelude.{◌≡◌, ◌≤◌, IfErr, IfOk, length};
 ghost use Rattle.ev_model.specs.Fleet.{cost_of, IsFleetPlan};
-ghost use Rattle.instance_reader.specs.Instance.{customer_nodes};
+ghost use Rattle.instance_reader.specs.Instance.{customer_nodes, most_customers};
 ghost use Rattle.plan_check.specs.FirstFaults.{cost_from};
 ghost use Rattle.plan_check.specs.FleetRules.{IsFirstBroken, stops_of};
 ghost use Rattle.plan_check.specs.LargeFaults.{IsLargeFault};
 
 use crate::fault::{LargeFault, PlanFault};
 use crate::later::later_fault;
-use instance_reader::Instance;
+use instance_reader::{Instance, MOST_CUSTOMERS};
 use route_plan::{FleetPlan, RoutePlan, walk};
 use std::alloc::Global;
 
@@ -27,12 +27,12 @@ use std::alloc::Global;
 /// Where a rule is broken at several places, the first route is named, or the customer with the
 /// least node, and of a route its first stray stop.
 pub fn check_fleet(inst: &Instance, plan: &FleetPlan) -> Result<u128, PlanFault>
-    requires { length (customer_nodes inst.now) ≤ 128 }
+    requires { length (customer_nodes inst.now) ≤ most_customers }
     ensures valid { IfOk result (λ cost. IsFleetPlan inst.now 1 (stops_of plan.now.routes)) }
     ensures cost { IfOk result (λ cost. cost ≡ cost_of inst.now 1 (stops_of plan.now.routes)) }
     ensures broken { IfErr result (IsFirstBroken inst.now plan.now.routes) }
 {
-    let mut visits = [0; 128];
+    let mut visits = [0; MOST_CUSTOMERS];
     judge(inst, plan.routes.as_slice(), &mut visits)
 }
 

@@ -4,7 +4,7 @@
 ghost use Rattle.std.specs.Prelude.{◌≡◌, ◌<◌, ◌≤◌, IfNone, IfSome, length};
 ghost use Rattle.std.specs.List.{list_any};
 ghost use Rattle.ev_model.specs.Network.{node_count};
-ghost use Rattle.instance_reader.specs.Instance.{customer_nodes};
+ghost use Rattle.instance_reader.specs.Instance.{customer_nodes, most_customers};
 ghost use Rattle.plan_check.specs.FirstFaults.{first_empty, first_stray, first_stray_from, later_fault, serves, strays};
 ghost use Rattle.plan_check.specs.LaterRules.{IsFirstLater, KeepsLater, plans_by};
 ghost use Rattle.plan_check.specs.Tallies.{AllKnown, AreKnown, first_again, first_missed};
@@ -14,18 +14,18 @@ use crate::fault::PlanFault;
 use crate::has_stops::HasStops;
 use crate::tally::count_visits;
 use ev_model::Stop;
-use instance_reader::Instance;
+use instance_reader::{Instance, MOST_CUSTOMERS};
 
 /// The first broken rule of a fleet plan behind the walks along its routes, whatever is driven
 /// along them: of the rules of [`crate::check_fleet`] those from the second on, in the same order.
 /// `None` exactly where none of them is broken. It takes no memory.
 pub fn fault_behind_walks<R: HasStops>(inst: &Instance, routes: &[R]) -> Option<PlanFault>
-    requires few { length (customer_nodes inst.now) ≤ 128 }
+    requires few { length (customer_nodes inst.now) ≤ most_customers }
     requires known { AllKnown inst.now (plans_by R.stops_of routes.now) }
     ensures first { IfSome result (IsFirstLater inst.now (plans_by R.stops_of routes.now)) }
     ensures none { IfNone result (KeepsLater inst.now (plans_by R.stops_of routes.now)) }
 {
-    let mut visits = [0; 128];
+    let mut visits = [0; MOST_CUSTOMERS];
     later_fault(inst, routes, &mut visits)
 }
 

@@ -1,7 +1,7 @@
 //! The answer of pricing.
 
 ghost use Rattle.std.specs.Prelude.{◌≡◌, ◌<◌, ◌≤◌, ◌^◌, [], All, IfOk, length, unsigned_abs};
-ghost use Rattle.instance_reader.specs.Instance.{customer_nodes};
+ghost use Rattle.instance_reader.specs.Instance.{customer_nodes, most_customers};
 ghost use Rattle.pricing.specs.Answers.{IsBetterRoute, IsPriced};
 ghost use Rattle.pricing.specs.Tree.{IsSearch};
 
@@ -34,7 +34,7 @@ pub fn price(
     pairs: &Pairs,
     prices: &Prices,
 ) -> Result<Priced, AllocError>
-    requires few { length (customer_nodes inst.now) ≤ 128 }
+    requires few { length (customer_nodes inst.now) ≤ most_customers }
     requires pairs { pairs.now.customers ≡ length (customer_nodes inst.now) }
     requires weight { prices.now.weight ≤ 2 ^ 40 }
     requires one_price { length prices.now.of.items ≡ length (customer_nodes inst.now) }
@@ -67,7 +67,7 @@ pub fn seek(
     pairs: &Pairs,
     prices: &Prices,
 ) -> Result<Vec<PricedRoute>, AllocError>
-    requires few { length (customer_nodes inst.now) ≤ 128 }
+    requires few { length (customer_nodes inst.now) ≤ most_customers }
     requires pairs { pairs.now.customers ≡ length (customer_nodes inst.now) }
     requires weight { prices.now.weight ≤ 2 ^ 40 }
     requires one_price { length prices.now.of.items ≡ length (customer_nodes inst.now) }
@@ -109,7 +109,7 @@ fn closed(
     prices: &Prices,
     question: &Question<'_>,
 ) -> Result<Priced, AllocError>
-    requires few { length (customer_nodes inst.now) ≤ 128 }
+    requires few { length (customer_nodes inst.now) ≤ most_customers }
     requires pairs { pairs.now.customers ≡ length (customer_nodes inst.now) }
     requires weight { prices.now.weight ≤ 2 ^ 40 }
     requires one_price { length prices.now.of.items ≡ length (customer_nodes inst.now) }

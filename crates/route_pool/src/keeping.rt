@@ -6,7 +6,7 @@ ghost use Rattle.customer_sets.specs.Pairs.{allows_of};
 ghost use Rattle.ev_model.specs.Network.{is_customer, node_count};
 ghost use Rattle.fleet_model.specs.Pairs.{KeepsPairs};
 ghost use Rattle.fleet_model.specs.Places.{place_of};
-ghost use Rattle.instance_reader.specs.Instance.{customer_nodes};
+ghost use Rattle.instance_reader.specs.Instance.{customer_nodes, most_customers};
 
 use customer_sets::Pairs;
 use instance_reader::Instance;
@@ -14,7 +14,7 @@ use instance_reader::Instance;
 /// Whether a route that serves the customers at these nodes in this order keeps the pairs. It takes
 /// no memory.
 pub fn keeps_pairs(inst: &Instance, pairs: &Pairs, order: &[usize]) -> bool
-    requires few { length (customer_nodes inst.now) ≤ 128 }
+    requires few { length (customer_nodes inst.now) ≤ most_customers }
     requires pairs { pairs.now.customers ≡ length (customer_nodes inst.now) }
     requires known { All (λ node. node < node_count inst.now) order.now }
     ensures { IsTrue result ↔
@@ -34,7 +34,7 @@ pub fn keeps_pairs(inst: &Instance, pairs: &Pairs, order: &[usize]) -> bool
 /// The place of a node on a route: one more than the number of the customer there, 0 where there is
 /// none.
 fn place_of(inst: &Instance, node: usize) -> usize
-    requires few { length (customer_nodes inst.now) ≤ 128 }
+    requires few { length (customer_nodes inst.now) ≤ most_customers }
     requires known { node < node_count inst.now }
     ensures value { result ≡ place_of inst.now node }
     ensures within { result ≤ length (customer_nodes inst.now) }

@@ -3,7 +3,7 @@
 //! 2005).
 
 ghost use Rattle.std.specs.Prelude.{◌≡◌, ◌≤◌, ◌↔◌, IfOk, IsTrue, length};
-ghost use Rattle.instance_reader.specs.Instance.{customer_nodes};
+ghost use Rattle.instance_reader.specs.Instance.{customer_nodes, most_customers};
 ghost use Rattle.route_pool.specs.Kept.{IsKeptAt};
 ghost use Rattle.route_pool.specs.Pool.{IsPool};
 
@@ -20,7 +20,7 @@ pub fn kept_places(
     pairs: &Pairs,
     pool: &ColumnPool,
 ) -> Result<Vec<usize>, AllocError>
-    requires few { length (customer_nodes inst.now) ≤ 128 }
+    requires few { length (customer_nodes inst.now) ≤ most_customers }
     requires pairs { pairs.now.customers ≡ length (customer_nodes inst.now) }
     requires pool { IsPool inst.now pool.now }
 {
@@ -35,7 +35,7 @@ pub fn kept_places(
 
 /// Whether there is a route at the place of the pool, and keeps the pairs.
 fn is_kept(inst: &Instance, pairs: &Pairs, pool: &ColumnPool, at: usize) -> bool
-    requires few { length (customer_nodes inst.now) ≤ 128 }
+    requires few { length (customer_nodes inst.now) ≤ most_customers }
     requires pairs { pairs.now.customers ≡ length (customer_nodes inst.now) }
     requires pool { IsPool inst.now pool.now }
     ensures { IsTrue result ↔ IsKeptAt inst.now pairs.now pool.now at }

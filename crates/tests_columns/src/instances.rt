@@ -1,7 +1,7 @@
 //! Instances of texts, and pairs of their customers.
 
 ghost use Rattle.std.specs.Prelude.{◌≡◌, ◌≤◌, IfSome, length};
-ghost use Rattle.instance_reader.specs.Instance.{customer_nodes};
+ghost use Rattle.instance_reader.specs.Instance.{customer_nodes, most_customers};
 
 use customer_sets::Pairs;
 use instance_reader::{Instance, read_instance};
@@ -9,7 +9,7 @@ use std::alloc::Global;
 
 /// The instance of a text, within the limit, where a fleet may have all its customers.
 pub(crate) fn instance(alloc: Global, text: &str, limit: u64) -> Option<Instance>
-    ensures { IfSome result (λ inst. length (customer_nodes inst) ≤ 128) }
+    ensures { IfSome result (λ inst. length (customer_nodes inst) ≤ most_customers) }
 {
     let inst = read_instance(alloc, text.as_bytes()).ok()?;
     let inst = inst.with_limit(limit).ok()?;

@@ -1,7 +1,7 @@
 //! Worked instances: the bound of a node without decided pairs, and its estimate.
 
 ghost use Rattle.std.specs.Prelude.{◌≤◌, IfSome, length};
-ghost use Rattle.instance_reader.specs.Instance.{customer_nodes};
+ghost use Rattle.instance_reader.specs.Instance.{customer_nodes, most_customers};
 ghost use Rattle.route_pool.specs.Pool.{IsPool};
 
 use crate::instances::{instance, pairs_without};
@@ -92,7 +92,7 @@ fn bounds_without_pairs_are_linear_optima(rt: HostRuntime) {
 
 /// The routes that the bound of the root needs.
 fn priced_routes(alloc: Global, inst: &Instance) -> Option<ColumnPool>
-    requires { length (customer_nodes inst.now) ≤ 128 }
+    requires { length (customer_nodes inst.now) ≤ most_customers }
     ensures { IfSome result (IsPool inst.now) }
 {
     let mut pool = ColumnPool::new(alloc);

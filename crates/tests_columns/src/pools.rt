@@ -1,7 +1,7 @@
 //! A worked instance: which routes of a pool keep pairs, which of them earn, and where they stand.
 
 ghost use Rattle.std.specs.Prelude.{◌≤◌, IfSome, length};
-ghost use Rattle.instance_reader.specs.Instance.{customer_nodes};
+ghost use Rattle.instance_reader.specs.Instance.{customer_nodes, most_customers};
 ghost use Rattle.route_pool.specs.Pool.{IsPool};
 
 use crate::instances::{instance, pairs_without};
@@ -12,7 +12,7 @@ use worked_instances::THREE_CUSTOMERS;
 
 /// The instance of three customers, each of whom is 8 by a route of his own.
 fn three_customers(alloc: Global) -> Option<Instance>
-    ensures { IfSome result (λ inst. length (customer_nodes inst) ≤ 128) }
+    ensures { IfSome result (λ inst. length (customer_nodes inst) ≤ most_customers) }
 {
     instance(alloc, THREE_CUSTOMERS, 100)
 }

@@ -1,7 +1,7 @@
 //! The kinds of vehicles that the tests drive, and their routes.
 
 ghost use Rattle.std.specs.Prelude.{◌≡◌, ◌≤◌, IfOk, length, true};
-ghost use Rattle.instance_reader.specs.Instance.{customer_nodes};
+ghost use Rattle.instance_reader.specs.Instance.{customer_nodes, most_customers};
 ghost use Rattle.mixed_model.specs.Kinds.{AreKinds, first_of};
 
 use ev_list::Listed;
@@ -57,7 +57,7 @@ pub(crate) fn route_of(alloc: Global, kind: usize, stops: &[Stop]) -> Result<Mix
 /// Whether the kinds are those of a fleet with at most 128 customers.
 pub(crate) fn are_of_a_fleet(kinds: &[Instance]) -> bool
     ensures kinds { result ≡ true → AreKinds kinds.now }
-    ensures few { result ≡ true → length (customer_nodes (first_of kinds.now)) ≤ 128 }
+    ensures few { result ≡ true → length (customer_nodes (first_of kinds.now)) ≤ most_customers }
 {
     let count = kinds.len();
     if count == 0 {

@@ -2,7 +2,7 @@
 
 ghost use Rattle.std.specs.Prelude.{◌≡◌, ◌<◌, ◌≤◌, ℕ, length, true};
 ghost use Rattle.std.specs.List.{All};
-ghost use Rattle.instance_reader.specs.Instance.{customer_nodes};
+ghost use Rattle.instance_reader.specs.Instance.{customer_nodes, most_customers};
 ghost use Rattle.mixed_model.specs.Kinds.{AreKinds, first_of, network_of};
 ghost use Rattle.mixed_model.specs.Ranges.{LabelsFit, MixedFits, RootFits, RouteFits, ShareFits};
 
@@ -16,7 +16,7 @@ const GREATEST_WEIGHT: u64 = 1 << 40;
 /// Whether the proof is in the ranges of the kinds.
 pub(crate) fn are_in_ranges(kinds: &[Instance], p: &MixedProof) -> bool
     requires kinds { AreKinds kinds.now }
-    requires few { length (customer_nodes (first_of kinds.now)) ≤ 128 }
+    requires few { length (customer_nodes (first_of kinds.now)) ≤ most_customers }
     ensures { result ≡ true → MixedFits kinds.now p.now }
 {
     let customers = kinds[0].customers().len();
@@ -35,7 +35,7 @@ pub(crate) fn are_in_ranges(kinds: &[Instance], p: &MixedProof) -> bool
 /// Whether the labels of each kind are in the ranges of its network.
 fn lists_fit(kinds: &[Instance], p: &MixedProof) -> bool
     requires kinds { AreKinds kinds.now }
-    requires few { length (customer_nodes (first_of kinds.now)) ≤ 128 }
+    requires few { length (customer_nodes (first_of kinds.now)) ≤ most_customers }
     requires one_list { length p.now.labels ≡ length kinds.now }
     ensures { result ≡ true → (kind : ℕ) → kind < length kinds.now →
         LabelsFit (network_of kinds.now kind) p.now kind }
@@ -51,7 +51,7 @@ fn lists_fit(kinds: &[Instance], p: &MixedProof) -> bool
 /// Whether the labels of a kind are in the ranges of its network.
 fn list_fits(kinds: &[Instance], p: &MixedProof, kind: usize) -> bool
     requires kinds { AreKinds kinds.now }
-    requires few { length (customer_nodes (first_of kinds.now)) ≤ 128 }
+    requires few { length (customer_nodes (first_of kinds.now)) ≤ most_customers }
     requires one_list { length p.now.labels ≡ length kinds.now }
     requires known { kind < length kinds.now }
     ensures { result ≡ true → LabelsFit (network_of kinds.now kind) p.now kind }

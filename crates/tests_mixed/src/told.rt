@@ -3,7 +3,7 @@
 
 ghost use Rattle.std.specs.Prelude.{◌≡◌, ◌<◌, ◌≤◌, length, true};
 ghost use Rattle.std.specs.List.{All};
-ghost use Rattle.instance_reader.specs.Instance.{customer_nodes};
+ghost use Rattle.instance_reader.specs.Instance.{customer_nodes, most_customers};
 ghost use Rattle.mixed_model.specs.Kinds.{AreKinds, first_of};
 ghost use Rattle.mixed_fleet.specs.Plans.{IsHeld};
 
@@ -38,7 +38,7 @@ pub(crate) fn judged(alloc: Global, kinds: &[Instance]) -> Option<(MixedOutcome,
 /// Whether the judge accepts the proof, and its text is read back.
 fn is_accepted(alloc: Global, kinds: &[Instance], proof: &MixedProof) -> bool
     requires kinds { AreKinds kinds.now }
-    requires few { length (customer_nodes (first_of kinds.now)) ≤ 128 }
+    requires few { length (customer_nodes (first_of kinds.now)) ≤ most_customers }
 {
     if !are_in_ranges(kinds, proof) {
         return false;
@@ -50,7 +50,7 @@ fn is_accepted(alloc: Global, kinds: &[Instance], proof: &MixedProof) -> bool
 /// Whether the text of the proof is that of what is read of it.
 fn is_read_back(alloc: Global, kinds: &[Instance], proof: &MixedProof) -> Option<bool>
     requires kinds { AreKinds kinds.now }
-    requires few { length (customer_nodes (first_of kinds.now)) ≤ 128 }
+    requires few { length (customer_nodes (first_of kinds.now)) ≤ most_customers }
 {
     let mut text = Vec::new(alloc);
     push_mixed(alloc, &mut text, kinds, proof).ok()?;
@@ -63,7 +63,7 @@ fn is_read_back(alloc: Global, kinds: &[Instance], proof: &MixedProof) -> Option
 /// The cost of the routes by their judge, where what is read of their text is a plan of that cost.
 fn cost_of(alloc: Global, kinds: &[Instance], plan: &[MixedRoute]) -> Option<u128>
     requires kinds { AreKinds kinds.now }
-    requires few { length (customer_nodes (first_of kinds.now)) ≤ 128 }
+    requires few { length (customer_nodes (first_of kinds.now)) ≤ most_customers }
     requires held { IsHeld kinds.now plan.now }
 {
     let cost = judged_cost(kinds, plan)?;
@@ -77,7 +77,7 @@ fn cost_of(alloc: Global, kinds: &[Instance], plan: &[MixedRoute]) -> Option<u12
 /// The cost of the routes by their judge.
 fn judged_cost(kinds: &[Instance], plan: &[MixedRoute]) -> Option<u128>
     requires kinds { AreKinds kinds.now }
-    requires few { length (customer_nodes (first_of kinds.now)) ≤ 128 }
+    requires few { length (customer_nodes (first_of kinds.now)) ≤ most_customers }
 {
     if !are_known(kinds.len(), plan) {
         return None;

@@ -2,7 +2,7 @@
 //! each level of each label finds.
 
 ghost use Rattle.std.specs.Prelude.{◌≤◌, IfSome, length};
-ghost use Rattle.instance_reader.specs.Instance.{customer_nodes};
+ghost use Rattle.instance_reader.specs.Instance.{customer_nodes, most_customers};
 ghost use Rattle.near_proof.specs.Ranges.{NearFits};
 
 use crate::changes::{Change, LABEL_CHANGES, OTHER_CHANGES, changed};
@@ -74,7 +74,7 @@ impl Counts {
 
 /// The proof that is read of its text, where it is in its ranges.
 fn in_ranges(alloc: Global, inst: &Instance, proof: &NearProof) -> Option<NearProof>
-    requires { length (customer_nodes inst.now) ≤ 128 }
+    requires { length (customer_nodes inst.now) ≤ most_customers }
     ensures { IfSome result (NearFits inst.now) }
 {
     let mut bytes = Vec::new(alloc);

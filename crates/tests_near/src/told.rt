@@ -1,7 +1,7 @@
 //! What a bound says, where its proof is accepted and read back from its text.
 
 ghost use Rattle.std.specs.Prelude.{◌≤◌, length};
-ghost use Rattle.instance_reader.specs.Instance.{customer_nodes};
+ghost use Rattle.instance_reader.specs.Instance.{customer_nodes, most_customers};
 
 use instance_reader::{Instance, read_instance};
 use ng_pricing::{NearProof, NearVerdict, check_near, near_bound, push_near, read_near};
@@ -50,7 +50,7 @@ pub(crate) fn judged_within(alloc: Global, text: &str, limit: u64, near: usize) 
 
 /// Whether what is read of the text of a proof has the same text, and the same bound.
 fn is_read_back(alloc: Global, inst: &Instance, proof: &NearProof) -> Option<bool>
-    requires { length (customer_nodes inst.now) ≤ 128 }
+    requires { length (customer_nodes inst.now) ≤ most_customers }
 {
     let mut text = Vec::new(alloc);
     push_near(alloc, &mut text, inst, proof).ok()?;

@@ -1,7 +1,7 @@
 //! Whether a section is in its ranges.
 
 ghost use Rattle.std.specs.Prelude.{◌↔◌, ◌≤◌, IsTrue, length};
-ghost use Rattle.instance_reader.specs.Instance.{customer_nodes};
+ghost use Rattle.instance_reader.specs.Instance.{customer_nodes, most_customers};
 ghost use Rattle.bound_certificate.specs.Ranges.{SectionFits};
 
 use crate::certificate::Section;
@@ -13,7 +13,7 @@ const GREATEST_WEIGHT: u64 = 1 << 40;
 
 /// Whether a section is in its ranges.
 pub(crate) fn section_fits(inst: &Instance, section: &Section) -> bool
-    requires { length (customer_nodes inst.now) ≤ 128 }
+    requires { length (customer_nodes inst.now) ≤ most_customers }
     ensures { IsTrue result ↔ SectionFits inst.now section.now }
 {
     let customers = inst.customers().len();

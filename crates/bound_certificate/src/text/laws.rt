@@ -14,6 +14,7 @@ ghost use Rattle.bound_certificate.specs.Written.{Written, written};
 ghost use Rattle.bound_certificate.specs.WrittenRanges.{WrittenIs};
 ghost use Rattle.bound_certificate.specs.declared.certificate.Certificate.{Certificate};
 ghost use Rattle.certificate_parts.specs.declared.cert_text.CertText.TheVariants.{Range, Text, TooLong, Version};
+ghost use Rattle.instance_reader.specs.Instance.{most_customers};
 
 /// Bytes are read as a certificate exactly where they spell it: each certificate in the ranges of a
 /// network has one text.
@@ -25,7 +26,7 @@ pub fn texts_spell_certificates()
 /// What `push_certificate` writes of a certificate that fits is read as that certificate, where it
 /// is not too long.
 pub fn written_certificates_are_read()
-    ensures { (g : Network) → IsNetwork g → customer_count g ≤ 128 → (c : Certificate) →
+    ensures { (g : Network) → IsNetwork g → customer_count g ≤ most_customers → (c : Certificate) →
         Fits g c → length (certificate_text g (written g c)) ≤ most_bytes →
         certificate_in g (certificate_text g (written g c)) ≡ Ok (written g c) }
 {}
@@ -33,7 +34,7 @@ pub fn written_certificates_are_read()
 /// A text means one certificate: bytes are the text of no two that fit, but for how the forbidden
 /// pairs are kept; and what is written of a certificate that fits tells it.
 pub fn texts_mean_one_certificate()
-    ensures text { (g : Network) → IsNetwork g → customer_count g ≤ 128 → (bytes : List ℕ)
+    ensures text { (g : Network) → IsNetwork g → customer_count g ≤ most_customers → (bytes : List ℕ)
         (c d : Certificate) → IsSpelledBy g bytes c → IsSpelledBy g bytes d → AreSame c d }
     ensures written { (g : Network) (c d : Certificate) → Fits g c → Fits g d →
         All IsKept c.sections → All IsKept d.sections → written g c ≡ written g d →

@@ -2,7 +2,7 @@
 
 ghost use Rattle.std.specs.Prelude.{◌≡◌, ◌≢◌, ◌≤◌, Err, IfErr, IfOk, OnOk, Ok, length};
 ghost use Rattle.std.specs.List.{All};
-ghost use Rattle.instance_reader.specs.Instance.{customer_nodes};
+ghost use Rattle.instance_reader.specs.Instance.{customer_nodes, most_customers};
 ghost use Rattle.certificate_parts.specs.Refusals.{or_refused};
 ghost use Rattle.bound_certificate.specs.CertificateIn.{certificate_in, has_other_version, own_version};
 ghost use Rattle.bound_certificate.specs.Kept.{AreSame, IsKept, IsSpelledBy};
@@ -45,7 +45,7 @@ pub fn read_certificate(
     inst: &Instance,
     bytes: &[u8],
 ) -> Result<Certificate, CertText>
-    requires { length (customer_nodes inst.now) ≤ 128 }
+    requires { length (customer_nodes inst.now) ≤ most_customers }
     ensures ok { IfOk result (λ c. certificate_in inst.now bytes.now ≡ Ok (written inst.now c)) }
     ensures fits { IfOk result (Fits inst.now) }
     ensures spelled { IfOk result (IsSpelledBy inst.now bytes.now) }
@@ -89,7 +89,7 @@ fn take_certificate(
     inst: &Instance,
     scan: &mut Scan<'_>,
 ) -> Result<Certificate, CertText>
-    requires { length (customer_nodes inst.now) ≤ 128 }
+    requires { length (customer_nodes inst.now) ≤ most_customers }
     ensures ok { IfOk result (λ c. certificate_at inst.now scan.old
         ≡ Ok (written inst.now c, scan.new)) }
     ensures fits { IfOk result (Fits inst.now) }
@@ -119,7 +119,7 @@ fn take_head(inst: &Instance, scan: &mut Scan<'_>) -> Result<(), TextFault>
 
 /// Takes the lines from the bound on.
 fn take_body(alloc: Global, inst: &Instance, scan: &mut Scan<'_>) -> Result<Certificate, CertText>
-    requires { length (customer_nodes inst.now) ≤ 128 }
+    requires { length (customer_nodes inst.now) ≤ most_customers }
     ensures ok { IfOk result (λ c. body_at inst.now scan.old ≡ Ok (written inst.now c, scan.new)) }
     ensures fits { IfOk result (Fits inst.now) }
     ensures kept { IfOk result (λ c. All IsKept c.sections) }

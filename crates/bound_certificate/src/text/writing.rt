@@ -3,7 +3,7 @@
 ghost use Rattle.std.specs.Prelude.{◌≡◌, ◌≤◌, ◌++◌, IfOk, OnErr, OnOk, false, length, map};
 ghost use Rattle.std.specs.List.{All};
 ghost use Rattle.ev_text.specs.Texts.{joined_texts};
-ghost use Rattle.instance_reader.specs.Instance.{customer_nodes};
+ghost use Rattle.instance_reader.specs.Instance.{customer_nodes, most_customers};
 ghost use Rattle.bound_certificate.specs.CertificateTexts.{body_text, certificate_text, head_lines, head_text, is_first_version, line_text, section_text, sections_text};
 ghost use Rattle.certificate_parts.specs.Ranges.{customer_count};
 ghost use Rattle.bound_certificate.specs.Ranges.{Fits, LineFits, SectionFits};
@@ -31,7 +31,7 @@ pub fn push_certificate(
     inst: &Instance,
     certificate: &Certificate,
 ) -> Result<(), AllocError>
-    requires few { length (customer_nodes inst.now) ≤ 128 }
+    requires few { length (customer_nodes inst.now) ≤ most_customers }
     requires fits { Fits inst.now certificate.now }
     ensures ok { OnOk result (out.new.items ≡ out.old.items
         ++ certificate_text inst.now (written inst.now certificate.now)) }
@@ -77,7 +77,7 @@ fn write_body(
     inst: &Instance,
     certificate: &Certificate,
 ) -> Result<(), AllocError>
-    requires few { length (customer_nodes inst.now) ≤ 128 }
+    requires few { length (customer_nodes inst.now) ≤ most_customers }
     requires fits { Fits inst.now certificate.now }
     ensures { OnOk result (text.new.items ≡ text.old.items
         ++ body_text (written inst.now certificate.now)) }
@@ -101,7 +101,7 @@ fn write_sections(
     inst: &Instance,
     sections: &[Section],
 ) -> Result<(), AllocError>
-    requires few { length (customer_nodes inst.now) ≤ 128 }
+    requires few { length (customer_nodes inst.now) ≤ most_customers }
     requires fits { All (SectionFits inst.now) sections.now }
     ensures { OnOk result (text.new.items ≡ text.old.items
         ++ sections_text (map (written_section inst.now) sections.now)) }
@@ -118,7 +118,7 @@ fn write_each_section(
     inst: &Instance,
     sections: &[Section],
 ) -> Result<(), AllocError>
-    requires few { length (customer_nodes inst.now) ≤ 128 }
+    requires few { length (customer_nodes inst.now) ≤ most_customers }
     requires fits { All (SectionFits inst.now) sections.now }
     ensures { OnOk result (text.new.items ≡ text.old.items
         ++ joined_texts section_text (map (written_section inst.now) sections.now)) }

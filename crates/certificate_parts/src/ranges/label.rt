@@ -4,16 +4,16 @@ ghost use Rattle.std.specs.Prelude.{◌≡◌, ◌≤◌, ◌<◌, ◌^◌, ◌&
 ghost use Rattle.std.specs.List.{All};
 ghost use Rattle.customer_sets.specs.CustSet.{has};
 ghost use Rattle.ev_model.specs.Network.{scaled_limit, node_count, is_customer};
-ghost use Rattle.instance_reader.specs.Instance.{customer_nodes};
+ghost use Rattle.instance_reader.specs.Instance.{customer_nodes, most_customers};
 ghost use Rattle.certificate_parts.specs.Ranges.{LabelFits, PointFits, customer_count, IsLast};
 
 use customer_sets::CustSet;
-use instance_reader::Instance;
+use instance_reader::{Instance, MOST_CUSTOMERS};
 use piece_fn::Label;
 
 /// Whether each label is in its ranges.
 pub fn labels_fit(inst: &Instance, labels: &[Label]) -> bool
-    requires { length (customer_nodes inst.now) ≤ 128 }
+    requires { length (customer_nodes inst.now) ≤ most_customers }
     ensures { IsTrue result ↔ All (LabelFits inst.now) labels.now }
 {
     for label in labels {
@@ -26,7 +26,7 @@ pub fn labels_fit(inst: &Instance, labels: &[Label]) -> bool
 
 /// Whether a label is in its ranges.
 pub(crate) fn label_fits(inst: &Instance, label: &Label) -> bool
-    requires { length (customer_nodes inst.now) ≤ 128 }
+    requires { length (customer_nodes inst.now) ≤ most_customers }
     ensures { IsTrue result ↔ LabelFits inst.now label.now }
 {
     is_last(inst, label.last)
@@ -51,12 +51,12 @@ fn is_customer(inst: &Instance, node: usize) -> bool
 
 /// Whether each member of the set is the number of a customer.
 fn holds_customers(inst: &Instance, set: CustSet) -> bool
-    requires { length (customer_nodes inst.now) ≤ 128 }
+    requires { length (customer_nodes inst.now) ≤ most_customers }
     ensures { IsTrue result ↔
         ((c : ℕ) → has set c ≡ true → c < customer_count inst.now) }
 {
     let customers = inst.customers().len();
-    for number in 0..128 {
+    for number in 0..MOST_CUSTOMERS {
         if set.has(number) && customers <= number {
             return false;
         }

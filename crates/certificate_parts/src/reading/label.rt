@@ -6,7 +6,7 @@ ghost use Rattle.charge_curve.specs.Points.{ArePoints};
 ghost use Rattle.customer_sets.specs.CustSet.{has};
 ghost use Rattle.ev_model.specs.Network.{scaled_limit};
 ghost use Rattle.ev_text.specs.Readers.{number_where, so_many};
-ghost use Rattle.instance_reader.specs.Instance.{customer_nodes};
+ghost use Rattle.instance_reader.specs.Instance.{customer_nodes, most_customers};
 ghost use Rattle.certificate_parts.specs.Refusals.{or_refused};
 ghost use Rattle.certificate_parts.specs.Ranges.{HasSet};
 ghost use Rattle.certificate_parts.specs.Ranges.{LabelFits, PointFits, customer_count};
@@ -38,7 +38,7 @@ pub fn take_labels(
     scan: &mut Scan<'_>,
     count: u128,
 ) -> Result<Vec<Label>, CertText>
-    requires few { length (customer_nodes inst.now) ≤ 128 }
+    requires few { length (customer_nodes inst.now) ≤ most_customers }
     ensures ok { IfOk result (λ labels. so_many count (label_at inst.now) scan.old
         ≡ Ok (map (written_label inst.now) labels.items, scan.new)) }
     ensures count { IfOk result (λ labels. length labels.items ≡ count) }
@@ -61,7 +61,7 @@ pub(crate) fn take_label(
     inst: &Instance,
     scan: &mut Scan<'_>,
 ) -> Result<Label, CertText>
-    requires few { length (customer_nodes inst.now) ≤ 128 }
+    requires few { length (customer_nodes inst.now) ≤ most_customers }
     ensures ok { IfOk result (λ label. label_at inst.now scan.old
         ≡ Ok (written_label inst.now label, scan.new)) }
     ensures fits { IfOk result (LabelFits inst.now) }
@@ -89,7 +89,7 @@ pub(crate) fn take_label(
 
 /// Takes a set, and the byte behind it, which ends it and is neither a comma nor a digit.
 pub fn take_set(inst: &Instance, scan: &mut Scan<'_>, mark: u8) -> Result<CustSet, TextFault>
-    requires few { length (customer_nodes inst.now) ≤ 128 }
+    requires few { length (customer_nodes inst.now) ≤ most_customers }
     ensures ok { IfOk result (λ set. set_at inst.now mark scan.old
         ≡ Ok (nodes_in set 0 (customer_nodes inst.now), scan.new)) }
     ensures within { IfOk result (λ set.
@@ -105,7 +105,7 @@ pub fn take_set(inst: &Instance, scan: &mut Scan<'_>, mark: u8) -> Result<CustSe
 
 /// Takes the members of a set, parted by commas, and the byte that ends it.
 fn take_members(inst: &Instance, scan: &mut Scan<'_>, mark: u8) -> Result<CustSet, TextFault>
-    requires few { length (customer_nodes inst.now) ≤ 128 }
+    requires few { length (customer_nodes inst.now) ≤ most_customers }
     ensures ok { IfOk result (λ set. set_behind inst.now mark false scan.old
         ≡ Ok (nodes_in set 0 (customer_nodes inst.now), scan.new)) }
     ensures within { IfOk result (λ set.
@@ -128,7 +128,7 @@ fn take_member(
     scan: &mut Scan<'_>,
     last: Option<usize>,
 ) -> Result<Place, TextFault>
-    requires few { length (customer_nodes inst.now) ≤ 128 }
+    requires few { length (customer_nodes inst.now) ≤ most_customers }
     ensures ok { IfOk result (λ p. customer_at inst.now last scan.old ≡ Ok (p.node, scan.new)) }
     ensures some { IfOk result (λ p. 1 ≤ p.place) }
     ensures place { IfOk result (IsPlaceOf inst.now) }

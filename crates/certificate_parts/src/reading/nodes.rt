@@ -1,7 +1,7 @@
 //! Reading nodes, and the customers and places at them.
 
 ghost use Rattle.std.specs.Prelude.{◌≡◌, ◌≤◌, ◌<◌, Err, IfErr, IfOk, None, Ok, Some, false, length, true, IfNone, IfSome, nat_lt, ◌+◌};
-ghost use Rattle.instance_reader.specs.Instance.{customer_nodes};
+ghost use Rattle.instance_reader.specs.Instance.{customer_nodes, most_customers};
 ghost use Rattle.certificate_parts.specs.Ranges.{customer_count};
 ghost use Rattle.certificate_parts.specs.Reading.{customer_at, is_customer_node, is_place, node_where};
 ghost use Rattle.certificate_parts.specs.Places.{IsPlaceOf};
@@ -37,7 +37,7 @@ pub(crate) fn customer_at(inst: &Instance, node: usize) -> Option<usize>
 
 /// The place at a node, `None` where there is neither the depot nor a customer.
 fn place_at(inst: &Instance, node: usize) -> Option<usize>
-    requires few { length (customer_nodes inst.now) ≤ 128 }
+    requires few { length (customer_nodes inst.now) ≤ most_customers }
     ensures some { IfSome result (λ p. (p ≤ customer_count inst.now) ×
         (place_node inst.now p ≡ node) × (is_place inst.now node ≡ true)) }
     ensures none { IfNone result (is_place inst.now node ≡ false) }
@@ -53,7 +53,7 @@ fn place_at(inst: &Instance, node: usize) -> Option<usize>
 
 /// Takes the node of a place.
 pub fn take_place(inst: &Instance, scan: &mut Scan<'_>) -> Result<Place, TextFault>
-    requires few { length (customer_nodes inst.now) ≤ 128 }
+    requires few { length (customer_nodes inst.now) ≤ most_customers }
     ensures ok { IfOk result (λ p.
         node_where (is_place inst.now) scan.old ≡ Ok (p.node, scan.new)) }
     ensures place { IfOk result (IsPlaceOf inst.now) }
@@ -70,7 +70,7 @@ pub fn take_place(inst: &Instance, scan: &mut Scan<'_>) -> Result<Place, TextFau
 
 /// Takes the node of a customer, as a place.
 pub fn take_customer(inst: &Instance, scan: &mut Scan<'_>) -> Result<Place, TextFault>
-    requires few { length (customer_nodes inst.now) ≤ 128 }
+    requires few { length (customer_nodes inst.now) ≤ most_customers }
     ensures ok { IfOk result (λ p.
         node_where (is_customer_node inst.now) scan.old ≡ Ok (p.node, scan.new)) }
     ensures some { IfOk result (λ p. 1 ≤ p.place) }

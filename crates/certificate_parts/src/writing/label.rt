@@ -2,7 +2,7 @@
 
 ghost use Rattle.std.specs.Prelude.{◌≡◌, ◌≤◌, ◌<◌, IfOk, Ok, length, codes, map, ◌∷◌, [], OnOk, ◌++◌, ◌+◌, decimal, if◌then◌else◌, ◌*◌};
 ghost use Rattle.customer_sets.specs.CustSet.{has};
-ghost use Rattle.instance_reader.specs.Instance.{customer_nodes};
+ghost use Rattle.instance_reader.specs.Instance.{customer_nodes, most_customers};
 ghost use Rattle.certificate_parts.specs.Written.{nodes_in, written_label};
 ghost use Rattle.ev_text.specs.Texts.{joined_texts, marked_texts};
 ghost use Rattle.certificate_parts.specs.Texts.{label_text, point_text, set_text};
@@ -20,7 +20,7 @@ pub fn write_labels(
     inst: &Instance,
     labels: &[Label],
 ) -> Result<(), AllocError>
-    requires { length (customer_nodes inst.now) ≤ 128 }
+    requires { length (customer_nodes inst.now) ≤ most_customers }
     ensures { OnOk result (text.new.items ≡ text.old.items
         ++ joined_texts label_text (map (written_label inst.now) labels.now)) }
 {
@@ -37,7 +37,7 @@ fn write_label(
     inst: &Instance,
     label: &Label,
 ) -> Result<(), AllocError>
-    requires { length (customer_nodes inst.now) ≤ 128 }
+    requires { length (customer_nodes inst.now) ≤ most_customers }
     ensures { OnOk result (text.new.items ≡ text.old.items
         ++ label_text (written_label inst.now label.now)) }
 {
@@ -56,7 +56,7 @@ pub fn write_set(
     inst: &Instance,
     set: CustSet,
 ) -> Result<(), AllocError>
-    requires { length (customer_nodes inst.now) ≤ 128 }
+    requires { length (customer_nodes inst.now) ≤ most_customers }
     ensures { OnOk result (text.new.items ≡ text.old.items
         ++ set_text (nodes_in set 0 (customer_nodes inst.now))) }
 {
@@ -66,7 +66,7 @@ pub fn write_set(
 
 /// The nodes of the customers in a set, in rising order.
 fn nodes_in(alloc: Global, inst: &Instance, set: CustSet) -> Result<Vec<usize>, AllocError>
-    requires { length (customer_nodes inst.now) ≤ 128 }
+    requires { length (customer_nodes inst.now) ≤ most_customers }
     ensures { IfOk result (λ nodes. nodes.items ≡ nodes_in set 0 (customer_nodes inst.now)) }
 {
     let mut nodes = Vec::new(alloc);

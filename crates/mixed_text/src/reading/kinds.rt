@@ -3,7 +3,7 @@
 ghost use Rattle.std.specs.Prelude.{◌≡◌, ◌≢◌, ◌<◌, ◌≤◌, ℕ, [], Err, IfErr, IfOk, Ok, length, map, slice_index_or};
 ghost use Rattle.std.specs.List.{All};
 ghost use Rattle.ev_model.specs.Network.{IsNetwork};
-ghost use Rattle.instance_reader.specs.Instance.{customer_nodes};
+ghost use Rattle.instance_reader.specs.Instance.{customer_nodes, most_customers};
 ghost use Rattle.certificate_parts.specs.Ranges.{HasSet};
 ghost use Rattle.certificate_parts.specs.Refusals.{or_refused};
 ghost use Rattle.certificate_parts.specs.declared.cert_text.CertText.TheVariants.{Memory};
@@ -37,7 +37,7 @@ pub(crate) fn take_kinds(
     scan: &mut Scan<'_>,
 ) -> Result<Vec<Listed<Label>>, CertText>
     requires kinds { AreKinds kinds.now }
-    requires few { length (customer_nodes (first_of kinds.now)) ≤ 128 }
+    requires few { length (customer_nodes (first_of kinds.now)) ≤ most_customers }
     ensures ok { IfOk result (λ lists. kinds_at 0 kinds.now scan.old
         ≡ Ok (map (written_labels (first_of kinds.now)) lists.items, scan.new)) }
     ensures count { IfOk result (λ lists. length lists.items ≡ length kinds.now) }
@@ -64,7 +64,7 @@ fn take_kind(
     scan: &mut Scan<'_>,
     kind: usize,
 ) -> Result<Vec<Label>, CertText>
-    requires { length (customer_nodes inst.now) ≤ 128 }
+    requires { length (customer_nodes inst.now) ≤ most_customers }
     ensures ok { IfOk result (λ labels. kind_at kind inst.now scan.old
         ≡ Ok (written_labels inst.now labels.items, scan.new)) }
     ensures fits { IfOk result (λ labels. ListFits inst.now labels.items) }

@@ -3,7 +3,7 @@
 ghost use Rattle.std.specs.Prelude.{◌≡◌, ◌≢◌, ◌≤◌, Err, IfErr, IfOk, Ok, length, map};
 ghost use Rattle.std.specs.List.{All};
 ghost use Rattle.ev_text.specs.Readers.{so_many};
-ghost use Rattle.instance_reader.specs.Instance.{customer_nodes};
+ghost use Rattle.instance_reader.specs.Instance.{customer_nodes, most_customers};
 ghost use Rattle.certificate_parts.specs.Refusals.{or_refused};
 ghost use Rattle.certificate_parts.specs.declared.cert_text.CertText.TheVariants.{Memory};
 ghost use Rattle.near_proof.specs.Ranges.{NearLabelFits};
@@ -28,7 +28,7 @@ pub(crate) fn take_labels(
     scan: &mut Scan<'_>,
     count: u128,
 ) -> Result<Vec<NearLabel>, CertText>
-    requires { length (customer_nodes inst.now) ≤ 128 }
+    requires { length (customer_nodes inst.now) ≤ most_customers }
     ensures ok { IfOk result (λ labels. so_many count (near_label_at inst.now) scan.old
         ≡ Ok (map (written_near_label inst.now) labels.items, scan.new)) }
     ensures count { IfOk result (λ labels. length labels.items ≡ count) }
@@ -47,7 +47,7 @@ pub(crate) fn take_labels(
 
 /// Takes the line of a label.
 fn take_label(alloc: Global, inst: &Instance, scan: &mut Scan<'_>) -> Result<NearLabel, CertText>
-    requires { length (customer_nodes inst.now) ≤ 128 }
+    requires { length (customer_nodes inst.now) ≤ most_customers }
     ensures ok { IfOk result (λ label. near_label_at inst.now scan.old
         ≡ Ok (written_near_label inst.now label, scan.new)) }
     ensures fits { IfOk result (NearLabelFits inst.now) }

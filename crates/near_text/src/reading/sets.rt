@@ -3,7 +3,7 @@
 ghost use Rattle.std.specs.Prelude.{◌≡◌, ◌≢◌, ◌<◌, ◌≤◌, Err, IfErr, IfOk, None, OnOk, Ok, [], false, length, map, true};
 ghost use Rattle.std.specs.List.{All};
 ghost use Rattle.customer_sets.specs.CustSet.{IsCustomerSet, has};
-ghost use Rattle.instance_reader.specs.Instance.{customer_nodes};
+ghost use Rattle.instance_reader.specs.Instance.{customer_nodes, most_customers};
 ghost use Rattle.ev_text.specs.declared.TextFault.TheVariants.{End, TooLarge};
 ghost use Rattle.certificate_parts.specs.Places.{IsPlaceOf};
 ghost use Rattle.certificate_parts.specs.Ranges.{customer_count};
@@ -27,7 +27,7 @@ pub(crate) fn take_nears(
     inst: &Instance,
     scan: &mut Scan<'_>,
 ) -> Result<Vec<CustSet>, CertText>
-    requires { length (customer_nodes inst.now) ≤ 128 }
+    requires { length (customer_nodes inst.now) ≤ most_customers }
     ensures ok { IfOk result (λ sets. nears_at inst.now (customer_count inst.now) 0 scan.old
         ≡ Ok (map (written_set inst.now) sets.items, scan.new)) }
     ensures fits { IfOk result (λ sets. SetsFit (customer_count inst.now) sets.items) }
@@ -46,7 +46,7 @@ pub(crate) fn take_nears(
 
 /// Takes the line of the near set of the customer with a number.
 fn take_near(inst: &Instance, scan: &mut Scan<'_>, number: usize) -> Result<CustSet, TextFault>
-    requires few { length (customer_nodes inst.now) ≤ 128 }
+    requires few { length (customer_nodes inst.now) ≤ most_customers }
     requires number { number < customer_count inst.now }
     ensures ok { IfOk result (λ set. near_at inst.now number scan.old
         ≡ Ok (written_set inst.now set, scan.new)) }
@@ -61,7 +61,7 @@ fn take_near(inst: &Instance, scan: &mut Scan<'_>, number: usize) -> Result<Cust
 
 /// Takes a set that has the customer with a number, and the line feed.
 fn take_own_set(inst: &Instance, scan: &mut Scan<'_>, number: usize) -> Result<CustSet, TextFault>
-    requires few { length (customer_nodes inst.now) ≤ 128 }
+    requires few { length (customer_nodes inst.now) ≤ most_customers }
     requires number { number < customer_count inst.now }
     ensures ok { IfOk result (λ set. own_set_at inst.now (customer_node inst.now number) scan.old
         ≡ Ok (written_set inst.now set, scan.new)) }
@@ -84,7 +84,7 @@ fn take_own_members(
     scan: &mut Scan<'_>,
     number: usize,
 ) -> Result<CustSet, TextFault>
-    requires few { length (customer_nodes inst.now) ≤ 128 }
+    requires few { length (customer_nodes inst.now) ≤ most_customers }
     requires number { number < customer_count inst.now }
     ensures ok { IfOk result (λ set. few_own inst.now (customer_node inst.now number)
         (length scan.old.0) false None scan.old ≡ Ok (written_set inst.now set, scan.new)) }
@@ -112,7 +112,7 @@ fn take_member(
     scan: &mut Scan<'_>,
     last: Option<usize>,
 ) -> Result<Place, TextFault>
-    requires { length (customer_nodes inst.now) ≤ 128 }
+    requires { length (customer_nodes inst.now) ≤ most_customers }
     ensures ok { IfOk result (λ p. customer_at inst.now last scan.old ≡ Ok (p.node, scan.new)) }
     ensures some { IfOk result (λ p. 1 ≤ p.place) }
     ensures place { IfOk result (IsPlaceOf inst.now) }

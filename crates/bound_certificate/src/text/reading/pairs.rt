@@ -1,7 +1,7 @@
 //! Reading forbidden pairs.
 
 ghost use Rattle.std.specs.Prelude.{◌≡◌, ◌≢◌, ◌≤◌, ◌&&◌, Err, IfErr, IfOk, None, Ok, Some, length, nat_eq, not, true};
-ghost use Rattle.instance_reader.specs.Instance.{customer_nodes};
+ghost use Rattle.instance_reader.specs.Instance.{customer_nodes, most_customers};
 ghost use Rattle.ev_text.specs.Readers.{many_from};
 ghost use Rattle.certificate_parts.specs.Ranges.{customer_count};
 ghost use Rattle.certificate_parts.specs.Reading.{node_where};
@@ -24,7 +24,7 @@ pub(crate) fn take_pairs(
     scan: &mut Scan<'_>,
     count: u128,
 ) -> Result<Pairs, TextFault>
-    requires few { length (customer_nodes inst.now) ≤ 128 }
+    requires few { length (customer_nodes inst.now) ≤ most_customers }
     ensures ok { IfOk result (λ pairs. many_from (pair_at inst.now) next_pair count None scan.old
         ≡ Ok (written_pairs inst.now pairs, scan.new)) }
     ensures customers { IfOk result (λ pairs. pairs.customers ≡ customer_count inst.now) }
@@ -47,7 +47,7 @@ fn take_pair(
     scan: &mut Scan<'_>,
     last: Option<Nodes>,
 ) -> Result<(Place, Place), TextFault>
-    requires few { length (customer_nodes inst.now) ≤ 128 }
+    requires few { length (customer_nodes inst.now) ≤ most_customers }
     ensures ok { IfOk result (λ p. pair_at inst.now last scan.old
         ≡ Ok ((p.0.node, p.1.node), scan.new)) }
     ensures first { IfOk result (λ p. IsPlaceOf inst.now p.0) }
@@ -71,7 +71,7 @@ fn take_second(
     last: Option<Nodes>,
     i: usize,
 ) -> Result<Place, TextFault>
-    requires few { length (customer_nodes inst.now) ≤ 128 }
+    requires few { length (customer_nodes inst.now) ≤ most_customers }
     ensures ok { IfOk result (λ p. node_where (may_follow inst.now last i) scan.old
         ≡ Ok (p.node, scan.new)) }
     ensures place { IfOk result (IsPlaceOf inst.now) }

@@ -3,7 +3,7 @@
 ghost use Rattle.std.specs.Prelude.{◌≡◌, ◌≢◌, ◌≤◌, Err, IfErr, IfOk, Ok, length};
 ghost use Rattle.std.specs.List.{All};
 ghost use Rattle.ev_text.specs.Readers.{so_many};
-ghost use Rattle.instance_reader.specs.Instance.{customer_nodes};
+ghost use Rattle.instance_reader.specs.Instance.{customer_nodes, most_customers};
 ghost use Rattle.certificate_parts.specs.Refusals.{or_refused};
 ghost use Rattle.certificate_parts.specs.Ranges.{ColumnFits, customer_count};
 ghost use Rattle.bound_certificate.specs.Ranges.{RootFits, ShareFits};
@@ -28,7 +28,7 @@ pub(crate) fn take_root(
     inst: &Instance,
     scan: &mut Scan<'_>,
 ) -> Result<Root, CertText>
-    requires { length (customer_nodes inst.now) ≤ 128 }
+    requires { length (customer_nodes inst.now) ≤ most_customers }
     ensures ok { IfOk result (λ root. root_at inst.now scan.old
         ≡ Ok (written_root inst.now root, scan.new)) }
     ensures fits { IfOk result (RootFits (customer_count inst.now)) }
@@ -95,7 +95,7 @@ fn take_share(alloc: Global, scan: &mut Scan<'_>) -> Result<Share, CertText>
 
 /// Takes what stands behind the word of a wide root.
 fn take_wide(alloc: Global, inst: &Instance, scan: &mut Scan<'_>) -> Result<Root, CertText>
-    requires { length (customer_nodes inst.now) ≤ 128 }
+    requires { length (customer_nodes inst.now) ≤ most_customers }
     ensures ok { IfOk result (λ root. wide_at inst.now scan.old
         ≡ Ok (written_root inst.now root, scan.new)) }
     ensures fits { IfOk result (RootFits (customer_count inst.now)) }

@@ -4,7 +4,7 @@ ghost use Rattle.std.specs.Prelude.{◌≡◌, ◌≢◌, ◌≤◌, ◌<◌, Er
 ghost use Rattle.std.specs.List.{All};
 ghost use Rattle.ev_model.specs.Network.{Network};
 ghost use Rattle.ev_text.specs.Readers.{number_where, so_many};
-ghost use Rattle.instance_reader.specs.Instance.{customer_nodes};
+ghost use Rattle.instance_reader.specs.Instance.{customer_nodes, most_customers};
 ghost use Rattle.certificate_parts.specs.Refusals.{or_refused};
 ghost use Rattle.bound_certificate.specs.Kept.{IsKept};
 ghost use Rattle.certificate_parts.specs.Limits.{greatest_weight, most_items};
@@ -36,7 +36,7 @@ pub(crate) fn take_sections(
     inst: &Instance,
     scan: &mut Scan<'_>,
 ) -> Result<Vec<Section>, CertText>
-    requires few { length (customer_nodes inst.now) ≤ 128 }
+    requires few { length (customer_nodes inst.now) ≤ most_customers }
     ensures ok { IfOk result (λ sections. sections_at inst.now scan.old
         ≡ Ok (map (written_section inst.now) sections.items, scan.new)) }
     ensures some { IfOk result (λ sections. 1 ≤ length sections.items) }
@@ -75,7 +75,7 @@ fn take_each_section(
     scan: &mut Scan<'_>,
     count: u128,
 ) -> Result<Vec<Section>, CertText>
-    requires few { length (customer_nodes inst.now) ≤ 128 }
+    requires few { length (customer_nodes inst.now) ≤ most_customers }
     ensures ok { IfOk result (λ sections. so_many count (section_at inst.now) scan.old
         ≡ Ok (map (written_section inst.now) sections.items, scan.new)) }
     ensures count { IfOk result (λ sections. length sections.items ≡ count) }
@@ -94,7 +94,7 @@ fn take_each_section(
 
 /// Takes the lines of a section.
 fn take_section(alloc: Global, inst: &Instance, scan: &mut Scan<'_>) -> Result<Section, CertText>
-    requires few { length (customer_nodes inst.now) ≤ 128 }
+    requires few { length (customer_nodes inst.now) ≤ most_customers }
     ensures ok { IfOk result (λ section. section_at inst.now scan.old
         ≡ Ok (written_section inst.now section, scan.new)) }
     ensures fits { IfOk result (SectionFits inst.now) }

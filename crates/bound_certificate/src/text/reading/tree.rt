@@ -5,7 +5,7 @@ ghost use Rattle.std.specs.List.{All};
 ghost use Rattle.ev_text.specs.Readers.{number_where};
 ghost use Rattle.certificate_parts.specs.Refusals.{or_refused};
 ghost use Rattle.certificate_parts.specs.Limits.{most_items};
-ghost use Rattle.instance_reader.specs.Instance.{customer_nodes};
+ghost use Rattle.instance_reader.specs.Instance.{customer_nodes, most_customers};
 ghost use Rattle.certificate_parts.specs.Ranges.{customer_count};
 ghost use Rattle.bound_certificate.specs.Ranges.{LineFits};
 ghost use Rattle.certificate_parts.specs.Reading.{is_customer_node, node_where};
@@ -31,7 +31,7 @@ pub(crate) fn take_tree(
     scan: &mut Scan<'_>,
     sections: usize,
 ) -> Result<Vec<TreeLine>, CertText>
-    requires few { length (customer_nodes inst.now) ≤ 128 }
+    requires few { length (customer_nodes inst.now) ≤ most_customers }
     ensures ok { IfOk result (λ lines. tree_at (line_at inst.now sections) scan.old
         ≡ Ok (map (written_line inst.now) lines.items, scan.new)) }
     ensures fits { IfOk result (λ lines.
@@ -51,7 +51,7 @@ pub(crate) fn take_tree(
 
 /// Takes a line of the tree.
 fn take_line(inst: &Instance, scan: &mut Scan<'_>, sections: usize) -> Result<TreeLine, TextFault>
-    requires few { length (customer_nodes inst.now) ≤ 128 }
+    requires few { length (customer_nodes inst.now) ≤ most_customers }
     ensures ok { IfOk result (λ line. line_at inst.now sections scan.old
         ≡ Ok (written_line inst.now line, scan.new)) }
     ensures fits { IfOk result (LineFits (customer_count inst.now) sections) }
@@ -68,7 +68,7 @@ fn take_line(inst: &Instance, scan: &mut Scan<'_>, sections: usize) -> Result<Tr
 
 /// Takes what stands behind the word of a split: two different customers.
 fn take_split(inst: &Instance, scan: &mut Scan<'_>, sections: usize) -> Result<TreeLine, TextFault>
-    requires few { length (customer_nodes inst.now) ≤ 128 }
+    requires few { length (customer_nodes inst.now) ≤ most_customers }
     ensures ok { IfOk result (λ line. split_or_leaf inst.now sections true scan.old
         ≡ Ok (written_line inst.now line, scan.new)) }
     ensures fits { IfOk result (LineFits (customer_count inst.now) sections) }
@@ -87,7 +87,7 @@ fn take_split(inst: &Instance, scan: &mut Scan<'_>, sections: usize) -> Result<T
 
 /// Takes the node of a customer other than one.
 fn take_other(inst: &Instance, scan: &mut Scan<'_>, i: usize) -> Result<Place, TextFault>
-    requires few { length (customer_nodes inst.now) ≤ 128 }
+    requires few { length (customer_nodes inst.now) ≤ most_customers }
     ensures ok { IfOk result (λ j.
         node_where (λ n. is_customer_node inst.now n && not (nat_eq i n)) scan.old
         ≡ Ok (j.node, scan.new)) }

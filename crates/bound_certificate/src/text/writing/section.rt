@@ -2,7 +2,7 @@
 
 ghost use Rattle.std.specs.Prelude.{◌≡◌, ◌≤◌, ◌++◌, OnOk, length};
 ghost use Rattle.ev_text.specs.Texts.{joined_texts};
-ghost use Rattle.instance_reader.specs.Instance.{customer_nodes};
+ghost use Rattle.instance_reader.specs.Instance.{customer_nodes, most_customers};
 ghost use Rattle.bound_certificate.specs.CertificateTexts.{pair_text, section_head, section_text};
 ghost use Rattle.bound_certificate.specs.Ranges.{SectionFits};
 ghost use Rattle.bound_certificate.specs.Written.{written_section};
@@ -20,7 +20,7 @@ pub(crate) fn write_section(
     inst: &Instance,
     section: &Section,
 ) -> Result<(), AllocError>
-    requires few { length (customer_nodes inst.now) ≤ 128 }
+    requires few { length (customer_nodes inst.now) ≤ most_customers }
     requires fits { SectionFits inst.now section.now }
     ensures { OnOk result (text.new.items ≡ text.old.items
         ++ section_text (written_section inst.now section.now)) }
