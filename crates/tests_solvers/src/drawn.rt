@@ -81,7 +81,7 @@ fn compare(rt: &impl Abort, alloc: Global, words: &mut Pcg32) -> u64 {
     let text = text(alloc, words).expect(rt, "memory");
     let inst = instance_of(alloc, text.as_str(), None).expect(rt, "no instance");
     let mut solved = 0u64;
-    for word in ["0,1,0", "0,2,1,0", "0,3,1,2,0", "0,1,2,1,0"] {
+    for &word in &["0,1,0", "0,2,1,0", "0,3,1,2,0", "0,1,2,1,0"] {
         let start = below(words, inst.max_q() + 1);
         let (table, labels) = both_times(alloc, &inst, word, start).expect(rt, "memory");
         assert_eq!(rt; table, labels, "{text} {word} from {start}");

@@ -294,7 +294,7 @@ fn compare_route(
 fn the_judge_finds_what_a_look_at_each_level_finds(rt: HostRuntime) {
     let alloc = rt.alloc();
     let mut counts = Counts { closed: 0, open: 0 };
-    for (text, start) in [
+    for &(text, start) in &[
         (ONE_STATION, 10),
         (ONE_STATION, 2),
         (PLUG_TIME, 10),
@@ -321,7 +321,7 @@ fn the_judge_finds_of_drawn_routes_what_a_look_at_each_level_finds(rt: HostRunti
     for _ in 0..8 {
         let text = text(alloc, &mut words).expect(&rt, "memory");
         let inst = instance_of(alloc, text.as_str(), None).expect(&rt, "no instance");
-        for word in ["0,1,0", "0,2,1,0", "0,3,1,2,0"] {
+        for &word in &["0,1,0", "0,2,1,0", "0,3,1,2,0"] {
             let start = below(&mut words, inst.max_q() + 1);
             counts = compare_route(&rt, alloc, &inst, word, start, Some(&mut words), counts).expect(
                 &rt, "a route",

@@ -55,7 +55,7 @@ fn answers(alloc: Global, file: &str, start: u64, limit: Option<u64>) -> Option<
 #[test]
 fn both_solvers_find_the_plans_of_worked_instances(rt: HostRuntime) {
     let alloc = rt.alloc();
-    for (file, start, limit, want) in [
+    for &(file, start, limit, want) in &[
         (ONE_STATION, 10, None, "0+0 v2+1 1+0 0+0 "),
         (ONE_STATION, 5, None, "0+0 v2+6 1+0 0+0 "),
         (ONE_STATION, 2, None, "infeasible"),

@@ -51,7 +51,7 @@ fn prove_and_judge(alloc: Global, inst: &Instance, word: &str, start: u64) -> Op
 #[test]
 fn proofs_of_worked_routes_are_accepted(rt: HostRuntime) {
     let alloc = rt.alloc();
-    for (text, word, start, limit, want) in [
+    for &(text, word, start, limit, want) in &[
         (ONE_STATION, "0,1,0", 10, None, true),
         (ONE_STATION, "0,1,0", 2, None, false),
         (TWO_STATIONS, "0,1,0", 8, Some(60), true),
@@ -84,7 +84,7 @@ fn judge_drawn(rt: &impl Abort, alloc: Global, words: &mut Pcg32) -> (u64, u64) 
     let text = text(alloc, words).expect(rt, "memory");
     let inst = instance_of(alloc, text.as_str(), None).expect(rt, "no instance");
     let (mut few, mut all) = (0u64, 0u64);
-    for word in ["0,1,0", "0,2,1,0", "0,3,1,2,0", "0,1,2,1,0"] {
+    for &word in &["0,1,0", "0,2,1,0", "0,3,1,2,0", "0,1,2,1,0"] {
         let start = below(words, inst.max_q() + 1);
         let found = prove_and_judge(alloc, &inst, word, start).expect(rt, "memory");
         assert_eq!(rt;

@@ -14,7 +14,7 @@ const CONVERTED: &str =
 #[test]
 fn both_solvers_agree_on_worked_instances(rt: HostRuntime) {
     let alloc = rt.alloc();
-    for (text, word, start, limit, want) in [
+    for &(text, word, start, limit, want) in &[
         (ONE_STATION, "0,1,0", 10, None, Some(43)),
         (ONE_STATION, "0,1,0", 3, None, Some(50)),
         (ONE_STATION, "0,1,0", 2, None, None),
