@@ -23,10 +23,12 @@ const SPLIT: TreeLine = TreeLine::Split { i: 1, j: 2 };
 
 const ALIKE: TreeLine = TreeLine::Split { i: 2, j: 2 };
 
-/// The leaf that names a section.
-const fn leaf(section: usize) -> TreeLine {
-    TreeLine::Leaf { section }
-}
+const FIRST_LEAF: TreeLine = TreeLine::Leaf { section: 0 };
+
+const SECOND_LEAF: TreeLine = TreeLine::Leaf { section: 1 };
+
+/// A leaf that names a section that isn't there.
+const STRAY_LEAF: TreeLine = TreeLine::Leaf { section: 2 };
 
 /// The certificate of a text, where there are at most 128 customers.
 fn certificate_of(alloc: Global, inst: &Instance, text: &str) -> Option<Certificate> {
@@ -54,18 +56,25 @@ fn what_is_out_of_range_does_not_fit(rt: HostRuntime) {
     let inst = read_instance(alloc, TWO_CUSTOMERS.as_bytes()).expect(&rt, "an instance");
     let mut certificate = certificate_of(alloc, &inst, WIDE).expect(&rt, "a certificate");
     assert_eq!(rt; fits(&inst, &certificate), Some(true));
-    for (bound, wanted) in [(1 << 96, true), ((1 << 96) + 1, false)] {
-        certificate.bound = Some(bound);
-        assert_eq!(rt; fits(&inst, &certificate), Some(wanted));
-    }
-    certificate.bound = None;
-    for (lines, wanted) in [
-        ([SPLIT, leaf(0)].as_slice(), false),
-        ([leaf(0), leaf(1)].as_slice(), false),
-        ([ALIKE, leaf(0), leaf(1)].as_slice(), false),
-        ([leaf(2)].as_slice(), false),
-        ([leaf(1)].as_slice(), true),
-    ] {
+    certificate.bound = Some(1 << 96);
+    assert_eq!(rt; fits(&inst, &certificate), Some(true));
+    certificate.bound = Some((1 << 96) + 1);
+    assert_eq!(rt; fits(&inst, &certificate), Some(false));
+}
+
+#[test]
+fn a_certificate_fits_by_its_tree(rt: HostRuntime) {
+    let alloc = rt.alloc();
+    let inst = read_instance(alloc, TWO_CUSTOMERS.as_bytes()).expect(&rt, "an instance");
+    let mut certificate = certificate_of(alloc, &inst, WIDE).expect(&rt, "a certificate");
+    let cases: &[(&[TreeLine], bool)] = &[
+        (&[SPLIT, FIRST_LEAF], false),
+        (&[FIRST_LEAF, SECOND_LEAF], false),
+        (&[ALIKE, FIRST_LEAF, SECOND_LEAF], false),
+        (&[STRAY_LEAF], false),
+        (&[SECOND_LEAF], true),
+    ];
+    for &(lines, wanted) in cases {
         certificate.tree = tree_of(alloc, lines).expect(&rt, "memory");
         assert_eq!(rt; fits(&inst, &certificate), Some(wanted));
     }

@@ -1,7 +1,11 @@
 //! Files from outside: a small instance with some of its fields replaced, and what is answered.
 
-use instance_reader::{LimitFault, read_instance};
+ghost use Rattle.std.specs.Prelude.{◌≡◌};
+ghost use Rattle.ev_model.specs.Network.{node_count};
+
+use instance_reader::{Instance, LimitFault, read_instance};
 use std::alloc::{AllocError, Global};
+use std::process::Abort;
 use std::test::Fail;
 
 const ONE_STATION: &str =
@@ -22,18 +26,23 @@ fn answer(alloc: Global, file: &str) -> Result<String, AllocError> {
     }
 }
 
+/// This is answered of a file, or the test fails.
+fn assert_answer(rt: &impl Abort, alloc: Global, file: &str, want: &str) {
+    let found = answer(alloc, file).expect(rt, "memory");
+    assert_eq!(rt; found.as_str(), want, "at {file}");
+}
+
 #[test]
-fn the_first_broken_rule_is_answered(rt: HostRuntime) -> Result<(), Fail> {
+fn the_first_broken_rule_is_answered(rt: HostRuntime) {
     let alloc = rt.alloc();
-    for (file, want) in [
+    for &(file, want) in &[
         (r#"{"max_q":1e999}"#, "NotJson"),
         (r#"[]"#, "Missing { key: MaxQ }"),
         (r#"{"max_q":"x","css":7}"#, "Missing { key: Breaks }"),
     ] {
-        let found = answer(alloc, file)?;
-        assert_eq!(rt; found.as_str(), want, "at {file}");
+        assert_answer(&rt, alloc, file, want);
     }
-    for (fields, want) in [
+    for &(fields, want) in &[
         (r#""note":1"#, "limit 1000000000000000000"),
         (r#""t_max":7,"max_t":null"#, "limit 7"),
         (r#""t_max":7,"max_t":5"#, "limit 5"),
@@ -126,46 +135,51 @@ fn the_first_broken_rule_is_answered(rt: HostRuntime) -> Result<(), Fail> {
             "Level { place: Place { key: HomeQ, i: None, part: None, j: None } }",
         ),
     ] {
-        let file = format!(in alloc; "{DEPOT_ALONE},{fields}}}")?;
-        let found = answer(alloc, file.as_str())?;
-        assert_eq!(rt; found.as_str(), want, "at {fields}");
+        let file = format!(in alloc; "{DEPOT_ALONE},{fields}}}").expect(&rt, "memory");
+        assert_answer(&rt, alloc, file.as_str(), want);
     }
-    Ok(())
+}
+
+/// The instance with one station, of three nodes.
+fn one_station(rt: &impl Abort, alloc: Global) -> Instance
+    ensures { node_count result ≡ 3 }
+{
+    let instance = read_instance(alloc, ONE_STATION.as_bytes()).expect(rt, "an instance");
+    assert_eq!(rt; instance.nodes(), 3);
+    instance
 }
 
 #[test]
-fn an_instance_tells_what_its_file_says(rt: HostRuntime) -> Result<(), Fail> {
-    let alloc = rt.alloc();
-    let Ok(instance) = read_instance(alloc, ONE_STATION.as_bytes()) else {
-        return Err(Fail::new("refused"));
-    };
-    assert_eq!(rt; (instance.nodes(), instance.max_q()), (3, 10));
-    assert_eq!(rt; (instance.min_q(), instance.home_q()), (2, 5));
-    assert_eq!(rt;
-        (instance.denominator(), instance.limit()),
-        (2, 500_000_000_000_000_000)
-    );
-    assert_eq!(rt; (instance.time(0, 1), instance.time(2, 0)), (10, 8));
-    assert_eq!(rt; (instance.energy(0, 2), instance.energy(2, 0)), (3, 5));
-    assert_eq!(rt;
-        (
-            instance.service(1),
-            instance.plug_at(1),
-            instance.plug_at(2)
-        ),
-        (0, 0, 1)
-    );
+fn an_instance_tells_its_levels_and_its_limit(rt: HostRuntime) {
+    let instance = one_station(&rt, rt.alloc());
+    assert_eq!(rt; instance.max_q(), 10);
+    assert_eq!(rt; instance.min_q(), 2);
+    assert_eq!(rt; instance.home_q(), 5);
+    assert_eq!(rt; instance.denominator(), 2);
+    assert_eq!(rt; instance.limit(), 500_000_000_000_000_000);
+}
+
+#[test]
+fn an_instance_tells_its_times_and_energies(rt: HostRuntime) {
+    let instance = one_station(&rt, rt.alloc());
+    assert_eq!(rt; instance.time(0, 1), 10);
+    assert_eq!(rt; instance.time(2, 0), 8);
+    assert_eq!(rt; instance.energy(0, 2), 3);
+    assert_eq!(rt; instance.energy(2, 0), 5);
+    assert_eq!(rt; instance.service(1), 0);
+    assert_eq!(rt; instance.plug_at(1), 0);
+    assert_eq!(rt; instance.plug_at(2), 1);
+}
+
+#[test]
+fn an_instance_tells_its_customers_and_its_stations(rt: HostRuntime) {
+    let instance = one_station(&rt, rt.alloc());
     assert_eq!(rt; instance.customers(), [1].as_slice());
-    assert_eq!(rt;
-        (instance.customer_number(1), instance.customer_number(2)),
-        (Some(0), None)
-    );
-    assert_eq!(rt; instance.curve_at(1).is_none(), true);
-    let Some(curve) = instance.curve_at(2) else {
-        return Err(Fail::new("no station"));
-    };
+    assert_eq!(rt; instance.customer_number(1), Some(0));
+    assert_eq!(rt; instance.customer_number(2), None);
+    assert!(rt; instance.curve_at(1).is_none());
+    let curve = instance.curve_at(2).expect(&rt, "a station");
     assert_eq!(rt; curve.breaks(), [(0, 0), (8, 8), (10, 20)].as_slice());
-    Ok(())
 }
 
 #[test]

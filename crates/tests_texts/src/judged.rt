@@ -44,29 +44,33 @@ fn judged_with_one_station(alloc: Global, parts: [&str; 4]) -> Option<Verdict> {
     judged(alloc, ONE_STATION, &parts)
 }
 
+/// What the judge says of a certificate in seven parts on the instance with two customers.
+fn judged_with_two_customers(alloc: Global, parts: [&str; 7]) -> Option<Verdict> {
+    judged(alloc, TWO_CUSTOMERS, &parts)
+}
+
 #[test]
 fn a_worked_certificate_is_accepted_and_its_broken_variants_are_not(rt: HostRuntime) {
-    let alloc = rt.alloc();
-    let low = "evroute certificate 1\nbound 40\n";
-    let high = "evroute certificate 1\nbound 44\n";
-    let dearer =
+    const LOW: &str = "evroute certificate 1\nbound 40\n";
+    const HIGH: &str = "evroute certificate 1\nbound 44\n";
+    const DEARER: &str =
         "sections 1\nsection 1 0 5\nprices 44\nlabel 0 0 - 10:0\nlabel 1 1 1 4:20\nlabel 0 2 - 7:16 8:17 10:29\nlabel 1 2 1 2:26 8:32 10:44\nlabel 1 1 1 5:22 6:23 8:35\n";
-    let late =
+    const LATE: &str =
         "sections 1\nsection 1 0 5\nprices 43\nlabel 0 0 - 10:1\nlabel 1 1 1 4:20\nlabel 0 2 - 7:16 8:17 10:29\nlabel 1 2 1 2:26 8:32 10:44\nlabel 1 1 1 5:22 6:23 8:35\n";
-    let fewer =
+    const FEWER: &str =
         "sections 1\nsection 1 0 4\nprices 43\nlabel 0 0 - 10:0\nlabel 1 1 1 4:20\nlabel 1 2 1 2:26 8:32 10:44\nlabel 1 1 1 5:22 6:23 8:35\n";
-    let slower = "root exact 1 1\nshare 1 0 1 v2+3 0\n";
-    let halves = "root exact 2 2\nshare 1 0 v2+1 1 0\nshare 1 0 v2+1 1 0\n";
-    let uneven = "root exact 2 1\nshare 1 0 v2+1 1 0\n";
-    let twice = "root exact 1 1\nshare 1 0 v2+1 1 v2+3 1 0\n";
-    let narrow = "root wide 1\ncolumn 0 v2+1 1 0\nbasis 0\n";
-    for (parts, verdict) in [
+    const SLOWER: &str = "root exact 1 1\nshare 1 0 1 v2+3 0\n";
+    const HALVES: &str = "root exact 2 2\nshare 1 0 v2+1 1 0\nshare 1 0 v2+1 1 0\n";
+    const UNEVEN: &str = "root exact 2 1\nshare 1 0 v2+1 1 0\n";
+    const TWICE: &str = "root exact 1 1\nshare 1 0 v2+1 1 v2+3 1 0\n";
+    const NARROW: &str = "root wide 1\ncolumn 0 v2+1 1 0\nbasis 0\n";
+    for &(parts, verdict) in &[
         ([HEAD, ROOT, SECTION, LEAF], Verdict::Accepted),
-        ([low, ROOT, SECTION, LEAF], Verdict::Accepted),
-        ([HEAD, halves, SECTION, LEAF], Verdict::Accepted),
-        ([HEAD, ROOT, late, LEAF], Verdict::Start { section: 0 }),
+        ([LOW, ROOT, SECTION, LEAF], Verdict::Accepted),
+        ([HEAD, HALVES, SECTION, LEAF], Verdict::Accepted),
+        ([HEAD, ROOT, LATE, LEAF], Verdict::Start { section: 0 }),
         (
-            [HEAD, ROOT, fewer, LEAF],
+            [HEAD, ROOT, FEWER, LEAF],
             Verdict::Step {
                 section: 0,
                 label: 0,
@@ -74,41 +78,41 @@ fn a_worked_certificate_is_accepted_and_its_broken_variants_are_not(rt: HostRunt
             },
         ),
         (
-            [HEAD, ROOT, dearer, LEAF],
+            [HEAD, ROOT, DEARER, LEAF],
             Verdict::End {
                 section: 0,
                 label: 4,
             },
         ),
-        ([high, ROOT, SECTION, LEAF], Verdict::Bound { leaf: 0 }),
-        ([HEAD, slower, SECTION, LEAF], Verdict::Root),
-        ([HEAD, uneven, SECTION, LEAF], Verdict::Root),
-        ([HEAD, twice, SECTION, LEAF], Verdict::Root),
-        ([HEAD, narrow, SECTION, LEAF], Verdict::Root),
+        ([HIGH, ROOT, SECTION, LEAF], Verdict::Bound { leaf: 0 }),
+        ([HEAD, SLOWER, SECTION, LEAF], Verdict::Root),
+        ([HEAD, UNEVEN, SECTION, LEAF], Verdict::Root),
+        ([HEAD, TWICE, SECTION, LEAF], Verdict::Root),
+        ([HEAD, NARROW, SECTION, LEAF], Verdict::Root),
         ([HEAD, "root none\n", SECTION, LEAF], Verdict::Root),
     ] {
-        assert_eq!(rt; judged_with_one_station(alloc, parts), Some(verdict));
+        let found = judged_with_one_station(rt.alloc(), parts);
+        assert_eq!(rt; found, Some(verdict));
     }
 }
 
 #[test]
 fn leaves_are_judged_by_their_pairs_and_bounds(rt: HostRuntime) {
-    let alloc = rt.alloc();
-    let none = "evroute certificate 1\nbound 0\nroot none\n";
-    let one = "evroute certificate 1\nbound 1\nroot none\n";
-    let free = "section 1 0 3\nprices 4 4\n";
-    let apart = "section 1 1 3\nprices 0 0\npair 1 2\n";
-    let no_start = "section 1 0 2\nprices 0 0\nlabel 1 1 1 9:4\nlabel 2 2 2 9:4\n";
-    for (parts, verdict) in [
+    const NONE: &str = "evroute certificate 1\nbound 0\nroot none\n";
+    const ONE: &str = "evroute certificate 1\nbound 1\nroot none\n";
+    const FREE: &str = "section 1 0 3\nprices 4 4\n";
+    const APART: &str = "section 1 1 3\nprices 0 0\npair 1 2\n";
+    const NO_START: &str = "section 1 0 2\nprices 0 0\nlabel 1 1 1 9:4\nlabel 2 2 2 9:4\n";
+    for &(parts, verdict) in &[
         (
-            [none, "sections 1\n", apart, LABELS, "", "", LEAF],
+            [NONE, "sections 1\n", APART, LABELS, "", "", LEAF],
             Verdict::Pairs { leaf: 0 },
         ),
         (
             [
-                none,
+                NONE,
                 "sections 1\n",
-                apart,
+                APART,
                 LABELS,
                 "",
                 "",
@@ -118,11 +122,11 @@ fn leaves_are_judged_by_their_pairs_and_bounds(rt: HostRuntime) {
         ),
         (
             [
-                none,
+                NONE,
                 "sections 2\n",
-                free,
+                FREE,
                 LABELS,
-                apart,
+                APART,
                 LABELS,
                 "split 1 2\nleaf 1\nleaf 0\n",
             ],
@@ -130,11 +134,11 @@ fn leaves_are_judged_by_their_pairs_and_bounds(rt: HostRuntime) {
         ),
         (
             [
-                none,
+                NONE,
                 "sections 2\n",
-                free,
+                FREE,
                 LABELS,
-                apart,
+                APART,
                 LABELS,
                 "split 1 2\nleaf 0\nleaf 1\n",
             ],
@@ -142,22 +146,23 @@ fn leaves_are_judged_by_their_pairs_and_bounds(rt: HostRuntime) {
         ),
         (
             [
-                one,
+                ONE,
                 "sections 2\n",
-                free,
+                FREE,
                 LABELS,
-                apart,
+                APART,
                 LABELS,
                 "split 1 2\nleaf 1\nleaf 0\n",
             ],
             Verdict::Bound { leaf: 0 },
         ),
         (
-            [none, "sections 2\n", free, LABELS, no_start, "", LEAF],
+            [NONE, "sections 2\n", FREE, LABELS, NO_START, "", LEAF],
             Verdict::Start { section: 1 },
         ),
     ] {
-        assert_eq!(rt; judged(alloc, TWO_CUSTOMERS, &parts), Some(verdict));
+        let found = judged_with_two_customers(rt.alloc(), parts);
+        assert_eq!(rt; found, Some(verdict));
     }
 }
 

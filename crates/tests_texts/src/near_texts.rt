@@ -5,6 +5,7 @@ use near_check::{check_near, near_sets};
 use near_proof::{NearProof, NearVerdict};
 use near_text::{CertText, push_near, push_near_bound, push_near_verdict, read_near};
 use std::alloc::Global;
+use std::process::Abort;
 use worked_instances::ONE_STATION;
 
 /// A proof that no fleet plan on the instance with one station costs less than 43.
@@ -40,10 +41,20 @@ fn judged(alloc: Global, text: &str) -> Option<(Vec<u8>, Vec<u8>)> {
     Some((out, lines))
 }
 
+/// With a piece changed the proof is read as it is written, and these are the lines of its
+/// verdict, or the test fails.
+fn assert_judged(rt: &impl Abort, alloc: Global, pieces: (&str, &str), wanted: &str) {
+    let text = FIRST
+        .replacen(alloc, pieces.0, pieces.1, 1)
+        .expect(rt, "a text");
+    let (out, lines) = judged(alloc, text.as_str()).expect(rt, "a verdict");
+    assert_eq!(rt; out.as_slice(), text.as_bytes());
+    assert_eq!(rt; lines.as_slice(), wanted.as_bytes(), "{}", pieces.1);
+}
+
 #[test]
 fn near_proofs_are_read_judged_and_written(rt: HostRuntime) {
-    let alloc = rt.alloc();
-    for (old, new, wanted) in [
+    for &(old, new, wanted) in &[
         (
             "prices 43",
             "prices 43",
@@ -63,17 +74,14 @@ fn near_proofs_are_read_judged_and_written(rt: HostRuntime) {
         ),
         ("v2+1", "v2+2", "rejected near 5 customer 1\n"),
     ] {
-        let text = FIRST.replacen(alloc, old, new, 1).expect(&rt, "a text");
-        let (out, lines) = judged(alloc, text.as_str()).expect(&rt, "a verdict");
-        assert_eq!(rt; out.as_slice(), text.as_bytes());
-        assert_eq!(rt; lines.as_slice(), wanted.as_bytes(), "{new}");
+        assert_judged(&rt, rt.alloc(), (old, new), wanted);
     }
 }
 
 #[test]
 fn the_first_fault_of_a_near_proof_is_named(rt: HostRuntime) {
     let alloc = rt.alloc();
-    for (old, new, wanted) in [
+    for &(old, new, wanted) in &[
         ("near 1\nbound", "near 2\nbound", CertText::Version),
         ("near 1\nlabel", "near -\nlabel", CertText::Range { at: 51 }),
         ("section 1 5", "section 2 5", CertText::Range { at: 32 }),

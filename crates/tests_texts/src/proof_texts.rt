@@ -6,6 +6,7 @@ use proof_text::{CertText, push_proof, push_route_verdict, read_proof};
 use route_plan::{WalkFault, read_route};
 use route_proof::{RouteProof, RouteVerdict};
 use std::alloc::Global;
+use std::process::Abort;
 use worked_instances::ONE_STATION;
 
 /// A proof of the route 0, 1, 0 on the instance with one station.
@@ -38,47 +39,56 @@ fn again(alloc: Global, inst: &Instance, text: &str) -> Option<Vec<u8>> {
 fn proofs_are_read_as_they_are_written(rt: HostRuntime) {
     let alloc = rt.alloc();
     let inst = read_instance(alloc, ONE_STATION.as_bytes()).expect(&rt, "an instance");
-    for text in [FIRST, NONE, "evroute proof 1\nroute 7\nlabels 0\n"] {
+    for &text in &[FIRST, NONE, "evroute proof 1\nroute 7\nlabels 0\n"] {
         let out = again(alloc, &inst, text).expect(&rt, "a text");
         assert_eq!(rt; out.as_slice(), text.as_bytes());
     }
 }
 
-const fn text(at: usize) -> CertText {
-    CertText::Text { at }
-}
-
-const fn range(at: usize) -> CertText {
-    CertText::Range { at }
+/// With a piece changed the proof has this fault, or the test fails.
+fn assert_fault(
+    rt: &impl Abort,
+    alloc: Global,
+    inst: &Instance,
+    pieces: (&str, &str),
+    wanted: CertText,
+) {
+    let text = FIRST
+        .replacen(alloc, pieces.0, pieces.1, 1)
+        .expect(rt, "a text");
+    let found = fault_of(alloc, inst, text.as_str());
+    assert_eq!(rt; found, Some(wanted), "{}", pieces.1);
 }
 
 #[test]
 fn the_first_fault_of_a_proof_is_named(rt: HostRuntime) {
     let alloc = rt.alloc();
     let inst = read_instance(alloc, ONE_STATION.as_bytes()).expect(&rt, "an instance");
-    for (old, new, wanted) in [
+    for &(old, new, wanted) in &[
         ("proof 1", "proof 9", CertText::Version),
-        ("proof 1", "proof 01", text(0)),
-        ("route 0", "rout 0", text(16)),
-        ("v2+1", "v2+0", text(27)),
-        ("labels 5", "labels 18446744073709551616", range(40)),
-        ("labels 5", "labels 4", text(124)),
-        ("labels 5", "labels 6", text(149)),
-        ("label 1 1 4", "label 2 1 4", range(63)),
-        ("label 1 1 4", "label 1 3 4", range(65)),
-        ("label 1 1 4:20", "label 1 1", text(66)),
-        ("7:16 8:17", "7:16 7:17", range(87)),
-        ("8:17 10:29", "8:17 10:28", range(95)),
-        ("8:17 10:29", "8:17 11:29", range(92)),
-        ("6:23 8:35\n", "6:23 8:35\n\n", text(149)),
+        ("proof 1", "proof 01", CertText::Text { at: 0 }),
+        ("route 0", "rout 0", CertText::Text { at: 16 }),
+        ("v2+1", "v2+0", CertText::Text { at: 27 }),
+        (
+            "labels 5",
+            "labels 18446744073709551616",
+            CertText::Range { at: 40 },
+        ),
+        ("labels 5", "labels 4", CertText::Text { at: 124 }),
+        ("labels 5", "labels 6", CertText::Text { at: 149 }),
+        ("label 1 1 4", "label 2 1 4", CertText::Range { at: 63 }),
+        ("label 1 1 4", "label 1 3 4", CertText::Range { at: 65 }),
+        ("label 1 1 4:20", "label 1 1", CertText::Text { at: 66 }),
+        ("7:16 8:17", "7:16 7:17", CertText::Range { at: 87 }),
+        ("8:17 10:29", "8:17 10:28", CertText::Range { at: 95 }),
+        ("8:17 10:29", "8:17 11:29", CertText::Range { at: 92 }),
+        ("6:23 8:35\n", "6:23 8:35\n\n", CertText::Text { at: 149 }),
     ] {
-        let broken = FIRST.replacen(alloc, old, new, 1).expect(&rt, "a text");
-        let found = fault_of(alloc, &inst, broken.as_str());
-        assert_eq!(rt; found, Some(wanted), "{new}");
+        assert_fault(&rt, alloc, &inst, (old, new), wanted);
     }
     let head = "evroute proof 1\nnone\nlabels 1000000000000000000\n";
     let found = fault_of(alloc, &inst, head);
-    assert_eq!(rt; found, Some(text(head.len())));
+    assert_eq!(rt; found, Some(CertText::Text { at: head.len() }));
 }
 
 #[test]
@@ -99,13 +109,14 @@ fn a_proof_that_is_cut_off_is_none(rt: HostRuntime) {
 fn verdicts_have_their_lines(rt: HostRuntime) {
     let alloc = rt.alloc();
     let inst = read_instance(alloc, ONE_STATION.as_bytes()).expect(&rt, "an instance");
-    let full = WalkFault::Full { at: 1 };
-    for (time, verdict, wanted) in [
+    for &(time, verdict, wanted) in &[
         (Some(43), RouteVerdict::Accepted, "accepted\nleast 43/2\n"),
         (None, RouteVerdict::Accepted, "accepted\ninfeasible\n"),
         (
             None,
-            RouteVerdict::Plan { fault: full },
+            RouteVerdict::Plan {
+                fault: WalkFault::Full { at: 1 },
+            },
             "rejected proof 1 walk 6 at 1\n",
         ),
         (

@@ -2,6 +2,7 @@
 
 ghost use Rattle.std.specs.Prelude.{◌≢◌};
 ghost use Rattle.plan_writer.specs.FleetText.{IsLowestLine};
+ghost use Rattle.plan_writer.specs.RefusalText.{IsRule};
 
 use bound_certificate::CertText;
 use certificate_check::Verdict;
@@ -18,18 +19,27 @@ use plan_writer::{
 };
 use route_plan::{PlanText, RouteFault, RoutePlan, WalkFault};
 use std::alloc::Global;
+use std::process::Abort;
 use worked_instances::ONE_STATION;
+
+/// A refusal has this line, or the test fails.
+fn assert_refusal(rt: &impl Abort, alloc: Global, refusal: Refusal, line: &str)
+    requires { IsRule refusal }
+{
+    let mut out = Vec::new(alloc);
+    push_refusal(alloc, &mut out, &refusal).expect(rt, "memory");
+    assert_eq!(rt; out.as_slice(), line.as_bytes());
+}
+
+/// The lines are there and are these, or the test fails.
+fn assert_lines(rt: &impl Abort, found: Option<Vec<u8>>, lines: &str) {
+    let found = found.expect(rt, "lines");
+    assert_eq!(rt; found.as_slice(), lines.as_bytes());
+}
 
 #[test]
 fn refusals_have_their_lines(rt: HostRuntime) {
-    let alloc = rt.alloc();
-    let concave = ReadFault::BadCurve {
-        index: 0,
-        fault: CurveFault::Concave { index: 2 },
-    };
-    let node = Place::at_key(Key::Css).item(1).part(Part::NodeId);
-    let entry = Place::at_key(Key::Energy).item(2).item(3);
-    let cases = [
+    for &(refusal, line) in &[
         (
             Refusal::Instance(ReadFault::TooLong { len: 67108865 }),
             "refused instance 1 67108865\n",
@@ -43,27 +53,10 @@ fn refusals_have_their_lines(rt: HostRuntime) {
             "refused instance 3 breakpoints_by_type\n",
         ),
         (
-            Refusal::Instance(ReadFault::Kind {
-                place: Place::at_key(Key::MaxQ),
+            Refusal::Instance(ReadFault::BadCurve {
+                index: 0,
+                fault: CurveFault::Concave { index: 2 },
             }),
-            "refused instance 4 max_q\n",
-        ),
-        (
-            Refusal::Instance(ReadFault::TooLarge { place: entry }),
-            "refused instance 5 energy_matrix/2/3\n",
-        ),
-        (
-            Refusal::Instance(ReadFault::Shape {
-                place: Place::at_key(Key::Time),
-            }),
-            "refused instance 6 time_matrix\n",
-        ),
-        (
-            Refusal::Instance(ReadFault::Node { place: node }),
-            "refused instance 7 css/1/node_id\n",
-        ),
-        (
-            Refusal::Instance(concave),
             "refused instance 9 breakpoints_by_type/0 concave 2\n",
         ),
         (
@@ -73,12 +66,6 @@ fn refusals_have_their_lines(rt: HostRuntime) {
         (
             Refusal::Instance(ReadFault::Horizon { limit: 7 }),
             "refused instance 11 7\n",
-        ),
-        (
-            Refusal::Instance(ReadFault::Level {
-                place: Place::at_key(Key::MinQ),
-            }),
-            "refused instance 12 min_q\n",
         ),
         (
             Refusal::Limit(500000000000000001),
@@ -113,18 +100,51 @@ fn refusals_have_their_lines(rt: HostRuntime) {
             "refused literal 5 67108865\n",
         ),
         (Refusal::Maker, "refused maker 1\n"),
+    ] {
+        assert_refusal(&rt, rt.alloc(), refusal, line);
+    }
+}
+
+#[test]
+fn a_refused_place_has_its_line(rt: HostRuntime) {
+    let entry = Place::at_key(Key::Energy).item(2).item(3);
+    let node = Place::at_key(Key::Css).item(1).part(Part::NodeId);
+    let cases = [
+        (
+            ReadFault::Kind {
+                place: Place::at_key(Key::MaxQ),
+            },
+            "refused instance 4 max_q\n",
+        ),
+        (
+            ReadFault::TooLarge { place: entry },
+            "refused instance 5 energy_matrix/2/3\n",
+        ),
+        (
+            ReadFault::Shape {
+                place: Place::at_key(Key::Time),
+            },
+            "refused instance 6 time_matrix\n",
+        ),
+        (
+            ReadFault::Node { place: node },
+            "refused instance 7 css/1/node_id\n",
+        ),
+        (
+            ReadFault::Level {
+                place: Place::at_key(Key::MinQ),
+            },
+            "refused instance 12 min_q\n",
+        ),
     ];
-    for (refusal, line) in cases {
-        let mut out = Vec::new(alloc);
-        push_refusal(alloc, &mut out, &refusal).expect(&rt, "memory");
-        assert_eq!(rt; out.as_slice(), line.as_bytes());
+    for (fault, line) in cases {
+        assert_refusal(&rt, rt.alloc(), Refusal::Instance(fault), line);
     }
 }
 
 #[test]
 fn refused_certificates_have_their_lines(rt: HostRuntime) {
-    let alloc = rt.alloc();
-    let cases = [
+    for &(refusal, line) in &[
         (
             Refusal::Certificate(CertText::Text { at: 22 }),
             "refused certificate 1 at 22\n",
@@ -141,38 +161,44 @@ fn refused_certificates_have_their_lines(rt: HostRuntime) {
             Refusal::Certificate(CertText::TooLong { len: 268435457 }),
             "refused certificate 4 268435457\n",
         ),
-    ];
-    for (refusal, line) in cases {
-        let mut out = Vec::new(alloc);
-        push_refusal(alloc, &mut out, &refusal).expect(&rt, "memory");
-        assert_eq!(rt; out.as_slice(), line.as_bytes());
+    ] {
+        assert_refusal(&rt, rt.alloc(), refusal, line);
     }
 }
 
 #[test]
 fn refused_plans_have_their_lines(rt: HostRuntime) {
-    let alloc = rt.alloc();
-    let bad = |fault| Refusal::Plan(PlanText::Bad { fault });
-    let cases = [
+    for &(fault, line) in &[
         (
-            bad(TextFault::NotWhole { at: 22 }),
+            PlanText::Bad {
+                fault: TextFault::NotWhole { at: 22 },
+            },
             "refused plan 1 at 22\n",
         ),
         (
-            bad(TextFault::TooLarge { at: 30 }),
+            PlanText::Bad {
+                fault: TextFault::TooLarge { at: 30 },
+            },
             "refused plan 2 at 30\n",
         ),
-        (bad(TextFault::Word { at: 0 }), "refused plan 3 at 0\n"),
-        (bad(TextFault::End { at: 15 }), "refused plan 4 at 15\n"),
         (
-            Refusal::Plan(PlanText::TooLong { len: 67108865 }),
+            PlanText::Bad {
+                fault: TextFault::Word { at: 0 },
+            },
+            "refused plan 3 at 0\n",
+        ),
+        (
+            PlanText::Bad {
+                fault: TextFault::End { at: 15 },
+            },
+            "refused plan 4 at 15\n",
+        ),
+        (
+            PlanText::TooLong { len: 67108865 },
             "refused plan 5 67108865\n",
         ),
-    ];
-    for (refusal, line) in cases {
-        let mut out = Vec::new(alloc);
-        push_refusal(alloc, &mut out, &refusal).expect(&rt, "memory");
-        assert_eq!(rt; out.as_slice(), line.as_bytes());
+    ] {
+        assert_refusal(&rt, rt.alloc(), Refusal::Plan(fault), line);
     }
 }
 
@@ -216,7 +242,7 @@ fn rejected_plan_line(alloc: Global, inst: &Instance, fault: PlanFault) -> Optio
 fn accepted_certificates_have_their_lines(rt: HostRuntime) {
     let alloc = rt.alloc();
     let inst = read_instance(alloc, ONE_STATION.as_bytes()).expect(&rt, "an instance");
-    let cases = [
+    for &(cost, bound, lines) in &[
         (
             Some(43),
             Some(40),
@@ -234,10 +260,8 @@ fn accepted_certificates_have_their_lines(rt: HostRuntime) {
             "accepted\ncost none\nbound 40/2\ngap none\n",
         ),
         (None, None, "accepted\ncost none\nbound none\ngap none\n"),
-    ];
-    for (cost, bound, lines) in cases {
-        let out = accepted_lines(alloc, &inst, cost, bound).expect(&rt, "memory");
-        assert_eq!(rt; out.as_slice(), lines.as_bytes());
+    ] {
+        assert_lines(&rt, accepted_lines(alloc, &inst, cost, bound), lines);
     }
 }
 
@@ -282,7 +306,7 @@ fn report_lines(
 fn a_search_has_its_report(rt: HostRuntime) {
     let alloc = rt.alloc();
     let inst = read_instance(alloc, ONE_STATION.as_bytes()).expect(&rt, "an instance");
-    let cases = [
+    for &(bounds, root, stopped, lines) in &[
         (
             (Some(43), 43),
             (43, 1),
@@ -320,10 +344,12 @@ fn a_search_has_its_report(rt: HostRuntime) {
             None,
             "cost 256/2\nbound 256/2\ngap 0/2\nroot wide\n",
         ),
-    ];
-    for (bounds, root, stopped, lines) in cases {
-        let out = report_lines(alloc, &inst, bounds, root, stopped).expect(&rt, "memory");
-        assert_eq!(rt; out.as_slice(), lines.as_bytes());
+    ] {
+        assert_lines(
+            &rt,
+            report_lines(alloc, &inst, bounds, root, stopped),
+            lines,
+        );
     }
 }
 
@@ -346,17 +372,17 @@ fn no_plan_lines(alloc: Global, inst: &Instance, root: RootLine) -> Option<Vec<u
 fn where_there_is_no_fleet_plan_one_line_stands_alone(rt: HostRuntime) {
     let alloc = rt.alloc();
     let inst = read_instance(alloc, ONE_STATION.as_bytes()).expect(&rt, "an instance");
-    let empty = no_plan_lines(alloc, &inst, RootLine::Empty).expect(&rt, "memory");
-    assert_eq!(rt; empty.as_slice(), b"infeasible\n".as_slice());
-    let wide = no_plan_lines(alloc, &inst, RootLine::Wide).expect(&rt, "memory");
-    assert_eq!(rt; wide.as_slice(), b"infeasible\n".as_slice());
+    let empty = no_plan_lines(alloc, &inst, RootLine::Empty);
+    assert_lines(&rt, empty, "infeasible\n");
+    let wide = no_plan_lines(alloc, &inst, RootLine::Wide);
+    assert_lines(&rt, wide, "infeasible\n");
 }
 
 #[test]
 fn rejected_certificates_have_their_lines(rt: HostRuntime) {
     let alloc = rt.alloc();
     let inst = read_instance(alloc, ONE_STATION.as_bytes()).expect(&rt, "an instance");
-    let cases = [
+    for &(verdict, line) in &[
         (
             Verdict::Start { section: 3 },
             "rejected certificate 1 section 3\n",
@@ -385,10 +411,8 @@ fn rejected_certificates_have_their_lines(rt: HostRuntime) {
             "rejected certificate 5 leaf 6\n",
         ),
         (Verdict::Root, "rejected certificate 6\n"),
-    ];
-    for (verdict, line) in cases {
-        let out = rejected_line(alloc, &inst, verdict).expect(&rt, "memory");
-        assert_eq!(rt; out.as_slice(), line.as_bytes());
+    ] {
+        assert_lines(&rt, rejected_line(alloc, &inst, verdict), line);
     }
 }
 
@@ -396,31 +420,54 @@ fn rejected_certificates_have_their_lines(rt: HostRuntime) {
 fn rejected_plans_have_their_lines(rt: HostRuntime) {
     let alloc = rt.alloc();
     let inst = read_instance(alloc, ONE_STATION.as_bytes()).expect(&rt, "an instance");
-    let walk = |route, fault| PlanFault::Walk { route, fault };
-    let cases = [
-        (walk(0, WalkFault::Ends), "rejected plan 1 route 0 walk 1\n"),
+    for &(fault, line) in &[
         (
-            walk(1, WalkFault::Unknown { at: 2 }),
+            PlanFault::Walk {
+                route: 0,
+                fault: WalkFault::Ends,
+            },
+            "rejected plan 1 route 0 walk 1\n",
+        ),
+        (
+            PlanFault::Walk {
+                route: 1,
+                fault: WalkFault::Unknown { at: 2 },
+            },
             "rejected plan 1 route 1 walk 2 at 2\n",
         ),
         (
-            walk(1, WalkFault::Again { at: 3 }),
+            PlanFault::Walk {
+                route: 1,
+                fault: WalkFault::Again { at: 3 },
+            },
             "rejected plan 1 route 1 walk 3 at 3\n",
         ),
         (
-            walk(2, WalkFault::Empty { at: 1 }),
+            PlanFault::Walk {
+                route: 2,
+                fault: WalkFault::Empty { at: 1 },
+            },
             "rejected plan 1 route 2 walk 4 at 1\n",
         ),
         (
-            walk(3, WalkFault::NotStation { at: 10 }),
+            PlanFault::Walk {
+                route: 3,
+                fault: WalkFault::NotStation { at: 10 },
+            },
             "rejected plan 1 route 3 walk 5 at 10\n",
         ),
         (
-            walk(12, WalkFault::Full { at: 4 }),
+            PlanFault::Walk {
+                route: 12,
+                fault: WalkFault::Full { at: 4 },
+            },
             "rejected plan 1 route 12 walk 6 at 4\n",
         ),
         (
-            walk(0, WalkFault::Late { at: 5 }),
+            PlanFault::Walk {
+                route: 0,
+                fault: WalkFault::Late { at: 5 },
+            },
             "rejected plan 1 route 0 walk 7 at 5\n",
         ),
         (
@@ -439,10 +486,8 @@ fn rejected_plans_have_their_lines(rt: HostRuntime) {
             PlanFault::Stray { route: 6, at: 2 },
             "rejected plan 5 route 6 at 2\n",
         ),
-    ];
-    for (fault, line) in cases {
-        let out = rejected_plan_line(alloc, &inst, fault).expect(&rt, "memory");
-        assert_eq!(rt; out.as_slice(), line.as_bytes());
+    ] {
+        assert_lines(&rt, rejected_plan_line(alloc, &inst, fault), line);
     }
 }
 
@@ -450,11 +495,10 @@ fn rejected_plans_have_their_lines(rt: HostRuntime) {
 fn an_instance_and_its_route_have_three_lines(rt: HostRuntime) {
     let alloc = rt.alloc();
     let inst = read_instance(alloc, ONE_STATION.as_bytes()).expect(&rt, "an instance");
-    let cases = [
+    for &(time, lines) in &[
         (Some(43), "nodes 3\ndenominator 2\ntime 43/2\n"),
         (None, "nodes 3\ndenominator 2\ninfeasible\n"),
-    ];
-    for (time, lines) in cases {
+    ] {
         let mut out = Vec::new(alloc);
         push_make_report(alloc, &mut out, &inst, time).expect(&rt, "memory");
         assert_eq!(rt; out.as_slice(), lines.as_bytes());

@@ -3,7 +3,7 @@
 use decimal_import::convert;
 use instance_reader::{Key, Part};
 use std::alloc::{AllocError, Global};
-use std::test::Fail;
+use std::process::Abort;
 
 /// What 1.5 under a key becomes with one digit of times and two of energies. A key that is new here
 /// has to be told of what it is.
@@ -29,10 +29,17 @@ fn object(alloc: Global, name: &str, number: &str) -> Result<String, AllocError>
     format!(in alloc; "{{\"{name}\":{number}}}")
 }
 
+/// A number under a name becomes this one, or the test fails.
+fn assert_becomes(rt: &impl Abort, alloc: Global, name: &str, wanted: &str) {
+    let text = object(alloc, name, "1.5").expect(rt, "memory");
+    let whole = convert(alloc, text.as_bytes(), 1, 2).expect(rt, "a text");
+    let wanted = object(alloc, name, wanted).expect(rt, "memory");
+    assert_eq!(rt; whole.as_slice(), wanted.as_bytes());
+}
+
 #[test]
-fn what_the_reader_reads_as_a_time_or_an_energy_becomes_whole(rt: HostRuntime) -> Result<(), Fail> {
-    let alloc = rt.alloc();
-    let keys = [
+fn what_the_reader_reads_as_a_time_or_an_energy_becomes_whole(rt: HostRuntime) {
+    for &key in &[
         Key::MaxQ,
         Key::Css,
         Key::Breaks,
@@ -43,25 +50,16 @@ fn what_the_reader_reads_as_a_time_or_an_energy_becomes_whole(rt: HostRuntime) -
         Key::MaxT,
         Key::MinQ,
         Key::HomeQ,
-    ];
-    for key in keys {
-        let text = object(alloc, key.name(), "1.5")?;
-        let whole = convert(alloc, text.as_bytes(), 1, 2).expect(&rt, "a text");
-        let wanted = object(alloc, key.name(), under_key(key))?;
-        assert_eq!(rt; whole.as_slice(), wanted.as_bytes());
+    ] {
+        assert_becomes(&rt, rt.alloc(), key.name(), under_key(key));
     }
-    let parts = [
+    for &part in &[
         Part::NodeId,
         Part::TypeName,
         Part::Time,
         Part::Charge,
         Part::Plug,
-    ];
-    for part in parts {
-        let text = object(alloc, part.name(), "1.5")?;
-        let whole = convert(alloc, text.as_bytes(), 1, 2).expect(&rt, "a text");
-        let wanted = object(alloc, part.name(), under_part(part))?;
-        assert_eq!(rt; whole.as_slice(), wanted.as_bytes());
+    ] {
+        assert_becomes(&rt, rt.alloc(), part.name(), under_part(part));
     }
-    Ok(())
 }
