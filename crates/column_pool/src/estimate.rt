@@ -9,6 +9,7 @@ use customer_sets::Pairs;
 use instance_reader::Instance;
 use master_simplex::{Lp, LpFault, solve};
 use master_table::{Caps, Table, TableFault};
+use price_loop::cover_cost;
 use route_plan::RoutePlan;
 use route_pool::{ColumnPool, earning, keeps_pairs, kept_places};
 use std::alloc::{AllocError, Global};
@@ -44,11 +45,11 @@ pub fn estimate_node(
         };
         let further = earning(alloc, inst, pool, &places, lp.weight, &lp.prices)?;
         if !add_at(inst, pairs, pool, &mut table, &further)? {
-            return Ok(cost_of(&lp));
+            return Ok(cover_cost(&lp));
         }
     }
     let lp = optimum(alloc, &mut table)?;
-    Ok(lp.and_then(|lp| cost_of(&lp)))
+    Ok(lp.and_then(|lp| cover_cost(&lp)))
 }
 
 /// The answer of the simplex method; `None` where the numbers grow too wide.
@@ -104,16 +105,4 @@ fn add_if_kept(
         Err(TableFault::Memory) => Err(AllocError),
         Err(TableFault::Wide { .. }) => Ok(false),
     }
-}
-
-/// The price sum over the weight, rounded up; `None` for a ray.
-fn cost_of(lp: &Lp) -> Option<u128> {
-    if lp.weight == 0 {
-        return None;
-    }
-    let mut sum = 0i128;
-    for price in &lp.prices {
-        sum = sum.saturating_add(*price);
-    }
-    Some(sum.unsigned_abs().div_ceil(u128::from(lp.weight)))
 }

@@ -15,7 +15,7 @@ use ev_list::Listed;
 use instance_reader::Instance;
 use pricing::PricedRoute;
 use route_plan::RoutePlan;
-use route_pool::{ColumnPool, keeps_pairs};
+use route_pool::{ColumnPool, keeps_pairs, number_of};
 use std::alloc::{AllocError, Global};
 
 /// A route with the nodes of its customers, in the order in which it serves them, and its scaled
@@ -165,17 +165,4 @@ pub(crate) fn worth(inst: &Instance, of: &[u64], order: &[usize]) -> u128
         sum += u128::from(of[number_of(inst, *node)]);
     }
     sum
-}
-
-/// The number of the customer at a node.
-fn number_of(inst: &Instance, node: usize) -> usize
-    requires known { node < node_count inst.now }
-    requires customer { is_customer inst.now node ≡ true }
-    ensures value { result ≡ customer_number inst.now node }
-    ensures within { result < length (customer_nodes inst.now) }
-{
-    match inst.customer_number(node) {
-        Some(number) => number,
-        None => unreachable!(),
-    }
 }

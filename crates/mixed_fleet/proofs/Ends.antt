@@ -11,6 +11,7 @@ use Rattle.certificate_parts.specs.Limits.{most_items}
 use Rattle.certificate_parts.specs.declared.entry.BasisEntry.{BasisEntry}
 use Rattle.master_simplex.specs.declared.prices.Lp.{Lp}
 use Rattle.piece_fn.specs.declared.label.Label.{Label}
+use Rattle.price_loop.specs.Columns.{HasRoute}
 use Rattle.price_loop.specs.Masters.{IsWide}
 use Rattle.price_loop.specs.Rising.{IsNowhere, IsPricedByRising}
 use Rattle.price_loop.proofs.Optimum.{AreShares, optimum_shares, ray_above}
@@ -28,7 +29,7 @@ use Rattle.mixed_fleet.specs.Once.{served_once}
 use Rattle.mixed_fleet.specs.Problem.{problem_of}
 use Rattle.mixed_fleet.specs.Rising.{AreRisingPrices}
 use Rattle.mixed_fleet.specs.Roots.{IsRightRoot}
-use Rattle.mixed_fleet.specs.Shares.{certificate_caps, HasRoute, IsClosedAt, no_route, share_at}
+use Rattle.mixed_fleet.specs.Shares.{certificate_caps, IsClosedAt, no_route, share_at}
 use Rattle.mixed_fleet.specs.declared.searched.Searched.{Searched}
 use Rattle.mixed_fleet.proofs.Exact.{exact_cover, shares_fit}
 use Rattle.mixed_fleet.proofs.Rises.{are_rising}

@@ -16,11 +16,12 @@ use Rattle.mixed_model.specs.Plans.{time_in}
 use Rattle.mixed_model.specs.Ranges.{RouteFits, ShareFits}
 use Rattle.mixed_model.specs.declared.proof.MixedShare.{MixedShare}
 use Rattle.mixed_model.proofs.Whole.{network_at}
+use Rattle.price_loop.specs.Columns.{HasRoute}
 use Rattle.price_loop.proofs.Optimum.{AreShares, cost_shared, times_shared}
 use Rattle.mixed_fleet.specs.Fleets.{AreFleetKinds}
 use Rattle.mixed_fleet.specs.Problem.{problem_of}
 use Rattle.mixed_fleet.specs.Searched.{IsSearched}
-use Rattle.mixed_fleet.specs.Shares.{certificate_caps, HasRoute, no_route, share_at}
+use Rattle.mixed_fleet.specs.Shares.{certificate_caps, no_route, share_at}
 use Rattle.mixed_fleet.specs.declared.searched.Searched.{Searched}
 use Rattle.mixed_fleet.proofs.Routes.{times_served}
 

@@ -1,5 +1,5 @@
 -- The shares of routes at an optimum of the master problem.
-use Rattle.std.specs.Prelude.{ℕ, ◌+◌, ◌-◌, ◌<◌, ◌≤◌, ◌^◌, List, [], get_or, length}
+use Rattle.std.specs.Prelude.{ℕ, ◌-◌, ◌^◌, List, [], get_or}
 use Rattle.ev_model.specs.Network.{Network}
 use Rattle.master_simplex.specs.declared.prices.Lp.{Lp}
 use Rattle.master_table.specs.Tableau.{Limits}
@@ -28,9 +28,6 @@ no_route = record {
   time = 0;
 }
 
--- the first n columns are helpers; a share is of a route
-abbrev pub HasRoute : ℕ → List Searched → ℕ × ℕ → Type 0
-HasRoute n routes x = (n ≤ x.0) × (x.0 < n + length routes)
-
+-- the first n columns are helpers
 abbrev pub share_at : ℕ → List Searched → ℕ × ℕ → MixedShare
 share_at n routes x = record { share = x.1; route = (get_or routes (x.0 - n) no_route).route }

@@ -2,7 +2,8 @@
 
 ghost use Rattle.std.specs.Prelude.{◌≡◌, IfOk, map};
 ghost use Rattle.std.specs.List.{All};
-ghost use Rattle.mixed_fleet.specs.Shares.{HasRoute, share_at};
+ghost use Rattle.price_loop.specs.Columns.{HasRoute};
+ghost use Rattle.mixed_fleet.specs.Shares.{share_at};
 
 use crate::searched::Searched;
 use mixed_model::{MixedRoute, MixedShare};

@@ -1,10 +1,9 @@
 //! Routes of vehicles of some kind, as they are searched for.
 
-ghost use Rattle.std.specs.Prelude.{◌≡◌, ◌<◌, IfOk, length, map, true};
+ghost use Rattle.std.specs.Prelude.{◌≡◌, ◌<◌, IfOk, map, true};
 ghost use Rattle.std.specs.List.{All};
 ghost use Rattle.ev_model.specs.Network.{is_customer, node_count};
 ghost use Rattle.fleet_model.specs.Places.{customer_number};
-ghost use Rattle.instance_reader.specs.Instance.{customer_nodes};
 ghost use Rattle.route_pool.specs.Pool.{IsColumn};
 ghost use Rattle.mixed_fleet.specs.Searched.{searched_of};
 
@@ -12,6 +11,7 @@ use ev_list::Listed;
 use instance_reader::Instance;
 use mixed_model::MixedRoute;
 use route_plan::RoutePlan;
+use route_pool::number_of;
 use std::alloc::{AllocError, Global};
 
 /// A route of a vehicle of some kind, with the numbers of its customers and its scaled time.
@@ -54,17 +54,4 @@ fn numbers_at(alloc: Global, inst: &Instance, order: &[usize]) -> Result<Vec<usi
         numbers.push(number_of(inst, *node))?;
     }
     Ok(numbers)
-}
-
-/// The number of the customer at a node.
-fn number_of(inst: &Instance, node: usize) -> usize
-    requires known { node < node_count inst.now }
-    requires customer { is_customer inst.now node ≡ true }
-    ensures value { result ≡ customer_number inst.now node }
-    ensures within { result < length (customer_nodes inst.now) }
-{
-    match inst.customer_number(node) {
-        Some(number) => number,
-        None => unreachable!(),
-    }
 }

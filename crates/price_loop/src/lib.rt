@@ -4,6 +4,7 @@
 //! customer by customer bound it all the same.
 #![tactic(auto)]
 
+mod cost;
 mod earners;
 mod ended;
 mod fault;
@@ -12,6 +13,7 @@ mod rising;
 mod rounds;
 mod watcher;
 
+pub use cost::cover_cost;
 pub use earners::{Earned, Earners};
 pub use ended::Ended;
 pub use rising::{Risen, rise, rise_watched};

@@ -1,5 +1,6 @@
 //! Who watches the price loop, and the prices that rise.
 
+use crate::cost::cover_cost;
 use master_simplex::Lp;
 
 /// How far the price loop is.
@@ -52,21 +53,8 @@ pub(crate) fn round_progress(rounds: u64, routes: usize, lp: &Lp) -> RoundProgre
     RoundProgress {
         rounds,
         routes: routes as u64,
-        cost: cost_of(lp),
+        cost: cover_cost(lp),
     }
-}
-
-/// The least cost of a fractional cover, rounded up; `None` where there is none. It is told to who
-/// watches, and nothing rests on it.
-fn cost_of(lp: &Lp) -> Option<u128> {
-    if lp.weight == 0 {
-        return None;
-    }
-    let mut sum: i128 = 0;
-    for price in &lp.prices {
-        sum = sum.saturating_add(*price);
-    }
-    Some(sum.unsigned_abs().div_ceil(u128::from(lp.weight)))
 }
 
 /// How far the prices are where those of so many customers are fixed, and the later ones are 0.

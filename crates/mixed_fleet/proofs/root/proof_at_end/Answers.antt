@@ -9,7 +9,8 @@ use Rattle.mixed_model.specs.declared.proof.MixedRoot.TheVariants.{Exact}
 use Rattle.mixed_model.specs.declared.proof.MixedShare.{MixedShare}
 use Rattle.mixed_plan.proofs.KindNumbers.{kind_is}
 use Rattle.mixed_fleet.specs.Roots.{IsRightRoot}
-use Rattle.mixed_fleet.specs.Shares.{HasRoute, share_at}
+use Rattle.price_loop.specs.Columns.{HasRoute}
+use Rattle.mixed_fleet.specs.Shares.{share_at}
 use Rattle.mixed_fleet.proofs.Ends.{exact_root, exact_sum, ray_sum, shares_placed}
 use Rattle.mixed_fleet.proofs.root.proof_at_end.Goals as goal
 

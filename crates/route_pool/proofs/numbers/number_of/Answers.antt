@@ -1,5 +1,5 @@
 use Rattle.fleet_model.proofs.Numbers.{numbered}
-use Rattle.mixed_fleet.proofs.searched.number_of.Goals as goal
+use Rattle.route_pool.proofs.numbers.number_of.Goals as goal
 
 pub returns-clause-value : goal.returns-clause-value
 returns-clause-value c = numbered c.args.inst.now c.in-Some.number c.args.node c.in-Some.ensures.value.1
