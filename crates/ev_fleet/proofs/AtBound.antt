@@ -1,12 +1,9 @@
 -- Where the plans of an exact root are a fleet plan, each has all of its customers' shares, and together they cost the price sum
 -- over the weight.
-use Rattle.std.proofs.Common.{◌≡◌, ◌≢◌, ◌∙◌, ℕ, suc, ◌+◌, ◌*◌, ◌/◌, ◌<◌, ◌≤◌, true, List, [], ◌∷◌, map, refl, sym, ap, arith}
-use Rattle.std.specs.Prelude.{ℤ, pos, negsuc, neg_ℤ, ◌*ℤ◌}
+use Rattle.std.proofs.Common.{◌≡◌, ◌≢◌, ◌∙◌, ℕ, ◌+◌, ◌*◌, ◌<◌, ◌≤◌, true, List, [], ◌∷◌, map, refl, sym, ap, arith}
+use Rattle.std.specs.Prelude.{pos}
 use Rattle.std.specs.List.{All}
-use Rattle.std.proofs.Math.IntN.{negsuc-*ℤ-pos}
-use Rattle.std.proofs.Math.Nat.{mul-div_right}
 use Rattle.std.proofs.lemmas.Bool.{eq-eqb}
-use Rattle.std.proofs.lemmas.Int.{ints}
 use Rattle.std.proofs.lemmas.List.Elements.{All-head, All-tail}
 use Rattle.ev_model.specs.Fleet.{all_customers, cost_of, customers_of, IsFleetPlan, times_in}
 use Rattle.ev_model.specs.Network.{is_customer, Network, node_count}
@@ -20,6 +17,7 @@ use Rattle.fleet_model.proofs.Counts.{AreCustomers, times_append}
 use Rattle.fleet_model.proofs.Fleets.{plan_below}
 use Rattle.fleet_model.proofs.Plans.{filtered}
 use Rattle.fleet_model.proofs.Weighed.{AreBelow}
+use Rattle.price_bounds.proofs.RoundedSums.{cancelled}
 
 abbrev pub plans_in : List Share → List (List Stop)
 plans_in shares = map (λ x. x.plan) shares
@@ -69,18 +67,6 @@ shares_cost g over (x ∷ shares) feasible some once covers =
     let left : x.share * 0 + shares_of g shares n ≡ over = rw zero_here at all in
     omega (arith, left)) in
     rw whole (omega (arith, rest))
-
-same_factor : (over a b : ℕ) → 1 ≤ over → over * a ≡ over * b → a ≡ b
-same_factor over a b some same = sym (mul-div_right a {m = over} some) ∙ ap (λ x. x / over) same ∙ mul-div_right b {m = over} some
-
-cancelled : (over cost : ℕ) (sum : ℤ) → 1 ≤ over → pos (over * cost) ≡ sum *ℤ pos over → sum ≡ pos cost
-cancelled over cost (pos p) some same =
-    let product : over * cost ≡ over * p = omega (arith, ints, same) in
-    ap pos (same_factor over p cost some (sym product))
-cancelled over cost (negsuc p) some same =
-    let product : pos (over * cost) ≡ neg_ℤ (pos (suc p * over)) = same ∙ negsuc-*ℤ-pos p over in
-    let parts : suc p * over ≡ p * over + over = omega arith in
-    absurd (omega (arith, ints, product, parts, some))
 
 pub costs_bound : (g : Network) (s : Section) (over : ℕ) (shares : List Share) → IsExactRoot g s over shares → IsFleetPlan g 1 (plans_in shares) → sum_of s.prices ≡ pos (s.weight * cost_of g 1 (plans_in shares))
 costs_bound g s over shares exact fleet =

@@ -1,53 +1,46 @@
 -- A fleet plan whose routes are in rising order may be held: it may be written as text.
-use Rattle.std.proofs.Common.{◌≡◌, ◌≢◌, ℕ, zero, suc, ◌+◌, ◌<◌, ◌≤◌, List, [], ◌∷◌, length, get_or, map, refl, ap, arith, add-one}
-use Rattle.std.specs.Prelude.{slice_index}
+use Rattle.std.proofs.Common.{◌≢◌, ℕ, ◌<◌, ◌≤◌, List, [], length, get_or, map, subst, arith}
 use Rattle.std.specs.List.{All}
-use Rattle.std.specs.List.Sorted.{IsStrictlyIncreasing}
-use Rattle.std.proofs.lemmas.List.{length-map}
-use Rattle.std.proofs.lemmas.List.Elements.{All-map}
+use Rattle.std.specs.List.Sorted.{IsNonDecreasingBy, IsStrictlyIncreasing}
+use Rattle.std.proofs.lemmas.List.{get_or-map, length-map}
+use Rattle.std.proofs.lemmas.List.Elements.{All-get_or}
 use Rattle.ev_model.specs.Feasible.{IsFeasible}
-use Rattle.ev_model.specs.Fleet.{IsFleetPlan, customers_of}
+use Rattle.ev_model.specs.Fleet.{IsFleetPlan, ServesOnly, customers_of}
 use Rattle.ev_model.specs.Network.{IsNetwork, Network, node_count}
+use Rattle.ev_model.specs.declared.Stop.{Stop}
 use Rattle.fleet_model.proofs.Fleets.{plan_below}
-use Rattle.fleet_model.proofs.Weighed.{AreBelow}
 use Rattle.plan_check.specs.FleetRules.{stops_of}
 use Rattle.route_plan.specs.declared.plan.FleetPlan.{FleetPlan}
 use Rattle.route_plan.specs.declared.plan.RoutePlan.{RoutePlan}
 use Rattle.feasible_texts.proofs.PlanRanges.{feasible_fits}
-use Rattle.ev_fleet.specs.Plans.{IsHeld, first_customer, first_or_depot}
-use Rattle.ev_fleet.proofs.FirstCustomers.{at_route}
+use Rattle.rising_routes.specs.FirstCustomers.{first_outside}
+use Rattle.rising_routes.proofs.FirstCustomers.{AreApart, few_routes, firsts_rise as rise_in_order}
+use Rattle.ev_fleet.specs.Plans.{IsHeld, first_customer}
 
--- ---- there are not more routes than nodes
+abbrev stops_in : RoutePlan → List Stop
+stops_in p = p.stops
 
-above_place : (xs : List ℕ) → IsStrictlyIncreasing xs → (k : ℕ) → k < length xs → k ≤ slice_index xs k
-above_place xs rising zero within = omega arith
-above_place xs rising (suc k) within =
-    let before = above_place xs rising k (omega (arith, within)) in
-    let step : slice_index xs k < slice_index xs (k + 1) = rising k (omega (arith, within)) in
-    let same : slice_index xs (k + 1) ≡ slice_index xs (suc k) = ap (λ n. slice_index xs n) (add-one k) in
-    omega (arith, before, step, same)
+-- what holds of the stops of all routes holds at each
+at_route : (P : List Stop → Type 0) (ps : List RoutePlan) (k : ℕ) (d : RoutePlan) → k < length ps → All P (stops_of ps) → P (get_or ps k d).stops
+at_route P ps k d within all =
+    let long : k < length (stops_of ps) = rw length-map within in
+    subst P (get_or-map stops_in ps k d d.stops within) (All-get_or P (stops_of ps) k d.stops long all)
 
-few_rising : (xs : List ℕ) (n : ℕ) → IsStrictlyIncreasing xs → All (λ x. x < n) xs → length xs ≤ n
-few_rising [] n rising below = omega arith
-few_rising (x ∷ xs) n rising below =
-    let last = above_place (x ∷ xs) rising (length xs) (omega arith) in
-    let small : slice_index (x ∷ xs) (length xs) < n = below (length xs) 0 (omega arith) in
-    omega (arith, last, small)
+are_apart : (g : Network) (ps : List RoutePlan) → IsFleetPlan g 1 (stops_of ps) → AreApart stops_in g ps
+are_apart g ps fleet = record {
+  some = λ k d within. at_route (λ stops. customers_of g stops ≢ []) ps k d within fleet.some;
+  only = λ k d within. at_route (ServesOnly g) ps k d within fleet.only;
+  below = λ k d within. plan_below g 1 g.capacity (get_or ps k d).stops (at_route (IsFeasible g 1 g.capacity) ps k d within fleet.feasible);
+  once = λ x less is. (let one = fleet.once x less is in omega (arith, one));
+}
 
-first_below : (n : ℕ) (xs : List ℕ) → AreBelow n xs → xs ≢ [] → first_or_depot xs < n
-first_below n [] are some = absurd (some refl)
-first_below n (x ∷ xs) are some = are.0
-
-firsts_below : (g : Network) (ps : List RoutePlan) → IsFleetPlan g 1 (stops_of ps) → All (λ x. x < node_count g) (map (first_customer g) ps)
-firsts_below g ps fleet = All-map (λ x. x < node_count g) (first_customer g) ps (λ k d within.
-    let p = get_or ps k d in
-    first_below (node_count g) (customers_of g p.stops) (plan_below g 1 g.capacity p.stops (at_route (IsFeasible g 1 g.capacity) ps k d within fleet.feasible))
-    (at_route (λ stops. customers_of g stops ≢ []) ps k d within fleet.some))
+-- routes of a fleet plan in order of these stops are in rising order of their first customers
+pub firsts_rise : (g : Network) (ps : List RoutePlan) → IsFleetPlan g 1 (stops_of ps) → IsNonDecreasingBy (λ (p : RoutePlan). first_outside p.stops) ps → IsStrictlyIncreasing (map (first_customer g) ps)
+firsts_rise g ps fleet up = rise_in_order stops_in g ps (are_apart g ps fleet) up
 
 pub may_hold : (g : Network) (plan : FleetPlan) → IsNetwork g → IsFleetPlan g 1 (stops_of plan.routes) → IsStrictlyIncreasing (map (first_customer g) plan.routes) → IsHeld g plan
 may_hold g plan network fleet order =
-    let few : length (map (first_customer g) plan.routes) ≤ node_count g = few_rising (map (first_customer g) plan.routes) (node_count g) order (firsts_below g plan.routes fleet) in
-    let routes : length plan.routes ≤ node_count g = rw length-map at few in
+    let routes : length plan.routes ≤ node_count g = few_routes stops_in g plan.routes (are_apart g plan.routes fleet) order in
     record {
       fleet = fleet;
       order = order;

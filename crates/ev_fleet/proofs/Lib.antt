@@ -25,7 +25,6 @@ pub mod AssembledOutcomes
 pub mod PromisingNodes
 pub mod AtBound
 pub mod Whole
-pub mod FirstCustomers
 pub mod HeldPlans
 pub mod Permuted
 pub mod Owned

@@ -1,22 +1,11 @@
 -- A section has one bound, and what it says of the bounds of leaves.
-use Rattle.std.proofs.Common.{◌≡◌, ◌∙◌, ℕ, ◌+◌, ◌*◌, ◌≤◌, Option, Some, None, inl, inr, refl, sym, ap, arith, mul-le-mul_right}
-use Rattle.std.specs.Prelude.{ℤ}
+use Rattle.std.proofs.Common.{◌≡◌, ◌∙◌, ℕ, ◌*◌, ◌≤◌, Option, Some, None, inl, inr, refl, sym, ap, arith, mul-le-mul_right}
 use Rattle.std.proofs.lemmas.Int.{ints}
-use Rattle.std.proofs.lemmas.Bool.{cases_lt}
 use Rattle.fleet_model.specs.Prices.{sum_of}
 use Rattle.fleet_model.specs.Section.{Section}
 use Rattle.fleet_model.specs.Tree.{IsBoundedBy}
-use Rattle.ev_fleet.specs.Bounds.{IsAtMost, IsBoundOf, IsRoundedUp}
-
-no_higher : (sum : ℤ) (weight b c : ℕ) → IsRoundedUp sum weight b → IsRoundedUp sum weight c → c ≤ b
-no_higher sum weight b c first second = elim (cases_lt b c) [
-  | inl less ↦
-      let up : (b + 1) * weight ≤ c * weight = mul-le-mul_right weight (omega (arith, less)) in
-      let enough = first.enough in
-      let least = second.least in
-      absurd (omega (arith, ints, up, enough, least))
-  | inr le ↦ le
-]
+use Rattle.price_bounds.proofs.RoundedSums.{rounded_is_one}
+use Rattle.ev_fleet.specs.Bounds.{IsAtMost, IsBoundOf}
 
 pub bound_is_one : (s : Section) (b c : Option ℕ) → IsBoundOf s b → IsBoundOf s c → b ≡ c
 bound_is_one s None None first second = refl
@@ -30,10 +19,7 @@ bound_is_one s (Some b) None first second = absurd (elim first [
 ])
 bound_is_one s (Some b) (Some c) first second = elim first [
   | inl some ↦ elim second [
-    | inl other ↦
-        let le = no_higher (sum_of s.prices) s.weight b c some.1 other.1 in
-        let ge = no_higher (sum_of s.prices) s.weight c b other.1 some.1 in
-        ap Some (omega (arith, le, ge))
+    | inl other ↦ ap Some (rounded_is_one (sum_of s.prices) s.weight b c some.1 other.1)
     | inr none ↦ absurd (omega (arith, some.0, none.0))
   ]
   | inr none ↦ elim second [

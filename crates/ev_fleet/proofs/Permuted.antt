@@ -4,17 +4,11 @@ use Rattle.std.specs.List.Sorted.{IsPermutation}
 use Rattle.std.proofs.lemmas.List.Sums.{sum_by-cons}
 use Rattle.std.proofs.lemmas.List.Sorted.{All-permutation, sum_by-IsPermutation}
 use Rattle.ev_model.specs.Feasible.{IsFeasible}
-use Rattle.ev_model.specs.Fleet.{IsFleetPlan, ServesOnly, all_customers, cost_of, customers_of, times_in}
+use Rattle.ev_model.specs.Fleet.{IsFleetPlan, ServesOnly, cost_of, customers_of}
 use Rattle.ev_model.specs.Network.{Network}
 use Rattle.ev_model.specs.Time.{time_of}
 use Rattle.ev_model.specs.declared.Stop.{Stop}
-use Rattle.fleet_model.proofs.Counts.{times_append}
-
-times_summed : (g : Network) (plans : List (List Stop)) (x : ℕ) → times_in (all_customers g plans) x ≡ sum_by (λ stops. times_in (customers_of g stops) x) plans
-times_summed g [] x = refl
-times_summed g (p ∷ ps) x =
-    let more = sum_by-cons (λ stops. times_in (customers_of g stops) x) p ps in
-    omega (arith, times_append (customers_of g p) (all_customers g ps) x, times_summed g ps x, more)
+use Rattle.rising_routes.proofs.RouteOrders.{permuted_times}
 
 cost_summed : (g : Network) (k : ℕ) (plans : List (List Stop)) → cost_of g k plans ≡ sum_by (λ stops. time_of g k g.capacity stops) plans
 cost_summed g k [] = refl
@@ -30,6 +24,5 @@ permuted_fleet g k xs ys same fleet = record {
   feasible = All-permutation (IsFeasible g k g.capacity) xs ys same fleet.feasible;
   some = All-permutation (λ stops. customers_of g stops ≢ []) xs ys same fleet.some;
   only = All-permutation (ServesOnly g) xs ys same fleet.only;
-  once = λ node known is.
-      times_summed g ys node ∙ sum_by-IsPermutation (λ stops. times_in (customers_of g stops) node) xs ys same ∙ sym (times_summed g xs node) ∙ fleet.once node known is;
+  once = λ node known is. permuted_times g node xs ys same ∙ fleet.once node known is;
 }

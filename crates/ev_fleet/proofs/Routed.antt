@@ -10,9 +10,9 @@ use Rattle.column_pool.specs.Bounds.{plans_of}
 use Rattle.plan_check.specs.FleetRules.{stops_of}
 use Rattle.route_plan.specs.declared.plan.FleetPlan.{FleetPlan}
 use Rattle.route_plan.specs.declared.plan.RoutePlan.{RoutePlan}
-use Rattle.ev_fleet.specs.SameRoutes.{IsPlanOf, first_outside}
-use Rattle.ev_fleet.proofs.FirstCustomers.{firsts_rise}
-use Rattle.ev_fleet.proofs.HeldPlans.{may_hold}
+use Rattle.rising_routes.specs.FirstCustomers.{first_outside}
+use Rattle.ev_fleet.specs.SameRoutes.{IsPlanOf}
+use Rattle.ev_fleet.proofs.HeldPlans.{firsts_rise, may_hold}
 use Rattle.ev_fleet.proofs.Permuted.{permuted_cost, permuted_fleet}
 
 pub stops_of_shares : (shares : List Share) → stops_of (map (λ (x : Share). x.plan) shares) ≡ plans_of shares

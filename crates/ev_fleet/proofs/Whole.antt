@@ -1,9 +1,7 @@
 -- The plan that is held costs no more than whole shares, also later in the search.
-use Rattle.std.proofs.Common.{◌≡◌, ◌∙◌, ℕ, ◌+◌, ◌*◌, ◌≤◌, List, [], ◌∷◌, ◌++◌, Option, Some, None, inl, inr, refl, sym, ap, subst, arith, mul-le-mul_right}
-use Rattle.std.specs.Prelude.{ℤ, pos}
+use Rattle.std.proofs.Common.{◌≡◌, ◌∙◌, ℕ, ◌*◌, ◌≤◌, List, [], ◌∷◌, ◌++◌, Option, Some, None, inl, inr, refl, sym, ap, subst, arith}
+use Rattle.std.specs.Prelude.{pos}
 use Rattle.std.specs.List.{All}
-use Rattle.std.proofs.lemmas.Bool.{cases_lt}
-use Rattle.std.proofs.lemmas.Int.{ints}
 use Rattle.std.proofs.lemmas.List.Elements.{All-push, All-weaker}
 use Rattle.ev_model.specs.Fleet.{IsFleetPlan, cost_of}
 use Rattle.ev_model.specs.Network.{Network}
@@ -16,27 +14,18 @@ use Rattle.bound_certificate.specs.declared.certificate.Section.{Section}
 use Rattle.bound_certificate.specs.declared.certificate.Share.{Share}
 use Rattle.column_pool.specs.Bounds.{IsNodeBound, plans_of}
 use Rattle.ev_fleet.specs.Answers.{answer_of, shares_in}
-use Rattle.ev_fleet.specs.Bounds.{IsAtMost, IsRoundedUp}
+use Rattle.price_bounds.proofs.RoundedSums.{rounded_is_cost}
+use Rattle.ev_fleet.specs.Bounds.{IsAtMost}
 use Rattle.ev_fleet.specs.Whole.{IsNoDearer, ReachesCost, ReachesWhole, TakesShares}
 use Rattle.ev_fleet.proofs.AtBound.{costs_bound, plans_in}
 use Rattle.ev_fleet.proofs.Bounds.{most_most}
-
--- a plan that costs the price sum over the weight costs no more than the bound
-at_bound : (sum : ℤ) (weight cost bound : ℕ) → 1 ≤ weight → sum ≡ pos (weight * cost) → IsRoundedUp sum weight bound → cost ≤ bound
-at_bound sum weight cost bound some same rounded = elim (cases_lt bound cost) [
-  | inl less ↦
-      let up : (bound + 1) * weight ≤ cost * weight = mul-le-mul_right weight (omega (arith, less)) in
-      let enough = rounded.enough in
-      absurd (omega (arith, ints, up, enough, same, some))
-  | inr le ↦ le
-]
 
 pub plan_reaches : (s : Section) (plan : ℕ) (cost : Option ℕ) → 1 ≤ s.weight → sum_of s.prices ≡ pos (s.weight * plan) → IsAtMost cost (Some plan) → ReachesCost cost s
 plan_reaches s plan cost some same low None bounds = tt
 plan_reaches s plan cost some same low (Some own) bounds = elim bounds [
   | inl rounded ↦
-      let le : plan ≤ own = at_bound (sum_of s.prices) s.weight plan own some same rounded.1 in
-      let most : IsAtMost (Some plan) (Some own) = le in
+      let is : own ≡ plan = rounded_is_cost (sum_of s.prices) s.weight plan own some same rounded.1 in
+      let most : IsAtMost (Some plan) (Some own) = omega (arith, is) in
       most_most cost (Some plan) (Some own) low most
   | inr none ↦ let zero = none.0 in absurd (omega (arith, some, zero))
 ]

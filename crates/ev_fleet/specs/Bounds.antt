@@ -1,14 +1,10 @@
 -- The bound of a section, and which of two bounds is above the other.
-use Rattle.std.specs.Prelude.{◌≡◌, ◌⊎◌, ℕ, ◌*◌, ◌≤◌, ℤ, pos, ◌+ℤ◌, ◌<ℤ◌, ◌≤ℤ◌, List, Option, Some, None, slice_get}
+use Rattle.std.specs.Prelude.{◌≡◌, ◌⊎◌, ℕ, ◌≤◌, pos, ◌≤ℤ◌, List, Option, Some, None, slice_get}
 use Rattle.fleet_model.specs.Prices.{sum_of}
 use Rattle.fleet_model.specs.Section.{Section as PricedSection, ShowsNoPlan}
 use Rattle.bound_certificate.specs.Meaning.{priced_section}
 use Rattle.bound_certificate.specs.declared.certificate.Section.{Section}
-
--- the sum over the weight, rounded up, is the bound
-pub record IsRoundedUp (sum : ℤ) (weight bound : ℕ) : Type 0 where
-  pub enough : sum ≤ℤ pos (bound * weight)
-  pub least : pos (bound * weight) <ℤ (sum +ℤ pos weight)
+use Rattle.price_bounds.specs.RoundedUp.{IsRoundedUp}
 
 -- The bound of a section: the price sum over the weight, rounded up, where the weight is above 0. Where it is 0, there
 -- is none where the price sum is above 0, which says that there is no plan, and else it is 0.

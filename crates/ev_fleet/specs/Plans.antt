@@ -2,7 +2,7 @@
 use Rattle.std.specs.Prelude.{◌≡◌, ℕ, ◌*◌, ◌≤◌, List, [], ◌∷◌, Option, Some, map, option_map}
 use Rattle.std.specs.List.Sorted.{IsStrictlyIncreasing}
 use Rattle.ev_model.specs.Feasible.{IsFeasible}
-use Rattle.ev_model.specs.Fleet.{IsFleetPlan, cost_of, customers_of}
+use Rattle.ev_model.specs.Fleet.{IsFleetPlan, cost_of}
 use Rattle.ev_model.specs.Network.{Network}
 use Rattle.ev_model.specs.Route.{FollowsRoute}
 use Rattle.ev_model.specs.declared.Stop.{Stop}
@@ -11,14 +11,11 @@ use Rattle.route_plan.specs.PlanTexts.{FitsFile}
 use Rattle.route_plan.specs.declared.plan.FleetPlan.{FleetPlan}
 use Rattle.route_plan.specs.declared.plan.RoutePlan.{RoutePlan}
 use Rattle.plan_check.specs.FleetRules.{stops_of}
-
-abbrev pub first_or_depot : List ℕ → ℕ
-first_or_depot [] = 0
-first_or_depot (node ∷ nodes) = node
+use Rattle.rising_routes.specs.FirstCustomers.{first_customer_of}
 
 -- the node of the first customer of a route, and 0 where it has none
 abbrev pub first_customer : Network → RoutePlan → ℕ
-first_customer g p = first_or_depot (customers_of g p.stops)
+first_customer g p = first_customer_of g p.stops
 
 -- a fleet plan with its routes in rising order of their first customers, which may be written as text
 pub record IsHeld (g : Network) (plan : FleetPlan) : Type 0 where

@@ -46,15 +46,12 @@ fn candidate_at(
 {
     let (order, plan) = pool.route_at(at)?;
     let time = walk(inst, inst.max_q(), plan.stops.as_slice()).ok()?.time;
-    let mut excess = i128::from(time).saturating_mul(i128::from(section.weight));
-    let mut served = CustSet::empty();
+    let mut candidate = Candidate::at_cost(time, section.weight);
     for node in order {
         let number = number_of(inst, *node)?;
-        served = served.with(number);
-        let price = section.prices.as_slice().get(number).copied()?;
-        excess = excess.saturating_sub(price);
+        candidate = candidate.serving(number, section.prices.as_slice());
     }
-    Some(Candidate { served, excess })
+    Some(candidate)
 }
 
 /// The number of the customer at a node.

@@ -11,7 +11,7 @@ use bound_certificate::Section;
 use column_pool::ColumnPool;
 use instance_reader::Instance;
 use route_plan::FleetPlan;
-use set_partitioning::find_partition;
+use set_partitioning::{find_partition, room_below};
 use std::alloc::{AllocError, Global};
 
 /// A fleet plan of the pool's routes that is cheaper than the cost, if one is found before so many
@@ -28,7 +28,7 @@ pub(crate) fn plan_of_pool(
     requires few { length (customer_nodes inst.now) ≤ most_customers }
     ensures { IfOk result (λ found. IfSome found (IsHeld inst.now)) }
 {
-    let room = room_of(section, cost);
+    let room = room_below(cost, section.weight, section.prices.as_slice());
     if looks == 0 || room < i128::from(section.weight) {
         return Ok(None);
     }
@@ -44,18 +44,4 @@ pub(crate) fn plan_of_pool(
         }
     }
     Ok(plan_of_routes(inst, routes))
-}
-
-/// What the excess of the routes of a plan that is cheaper is below, together: the cost times the
-/// weight less the prices.
-fn room_of(section: &Section, cost: Option<u128>) -> i128 {
-    let Some(cost) = cost else {
-        return i128::MAX;
-    };
-    let mut room = i128::try_from(cost).unwrap_or(i128::MAX);
-    room = room.saturating_mul(i128::from(section.weight));
-    for price in section.prices.as_slice() {
-        room = room.saturating_sub(*price);
-    }
-    room
 }

@@ -1,16 +1,16 @@
 //! The bounds of sections.
 
-ghost use Rattle.std.specs.Prelude.{◌≡◌, ◌^◌, ◌≤◌, pos, ◌≤ℤ◌, IfSome, length, unsigned_abs};
+ghost use Rattle.std.specs.Prelude.{◌≡◌, ◌≤◌, pos, ◌≤ℤ◌, IfSome, length};
 ghost use Rattle.std.specs.List.{All};
 ghost use Rattle.bound_certificate.specs.Limits.{greatest_bound};
 ghost use Rattle.bound_certificate.specs.Meaning.{priced_section};
 ghost use Rattle.bound_certificate.specs.Ranges.{IsPrice};
 ghost use Rattle.fleet_model.specs.Prices.{sum_of};
-ghost use Rattle.ev_fleet.specs.Bounds.{IsBoundOf, IsRoundedUp};
+ghost use Rattle.ev_fleet.specs.Bounds.{IsBoundOf};
 ghost use Rattle.ev_fleet.specs.State.{greater_of};
 
 use bound_certificate::Section;
-use certificate_check::price_total;
+use price_bounds::{price_sum, rounded_up};
 
 /// The bound of a section: its price sum over its weight, rounded up, where the weight is above 0;
 /// `None`, that there is no plan, where the weight is 0 and the price sum above 0; and else 0.
@@ -21,33 +21,11 @@ pub(crate) fn bound_of(section: &Section) -> Option<u128>
     ensures bound { IsBoundOf (priced_section section.now) result }
     ensures small { IfSome result (λ bound. bound ≤ greatest_bound) }
 {
-    let sum = sum_of_prices(section.prices.as_slice());
+    let sum = price_sum(section.prices.as_slice());
     if section.weight == 0 {
         return if sum == 0 { Some(0) } else { None };
     }
-    Some(rounded_up(sum, u128::from(section.weight)))
-}
-
-/// The sum over the weight, rounded up.
-fn rounded_up(sum: u128, weight: u128) -> u128
-    requires some { 1 ≤ weight }
-    requires small { sum ≤ 2 ^ 91 }
-    requires light { weight ≤ 2 ^ 64 }
-    ensures rounded { IsRoundedUp (pos sum) weight result }
-    ensures small { result ≤ 2 ^ 91 }
-{
-    sum.div_ceil(weight)
-}
-
-/// The sum of all prices, where it isn't below 0.
-fn sum_of_prices(prices: &[i128]) -> u128
-    requires few { length prices.now ≤ 128 }
-    requires small { All IsPrice prices.now }
-    requires some { pos 0 ≤ℤ sum_of prices.now }
-    ensures value { pos result ≡ sum_of prices.now }
-    ensures small { result ≤ 2 ^ 91 }
-{
-    price_total(prices).unsigned_abs()
+    Some(rounded_up(sum, section.weight))
 }
 
 /// Of two sections the number of the one with the greater bound, and this bound: of the one with

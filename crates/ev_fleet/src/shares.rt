@@ -1,18 +1,17 @@
 //! The fleet plan that routes with shares are.
 
 ghost use Rattle.std.specs.Prelude.{◌≡◌, ◌≤◌, map, length, IfOk, MatchOption};
-ghost use Rattle.std.specs.List.Sorted.{IsNonDecreasingBy, IsPermutation};
 ghost use Rattle.ev_model.specs.Fleet.{IsFleetPlan};
 ghost use Rattle.instance_reader.specs.Instance.{customer_nodes, most_customers};
-ghost use Rattle.route_plan.specs.declared.plan.RoutePlan.{RoutePlan};
 ghost use Rattle.column_pool.specs.Bounds.{plans_of};
 ghost use Rattle.plan_check.specs.FleetRules.{stops_of};
-ghost use Rattle.ev_fleet.specs.SameRoutes.{IsPlanOf, first_outside};
+ghost use Rattle.ev_fleet.specs.SameRoutes.{IsPlanOf};
 
 use bound_certificate::Share;
 use ev_list::Listed;
 use instance_reader::Instance;
 use plan_check::{check_fleet, fleet_plans_break_no_rule};
+use rising_routes::sort_by_first;
 use route_plan::{FleetPlan, RoutePlan};
 use std::alloc::{AllocError, Global};
 
@@ -61,25 +60,4 @@ fn routes_of(alloc: Global, shares: &[Share]) -> Result<Vec<RoutePlan>, AllocErr
         routes.push(share.plan.copy(alloc)?)?;
     }
     Ok(routes)
-}
-
-/// Sorts the routes by the nodes of their first stops outside the depot that weren't inserted.
-fn sort_by_first(routes: &mut Vec<RoutePlan>)
-    ensures same { IsPermutation routes.old.items routes.new.items }
-    ensures order { IsNonDecreasingBy (λ (p : RoutePlan). first_outside p.stops) routes.new.items }
-{
-    routes.sort_unstable_by_key(|route| first_outside(route));
-}
-
-/// The node of the first stop outside the depot that wasn't inserted, and 0 where there is none.
-fn first_outside(plan: &RoutePlan) -> usize
-    ensures { result ≡ first_outside plan.now.stops }
-{
-    let stops = plan.stops.as_slice();
-    for stop in stops {
-        if !stop.via && stop.node != 0 {
-            return stop.node;
-        }
-    }
-    0
 }

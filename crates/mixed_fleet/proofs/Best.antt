@@ -21,7 +21,7 @@ use Rattle.mixed_fleet.specs.Roots.{IsRightRoot}
 module _ (kinds : List Network) (p : MixedProof) where
   bounded : (bound : Option ℕ) → IsBoundOf p.weight p.prices bound → IsBoundedBy (section_of p 0) bound
   bounded None is = is
-  bounded (Some b) is = inl is.least
+  bounded (Some b) is = inl is.1.least
 
   root_fits : (r : MixedRoot) → IsRightRoot kinds p.weight p.prices r → RootFits (length kinds) (customer_count (first_of kinds)) r
   root_fits root.None is = tt
@@ -39,7 +39,7 @@ module _ (kinds : List Network) (p : MixedProof) where
 
   no_bound : (bound : Option ℕ) → IsBoundOf p.weight p.prices bound → p.weight ≡ 0 → bound ≡ None
   no_bound None is none = refl
-  no_bound (Some b) is none = absurd (let some = is.some_weight in omega (arith, none, some))
+  no_bound (Some b) is none = absurd (let some = is.0 in omega (arith, none, some))
 
   root_is : (r : MixedRoot) → IsBoundOf p.weight p.prices p.bound → IsRightRoot kinds p.weight p.prices r → IsRootOf kinds p r
   root_is root.None bound is = no_bound p.bound bound is.0

@@ -1,12 +1,8 @@
 -- Where each route of an exact root has its whole share, they are a plan at exactly the bound.
-use Rattle.std.proofs.Common.{◌≡◌, ◌≢◌, ◌∙◌, ℕ, suc, ◌+◌, ◌*◌, ◌/◌, ◌<◌, ◌≤◌, List, [], ◌∷◌, ◌++◌, Option, Some, None, length, map, sym, ap, subst, arith, inl, inr, mul-le-mul_right}
-use Rattle.std.specs.Prelude.{ℤ, pos, negsuc, neg_ℤ, ◌*ℤ◌}
+use Rattle.std.proofs.Common.{◌≡◌, ◌≢◌, ◌∙◌, ℕ, ◌+◌, ◌*◌, ◌<◌, ◌≤◌, List, [], ◌∷◌, ◌++◌, Option, Some, None, length, map, sym, ap, subst, arith}
+use Rattle.std.specs.Prelude.{ℤ, pos}
 use Rattle.std.specs.List.{All}
 use Rattle.std.specs.List.Sorted.{IsNonDecreasingBy, IsPermutation}
-use Rattle.std.proofs.Math.IntN.{negsuc-*ℤ-pos}
-use Rattle.std.proofs.Math.Nat.{mul-div_right}
-use Rattle.std.proofs.lemmas.Bool.{cases_lt}
-use Rattle.std.proofs.lemmas.Int.{ints}
 use Rattle.std.proofs.lemmas.List.Elements.{All-cons, All-head, All-nil, All-tail}
 use Rattle.std.proofs.lemmas.List.Sorted.{IsPermutation-map}
 use Rattle.ev_model.specs.Fleet.{all_customers, customers_of, ServesOnly, times_in}
@@ -26,10 +22,12 @@ use Rattle.mixed_model.specs.declared.proof.MixedRoute.{MixedRoute}
 use Rattle.mixed_model.specs.declared.proof.MixedShare.{MixedShare}
 use Rattle.mixed_model.proofs.AgreeingNetworks.{same_customers}
 use Rattle.mixed_model.proofs.Known.{plan_known}
+use Rattle.price_bounds.proofs.RoundedSums.{cancelled, rounded_is_cost, same_factor}
+use Rattle.rising_routes.specs.FirstCustomers.{first_outside}
 use Rattle.mixed_fleet.specs.Fleets.{AreFleetKinds}
 use Rattle.mixed_fleet.specs.Plans.{cost_of_routes}
-use Rattle.mixed_fleet.specs.Proofs.{IsBestProof, IsBoundOf, IsRoundedUp}
-use Rattle.mixed_fleet.specs.Whole.{AreWhole, first_outside, IsAtBound}
+use Rattle.mixed_fleet.specs.Proofs.{IsBestProof, IsBoundOf}
+use Rattle.mixed_fleet.specs.Whole.{AreWhole, IsAtBound}
 use Rattle.mixed_fleet.proofs.Firsts.{may_hold}
 use Rattle.mixed_fleet.proofs.Once.{agrees_at}
 use Rattle.mixed_fleet.proofs.RouteOrders.{permuted_cost, permuted_plan}
@@ -39,38 +37,6 @@ route_in x = x.route
 
 abbrev routes_in : List MixedShare → List MixedRoute
 routes_in shares = map route_in shares
-
--- ---- numbers
-
-same_factor : (over a b : ℕ) → 1 ≤ over → over * a ≡ over * b → a ≡ b
-same_factor over a b some same = sym (mul-div_right a {m = over} some) ∙ ap (λ x. x / over) same ∙ mul-div_right b {m = over} some
-
-cancelled : (over cost : ℕ) (sum : ℤ) → 1 ≤ over → pos (over * cost) ≡ sum *ℤ pos over → sum ≡ pos cost
-cancelled over cost (pos p) some same =
-    let product : over * cost ≡ over * p = omega (arith, ints, same) in
-    ap pos (same_factor over p cost some (sym product))
-cancelled over cost (negsuc p) some same =
-    let product : pos (over * cost) ≡ neg_ℤ (pos (suc p * over)) = same ∙ negsuc-*ℤ-pos p over in
-    let parts : suc p * over ≡ p * over + over = omega arith in
-    absurd (omega (arith, ints, product, parts, some))
-
--- a cost that is the sum over the weight is the bound
-rounded_is : (sum : ℤ) (weight cost bound : ℕ) → sum ≡ pos (weight * cost) → IsRoundedUp sum weight bound → bound ≡ cost
-rounded_is sum weight cost bound same rounded =
-    let enough = rounded.enough in
-    let least = rounded.least in
-    let some = rounded.some_weight in
-    elim (cases_lt bound cost) [
-      | inl less ↦
-          let up : (bound + 1) * weight ≤ cost * weight = mul-le-mul_right weight (omega (arith, less)) in
-          absurd (omega (arith, ints, up, enough, same, some))
-      | inr more ↦ elim (cases_lt cost bound) [
-        | inl above ↦
-            let up : (cost + 1) * weight ≤ bound * weight = mul-le-mul_right weight (omega (arith, above)) in
-            absurd (omega (arith, ints, up, least, same, some))
-        | inr same_bound ↦ omega (arith, more, same_bound)
-      ]
-    ]
 
 module _ (kinds : List Network) (over : ℕ) where
   abbrev g : Network
@@ -138,7 +104,7 @@ module _ (kinds : List Network) (over : ℕ) where
 
 bound_at : (weight cost : ℕ) (prices : List ℤ) (bound : Option ℕ) → IsBoundOf weight prices bound → 1 ≤ weight → sum_of prices ≡ pos (weight * cost) → bound ≡ Some cost
 bound_at weight cost prices None is some sum = absurd (let none = is.0 in omega (arith, none, some))
-bound_at weight cost prices (Some bound) is some sum = ap Some (rounded_is (sum_of prices) weight cost bound sum is)
+bound_at weight cost prices (Some bound) is some sum = ap Some (rounded_is_cost (sum_of prices) weight cost bound some sum is.1)
 
 pub at_bound : (kinds : List Network) (p : MixedProof) (over : ℕ) (shares : List MixedShare) (routes sorted : List MixedRoute) → AreFleetKinds kinds → IsBestProof kinds p → p.root ≡ Exact over shares → AreWhole over shares
     → routes ≡ routes_in shares → IsPermutation routes sorted → IsNonDecreasingBy (λ (r : MixedRoute). first_outside r.plan.stops) sorted → IsAtBound kinds p sorted

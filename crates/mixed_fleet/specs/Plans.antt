@@ -1,7 +1,6 @@
 -- Plans that are held.
-use Rattle.std.specs.Prelude.{◌≡◌, ℕ, ◌*◌, ◌≤◌, List, [], ◌∷◌, Option, Some, length, map}
+use Rattle.std.specs.Prelude.{◌≡◌, ℕ, ◌*◌, ◌≤◌, List, Option, Some, length, map}
 use Rattle.std.specs.List.Sorted.{IsStrictlyIncreasing}
-use Rattle.ev_model.specs.Fleet.{customers_of}
 use Rattle.ev_model.specs.Network.{Network}
 use Rattle.instance_reader.specs.Instance.{customer_nodes}
 use Rattle.mixed_model.specs.Kinds.{first_of}
@@ -9,15 +8,12 @@ use Rattle.mixed_model.specs.Meaning.{kind_plans}
 use Rattle.mixed_model.specs.Plans.{IsMixedPlan, KindPlan, mixed_cost}
 use Rattle.mixed_model.specs.declared.proof.MixedRoute.{MixedRoute}
 use Rattle.mixed_plan.specs.MixedTexts.{FitsMixedPlan}
+use Rattle.rising_routes.specs.FirstCustomers.{first_customer_of}
 use Rattle.mixed_fleet.specs.Own.{AreOwn}
-
-abbrev pub first_or_depot : List ℕ → ℕ
-first_or_depot [] = 0
-first_or_depot (node ∷ nodes) = node
 
 -- the node of the first customer of a route, and 0 where it has none
 abbrev pub first_customer : List Network → MixedRoute → ℕ
-first_customer kinds r = first_or_depot (customers_of (first_of kinds) r.plan.stops)
+first_customer kinds r = first_customer_of (first_of kinds) r.plan.stops
 
 -- the scaled cost of a plan, in whole units of charge
 abbrev pub cost_of_routes : List Network → List MixedRoute → ℕ

@@ -1,8 +1,9 @@
 -- The best proof that the price loop gives: its bound is the linear optimum, or that of the rising
 -- prices.
-use Rattle.std.specs.Prelude.{◌≡◌, ℕ, ◌*◌, ◌≤◌, ℤ, pos, ◌+ℤ◌, ◌<ℤ◌, ◌≤ℤ◌, List, IsSome, Option, Some, None}
+use Rattle.std.specs.Prelude.{◌≡◌, ℕ, ◌≤◌, ℤ, pos, ◌<ℤ◌, List, IsSome, Option, Some, None}
 use Rattle.ev_model.specs.Network.{Network}
 use Rattle.fleet_model.specs.Prices.{sum_of}
+use Rattle.price_bounds.specs.RoundedUp.{IsRoundedUp}
 use Rattle.mixed_model.specs.Accepted.{IsMixedAccepted}
 use Rattle.mixed_model.specs.Ranges.{MixedFits}
 use Rattle.mixed_model.specs.Truth.{IsTrueProof}
@@ -11,17 +12,11 @@ use Rattle.mixed_model.specs.declared.proof.MixedRoot.{MixedRoot}
 use Rattle.mixed_model.specs.declared.proof.MixedRoot.TheVariants as root
 use Rattle.mixed_fleet.specs.Rising.{AreRisingPrices}
 
--- the sum over the weight, rounded up, is the bound
-pub record IsRoundedUp (sum : ℤ) (weight bound : ℕ) : Type 0 where
-  pub some_weight : 1 ≤ weight
-  pub enough : sum ≤ℤ pos (bound * weight)
-  pub least : pos (bound * weight) <ℤ (sum +ℤ pos weight)
-
 -- the bound is the price sum over the weight, rounded up; there is none, which says that there is
 -- no plan, exactly where the weight is 0, and the price sum is above 0 then
 abbrev pub IsBoundOf : ℕ → List ℤ → Option ℕ → Type 0
 IsBoundOf weight prices None = (weight ≡ 0) × (pos 0 <ℤ sum_of prices)
-IsBoundOf weight prices (Some bound) = IsRoundedUp (sum_of prices) weight bound
+IsBoundOf weight prices (Some bound) = (1 ≤ weight) × IsRoundedUp (sum_of prices) weight bound
 
 -- there is no root exactly where there is no bound. Of a wide root the weight is 1, and the prices
 -- are the rising prices over the routes of all kinds

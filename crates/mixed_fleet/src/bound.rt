@@ -1,13 +1,13 @@
 //! The bound by prices.
 
-ghost use Rattle.std.specs.Prelude.{◌≡◌, ◌≤◌, ◌^◌, pos, ◌<ℤ◌, ◌≤ℤ◌, IfSome, length};
+ghost use Rattle.std.specs.Prelude.{◌≡◌, ◌≤◌, pos, ◌<ℤ◌, ◌≤ℤ◌, IfSome, length};
 ghost use Rattle.std.specs.List.{All};
 ghost use Rattle.certificate_parts.specs.Limits.{greatest_bound};
 ghost use Rattle.certificate_parts.specs.Ranges.{IsPrice};
 ghost use Rattle.fleet_model.specs.Prices.{sum_of};
-ghost use Rattle.mixed_fleet.specs.Proofs.{IsBoundOf, IsRoundedUp};
+ghost use Rattle.mixed_fleet.specs.Proofs.{IsBoundOf};
 
-use certificate_check::price_total;
+use price_bounds::{price_sum, rounded_up};
 
 /// The bound by prices: their sum over the weight, rounded up; `None`, that there is no plan, where
 /// the weight is 0.
@@ -19,31 +19,9 @@ pub(crate) fn bound_of(weight: u64, prices: &[i128]) -> Option<u128>
     ensures bound { IsBoundOf weight prices.now result }
     ensures small { IfSome result (λ bound. bound ≤ greatest_bound) }
 {
-    let sum = sum_of_prices(prices);
+    let sum = price_sum(prices);
     if weight == 0 {
         return None;
     }
-    Some(rounded_up(sum, u128::from(weight)))
-}
-
-/// The sum over the weight, rounded up.
-fn rounded_up(sum: u128, weight: u128) -> u128
-    requires some { 1 ≤ weight }
-    requires small { sum ≤ 2 ^ 91 }
-    requires light { weight ≤ 2 ^ 64 }
-    ensures rounded { IsRoundedUp (pos sum) weight result }
-    ensures small { result ≤ 2 ^ 91 }
-{
-    sum.div_ceil(weight)
-}
-
-/// The sum of all prices, where it isn't below 0.
-fn sum_of_prices(prices: &[i128]) -> u128
-    requires few { length prices.now ≤ 128 }
-    requires small { All IsPrice prices.now }
-    requires some { pos 0 ≤ℤ sum_of prices.now }
-    ensures value { pos result ≡ sum_of prices.now }
-    ensures small { result ≤ 2 ^ 91 }
-{
-    price_total(prices).unsigned_abs()
+    Some(rounded_up(sum, weight))
 }

@@ -10,11 +10,11 @@ ghost use Rattle.mixed_fleet.specs.Plans.{CostsNoMoreThanOwn, IsHeld};
 
 use crate::listed::columns_of;
 use crate::own::OwnRoutes;
-use crate::whole::sort_by_first;
 use ev_list::Listed;
 use instance_reader::Instance;
 use mixed_model::MixedRoute;
 use mixed_plan::check_mixed_plan;
+use rising_routes::sort_by_first;
 use std::alloc::{AllocError, Global};
 
 /// The plan of the fastest routes of customers alone; `None` exactly where some customer has none.

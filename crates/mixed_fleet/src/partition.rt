@@ -7,7 +7,6 @@ ghost use Rattle.mixed_fleet.specs.Fleets.{AreFleetKinds};
 ghost use Rattle.mixed_fleet.specs.Plans.{CostsNoMoreThanOwn, IsHeld};
 ghost use Rattle.mixed_fleet.specs.Searched.{IsSearched};
 
-use crate::earners::KindsEarners;
 use crate::held::cheaper;
 use crate::listed::copy_of_route;
 use crate::searched::Searched;
@@ -15,8 +14,7 @@ use ev_list::Listed;
 use instance_reader::Instance;
 use mixed_model::{MixedProof, MixedRoute};
 use mixed_plan::check_mixed_plan;
-use price_loop::Earners;
-use set_partitioning::{Candidate, find_partition};
+use set_partitioning::{Candidate, find_partition, room_below};
 use std::alloc::{AllocError, Global};
 
 /// How many routes may be looked at for a plan.
@@ -38,7 +36,8 @@ pub(crate) fn with_met(
     ensures held { IfOk result (λ plan. IfSome plan (IsHeld kinds.now)) }
     ensures own { IfOk result (CostsNoMoreThanOwn kinds.now) }
 {
-    let room = room_of(kinds, &held, proof);
+    let cost = cost_of(kinds, &held);
+    let room = room_below(cost, proof.weight, proof.prices.as_slice());
     if room < i128::from(proof.weight) {
         return Ok(held);
     }
@@ -51,24 +50,15 @@ pub(crate) fn with_met(
     Ok(cheaper(kinds, held, routes))
 }
 
-/// What the excess of the routes of a plan that is cheaper is below, together: the cost of the plan
-/// that is held times the weight, less the prices.
-fn room_of(kinds: &[Instance], held: &Option<Listed<MixedRoute>>, proof: &MixedProof) -> i128
+/// The cost of the plan that is held.
+fn cost_of(kinds: &[Instance], held: &Option<Listed<MixedRoute>>) -> Option<u128>
     requires fleet { AreFleetKinds kinds.now }
     requires held { IfSome held.now (IsHeld kinds.now) }
 {
     let Some(routes) = held else {
-        return i128::MAX;
+        return None;
     };
-    let Ok(cost) = check_mixed_plan(kinds, routes.as_slice()) else {
-        return i128::MAX;
-    };
-    let mut room = i128::try_from(cost).unwrap_or(i128::MAX);
-    room = room.saturating_mul(i128::from(proof.weight));
-    for price in proof.prices.as_slice() {
-        room = room.saturating_sub(*price);
-    }
-    room
+    check_mixed_plan(kinds, routes.as_slice()).ok()
 }
 
 /// The routes that were met, by place: whom each serves, and as its excess its time times the
@@ -83,26 +73,23 @@ fn candidates_of(
     requires met { All (IsSearched kinds.now) met.now }
     ensures { IfOk result (λ candidates. length candidates.items ≡ length met.now) }
 {
-    let earners = KindsEarners::new(kinds);
+    let _kinds = kinds;
     let mut candidates = Vec::with_capacity(alloc, met.len())?;
     for route in met {
-        candidates.push(Candidate {
-            served: earners.set(route),
-            excess: excess_of(proof, route),
-        })?;
+        candidates.push(candidate_of(proof, route))?;
     }
     Ok(candidates)
 }
 
-/// The time of a route times the weight, less the prices of its customers.
-fn excess_of(proof: &MixedProof, route: &Searched) -> i128 {
-    let mut excess = i128::from(route.time).saturating_mul(i128::from(proof.weight));
+/// The route as a candidate.
+fn candidate_of(proof: &MixedProof, route: &Searched) -> Candidate
+    requires { All (λ c. c < 128) route.now.numbers }
+{
+    let mut candidate = Candidate::at_cost(route.time, proof.weight);
     for number in route.numbers.as_slice() {
-        if let Some(price) = proof.prices.as_slice().get(*number) {
-            excess = excess.saturating_sub(*price);
-        }
+        candidate = candidate.serving(*number, proof.prices.as_slice());
     }
-    excess
+    candidate
 }
 
 /// The routes at these places.

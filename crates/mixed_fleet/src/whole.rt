@@ -1,16 +1,15 @@
 //! The plan that whole shares of an exact root are.
 
 ghost use Rattle.std.specs.Prelude.{◌↔◌, ◌≡◌, IfOk, IsTrue, map, MatchOption};
-ghost use Rattle.std.specs.List.Sorted.{IsNonDecreasingBy, IsPermutation};
-ghost use Rattle.mixed_model.specs.declared.proof.MixedRoute.{MixedRoute};
 ghost use Rattle.mixed_fleet.specs.Fleets.{AreFleetKinds};
 ghost use Rattle.mixed_fleet.specs.Proofs.{IsBestProof};
-ghost use Rattle.mixed_fleet.specs.Whole.{AreWhole, first_outside, HasParts, IsAtBound};
+ghost use Rattle.mixed_fleet.specs.Whole.{AreWhole, HasParts, IsAtBound};
 
 use crate::listed::copy_of_route;
 use ev_list::Listed;
 use instance_reader::Instance;
 use mixed_model::{MixedProof, MixedRoot, MixedRoute, MixedShare};
+use rising_routes::sort_by_first;
 use std::alloc::{AllocError, Global};
 
 /// The routes of an exact root as a plan, in rising order of their first customers, where each has
@@ -52,26 +51,4 @@ fn routes_of(alloc: Global, shares: &[MixedShare]) -> Result<Vec<MixedRoute>, Al
         routes.push(copy_of_route(alloc, &share.route)?)?;
     }
     Ok(routes)
-}
-
-/// Sorts the routes by the nodes of their first stops outside the depot that weren't inserted.
-pub(crate) fn sort_by_first(routes: &mut Vec<MixedRoute>)
-    ensures same { IsPermutation routes.old.items routes.new.items }
-    ensures order { IsNonDecreasingBy (λ (r : MixedRoute). first_outside r.plan.stops)
-        routes.new.items }
-{
-    routes.sort_unstable_by_key(|route| first_outside(route));
-}
-
-/// The node of the first stop outside the depot that wasn't inserted, and 0 where there is none.
-fn first_outside(route: &MixedRoute) -> usize
-    ensures { result ≡ first_outside route.now.plan.stops }
-{
-    let stops = route.plan.stops.as_slice();
-    for stop in stops {
-        if !stop.via && stop.node != 0 {
-            return stop.node;
-        }
-    }
-    0
 }

@@ -9,4 +9,4 @@ mod judge;
 mod search;
 
 pub use answer::find_partition;
-pub use candidate::Candidate;
+pub use candidate::{Candidate, room_below};

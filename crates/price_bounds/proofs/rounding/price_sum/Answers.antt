@@ -2,7 +2,7 @@ use Rattle.std.proofs.Common.{◌≡◌, ◌∙◌, pos, ◌^◌, ◌≤◌, ◌
 use Rattle.std.specs.Int.{w128}
 use Rattle.std.proofs.lemmas.Int.{ints}
 use Rattle.fleet_model.specs.Prices.{sum_of}
-use Rattle.ev_fleet.proofs.section_bound.sum_of_prices.Goals as goal
+use Rattle.price_bounds.proofs.rounding.price_sum.Goals as goal
 
 pub returns : goal.returns
 returns c =
