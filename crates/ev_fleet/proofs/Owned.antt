@@ -1,9 +1,9 @@
 -- A fastest route for each customer alone: these are a fleet plan, which no routes for the customers alone cost less than.
-use Rattle.std.proofs.Common.{◌≡◌, ◌≢◌, ◌∙◌, ℕ, zero, suc, ◌+◌, ◌*◌, ◌<◌, ◌≤◌, Bool, true, List, [], ◌∷◌, ◌++◌, Some, None, filter, length, get_or, map, refl, sym, ap, subst, take, arith, inl, inr}
+use Rattle.std.proofs.Common.{◌≡◌, ◌≢◌, ◌∙◌, ℕ, zero, suc, ◌+◌, ◌*◌, ◌<◌, ◌≤◌, true, List, [], ◌∷◌, ◌++◌, Some, None, filter, length, get_or, map, refl, sym, ap, subst, take, arith, inl, inr}
 use Rattle.std.specs.Prelude.{slice_index}
 use Rattle.std.specs.List.{All, range_with_len}
 use Rattle.std.specs.List.Sorted.{IsStrictlyIncreasing}
-use Rattle.std.proofs.lemmas.Bool.{cases_Bool, cases_eq, eq-eqb, false≢true, ne_eqb}
+use Rattle.std.proofs.lemmas.Bool.{cases_eq, eq-eqb, false≢true, ne_eqb}
 use Rattle.std.proofs.lemmas.List.{take_more}
 use Rattle.std.proofs.lemmas.List.Elements.{All-cons, All-nil}
 use Rattle.ev_model.specs.Feasible.{IsFeasible}
@@ -15,6 +15,7 @@ use Rattle.fleet_model.proofs.Counts.{AreCustomers}
 use Rattle.fleet_model.proofs.Plans.{filtered}
 use Rattle.instance_reader.specs.Instance.{customer_nodes}
 use Rattle.plan_check.specs.FleetRules.{stops_of}
+use Rattle.plan_check.proofs.CustomersOnce.{customer_once}
 use Rattle.route_plan.specs.declared.plan.FleetPlan.{FleetPlan}
 use Rattle.route_plan.specs.declared.plan.RoutePlan.{RoutePlan}
 use Rattle.route_pool.specs.Pool.{IsColumn}
@@ -34,31 +35,6 @@ pub own_step : (g : Network) (nodes : List ℕ) (ps : List RoutePlan) (i : ℕ) 
     → AreFastestOwn g (take (i + 1) nodes) (ps ++ p ∷ [])
 own_step g nodes ps i p within are is =
     subst (λ l. AreFastestOwn g l (ps ++ p ∷ [])) (sym (take_more nodes i 0 within)) (own_push g (take i nodes) ps (slice_index nodes i) p are is)
-
--- ---- each customer stands once among the customers
-
-none_before : (q : ℕ → Bool) (a n x : ℕ) → x < a → times_in (filter q (range_with_len a n)) x ≡ 0
-none_before q a zero x low = refl
-none_before q a (suc n) x low =
-    let rest = none_before q (a + 1) n x (omega (arith, low)) in
-    elim (cases_Bool (q a)) [
-      | inl here ↦ rw (here, ne_eqb a x (omega (arith, low))) (omega (arith, rest))
-      | inr out ↦ rw out rest
-    ]
-
-once_in : (q : ℕ → Bool) (a n x : ℕ) → a ≤ x → x < a + n → q x ≡ true → times_in (filter q (range_with_len a n)) x ≡ 1
-once_in q a zero x low high is = absurd (omega (arith, low, high))
-once_in q a (suc n) x low high is = elim (cases_eq a x) [
-  | inl same ↦
-      let here : q a ≡ true = subst (λ y. q y ≡ true) (sym same) is in
-      rw (here, eq-eqb a x same) (omega (arith, none_before q (a + 1) n x (omega (arith, same))))
-  | inr apart ↦
-      let rest = once_in q (a + 1) n x (omega (arith, apart, low)) (omega (arith, high)) is in
-      elim (cases_Bool (q a)) [
-        | inl here ↦ rw (here, ne_eqb a x apart) (omega (arith, rest))
-        | inr out ↦ rw out rest
-      ]
-]
 
 -- ---- the routes are a fleet plan
 
@@ -113,7 +89,7 @@ own_fleet g ps are =
       some = own_some g (customer_nodes g) ps customers are;
       only = own_only g (customer_nodes g) ps customers are;
       once = λ node known is.
-          ap (λ nodes. times_in nodes node) (own_all g (customer_nodes g) ps customers are) ∙ once_in (is_customer g) 0 (node_count g) node (omega arith) (omega (arith, known)) is;
+          ap (λ nodes. times_in nodes node) (own_all g (customer_nodes g) ps customers are) ∙ customer_once g node (known, is);
     }
 
 pub own_held : (g : Network) (plan : FleetPlan) → IsNetwork g → IsStrictlyIncreasing (customer_nodes g) → AreFastestOwn g (customer_nodes g) plan.routes → IsHeld g plan
