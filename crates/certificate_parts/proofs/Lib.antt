@@ -23,3 +23,4 @@ pub mod WrittenSets
 pub mod WrittenBasis
 pub mod Chosen
 pub mod OneWritten
+pub mod NumberTexts

@@ -3,6 +3,7 @@
 mod basis;
 mod label;
 mod nodes;
+mod number;
 mod plan;
 mod prices;
 

@@ -7,8 +7,8 @@ ghost use Rattle.certificate_parts.specs.Written.{nodes_in, written_label};
 ghost use Rattle.ev_text.specs.Texts.{joined_texts, marked_texts};
 ghost use Rattle.certificate_parts.specs.Texts.{label_text, point_text, set_text};
 
+use crate::writing::number::push_number;
 use customer_sets::CustSet;
-use ev_text::push_whole;
 use instance_reader::Instance;
 use piece_fn::Label;
 use std::alloc::{AllocError, Global};
@@ -41,9 +41,11 @@ fn write_label(
     ensures { OnOk result (text.new.items ≡ text.old.items
         ++ label_text (written_label inst.now label.now)) }
 {
-    let (last, node) = (label.last, label.node);
-    let words = format!(in alloc; "label {last} {node} ")?;
-    text.extend_from_slice(words.as_bytes())?;
+    text.extend_from_slice(b"label ")?;
+    push_number(text, label.last as u64)?;
+    text.push(b' ')?;
+    push_number(text, label.node as u64)?;
+    text.push(b' ')?;
     write_set(alloc, text, inst, label.set)?;
     write_points(alloc, text, label.value.points())?;
     text.extend_from_slice(b"\n")
@@ -61,7 +63,7 @@ pub fn write_set(
         ++ set_text (nodes_in set 0 (customer_nodes inst.now))) }
 {
     let nodes = nodes_in(alloc, inst, set)?;
-    write_nodes(alloc, text, &nodes)
+    write_nodes(text, &nodes)
 }
 
 /// The nodes of the customers in a set, in rising order.
@@ -95,40 +97,40 @@ fn push_if_in(
 }
 
 /// Appends nodes, parted by commas, or `-` where there is none.
-fn write_nodes(alloc: Global, text: &mut Vec<u8>, nodes: &[usize]) -> Result<(), AllocError>
+fn write_nodes(text: &mut Vec<u8>, nodes: &[usize]) -> Result<(), AllocError>
     ensures { OnOk result (text.new.items ≡ text.old.items ++ set_text nodes.now) }
 {
     match nodes {
         [] => text.extend_from_slice(b"-"),
         [first, others @ ..] => {
-            push_whole(alloc, text, *first as u128)?;
-            write_others(alloc, text, others)
+            push_number(text, *first as u64)?;
+            write_others(text, others)
         }
     }
 }
 
 /// Appends nodes, each behind a comma.
-fn write_others(alloc: Global, text: &mut Vec<u8>, nodes: &[usize]) -> Result<(), AllocError>
+fn write_others(text: &mut Vec<u8>, nodes: &[usize]) -> Result<(), AllocError>
     ensures { OnOk result (text.new.items ≡ text.old.items
         ++ marked_texts (codes ",") (λ n. decimal n) nodes.now) }
 {
     for node in nodes {
-        write_other(alloc, text, *node)?;
+        write_other(text, *node)?;
     }
     Ok(())
 }
 
 /// Appends a comma and a node.
-fn write_other(alloc: Global, text: &mut Vec<u8>, node: usize) -> Result<(), AllocError>
+fn write_other(text: &mut Vec<u8>, node: usize) -> Result<(), AllocError>
     ensures { OnOk result (text.new.items ≡ text.old.items ++ codes "," ++ decimal node) }
 {
-    let word = format!(in alloc; ",{node}")?;
-    text.extend_from_slice(word.as_bytes())
+    text.push(b',')?;
+    push_number(text, node as u64)
 }
 
-/// Appends points, each behind a space.
+/// Appends points, each behind a space. It takes no memory but the text's own.
 pub fn write_points(
-    alloc: Global,
+    _alloc: Global,
     text: &mut Vec<u8>,
     points: &[(u64, u64)],
 ) -> Result<(), AllocError>
@@ -136,16 +138,18 @@ pub fn write_points(
         ++ marked_texts (codes " ") point_text points.now) }
 {
     for point in points {
-        write_point(alloc, text, *point)?;
+        write_point(text, *point)?;
     }
     Ok(())
 }
 
 /// Appends a space, a level and its time.
-fn write_point(alloc: Global, text: &mut Vec<u8>, point: (u64, u64)) -> Result<(), AllocError>
+fn write_point(text: &mut Vec<u8>, point: (u64, u64)) -> Result<(), AllocError>
     ensures { OnOk result (text.new.items ≡ text.old.items ++ codes " " ++ point_text point) }
 {
     let (level, time) = point;
-    let words = format!(in alloc; " {level}:{time}")?;
-    text.extend_from_slice(words.as_bytes())
+    text.push(b' ')?;
+    push_number(text, level)?;
+    text.push(b':')?;
+    push_number(text, time)
 }
