@@ -40,6 +40,10 @@ pub fn push_certificate(
     let mut text = Vec::new(alloc);
     write_head(alloc, &mut text, inst)?;
     write_body(alloc, &mut text, inst, certificate)?;
+    if out.is_empty() {
+        *out = text;
+        return Ok(());
+    }
     out.extend_from_slice(text.as_slice())
 }
 
