@@ -1,5 +1,5 @@
 -- What the parts of points mean as values.
-use Rattle.std.proofs.Common.{◌≡◌, ◌∙◌, ℕ, ◌+◌, ◌-◌, ◌<◌, ◌≤◌, min, refl, sym, ap, List, [], ◌∷◌, get_or, arith}
+use Rattle.std.proofs.Common.{◌≡◌, ◌∙◌, ℕ, ◌+◌, ◌-◌, ◌<◌, ◌≤◌, min, refl, sym, ap, List, [], ◌∷◌, get_or, length, arith}
 use Rattle.charge_curve.specs.Points.{ArePoints, last_level, time_on}
 use Rattle.ev_model.specs.Curve.{BeginsEmpty}
 use Rattle.dominance.specs.Coverage.{CoversEach, Reaches}
@@ -154,3 +154,15 @@ not_reached_late own other extra from own_are other_are level late reach =
     let value = time_at-level_times other from other_are level in
     let there = reached own extra from (time_at (level_times other) from) own_are reach in
     omega (arith, value, there, late)
+
+-- a value with one level is as late at each lower one
+pub single_lasts : (own other : List (ℕ × ℕ)) (extra from end : ℕ) → ArePoints own → ArePoints other → length own ≡ 1 → from ≤ end → time_on own from + extra ≤ time_on other from
+    → LastsTo (time_on own) (time_on other) extra from end end
+single_lasts [] other extra from end own_are other_are one le covered = absurd own_are
+single_lasts (p ∷ []) other extra from end own_are other_are one le covered = record {
+  above = le;
+  within = omega arith;
+  covered = λ level up top. omega (arith, covered, never_falls other other_are from level up);
+  stops = λ more. absurd (omega (arith, more));
+}
+single_lasts (p ∷ q ∷ ps) other extra from end own_are other_are one le covered = absurd (omega (arith, one))

@@ -100,6 +100,9 @@ impl PieceFn {
         if end < from || !is_in_time(time_at(own, from), extra, time_at(others, from)) {
             return None;
         }
+        if own.len() == 1 {
+            return Some(end);
+        }
         Some(farthest(own, others, extra, from, end))
     }
 
