@@ -78,7 +78,7 @@ impl Question<'_> {
             paid: 0,
         };
         let full = PieceFn::point(alloc, self.inst.max_q(), 0);
-        covers_all(&self.asked(&target), &full)
+        covers_all(&self.asked(&target, 0), &full)
     }
 
     /// The first step to a customer or a station that leads to a state that is not covered, if

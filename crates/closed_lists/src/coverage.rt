@@ -13,7 +13,7 @@ ghost use Rattle.closed_lists.specs.Targets.{state_of};
 
 use crate::links::{Entry, first, is_in_time};
 use crate::paid::{is_too_dear, margin};
-use crate::places::{BLOCK, TRIES};
+use crate::places::{BLOCK, TRIES, mark};
 use crate::question::Question;
 use customer_sets::CustSet;
 use label_steps::Covering;
@@ -56,20 +56,19 @@ impl<'a> Model for Asked<'a> {
 }
 
 impl Question<'_> {
-    /// The states of a target, asked of the labels.
-    pub(crate) fn asked<'b>(&'b self, target: &'b Target) -> Asked<'b>
+    /// The states of a target, asked of the labels; with the marks of its set.
+    pub(crate) fn asked<'b>(&'b self, target: &'b Target, marks: u64) -> Asked<'b>
         requires last { target.now.last < node_count self.now.network }
         requires node { target.now.node < node_count self.now.network }
         requires paid { unsigned_abs target.now.paid ≤ 2 ^ 92 }
         ensures { result ≡ record { question = self.now; target = target.now } }
     {
         let key = target.last * self.inst.nodes() + target.node;
-        let mark = self.places.mark(key, target.set);
         Asked {
             question: self,
             target,
             key,
-            mark,
+            mark: mark(key, marks),
         }
     }
 }
@@ -105,9 +104,11 @@ impl Asked<'_> {
             (IsCoveredTo (covers self.now) (level_times value.now) level) }
     {
         for tried in 0..TRIES {
-            let at = self.question.places().at(self.mark, tried)?;
-            if let Some(to) = self.reach_at(at, value, level, time) {
-                return Some(to);
+            let slot = self.question.places().at(self.mark, tried)?;
+            if let Some(at) = slot.place(self.mark) {
+                if let Some(to) = self.reach_at(at, value, level, time) {
+                    return Some(to);
+                }
             }
         }
         None

@@ -7,14 +7,6 @@ ghost use Rattle.fleet_model.specs.Prices.{price_sum};
 
 use customer_sets::CustSet;
 
-/// The price where the customer is in the set, and else 0.
-fn price_in(set: CustSet, c: usize, price: i128) -> i128
-    requires { c < 128 }
-    ensures { result ≡ cond (has set c) price (pos 0) }
-{
-    if set.has(c) { price } else { 0 }
-}
-
 /// The price sum of a set. A customer without a price counts 0.
 pub fn price_sum(prices: &[i128], set: CustSet) -> i128
     requires few { length prices.now ≤ 128 }
@@ -27,7 +19,9 @@ pub fn price_sum(prices: &[i128], set: CustSet) -> i128
     }
     let mut sum = 0;
     for c in 0..prices.len() {
-        sum += price_in(set, c, prices[c]);
+        if set.has(c) {
+            sum += prices[c];
+        }
     }
     sum
 }

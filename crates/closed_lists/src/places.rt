@@ -20,9 +20,8 @@ pub(crate) const BLOCK: usize = 64;
 pub(crate) struct Places {
     /// How many customers there are.
     customers: usize,
-    /// Places of entries, in slots by their keys and sets: one more than the place, 0 where the
-    /// slot is free.
-    slots: Vec<u32>,
+    /// Entries in slots by their keys and sets.
+    slots: Vec<Slot>,
     /// By key: the place of the first entry with it or a greater one.
     firsts: Vec<usize>,
     /// A word for each block of 64 entries: which of them aren't needless.
@@ -31,10 +30,29 @@ pub(crate) struct Places {
     servers: Vec<u64>,
 }
 
+/// A slot for an entry.
+#[derive(Clone, Copy)]
+pub(crate) struct Slot {
+    /// One more than the entry's place; 0 where the slot is free.
+    behind: u32,
+    /// A part of the entry's mark.
+    tag: u32,
+}
+
+impl Slot {
+    /// The place of its entry, if entries with a mark may be such.
+    pub(crate) fn place(self, mark: u64) -> Option<usize> {
+        if self.tag != tag_of(mark) {
+            return None;
+        }
+        (self.behind as usize).checked_sub(1)
+    }
+}
+
 /// What becomes of an entry.
 enum Room {
-    /// It has its place in this slot.
-    Slot(usize),
+    /// It has its place in this slot, by its mark.
+    Slot { slot: usize, mark: u64 },
     /// No slot is free.
     Full,
     /// It is needless.
@@ -53,7 +71,7 @@ impl Places {
         let blocks = entries.len().div_ceil(BLOCK);
         let mut places = Places {
             customers,
-            slots: vec![in alloc; 0; count]?,
+            slots: vec![in alloc; Slot { behind: 0, tag: 0 }; count]?,
             firsts: Vec::new(alloc),
             kept: vec![in alloc; 0; blocks]?,
             servers: vec![in alloc; 0; blocks.saturating_mul(customers)]?,
@@ -92,22 +110,21 @@ impl Places {
         }
     }
 
-    /// A number for a key and a set.
-    pub(crate) fn mark(&self, key: usize, set: CustSet) -> u64 {
-        let mut mark = key as u64;
+    /// The sum of the marks of a set's customers.
+    pub(crate) fn marks(&self, set: CustSet) -> u64 {
+        let mut marks = 0;
         for c in 0..self.customers.min(128) {
             if set.has(c) {
-                mark = (mark ^ (c as u64 + 1)).wrapping_mul(0x9E37_79B9_7F4A_7C15);
+                marks ^= mark_of(c);
             }
         }
-        mark ^ mark >> 32
+        marks
     }
 
-    /// The place in a slot, of those where entries with the mark may stand.
-    pub(crate) fn at(&self, mark: u64, tried: usize) -> Option<usize> {
-        let slot = slot_of(self.slots.len(), mark, tried)?;
-        let next = *self.slots.get(slot)?;
-        (next as usize).checked_sub(1)
+    /// A slot that isn't free, of those where entries with the mark may stand.
+    pub(crate) fn at(&self, mark: u64, tried: usize) -> Option<Slot> {
+        let slot = *self.slots.get(slot_of(self.slots.len(), mark, tried)?)?;
+        if slot.behind == 0 { None } else { Some(slot) }
     }
 
     /// The place of the first entry with a key, if there is one.
@@ -132,9 +149,12 @@ impl Places {
     /// Puts an entry into its slot, and answers whether it isn't needless.
     fn keep(&mut self, entries: &[Entry], labels: &[Label], at: usize) -> bool {
         match self.room_for(entries, labels, at) {
-            Room::Slot(slot) => {
+            Room::Slot { slot, mark } => {
                 if let Some(free) = self.slots.get_mut(slot) {
-                    *free = u32::try_from(at.saturating_add(1)).unwrap_or(0);
+                    *free = Slot {
+                        behind: u32::try_from(at.saturating_add(1)).unwrap_or(0),
+                        tag: tag_of(mark),
+                    };
                 }
                 true
             }
@@ -148,25 +168,48 @@ impl Places {
         let Some(entry) = entries.get(at) else {
             return Room::Full;
         };
-        let mark = self.mark(entry.key, entry.set);
+        let mark = mark(entry.key, self.marks(entry.set));
         for tried in 0..TRIES {
             let Some(slot) = slot_of(self.slots.len(), mark, tried) else {
                 return Room::Full;
             };
             let Some(other) = self.at(mark, tried) else {
-                return Room::Slot(slot);
+                return Room::Slot { slot, mark };
             };
-            if makes_needless(entries, labels, other, entry) {
-                return Room::Needless;
+            if let Some(place) = other.place(mark) {
+                if makes_needless(entries, labels, place, entry) {
+                    return Room::Needless;
+                }
             }
         }
         Room::Full
     }
 }
 
-/// A slot for a mark; `None` where there is none.
+/// A number for a customer, by which sets are told apart.
+pub(crate) fn mark_of(customer: usize) -> u64 {
+    let mark = (customer as u64 ^ 0x9E37_79B9).wrapping_mul(0x9E37_79B9_7F4A_7C15);
+    (mark ^ mark >> 32).wrapping_mul(0xD6E8_FEB8_6659_FD93)
+}
+
+/// A number for a key and the marks of a set.
+pub(crate) fn mark(key: usize, marks: u64) -> u64 {
+    (key as u64 ^ marks).wrapping_mul(0x9E37_79B9_7F4A_7C15)
+}
+
+/// A part of a mark.
+fn tag_of(mark: u64) -> u32 {
+    (mark % (1 << 32)) as u32
+}
+
+/// A slot for a mark, as many behind its first one; `None` where there is none.
 fn slot_of(slots: usize, mark: u64, tried: usize) -> Option<usize> {
-    (mark as usize).wrapping_add(tried).checked_rem(slots)
+    let first = (u128::from(mark) * (slots as u128) >> 64) as usize;
+    let slot = first.wrapping_add(tried);
+    if slot < slots {
+        return Some(slot);
+    }
+    slot.checked_rem(slots)
 }
 
 /// Whether the entry at a place has the key and the set of another, and covers what it covers.

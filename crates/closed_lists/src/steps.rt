@@ -12,6 +12,7 @@ ghost use Rattle.closed_lists.specs.Tellings.{TellsFirst, TellsHome, TellsStep};
 
 use crate::coverage::{Asked, Target};
 use crate::paid::earns;
+use crate::places::mark_of;
 use crate::question::Question;
 use dominance::LabelValue;
 use label_steps::{arrival, covers_all, departures};
@@ -30,13 +31,14 @@ impl Question<'_> {
         arrival(self.inst, &label.value, label.node, node, least)
     }
 
-    /// Whether each step to a customer leads to a covered state.
+    /// Whether each step to a customer leads to a covered state. The label's set has these marks.
     fn customer_is_covered(
         &self,
         label: &Label,
         paid: i128,
         node: usize,
         customer: usize,
+        marks: u64,
     ) -> Result<bool, AllocError>
         requires label { IsLabelOf self.now.network label.now }
         requires paid { paid ≡ price_sum self.now.prices label.now.set }
@@ -63,7 +65,7 @@ impl Question<'_> {
             set: label.set.with(customer),
             paid: self.paid_with(paid, customer),
         };
-        Ok(covers_all(&self.asked(&target), &value))
+        Ok(covers_all(&self.asked(&target, marks ^ mark_of(customer)), &value))
     }
 
     /// Whether each step to a station, with any charge there, leads to a covered state. The time to
@@ -74,6 +76,7 @@ impl Question<'_> {
         label: &Label,
         paid: i128,
         node: usize,
+        marks: u64,
     ) -> Result<bool, AllocError>
         requires label { IsLabelOf self.now.network label.now }
         requires paid { paid ≡ price_sum self.now.prices label.now.set }
@@ -93,7 +96,7 @@ impl Question<'_> {
             return Ok(true);
         };
         let values = departures(alloc, self.inst, arrived, node)?;
-        Ok(covers_each(&self.asked(&target), &values))
+        Ok(covers_each(&self.asked(&target, marks), &values))
     }
 
     /// Whether each step to the node leads to a covered state.
@@ -103,6 +106,7 @@ impl Question<'_> {
         label: &Label,
         paid: i128,
         node: usize,
+        marks: u64,
     ) -> Result<bool, AllocError>
         requires label { IsLabelOf self.now.network label.now }
         requires paid { paid ≡ price_sum self.now.prices label.now.set }
@@ -114,10 +118,10 @@ impl Question<'_> {
             return Ok(true);
         }
         if self.inst.curve_at(node).is_some() {
-            return self.station_is_covered(alloc, label, paid, node);
+            return self.station_is_covered(alloc, label, paid, node, marks);
         }
         match self.inst.customer_number(node) {
-            Some(customer) => self.customer_is_covered(label, paid, node, customer),
+            Some(customer) => self.customer_is_covered(label, paid, node, customer, marks),
             None => Ok(true),
         }
     }
@@ -134,8 +138,9 @@ impl Question<'_> {
         requires small { unsigned_abs paid ≤ 2 ^ 91 }
         ensures { IfOk result (TellsFirst self.now label.now) }
     {
+        let marks = self.places.marks(label.set);
         for node in 0..self.inst.nodes() {
-            if !self.step_is_covered(alloc, label, paid, node)? {
+            if !self.step_is_covered(alloc, label, paid, node, marks)? {
                 return Ok(Some(node));
             }
         }
