@@ -85,9 +85,12 @@ impl Completion {
         })
     }
 
-    /// The budget of a value: the most at any of its points.
+    /// The budget of a value: the most at any of its points, and 0 where there is no table.
     pub fn budget(&self, value: &PieceFn) -> u64 {
         let mut most = 0;
+        if self.rests.is_empty() {
+            return most;
+        }
         for (level, time) in value.points() {
             let worth = self
                 .horizon

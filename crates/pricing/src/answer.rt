@@ -5,6 +5,7 @@ ghost use Rattle.instance_reader.specs.Instance.{customer_nodes, most_customers}
 ghost use Rattle.pricing.specs.Answers.{IsBetterRoute, IsPriced};
 ghost use Rattle.pricing.specs.Tree.{IsSearch};
 
+use crate::arcs::Arcs;
 use crate::completion::table_of;
 use crate::coverage::Care;
 use crate::priced::{Priced, PricedRoute, Prices};
@@ -49,11 +50,12 @@ pub fn price(
 {
     let of = prices.of.as_slice();
     let question = Question::new(alloc, inst, pairs, prices.weight, of, &[])?;
-    let routes = sought(alloc, &question)?;
+    let arcs = Arcs::new(alloc, &question)?;
+    let routes = sought(alloc, &question, &arcs)?;
     if !routes.is_empty() {
         return Ok(better_of(&question, routes));
     }
-    closed(alloc, inst, pairs, prices, &question)
+    closed(alloc, inst, pairs, prices, &question, &arcs)
 }
 
 /// Routes that earn more by the prices of their customers than they take, as `price` finds them,
@@ -82,21 +84,26 @@ pub fn seek(
 {
     let of = prices.of.as_slice();
     let question = Question::new(alloc, inst, pairs, prices.weight, of, &[])?;
-    sought(alloc, &question)
+    let arcs = Arcs::new(alloc, &question)?;
+    sought(alloc, &question, &arcs)
 }
 
 /// Routes that earn: those of a quick search, or where it finds none those of an exact one. Both
 /// leave out what can't earn, by a table.
-fn sought(alloc: Global, question: &Question<'_>) -> Result<Vec<PricedRoute>, AllocError>
+fn sought(
+    alloc: Global,
+    question: &Question<'_>,
+    arcs: &Arcs,
+) -> Result<Vec<PricedRoute>, AllocError>
     ensures { IfOk result (λ routes. All (IsBetterRoute question.now) routes.items) }
 {
     let table = table_of(alloc, question)?;
-    let mut quick = Search::new(alloc, question, &table, Care::Quick)?;
+    let mut quick = Search::new(alloc, question, &table, arcs, Care::Quick)?;
     quick.run(alloc, question)?;
     if !quick.routes.is_empty() {
         return Ok(routes_of(question, quick));
     }
-    let mut exact = Search::new(alloc, question, &table, Care::Exact)?;
+    let mut exact = Search::new(alloc, question, &table, arcs, Care::Exact)?;
     exact.run(alloc, question)?;
     Ok(routes_of(question, exact))
 }
@@ -108,6 +115,7 @@ fn closed(
     pairs: &Pairs,
     prices: &Prices,
     question: &Question<'_>,
+    arcs: &Arcs,
 ) -> Result<Priced, AllocError>
     requires few { length (customer_nodes inst.now) ≤ most_customers }
     requires pairs { pairs.now.customers ≡ length (customer_nodes inst.now) }
@@ -125,7 +133,7 @@ fn closed(
 {
     let of = prices.of.as_slice();
     let none = Completion::none(alloc);
-    let mut search = Search::new(alloc, question, &none, Care::Exact)?;
+    let mut search = Search::new(alloc, question, &none, arcs, Care::Exact)?;
     while search.routes.is_empty() {
         search.run(alloc, question)?;
         if !search.routes.is_empty() {
@@ -149,6 +157,7 @@ fn routes_of(question: &Question<'_>, search: Search<'_>) -> Vec<PricedRoute>
     let _terms = question;
     let Search {
         table: _,
+        arcs: _,
         tree: _,
         queue: _,
         listed: _,

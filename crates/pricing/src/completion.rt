@@ -70,7 +70,7 @@ fn turns_of(alloc: Global, question: &Question<'_>) -> Result<Turns, AllocError>
 }
 
 /// Who may be the next behind the node of a last customer, or behind the depot.
-fn next_of(question: &Question<'_>, last: usize) -> CustSet
+pub(crate) fn next_of(question: &Question<'_>, last: usize) -> CustSet
     requires { last < node_count question.now.network }
 {
     let mut next = CustSet::empty();

@@ -7,7 +7,7 @@ ghost use Rattle.pricing.specs.Answers.{IsInRange};
 ghost use Rattle.pricing.specs.Tree.{IsTree};
 
 use crate::found::Tree;
-use crate::groups::{BLOCK, Brief, Gap, Group};
+use crate::groups::{BLOCK, Brief, Gap, Group, credit};
 use closed_lists::{Question, margin};
 use customer_sets::CustSet;
 use dominance::LabelValue;
@@ -46,21 +46,16 @@ pub(crate) fn leave_out(words: &mut [u64; 128], customers: usize, set: CustSet) 
 }
 
 impl Asked<'_> {
-    /// Whether a label comes before the key and the number, is at its least time no later than a
-    /// time, has a level that is not below one, and costs no more at its least time than the one
-    /// asked for does at the time. Else it is later, lower or dearer at each of its levels.
-    fn is_met(&self, other: &Brief, weight: u64, time: u64, level: u64) -> bool {
-        if u64::from(other.top) < level || other.key > self.key {
+    /// Whether a label has a level that is not below one, costs no more at its least time than so
+    /// much credit leaves, and comes before a time, the key and the number.
+    fn is_met(&self, other: &Brief, credit: i128, time: u64, level: u64) -> bool {
+        if other.credit < credit || u64::from(other.top) < level {
             return false;
         }
-        if other.key == self.key && other.number as usize >= self.number {
+        if other.key > time || other.key > self.key {
             return false;
         }
-        let Some(earlier) = time.checked_sub(other.key) else {
-            return false;
-        };
-        let saved = u128::from(weight) * u128::from(earlier);
-        self.paid <= other.paid || self.paid.abs_diff(other.paid) <= saved
+        other.key < self.key || (other.number as usize) < self.number
     }
 }
 
@@ -75,15 +70,10 @@ impl Tree {
         let group = &self.groups[self.key_of(question, asked.label)];
         let (least, _) = asked.label.value.least();
         let mut level = least.max(asked.lowest);
-        if asked.label.value.at(level).is_none() {
-            return None;
-        }
-        while let Some(to) = self.reach(question, asked, group, 0, level) {
-            let next = to.checked_add(1)?;
-            if asked.label.value.at(next).is_none() {
-                return None;
-            }
-            level = next;
+        let mut time = asked.label.value.at(level)?;
+        while let Some(to) = self.reach(question, asked, group, 0, (level, time)) {
+            level = to.checked_add(1)?;
+            time = asked.label.value.at(level)?;
         }
         Some(Gap {
             level,
@@ -106,39 +96,36 @@ impl Tree {
         requires small { unsigned_abs asked.now.paid ≤ 2 ^ 91 }
     {
         let group = &self.groups[self.key_of(question, asked.label)];
-        if asked.label.value.at(gap.level).is_none() {
+        let Some(time) = asked.label.value.at(gap.level) else {
             return false;
-        }
-        self.reach(question, asked, group, gap.compared, gap.level)
+        };
+        self.reach(question, asked, group, gap.compared, (gap.level, time))
             .is_some()
             && self.gap(question, asked).is_none()
     }
 
-    /// A level up to which a label of the group from a place on does so, from a level on; `None`
-    /// where none does so at that level.
+    /// A level up to which a label of the group from a place on does so, from a level with its time
+    /// on; `None` where none does so at that level.
     fn reach(
         &self,
         question: &Question<'_>,
         asked: &Asked<'_>,
         group: &Group,
         first: usize,
-        level: u64,
+        from: (u64, u64),
     ) -> Option<u64>
         requires tree { IsTree question.now self.now.found.items self.now.groups.items }
         requires range { IsInRange question.now.network asked.now.label.now }
         requires small { unsigned_abs asked.now.paid ≤ 2 ^ 91 }
-        requires level { IsLevel (level_times asked.now.label.now.value) level }
-        ensures up { IfSome result (λ to. level ≤ to) }
+        requires level { IsLevel (level_times asked.now.label.now.value) from.0 }
+        ensures up { IfSome result (λ to. from.0 ≤ to) }
         ensures ends { IfSome result (λ to. IsLevel (level_times asked.now.label.now.value) to) }
     {
-        let Some(time) = asked.label.value.at(level) else {
-            return None;
-        };
         for block in first / BLOCK..group.briefs.len().div_ceil(BLOCK) {
             let skipped = first.saturating_sub(block.wrapping_mul(BLOCK)) as u32;
             let labels = group.within(self.customers, block, asked.left_out)
                 & u64::MAX.wrapping_shl(skipped);
-            if let Some(to) = self.reach_in(question, asked, group, block, labels, level, time) {
+            if let Some(to) = self.reach_in(question, asked, group, block, labels, from) {
                 return Some(to);
             }
         }
@@ -153,15 +140,15 @@ impl Tree {
         group: &Group,
         block: usize,
         labels: u64,
-        level: u64,
-        time: u64,
+        from: (u64, u64),
     ) -> Option<u64>
         requires small { unsigned_abs asked.now.paid ≤ 2 ^ 91 }
-        requires level { IsLevel (level_times asked.now.label.now.value) level }
-        ensures up { IfSome result (λ to. level ≤ to) }
+        requires level { IsLevel (level_times asked.now.label.now.value) from.0 }
+        ensures up { IfSome result (λ to. from.0 ≤ to) }
         ensures ends { IfSome result (λ to. IsLevel (level_times asked.now.label.now.value) to) }
     {
-        let weight = question.weight();
+        let (level, time) = from;
+        let credit = credit(question.weight(), time, asked.paid);
         let mut left = labels;
         for _ in 0..labels.count_ones() {
             let bit = left.trailing_zeros();
@@ -170,7 +157,7 @@ impl Tree {
             let Some(brief) = group.briefs.get(place) else {
                 continue;
             };
-            if !asked.is_met(brief, weight, time, level) {
+            if !asked.is_met(brief, credit, time, level) {
                 continue;
             }
             if let Some(to) = self.reach_of(question, asked, brief, level) {
@@ -193,11 +180,11 @@ impl Tree {
         ensures up { IfSome result (λ to. level ≤ to) }
         ensures ends { IfSome result (λ to. IsLevel (level_times asked.now.label.now.value) to) }
     {
-        if brief.paid.unsigned_abs() > 1 << 91 {
+        let own = self.found.get(brief.number as usize)?;
+        if own.paid.unsigned_abs() > 1 << 91 {
             return None;
         }
-        let own = self.found.get(brief.number as usize)?;
-        let extra = margin(question.weight(), brief.paid, asked.paid)?;
+        let extra = margin(question.weight(), own.paid, asked.paid)?;
         own.label.value.reach(&asked.label.value, extra, level)
     }
 }

@@ -84,7 +84,7 @@ impl Tree {
     {
         let key = self.key_of(question, &label);
         let number = self.found.len();
-        self.groups[key].push(self.customers, &label, paid, number)?;
+        self.groups[key].push(self.customers, &label, question.weight(), paid, number)?;
         self.found.push(Found {
             label,
             paid,

@@ -20,13 +20,13 @@ pub(crate) struct Brief {
     pub(crate) top: u32,
     /// Its number, by which the tree has it; no number of the tree where it is past 2^32.
     pub(crate) number: u32,
-    /// The price sum of its set.
-    pub(crate) paid: i128,
+    /// The price sum of its set, less its least time times the weight.
+    pub(crate) credit: i128,
 }
 
 impl Brief {
     /// What is read of a label with a price sum and a number.
-    fn of(label: &Label, paid: i128, number: usize) -> Brief {
+    fn of(label: &Label, weight: u64, paid: i128, number: usize) -> Brief {
         let (_, key) = label.value.least();
         let points = label.value.points();
         let (top, _) = points[points.len() - 1];
@@ -34,9 +34,15 @@ impl Brief {
             key,
             top: u32::try_from(top).unwrap_or(0),
             number: u32::try_from(number).unwrap_or(u32::MAX),
-            paid,
+            credit: credit(weight, key, paid),
         }
     }
+}
+
+/// What was paid for, less a time times the weight.
+pub(crate) fn credit(weight: u64, time: u64, paid: i128) -> i128 {
+    let owed = u128::from(weight) * u128::from(time);
+    paid.saturating_sub(i128::try_from(owed).unwrap_or(i128::MAX))
 }
 
 /// Labels with the same last customer and node, in the order of their numbers.
@@ -57,17 +63,18 @@ impl Group {
         }
     }
 
-    /// Puts a label with its price sum and its number behind the others. There are so many
-    /// customers.
+    /// Puts a label with its price sum, by a weight of time, and its number behind the others.
+    /// There are so many customers.
     pub(crate) fn push(
         &mut self,
         customers: usize,
         label: &Label,
+        weight: u64,
         paid: i128,
         number: usize,
     ) -> Result<(), AllocError> {
         let place = self.briefs.len();
-        self.briefs.push(Brief::of(label, paid, number))?;
+        self.briefs.push(Brief::of(label, weight, paid, number))?;
         self.serve(customers, label.set, place)
     }
 
@@ -99,7 +106,17 @@ impl Group {
         for (servers, word) in rows.unwrap_or(&[]).iter().zip(left_out) {
             beyond |= servers & word;
         }
-        !beyond
+        !beyond & self.standing(block)
+    }
+
+    /// The labels of a block, as bits.
+    fn standing(&self, block: usize) -> u64 {
+        let labels = self.briefs.len().saturating_sub(block.wrapping_mul(BLOCK));
+        if labels < BLOCK {
+            !u64::MAX.wrapping_shl(labels as u32)
+        } else {
+            u64::MAX
+        }
     }
 }
 

@@ -5,6 +5,7 @@
 #![tactic(auto)]
 
 mod answer;
+mod arcs;
 mod completion;
 mod coverage;
 mod found;

@@ -13,6 +13,7 @@ ghost use Rattle.pricing.specs.Steps.{label_of, Leads};
 ghost use Rattle.pricing.specs.Tree.{AreCopies, AreSteps, HasOrigin, IsFurther, IsGrown, IsMended, IsSearch, IsTree};
 ghost use Rattle.pricing.specs.declared.found.Found.{Found};
 
+use crate::arcs::{Arcs, Start};
 use crate::coverage::{Asked, Care, leave_out};
 use crate::found::{Found, Tree};
 use crate::groups::Gap;
@@ -37,6 +38,8 @@ const MOST_ROUTES: usize = 80;
 pub(crate) struct Search<'a> {
     /// By which it leaves out what can't earn.
     pub(crate) table: &'a Completion,
+    /// By which it leaves out steps that can't be made.
+    pub(crate) arcs: &'a Arcs,
     pub(crate) tree: Tree,
     /// The labels that wait, by their least time and their number.
     pub(crate) queue: BinaryHeap<Reverse<(u64, usize)>>,
@@ -54,6 +57,7 @@ impl<'a> Search<'a> {
         alloc: Global,
         question: &Question<'_>,
         table: &'a Completion,
+        arcs: &'a Arcs,
         care: Care,
     ) -> Result<Search<'a>, AllocError>
         ensures { IfOk result (IsSearch question.now) }
@@ -74,6 +78,7 @@ impl<'a> Search<'a> {
         put(&mut tree, &mut queue, question, start, 0, None, gap)?;
         Ok(Search {
             table,
+            arcs,
             tree,
             queue,
             listed: Vec::new(alloc),
@@ -151,10 +156,10 @@ impl<'a> Search<'a> {
         self.listed.push(number)?;
         self.look_home(alloc, question, number)?;
         let label = &self.tree.found[number].label;
-        let budget = self.table.budget(&label.value);
+        let start = self.arcs.start(label, self.table.budget(&label.value));
         leave_out(&mut self.left_out, self.tree.customers, label.set);
         for node in 0..question.instance().nodes() {
-            self.go(alloc, question, number, node, budget)?;
+            self.go(alloc, question, number, node, &start)?;
         }
         Ok(())
     }
@@ -203,14 +208,14 @@ impl<'a> Search<'a> {
         Ok(())
     }
 
-    /// Lets the labels wait that a step from a label with a budget to a node leads to.
+    /// Lets the labels wait that a step from a label, which is the start of it, to a node leads to.
     fn go(
         &mut self,
         alloc: Global,
         question: &Question<'_>,
         from: usize,
         node: usize,
-        budget: u64,
+        start: &Start,
     ) -> Result<(), AllocError>
         requires search { IsSearch question.now self.old }
         requires known { from < length self.old.tree.found.items }
@@ -219,6 +224,9 @@ impl<'a> Search<'a> {
         ensures grown { OnOk result (IsGrown self.old.tree.found.items self.new.tree.found.items) }
         ensures listed { OnOk result (self.new.listed.items ≡ self.old.listed.items) }
     {
+        if !self.arcs.lead(start, node) {
+            return Ok(());
+        }
         let found = &self.tree.found[from];
         let label = &found.label;
         let Some(target) = target_at(question, label, node) else {
@@ -226,7 +234,7 @@ impl<'a> Search<'a> {
         };
         let paid = paid_at(question, found.paid, node);
         let table = self.table;
-        if table.leaves_out(budget, label.node, node, target.set, paid) {
+        if table.leaves_out(start.budget, label.node, node, target.set, paid) {
             return Ok(());
         }
         if question.instance().curve_at(node).is_none() {
