@@ -1,9 +1,10 @@
 //! Bounds by near routes: `bound`, and `check-bound` on what it writes and on other proofs.
 
-use crate::files::{run_on, run_with, shelf_with};
-use ev_outside::MemoryShelf;
+use crate::files::{assert_file, assert_run, assert_run_on, run_with, shelf_with};
+use command_line::usage;
 use evroute_run::Status;
-use std::alloc::{AllocError, Global};
+use std::alloc::Global;
+use std::process::Abort;
 use worked_instances::{DEPOT_ALONE, NO_STATION, ONE_STATION, THREE_CUSTOMERS, TWO_CUSTOMERS};
 
 /// A proof that no fleet plan of the one customer without a station costs less than 8.
@@ -14,23 +15,29 @@ const EIGHT: &str =
 const NONE: &str =
     "evroute near 1\nbound none\nsection 0 3\nprices 1 0\nnear 1,2\nnear 1,2\nlabel 0 - 0 0 10:0\nlabel 1 1 1 1 9:4\nlabel 2 2 1 0 9:4\n";
 
-/// How the judge ends, and what it puts, on a proof of which a piece is another one.
-fn judged(
+/// The judge ends and puts so on a proof of which a piece is another one, or the test fails.
+fn assert_judged(
+    rt: &impl Abort,
     alloc: Global,
     options: &str,
-    instance: &str,
-    proof: &str,
+    proof: (&str, &str),
     pieces: (&str, &str),
-) -> Result<(Status, Vec<u8>), AllocError> {
-    let line = format!(in alloc; "check-bound A P{options}")?;
-    let text = proof.replacen(alloc, pieces.0, pieces.1, 1)?;
-    run_on(alloc, line.as_str(), instance, text.as_str(), &[], &[])
+    status: Status,
+    put: &str,
+) {
+    let (instance, proof) = proof;
+    let line = format!(in alloc; "check-bound A P{options}").expect(rt, "memory");
+    let text = proof
+        .replacen(alloc, pieces.0, pieces.1, 1)
+        .expect(rt, "memory");
+    let (line, text) = (line.as_str(), text.as_str());
+    assert_run_on(rt, alloc, line, instance, text, status, put);
 }
 
 #[test]
 fn proofs_of_a_bound_are_judged(rt: HostRuntime) {
     let alloc = rt.alloc();
-    for (options, pieces, status, put) in [
+    for &(options, pieces, status, put) in &[
         ("", ("", ""), Status::Done, "accepted\nbound 8/1\n"),
         (
             " --limit 8",
@@ -88,130 +95,110 @@ fn proofs_of_a_bound_are_judged(rt: HostRuntime) {
             "refused certificate 1 at 0\n",
         ),
     ] {
-        let ended = judged(alloc, options, NO_STATION, EIGHT, pieces).expect(&rt, "memory");
-        assert_eq!(rt;
-            ended.1.as_slice(),
-            put.as_bytes(),
-            "{options} {}",
-            pieces.1
+        assert_judged(
+            &rt,
+            alloc,
+            options,
+            (NO_STATION, EIGHT),
+            pieces,
+            status,
+            put,
         );
-        assert_eq!(rt; ended.0, status);
     }
 }
 
 #[test]
 fn proofs_are_of_one_instance_and_one_limit(rt: HostRuntime) {
     let alloc = rt.alloc();
-    for (options, instance, proof, status, put) in [
+    for &(options, proof, status, put) in &[
         (
             "",
-            TWO_CUSTOMERS,
-            EIGHT,
+            (TWO_CUSTOMERS, EIGHT),
             Status::Refused,
             "refused certificate 1 at 43\n",
         ),
         (
             "",
-            ONE_STATION,
-            EIGHT,
+            (ONE_STATION, EIGHT),
             Status::Negative,
             "rejected near 2 label 0 node 2\n",
         ),
         (
             " --limit 7",
-            TWO_CUSTOMERS,
-            NONE,
+            (TWO_CUSTOMERS, NONE),
             Status::Done,
             "accepted\nbound none\n",
         ),
         (
             "",
-            TWO_CUSTOMERS,
-            NONE,
+            (TWO_CUSTOMERS, NONE),
             Status::Negative,
             "rejected near 2 label 1 node 2\n",
         ),
     ] {
-        let ended = judged(alloc, options, instance, proof, ("", "")).expect(&rt, "memory");
-        assert_eq!(rt; ended.1.as_slice(), put.as_bytes(), "{put}");
-        assert_eq!(rt; ended.0, status, "{put}");
+        assert_judged(&rt, alloc, options, proof, ("", ""), status, put);
     }
 }
 
-/// How `bound` ends, and what it puts, and what `check-bound` then ends with and puts, with this
-/// limit.
-fn both(
+/// With this limit `bound` ends and puts so, and `check-bound` then puts what is told, or the test
+/// fails.
+fn assert_both(
+    rt: &impl Abort,
     alloc: Global,
-    shelf: &mut MemoryShelf,
-    near: &str,
-    limit: &str,
-) -> Result<((Status, Vec<u8>), (Status, Vec<u8>)), AllocError> {
-    let bound = format!(in alloc; "bound A O --near {near}{limit}")?;
-    let bounded = run_with(alloc, bound.as_str(), shelf, &[])?;
-    let judge = format!(in alloc; "check-bound A O{limit}")?;
-    let judged = run_with(alloc, judge.as_str(), shelf, &[])?;
-    Ok((bounded, judged))
+    instance: &str,
+    words: (&str, &str),
+    status: Status,
+    texts: (&str, &str),
+) {
+    let ((near, limit), (put, told)) = (words, texts);
+    let mut shelf = shelf_with(alloc, instance, "", &[]).expect(rt, "memory");
+    let bound = format!(in alloc; "bound A O --near {near}{limit}").expect(rt, "memory");
+    assert_run(rt, alloc, bound.as_str(), &mut shelf, status, put);
+    let judge = format!(in alloc; "check-bound A O{limit}").expect(rt, "memory");
+    assert_run(rt, alloc, judge.as_str(), &mut shelf, Status::Done, told);
 }
 
 #[test]
 fn bounds_are_found_and_accepted(rt: HostRuntime) {
-    let alloc = rt.alloc();
-    for (instance, near, limit, status, put, told) in [
+    for &(instance, words, status, texts) in &[
         (
             THREE_CUSTOMERS,
-            "2",
-            "",
+            ("2", ""),
             Status::Done,
-            "bound 14/1\n",
-            "accepted\nbound 14/1\n",
+            ("bound 14/1\n", "accepted\nbound 14/1\n"),
         ),
         (
             THREE_CUSTOMERS,
-            "2",
-            " --limit 11",
+            ("2", " --limit 11"),
             Status::Done,
-            "bound 14/1\n",
-            "accepted\nbound 14/1\n",
+            ("bound 14/1\n", "accepted\nbound 14/1\n"),
         ),
         (
             THREE_CUSTOMERS,
-            "0",
-            "",
+            ("0", ""),
             Status::Done,
-            "bound 7/1\n",
-            "accepted\nbound 7/1\n",
+            ("bound 7/1\n", "accepted\nbound 7/1\n"),
         ),
         (
             TWO_CUSTOMERS,
-            "1",
-            " --limit 7",
+            ("1", " --limit 7"),
             Status::Negative,
-            "infeasible\n",
-            "accepted\nbound none\n",
+            ("infeasible\n", "accepted\nbound none\n"),
         ),
         (
             ONE_STATION,
-            "1000000000",
-            "",
+            ("1000000000", ""),
             Status::Done,
-            "bound 43/2\n",
-            "accepted\nbound 43/2\n",
+            ("bound 43/2\n", "accepted\nbound 43/2\n"),
         ),
         (
             DEPOT_ALONE,
-            "0",
-            "",
+            ("0", ""),
             Status::Done,
-            "bound 0/1\n",
-            "accepted\nbound 0/1\n",
+            ("bound 0/1\n", "accepted\nbound 0/1\n"),
         ),
     ] {
-        let mut shelf = shelf_with(alloc, instance, "", &[]).expect(&rt, "memory");
-        let (bounded, judged) = both(alloc, &mut shelf, near, limit).expect(&rt, "memory");
-        assert_eq!(rt; bounded.0, status, "{near}{limit}");
-        assert_eq!(rt; bounded.1.as_slice(), put.as_bytes());
-        assert_eq!(rt; judged.0, Status::Done, "{near}{limit}");
-        assert_eq!(rt; judged.1.as_slice(), told.as_bytes());
+        assert_both(&rt, rt.alloc(), instance, words, status, texts);
     }
 }
 
@@ -219,39 +206,47 @@ fn bounds_are_found_and_accepted(rt: HostRuntime) {
 fn a_bound_for_one_limit_may_be_none_for_another(rt: HostRuntime) {
     let alloc = rt.alloc();
     let mut shelf = shelf_with(alloc, TWO_CUSTOMERS, "", &[]).expect(&rt, "memory");
-    let (bounded, _) = both(alloc, &mut shelf, "1", " --limit 7").expect(&rt, "memory");
-    assert_eq!(rt; bounded.0, Status::Negative);
-    let ended = run_with(alloc, "check-bound A O", &mut shelf, &[]).expect(&rt, "memory");
-    assert_eq!(rt; ended.0, Status::Negative);
+    let bounded = run_with(alloc, "bound A O --near 1 --limit 7", &mut shelf, &[]);
+    assert_eq!(rt; bounded.expect(&rt, "memory").0, Status::Negative);
+    let judged = run_with(alloc, "check-bound A O", &mut shelf, &[]);
+    assert_eq!(rt; judged.expect(&rt, "memory").0, Status::Negative);
 }
 
 #[test]
 fn a_bound_is_written_only_where_it_stands(rt: HostRuntime) {
     let alloc = rt.alloc();
-    for (line, failing, status, put) in [
-        ("bound A O", [].as_slice(), Status::Words, ""),
-        (
-            "bound A O --near 1000000001",
-            [].as_slice(),
-            Status::Words,
-            "",
-        ),
-        ("bound A A --near 1", [].as_slice(), Status::Words, ""),
+    for &(line, status, put) in &[
         (
             "bound A O --near 1 --limit 500000000000000001",
-            [].as_slice(),
             Status::Refused,
             "refused limit 500000000000000001\n",
         ),
-        ("bound B O --near 1", [].as_slice(), Status::Fault, ""),
-        ("bound A O --near 1", [1].as_slice(), Status::Fault, ""),
+        ("bound B O --near 1", Status::Fault, ""),
     ] {
-        let mut shelf = shelf_with(alloc, ONE_STATION, "", failing).expect(&rt, "memory");
-        let ended = run_with(alloc, line, &mut shelf, &[]).expect(&rt, "memory");
-        assert_eq!(rt; ended.0, status, "{line}");
-        if status != Status::Words {
-            assert_eq!(rt; ended.1.as_slice(), put.as_bytes());
-        }
-        assert!(rt; shelf.get("O").is_none(), "{line}");
+        let shelf = assert_run_on(&rt, alloc, line, ONE_STATION, "", status, put);
+        assert_file(&rt, &shelf, "O", None);
+    }
+    let mut shelf = shelf_with(alloc, ONE_STATION, "", &[1]).expect(&rt, "memory");
+    assert_run(
+        &rt,
+        alloc,
+        "bound A O --near 1",
+        &mut shelf,
+        Status::Fault,
+        "",
+    );
+    assert_file(&rt, &shelf, "O", None);
+}
+
+#[test]
+fn without_the_words_of_a_bound_no_bound_is_written(rt: HostRuntime) {
+    for &line in &[
+        "bound A O",
+        "bound A O --near 1000000001",
+        "bound A A --near 1",
+    ] {
+        let (status, put) = (Status::Words, usage());
+        let shelf = assert_run_on(&rt, rt.alloc(), line, ONE_STATION, "", status, put);
+        assert_file(&rt, &shelf, "O", None);
     }
 }

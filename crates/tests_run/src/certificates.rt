@@ -1,6 +1,7 @@
 use crate::files::{CHARGED, certificate_with, run_on, run_with, shelf_with};
 use evroute_run::Status;
 use std::alloc::{AllocError, Global};
+use std::process::Abort;
 use worked_instances::{ONE_STATION, PLUG_TIME, RESERVE};
 
 /// A fleet plan of the instance with a reserve.
@@ -26,24 +27,35 @@ fn judged(
     run_with(alloc, "check A P Q", &mut shelf, &[])
 }
 
+/// `check` ends and puts so, or the test fails.
+fn assert_judged(
+    rt: &impl Abort,
+    alloc: Global,
+    files: (&str, &str, &str),
+    status: Status,
+    put: &str,
+) {
+    let (instance, plan, certificate) = files;
+    let ended = judged(alloc, instance, plan, certificate.as_bytes()).expect(rt, "memory");
+    assert_eq!(rt; ended.0, status, "{put}");
+    assert_eq!(rt; ended.1.as_slice(), put.as_bytes());
+}
+
 #[test]
 fn a_section_without_weight_or_with_pairs_shows_nothing_at_a_leaf(rt: HostRuntime) {
     let alloc = rt.alloc();
     let text = certificate_with(alloc, "43").expect(&rt, "memory");
-    let cases = [
-        ("section 1 0 5\nprices 43", "section 0 0 5\nprices 0", "5"),
+    for &(other, put) in &[
+        ("section 0 0 5\nprices 0", "rejected certificate 5 leaf 0\n"),
         (
-            "section 1 0 5\nprices 43",
             "section 1 1 5\nprices 43\npair 0 1",
-            "4",
+            "rejected certificate 4 leaf 0\n",
         ),
-    ];
-    for (part, other, rule) in cases {
+    ] {
+        let part = "section 1 0 5\nprices 43";
         let text = text.replace(alloc, part, other).expect(&rt, "memory");
-        let ended = judged(alloc, ONE_STATION, CHARGED, text.as_bytes()).expect(&rt, "memory");
-        assert_eq!(rt; ended.0, Status::Negative);
-        let put = format!(in alloc; "rejected certificate {rule} leaf 0\n").expect(&rt, "memory");
-        assert_eq!(rt; ended.1.as_slice(), put.as_bytes());
+        let files = (ONE_STATION, CHARGED, text.as_str());
+        assert_judged(&rt, alloc, files, Status::Negative, put);
     }
 }
 
@@ -51,47 +63,31 @@ fn a_section_without_weight_or_with_pairs_shows_nothing_at_a_leaf(rt: HostRuntim
 fn a_certificate_belongs_to_its_instance(rt: HostRuntime) {
     let alloc = rt.alloc();
     let text = certificate_with(alloc, "43").expect(&rt, "memory");
-    let cases = [
+    let (status, put) = (Status::Negative, "rejected certificate 6\n");
+    assert_judged(&rt, alloc, (PLUG_TIME, CHARGED, text.as_str()), status, put);
+    for &(files, status, put) in &[
         (
-            PLUG_TIME,
-            CHARGED,
-            text.as_str(),
-            Status::Negative,
-            "rejected certificate 6\n",
-        ),
-        (
-            PLUG_TIME,
-            CHARGED,
-            PLUG_TIME_SHOWN,
+            (PLUG_TIME, CHARGED, PLUG_TIME_SHOWN),
             Status::Done,
             "accepted\ncost 45/2\nbound 45/2\ngap 0/2\n",
         ),
         (
-            RESERVE,
-            RESERVED,
-            RESERVE_SHOWN,
+            (RESERVE, RESERVED, RESERVE_SHOWN),
             Status::Done,
             "accepted\ncost 46/2\nbound 46/2\ngap 0/2\n",
         ),
         (
-            RESERVE,
-            CHARGED,
-            RESERVE_SHOWN,
+            (RESERVE, CHARGED, RESERVE_SHOWN),
             Status::Negative,
             "rejected plan 1 route 0 walk 4 at 3\n",
         ),
         (
-            ONE_STATION,
-            CHARGED,
-            RESERVE_SHOWN,
+            (ONE_STATION, CHARGED, RESERVE_SHOWN),
             Status::Refused,
             "refused certificate 3\n",
         ),
-    ];
-    for (instance, plan, certificate, status, put) in cases {
-        let ended = judged(alloc, instance, plan, certificate.as_bytes()).expect(&rt, "memory");
-        assert_eq!(rt; ended.0, status);
-        assert_eq!(rt; ended.1.as_slice(), put.as_bytes());
+    ] {
+        assert_judged(&rt, alloc, files, status, put);
     }
 }
 
@@ -105,11 +101,16 @@ fn no_certificate_with_one_byte_changed_shows_more(rt: HostRuntime) {
         bytes[at] = b'9';
         shelf.set("Q", bytes.as_slice()).expect(&rt, "memory");
         let (status, put) = run_with(alloc, "check A P Q", &mut shelf, &[]).expect(&rt, "memory");
-        match status {
-            Status::Done => assert_eq!(rt; put.as_slice(), ACCEPTED.as_bytes(), "{at}"),
-            Status::Negative => assert!(rt; put.starts_with(b"rejected certificate "), "{at}"),
-            _ => assert!(rt; put.starts_with(b"refused certificate "), "{at}"),
-        }
+        assert!(rt; shows_no_more(status, put.as_slice()), "{at}");
+    }
+}
+
+/// Whether the answer is that of the certificate as it stands, or a refusal of another one.
+fn shows_no_more(status: Status, put: &[u8]) -> bool {
+    match status {
+        Status::Done => put == ACCEPTED.as_bytes(),
+        Status::Negative => put.starts_with(b"rejected certificate "),
+        _ => put.starts_with(b"refused certificate "),
     }
 }
 

@@ -1,7 +1,14 @@
-use crate::files::{CHARGED, certificate_with, run_on, run_with, shelf_with};
+use crate::files::{
+    CHARGED, assert_file, assert_run, assert_run_on, certificate_with, run_on, run_with, shelf_with,
+};
 use command_line::usage;
 use evroute_run::Status;
+use std::alloc::Global;
+use std::process::Abort;
 use worked_instances::{FINE_UNITS, ONE_STATION, RESERVE, THREE_CUSTOMERS, TWO_CUSTOMERS};
+
+/// A fleet plan whose route runs out of charge.
+const UNCHARGED: &str = "evroute plan 1\nroutes 1\nroute 0 1 0\n";
 
 /// A file with decimals.
 const DECIMALS: &str =
@@ -13,10 +20,10 @@ const MADE: &str =
 
 #[test]
 fn a_route_is_charged_or_refused(rt: HostRuntime) {
+    const PUT: &str = "time 43/2\nat 0\nvia 2 charge 1\nat 1\nat 0\n";
     let alloc = rt.alloc();
-    let charged = "time 43/2\nat 0\nvia 2 charge 1\nat 1\nat 0\n";
-    let cases = [
-        ("fixed A 0,1,0", ONE_STATION, Status::Done, charged),
+    for &(line, text, status, put) in &[
+        ("fixed A 0,1,0", ONE_STATION, Status::Done, PUT),
         (
             "fixed A 0,1,0 --charge 5",
             ONE_STATION,
@@ -35,12 +42,7 @@ fn a_route_is_charged_or_refused(rt: HostRuntime) {
             Status::Negative,
             "infeasible\n",
         ),
-        (
-            "fixed A 0,1,0 --limit 22",
-            ONE_STATION,
-            Status::Done,
-            charged,
-        ),
+        ("fixed A 0,1,0 --limit 22", ONE_STATION, Status::Done, PUT),
         (
             "fixed A 0,1,0 --limit 500000000000000001",
             ONE_STATION,
@@ -72,26 +74,30 @@ fn a_route_is_charged_or_refused(rt: HostRuntime) {
             "time 4300000000/200000000\nat 0\nvia 2 charge 100000000\nat 1\nat 0\n",
         ),
         ("fixed B 0,1,0", ONE_STATION, Status::Fault, ""),
-        ("fixed A", ONE_STATION, Status::Words, usage()),
-    ];
-    for (line, text, status, put) in cases {
-        let ended = run_on(alloc, line, text, "", &[], &[]).expect(&rt, "memory");
-        assert_eq!(rt; ended.0, status, "{line}");
-        assert_eq!(rt; ended.1.as_slice(), put.as_bytes());
+    ] {
+        assert_run_on(&rt, alloc, line, text, "", status, put);
     }
+    assert_run_on(
+        &rt,
+        alloc,
+        "fixed A",
+        ONE_STATION,
+        "",
+        Status::Words,
+        usage(),
+    );
 }
 
 #[test]
 fn a_plan_is_accepted_or_its_first_broken_rule_named(rt: HostRuntime) {
+    const ACCEPTED: &str = "accepted\ncost 43/2\nbound 43/2\ngap 0/2\n";
+    const LATE: &str = "evroute plan 1\nroutes 1\nroute 0 1 v2+3 0\n";
+    const TWICE: &str = "evroute plan 1\nroutes 2\nroute 0 v2+1 1 0\nroute 0 v2+1 1 0\n";
+    const EMPTY: &str = "evroute plan 1\nroutes 2\nroute 0 v2+1 1 0\nroute 0 v2 0\n";
+    const STRAY: &str = "evroute plan 1\nroutes 1\nroute 0 2+1 1 0\n";
     let alloc = rt.alloc();
-    let accepted = "accepted\ncost 43/2\nbound 43/2\ngap 0/2\n";
-    let uncharged = "evroute plan 1\nroutes 1\nroute 0 1 0\n";
-    let late = "evroute plan 1\nroutes 1\nroute 0 1 v2+3 0\n";
-    let twice = "evroute plan 1\nroutes 2\nroute 0 v2+1 1 0\nroute 0 v2+1 1 0\n";
-    let empty = "evroute plan 1\nroutes 2\nroute 0 v2+1 1 0\nroute 0 v2 0\n";
-    let stray = "evroute plan 1\nroutes 1\nroute 0 2+1 1 0\n";
-    let cases = [
-        ("check A P Q", CHARGED, Status::Done, accepted),
+    for &(line, plan, status, put) in &[
+        ("check A P Q", CHARGED, Status::Done, ACCEPTED),
         (
             "check A P Q",
             "evroute plan 1\nnone\n",
@@ -101,19 +107,19 @@ fn a_plan_is_accepted_or_its_first_broken_rule_named(rt: HostRuntime) {
         ("check A P Q", "", Status::Refused, "refused plan 4 at 0\n"),
         (
             "check A P Q",
-            uncharged,
+            UNCHARGED,
             Status::Negative,
             "rejected plan 1 route 0 walk 4 at 2\n",
         ),
         (
             "check A P Q --limit 22",
-            late,
+            LATE,
             Status::Negative,
             "rejected plan 1 route 0 walk 7 at 3\n",
         ),
         (
             "check A P Q",
-            twice,
+            TWICE,
             Status::Negative,
             "rejected plan 2 customer 1\n",
         ),
@@ -125,13 +131,13 @@ fn a_plan_is_accepted_or_its_first_broken_rule_named(rt: HostRuntime) {
         ),
         (
             "check A P Q",
-            empty,
+            EMPTY,
             Status::Negative,
             "rejected plan 4 route 1\n",
         ),
         (
             "check A P Q",
-            stray,
+            STRAY,
             Status::Negative,
             "rejected plan 5 route 0 at 1\n",
         ),
@@ -142,20 +148,38 @@ fn a_plan_is_accepted_or_its_first_broken_rule_named(rt: HostRuntime) {
             "refused limit 500000000000000001\n",
         ),
         ("check A B Q", CHARGED, Status::Fault, ""),
-        ("check A P P", CHARGED, Status::Words, usage()),
-    ];
-    for (line, plan, status, put) in cases {
-        let ended = run_on(alloc, line, ONE_STATION, plan, &[], &[]).expect(&rt, "memory");
-        assert_eq!(rt; ended.0, status, "{line}");
-        assert_eq!(rt; ended.1.as_slice(), put.as_bytes());
+    ] {
+        assert_run_on(&rt, alloc, line, ONE_STATION, plan, status, put);
     }
+    assert_run_on(
+        &rt,
+        alloc,
+        "check A P P",
+        ONE_STATION,
+        CHARGED,
+        Status::Words,
+        usage(),
+    );
+}
+
+/// The program judges the certificate with this bound so, or the test fails.
+fn assert_check(
+    rt: &impl Abort,
+    alloc: Global,
+    plan: &str,
+    bound: &str,
+    status: Status,
+    put: &str,
+) {
+    let mut shelf = shelf_with(alloc, ONE_STATION, plan, &[]).expect(rt, "memory");
+    let certificate = certificate_with(alloc, bound).expect(rt, "memory");
+    shelf.set("Q", certificate.as_bytes()).expect(rt, "memory");
+    assert_run(rt, alloc, "check A P Q", &mut shelf, status, put);
 }
 
 #[test]
 fn a_certificate_is_accepted_or_its_first_broken_rule_named(rt: HostRuntime) {
-    let alloc = rt.alloc();
-    let uncharged = "evroute plan 1\nroutes 1\nroute 0 1 0\n";
-    let cases = [
+    for &(plan, bound, status, put) in &[
         (
             CHARGED,
             "40",
@@ -175,13 +199,13 @@ fn a_certificate_is_accepted_or_its_first_broken_rule_named(rt: HostRuntime) {
             "rejected certificate 5 leaf 0\n",
         ),
         (
-            uncharged,
+            UNCHARGED,
             "44",
             Status::Negative,
             "rejected plan 1 route 0 walk 4 at 2\n",
         ),
         (
-            uncharged,
+            UNCHARGED,
             "044",
             Status::Refused,
             "refused certificate 1 at 28\n",
@@ -193,14 +217,8 @@ fn a_certificate_is_accepted_or_its_first_broken_rule_named(rt: HostRuntime) {
             "refused certificate 2 at 28\n",
         ),
         ("", "044", Status::Refused, "refused plan 4 at 0\n"),
-    ];
-    for (plan, bound, status, put) in cases {
-        let mut shelf = shelf_with(alloc, ONE_STATION, plan, &[]).expect(&rt, "memory");
-        let certificate = certificate_with(alloc, bound).expect(&rt, "memory");
-        shelf.set("Q", certificate.as_bytes()).expect(&rt, "memory");
-        let ended = run_with(alloc, "check A P Q", &mut shelf, &[]).expect(&rt, "memory");
-        assert_eq!(rt; ended.0, status, "{bound}");
-        assert_eq!(rt; ended.1.as_slice(), put.as_bytes());
+    ] {
+        assert_check(&rt, rt.alloc(), plan, bound, status, put);
     }
 }
 
@@ -215,25 +233,22 @@ fn a_broken_plan_file_is_refused_before_the_certificate_is_read(rt: HostRuntime)
 #[test]
 fn the_reserve_is_kept(rt: HostRuntime) {
     let alloc = rt.alloc();
-    let cases = [
+    for &(line, status, put) in &[
         (
             "fixed A 0,1,0",
             Status::Done,
             "time 46/2\nat 0\nat 1\nvia 2 charge 4\nat 0\n",
         ),
         ("check A P Q", Status::Refused, "refused certificate 3\n"),
-    ];
-    for (line, status, put) in cases {
-        let ended = run_on(alloc, line, RESERVE, CHARGED, &[], &[]).expect(&rt, "memory");
-        assert_eq!(rt; ended.0, status, "{line}");
-        assert_eq!(rt; ended.1.as_slice(), put.as_bytes());
+    ] {
+        assert_run_on(&rt, alloc, line, RESERVE, CHARGED, status, put);
     }
 }
 
 #[test]
 fn a_fleet_is_planned_where_no_rule_is_broken(rt: HostRuntime) {
     let alloc = rt.alloc();
-    let cases = [
+    for &(line, instance, status, put) in &[
         ("fleet A P Q", "{", Status::Refused, "refused instance 2\n"),
         (
             "fleet A P Q --limit 500000000000000001 --nodes 1",
@@ -242,23 +257,21 @@ fn a_fleet_is_planned_where_no_rule_is_broken(rt: HostRuntime) {
             "refused limit 500000000000000001\n",
         ),
         ("fleet B P Q", ONE_STATION, Status::Fault, ""),
-        ("fleet A P A", ONE_STATION, Status::Words, usage()),
-        ("fleet A P Q --nodes 0", ONE_STATION, Status::Words, usage()),
-    ];
-    for (line, instance, status, put) in cases {
-        let mut shelf = shelf_with(alloc, instance, CHARGED, &[]).expect(&rt, "memory");
-        let ended = run_with(alloc, line, &mut shelf, &[]).expect(&rt, "memory");
-        assert_eq!(rt; ended.0, status, "{line}");
-        assert_eq!(rt; ended.1.as_slice(), put.as_bytes());
-        let plan = shelf.get("P").unwrap_or(b"not there".as_slice());
-        assert_eq!(rt; plan, CHARGED.as_bytes());
+    ] {
+        let shelf = assert_run_on(&rt, alloc, line, instance, CHARGED, status, put);
+        assert_file(&rt, &shelf, "P", Some(CHARGED));
+    }
+    for &line in &["fleet A P A", "fleet A P Q --nodes 0"] {
+        let (status, put) = (Status::Words, usage());
+        let shelf = assert_run_on(&rt, alloc, line, ONE_STATION, CHARGED, status, put);
+        assert_file(&rt, &shelf, "P", Some(CHARGED));
     }
 }
 
 #[test]
 fn a_fleet_is_planned_at_its_bound(rt: HostRuntime) {
     let alloc = rt.alloc();
-    let cases = [
+    for &(line, instance, status, put) in &[
         (
             "fleet A P Q",
             ONE_STATION,
@@ -277,12 +290,8 @@ fn a_fleet_is_planned_at_its_bound(rt: HostRuntime) {
             Status::Negative,
             "infeasible\n",
         ),
-    ];
-    for (line, instance, status, put) in cases {
-        let mut shelf = shelf_with(alloc, instance, "", &[]).expect(&rt, "memory");
-        let ended = run_with(alloc, line, &mut shelf, &[]).expect(&rt, "memory");
-        assert_eq!(rt; ended.0, status, "{line}");
-        assert_eq!(rt; ended.1.as_slice(), put.as_bytes());
+    ] {
+        assert_run_on(&rt, alloc, line, instance, "", status, put);
     }
 }
 
@@ -290,13 +299,12 @@ fn a_fleet_is_planned_at_its_bound(rt: HostRuntime) {
 fn a_budget_stops_a_search_and_its_files_are_accepted(rt: HostRuntime) {
     let alloc = rt.alloc();
     let mut shelf = shelf_with(alloc, THREE_CUSTOMERS, "", &[]).expect(&rt, "memory");
-    let cases = [
+    for &(line, status) in &[
         ("fleet A P Q --limit 11 --nodes 1", Status::Stopped),
         ("check A P Q --limit 11", Status::Done),
         ("fleet A P Q --limit 11", Status::Done),
         ("check A P Q --limit 11", Status::Done),
-    ];
-    for (line, status) in cases {
+    ] {
         let ended = run_with(alloc, line, &mut shelf, &[]).expect(&rt, "memory");
         assert_eq!(rt; ended.0, status, "{line}");
     }
@@ -308,98 +316,85 @@ fn a_fleet_has_no_more_than_128_customers(rt: HostRuntime) {
     let mut shelf = shelf_with(alloc, ONE_STATION, CHARGED, &[]).expect(&rt, "memory");
     let made = run_with(alloc, "make 1 129 0 W", &mut shelf, &[]).expect(&rt, "memory");
     assert_eq!(rt; made.0, Status::Negative);
-    for line in [
+    for &line in &[
         "fleet W P Q",
         "check W P Q",
         "bound W Q --near 2",
         "check-bound W Q",
     ] {
-        let ended = run_with(alloc, line, &mut shelf, &[]).expect(&rt, "memory");
-        assert_eq!(rt; ended.0, Status::Refused, "{line}");
-        assert_eq!(rt; ended.1.as_slice(), "refused customers 129\n".as_bytes());
+        let (status, put) = (Status::Refused, "refused customers 129\n");
+        assert_run(&rt, alloc, line, &mut shelf, status, put);
     }
 }
 
 #[test]
 fn decimals_become_whole_in_another_file(rt: HostRuntime) {
+    const WHOLE: &str = "convert A W --time-digits 0 --energy-digits 0";
     let alloc = rt.alloc();
-    let whole = "convert A W --time-digits 0 --energy-digits 0";
-    let cases = [
+    for &(line, text, status, put, written) in &[
         (
-            whole,
+            WHOLE,
             r#"{"max_q":2.5}"#,
             Status::Done,
             "",
-            r#"{"max_q":3}"#,
+            Some(r#"{"max_q":3}"#),
         ),
         (
             "convert A W --time-digits 3 --energy-digits 0",
             r#"{"time":[1e-05]}"#,
             Status::Done,
             "",
-            r#"{"time":[1]}"#,
+            Some(r#"{"time":[1]}"#),
         ),
         (
-            whole,
+            WHOLE,
             r#"{"max_q":-0.5}"#,
             Status::Refused,
             "refused literal 2 at 9\n",
-            "not there",
+            None,
         ),
         (
             "convert A W --time-digits 10 --energy-digits 0",
             "{}",
             Status::Refused,
             "refused literal 4\n",
-            "not there",
+            None,
         ),
         (
             "convert B W --time-digits 10 --energy-digits 0",
             "{}",
             Status::Fault,
             "",
-            "not there",
+            None,
         ),
-        (
-            "convert A A --time-digits 0 --energy-digits 0",
-            "{}",
-            Status::Words,
-            usage(),
-            "not there",
-        ),
-    ];
-    for (line, text, status, put, written) in cases {
-        let mut shelf = shelf_with(alloc, text, "", &[]).expect(&rt, "memory");
-        let ended = run_with(alloc, line, &mut shelf, &[]).expect(&rt, "memory");
-        assert_eq!(rt; ended.0, status, "{line}");
-        assert_eq!(rt; ended.1.as_slice(), put.as_bytes());
-        let under = shelf.get("W").unwrap_or(b"not there".as_slice());
-        assert_eq!(rt; under, written.as_bytes());
+    ] {
+        let shelf = assert_run_on(&rt, alloc, line, text, "", status, put);
+        assert_file(&rt, &shelf, "W", written);
     }
+    let line = "convert A A --time-digits 0 --energy-digits 0";
+    let shelf = assert_run_on(&rt, alloc, line, "{}", "", Status::Words, usage());
+    assert_file(&rt, &shelf, "W", None);
 }
 
 #[test]
 fn a_file_with_decimals_is_converted_and_then_charged(rt: HostRuntime) {
     let alloc = rt.alloc();
     let mut shelf = shelf_with(alloc, DECIMALS, "", &[]).expect(&rt, "memory");
-    let lines = [
+    for &(line, put) in &[
         ("convert A W --time-digits 2 --energy-digits 0", ""),
         (
             "fixed W 0,1,0",
             "time 11467048/27200\nat 0\nvia 2 charge 2102\nat 1\nat 0\n",
         ),
-    ];
-    for (line, put) in lines {
-        let ended = run_with(alloc, line, &mut shelf, &[]).expect(&rt, "memory");
-        assert_eq!(rt; ended.0, Status::Done, "{line}");
-        assert_eq!(rt; ended.1.as_slice(), put.as_bytes());
+    ] {
+        assert_run(&rt, alloc, line, &mut shelf, Status::Done, put);
     }
 }
 
 #[test]
 fn a_made_instance_is_written_and_charged(rt: HostRuntime) {
     let alloc = rt.alloc();
-    let cases = [
+    for &(line, status, put, written) in &[
         (
             "make 1 1 0 W",
             Status::Done,
@@ -407,21 +402,16 @@ fn a_made_instance_is_written_and_charged(rt: HostRuntime) {
             Some(MADE),
         ),
         ("make 0 1 0 W", Status::Refused, "refused maker 1\n", None),
-    ];
-    for (line, status, put, written) in cases {
-        let mut shelf = shelf_with(alloc, "", "", &[]).expect(&rt, "memory");
-        let ended = run_with(alloc, line, &mut shelf, &[]).expect(&rt, "memory");
-        assert_eq!(rt; ended.0, status, "{line}");
-        assert_eq!(rt; ended.1.as_slice(), put.as_bytes());
-        let under = shelf.get("W").unwrap_or(b"not there".as_slice());
-        assert_eq!(rt; under, written.unwrap_or("not there").as_bytes());
+    ] {
+        let shelf = assert_run_on(&rt, alloc, line, "", "", status, put);
+        assert_file(&rt, &shelf, "W", written);
     }
 }
 
 #[test]
 fn a_made_instance_is_written_whether_its_route_is_feasible_or_not(rt: HostRuntime) {
     let alloc = rt.alloc();
-    let cases = [
+    for &(line, status, put) in &[
         (
             "make 1 5 0 W",
             Status::Negative,
@@ -432,12 +422,8 @@ fn a_made_instance_is_written_whether_its_route_is_feasible_or_not(rt: HostRunti
             Status::Done,
             "nodes 21\ndenominator 136\ntime 1028557/136\n",
         ),
-    ];
-    for (line, status, put) in cases {
-        let mut shelf = shelf_with(alloc, "", "", &[]).expect(&rt, "memory");
-        let ended = run_with(alloc, line, &mut shelf, &[]).expect(&rt, "memory");
-        assert_eq!(rt; ended.0, status, "{line}");
-        assert_eq!(rt; ended.1.as_slice(), put.as_bytes());
+    ] {
+        let shelf = assert_run_on(&rt, alloc, line, "", "", status, put);
         assert!(rt; shelf.get("W").is_some());
     }
 }

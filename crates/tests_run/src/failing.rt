@@ -1,17 +1,34 @@
-use crate::files::{CHARGED, certificate_with, run_on, run_with, shelf_with};
+use crate::files::{CHARGED, assert_begins, certificate_with, run_on, run_with, shelf_with};
 use command_line::usage;
-use ev_outside::Failure;
+use ev_outside::{Failure, MemoryShelf};
 use evroute_run::{Message, Status};
-use std::alloc::AllocError;
+use std::alloc::{AllocError, Global};
 use std::io::Error;
+use std::process::Abort;
 use worked_instances::ONE_STATION;
+
+/// The program ends and puts so where these calls of the files and of the output fail, or the test
+/// fails.
+fn assert_failing(
+    rt: &impl Abort,
+    alloc: Global,
+    line: &str,
+    instance: &str,
+    failing: (Option<u64>, Option<u64>),
+    status: Status,
+    put: &str,
+) {
+    let (calls, puts) = (failing.0.as_slice(), failing.1.as_slice());
+    let ended = run_on(alloc, line, instance, CHARGED, calls, puts).expect(rt, "memory");
+    assert_eq!(rt; ended.0, status, "{line}");
+    assert_eq!(rt; ended.1.as_slice(), put.as_bytes(), "{line}");
+}
 
 #[test]
 fn a_failing_file_or_output_is_a_fault(rt: HostRuntime) {
+    const WHOLE: &str = "convert A W --time-digits 0 --energy-digits 0";
     let alloc = rt.alloc();
-    let half_usage = &usage()[..usage().len() / 2];
-    let whole = "convert A W --time-digits 0 --energy-digits 0";
-    let cases = [
+    for &(line, instance, call, put, status, text) in &[
         (
             "fixed A 0,1,0",
             ONE_STATION,
@@ -56,10 +73,10 @@ fn a_failing_file_or_output_is_a_fault(rt: HostRuntime) {
             Status::Fault,
             "refused i",
         ),
-        (whole, ONE_STATION, Some(0), None, Status::Fault, ""),
-        (whole, ONE_STATION, Some(1), None, Status::Fault, ""),
-        (whole, ONE_STATION, None, Some(0), Status::Done, ""),
-        (whole, "{", None, Some(0), Status::Fault, "refused lit"),
+        (WHOLE, ONE_STATION, Some(0), None, Status::Fault, ""),
+        (WHOLE, ONE_STATION, Some(1), None, Status::Fault, ""),
+        (WHOLE, ONE_STATION, None, Some(0), Status::Done, ""),
+        (WHOLE, "{", None, Some(0), Status::Fault, "refused lit"),
         ("make 1 1 0 W", "", Some(0), None, Status::Fault, ""),
         (
             "make 1 1 0 W",
@@ -69,52 +86,56 @@ fn a_failing_file_or_output_is_a_fault(rt: HostRuntime) {
             Status::Fault,
             "nodes 2\ndenominator ",
         ),
-        ("check", "", None, Some(0), Status::Fault, half_usage),
-    ];
-    for (line, instance, failing_call, failing_put, status, put) in cases {
-        let ended = run_on(
-            alloc,
-            line,
-            instance,
-            CHARGED,
-            failing_call.as_slice(),
-            failing_put.as_slice(),
-        )
-        .expect(&rt, "memory");
-        assert_eq!(rt; ended.0, status, "{line}");
-        assert_eq!(rt; ended.1.as_slice(), put.as_bytes());
+    ] {
+        assert_failing(&rt, alloc, line, instance, (call, put), status, text);
     }
+    let half = &usage()[..usage().len() / 2];
+    let failing = (None, Some(0));
+    assert_failing(&rt, alloc, "check", "", failing, Status::Fault, half);
+}
+
+/// The files that `fleet` leaves where these calls of the files and of the output fail, which is a
+/// fault once this is put, or the test fails.
+fn failed_fleet(
+    rt: &impl Abort,
+    alloc: Global,
+    failing: (&[u64], &[u64]),
+    put: &str,
+) -> MemoryShelf {
+    let mut shelf = shelf_with(alloc, ONE_STATION, "before", failing.0).expect(rt, "memory");
+    let ended = run_with(alloc, "fleet A P Q", &mut shelf, failing.1).expect(rt, "memory");
+    assert_eq!(rt; ended.0, Status::Fault);
+    assert_eq!(rt; ended.1.as_slice(), put.as_bytes());
+    shelf
 }
 
 #[test]
-fn what_a_failed_fleet_leaves(rt: HostRuntime) {
+fn a_fleet_whose_files_fail_leaves_what_was_there(rt: HostRuntime) {
     let alloc = rt.alloc();
-    let begun = certificate_with(alloc, "43").expect(&rt, "memory");
-    // the failing call of the files and of the output, what is put, and what PLAN and CERT begin
-    // with
-    let cases = [
-        (Some(0), None, "", "before", begun.as_str()),
-        (Some(1), None, "", "", begun.as_str()),
-        (Some(2), None, "", CHARGED, ""),
-        (
-            None,
-            Some(0),
-            "cost 43/2\nbound 43/2\ng",
-            CHARGED,
-            "evroute certificate 1\nbound 43\n",
-        ),
-    ];
-    for (failing_call, failing_put, put, plan, certificate) in cases {
-        let calls = failing_call.as_slice();
-        let mut shelf = shelf_with(alloc, ONE_STATION, "before", calls).expect(&rt, "memory");
-        let puts = failing_put.as_slice();
-        let ended = run_with(alloc, "fleet A P Q", &mut shelf, puts).expect(&rt, "memory");
-        assert_eq!(rt; ended.0, Status::Fault);
-        assert_eq!(rt; ended.1.as_slice(), put.as_bytes());
-        let left = shelf.get("P").unwrap_or(b"".as_slice());
-        assert!(rt; left.starts_with(plan.as_bytes()));
-        let left = shelf.get("Q").unwrap_or(b"".as_slice());
-        assert!(rt; left.starts_with(certificate.as_bytes()));
+    let before = certificate_with(alloc, "43").expect(&rt, "memory");
+    let shelf = failed_fleet(&rt, alloc, (&[0], &[]), "");
+    assert_begins(&rt, &shelf, "P", "before");
+    assert_begins(&rt, &shelf, "Q", before.as_str());
+    let shelf = failed_fleet(&rt, alloc, (&[1], &[]), "");
+    assert_begins(&rt, &shelf, "Q", before.as_str());
+}
+
+#[test]
+fn a_fleet_whose_certificate_or_report_fails_leaves_its_plan(rt: HostRuntime) {
+    let alloc = rt.alloc();
+    let shelf = failed_fleet(&rt, alloc, (&[2], &[]), "");
+    assert_begins(&rt, &shelf, "P", CHARGED);
+    let put = "cost 43/2\nbound 43/2\ng";
+    let shelf = failed_fleet(&rt, alloc, (&[], &[0]), put);
+    assert_begins(&rt, &shelf, "P", CHARGED);
+    assert_begins(&rt, &shelf, "Q", "evroute certificate 1\nbound 43\n");
+}
+
+/// The text of a message, or that there is none.
+fn text_of(alloc: Global, message: Option<Message<'_>>) -> Result<String, AllocError> {
+    match message {
+        Some(message) => message.to_string(alloc),
+        None => String::from_str(alloc, "no message"),
     }
 }
 
@@ -144,7 +165,7 @@ fn a_message_names_the_cause(rt: HostRuntime) -> Result<(), AllocError> {
             "evroute: the words can't be had: No such file or directory (os error 2)",
         ),
     ] {
-        let text = message.expect(&rt, "a message").to_string(alloc)?;
+        let text = text_of(alloc, message)?;
         assert_eq!(rt; text.as_str(), want);
     }
     Ok(())

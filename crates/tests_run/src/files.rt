@@ -3,6 +3,7 @@
 use ev_outside::{MemoryShelf, MemorySink};
 use evroute_run::{Status, run};
 use std::alloc::{AllocError, Global};
+use std::process::Abort;
 
 /// A fleet plan of the instance with one station.
 pub const CHARGED: &str = "evroute plan 1\nroutes 1\nroute 0 v2+1 1 0\n";
@@ -66,4 +67,45 @@ pub fn run_on(
 ) -> Result<(Status, Vec<u8>), AllocError> {
     let mut shelf = shelf_with(alloc, instance, plan, failing_calls)?;
     run_with(alloc, line, &mut shelf, failing_puts)
+}
+
+/// The program ends and puts so on these files, or the test fails.
+pub fn assert_run(
+    rt: &impl Abort,
+    alloc: Global,
+    line: &str,
+    shelf: &mut MemoryShelf,
+    status: Status,
+    put: &str,
+) {
+    let ended = run_with(alloc, line, shelf, &[]).expect(rt, "memory");
+    assert_eq!(rt; ended.1.as_slice(), put.as_bytes(), "{line}");
+    assert_eq!(rt; ended.0, status, "{line}");
+}
+
+/// The program ends and puts so where `A` holds an instance and `P` a plan, or the test fails. It
+/// answers what is left of the files.
+pub fn assert_run_on(
+    rt: &impl Abort,
+    alloc: Global,
+    line: &str,
+    instance: &str,
+    plan: &str,
+    status: Status,
+    put: &str,
+) -> MemoryShelf {
+    let mut shelf = shelf_with(alloc, instance, plan, &[]).expect(rt, "memory");
+    assert_run(rt, alloc, line, &mut shelf, status, put);
+    shelf
+}
+
+/// A file holds this text, or is not there, or the test fails.
+pub fn assert_file(rt: &impl Abort, shelf: &MemoryShelf, name: &str, want: Option<&str>) {
+    assert_eq!(rt; shelf.get(name), want.map(|text| text.as_bytes()), "{name}");
+}
+
+/// A file begins with this text, or the test fails.
+pub fn assert_begins(rt: &impl Abort, shelf: &MemoryShelf, name: &str, text: &str) {
+    let left = shelf.get(name).unwrap_or(b"".as_slice());
+    assert!(rt; left.starts_with(text.as_bytes()), "{name}: {text}");
 }

@@ -1,4 +1,4 @@
-use crate::files::{run_on, run_with, shelf_with};
+use crate::files::{assert_begins, assert_file, assert_run, assert_run_on, shelf_with};
 use evroute_run::Status;
 use worked_instances::{DEPOT_ALONE, ONE_STATION, THREE_CUSTOMERS, TWO_CUSTOMERS};
 
@@ -14,7 +14,7 @@ const IN_TWO: &str = "evroute plan 1\nroutes 2\nroute 0 1 2 0\nroute 0 3 0\n";
 #[test]
 fn a_plan_is_made_cheaper_or_told_why_not(rt: HostRuntime) {
     let alloc = rt.alloc();
-    let cases = [
+    for &(line, instance, plan, status, put) in &[
         (
             "improve A P O --limit 11",
             THREE_CUSTOMERS,
@@ -101,14 +101,10 @@ fn a_plan_is_made_cheaper_or_told_why_not(rt: HostRuntime) {
         ),
         ("improve B P O", TWO_CUSTOMERS, NONE, Status::Fault, ""),
         ("improve A R O", TWO_CUSTOMERS, NONE, Status::Fault, ""),
-    ];
-    for (line, instance, plan, status, put) in cases {
-        let mut shelf = shelf_with(alloc, instance, plan, &[]).expect(&rt, "memory");
-        let ended = run_with(alloc, line, &mut shelf, &[]).expect(&rt, "memory");
-        assert_eq!(rt; ended.0, status, "{line}");
-        assert_eq!(rt; ended.1.as_slice(), put.as_bytes());
+    ] {
+        let shelf = assert_run_on(&rt, alloc, line, instance, plan, status, put);
         assert_eq!(rt; shelf.get("O").is_some(), status == Status::Done, "{line}");
-        assert_eq!(rt; shelf.get("P").unwrap_or(b"".as_slice()), plan.as_bytes());
+        assert_file(&rt, &shelf, "P", Some(plan));
     }
 }
 
@@ -116,23 +112,19 @@ fn a_plan_is_made_cheaper_or_told_why_not(rt: HostRuntime) {
 fn what_is_written_is_settled(rt: HostRuntime) {
     let alloc = rt.alloc();
     let line = "improve A P O --limit 11";
-    let mut shelf = shelf_with(alloc, THREE_CUSTOMERS, OUT_AND_BACK, &[]).expect(&rt, "memory");
-    let ended = run_with(alloc, line, &mut shelf, &[]).expect(&rt, "memory");
-    assert_eq!(rt; ended.0, Status::Done);
+    let (before, put) = (OUT_AND_BACK, "cost 19/1\nwas 24/1\n");
+    let shelf = assert_run_on(&rt, alloc, line, THREE_CUSTOMERS, before, Status::Done, put);
+    assert_begins(&rt, &shelf, "O", "evroute plan 1\nroutes 2\n");
     let left = shelf.get("O").unwrap_or(b"".as_slice());
     let plan = str::from_utf8(left).expect(&rt, "text");
-    assert!(rt; plan.starts_with("evroute plan 1\nroutes 2\n"));
-    let again = run_on(alloc, line, THREE_CUSTOMERS, plan, &[], &[]).expect(&rt, "memory");
-    assert_eq!(rt; again.0, Status::Done);
-    assert_eq!(rt; again.1.as_slice(), b"cost 19/1\nwas 19/1\n".as_slice());
+    let put = "cost 19/1\nwas 19/1\n";
+    assert_run_on(&rt, alloc, line, THREE_CUSTOMERS, plan, Status::Done, put);
 }
 
 #[test]
 fn a_failed_write_leaves_the_plan(rt: HostRuntime) {
     let alloc = rt.alloc();
     let mut shelf = shelf_with(alloc, TWO_CUSTOMERS, NONE, &[2]).expect(&rt, "memory");
-    let ended = run_with(alloc, "improve A P O", &mut shelf, &[]).expect(&rt, "memory");
-    assert_eq!(rt; ended.0, Status::Fault);
-    assert_eq!(rt; ended.1.as_slice(), b"".as_slice());
-    assert_eq!(rt; shelf.get("P").unwrap_or(b"".as_slice()), NONE.as_bytes());
+    assert_run(&rt, alloc, "improve A P O", &mut shelf, Status::Fault, "");
+    assert_file(&rt, &shelf, "P", Some(NONE));
 }

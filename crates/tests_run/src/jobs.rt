@@ -2,6 +2,7 @@
 
 use command_line::{Job, MixedWords, ProofWords, job_words, usage};
 use std::alloc::{AllocError, Global};
+use std::process::Abort;
 
 /// The words of a line, in which they are parted by single spaces.
 fn words_of(alloc: Global, line: &str) -> Result<Vec<String>, AllocError> {
@@ -89,10 +90,15 @@ fn proof_text(alloc: Global, command: &str, job: &ProofWords) -> Result<String, 
     )
 }
 
+/// The line names this job, or the test fails.
+fn assert_job(rt: &impl Abort, alloc: Global, line: &str, wanted: &str) {
+    let job = job_text(alloc, line).expect(rt, "memory");
+    assert_eq!(rt; job.as_str(), wanted, "{line}");
+}
+
 #[test]
 fn words_name_jobs_on_one_route(rt: HostRuntime) {
-    let alloc = rt.alloc();
-    for (line, wanted) in [
+    for &(line, wanted) in &[
         ("fixed A 0,1,0", "fixed A 0,1,0 None None"),
         (
             "--limit 22 fixed A --charge=0 0,1,0",
@@ -121,15 +127,13 @@ fn words_name_jobs_on_one_route(rt: HostRuntime) {
         ("help", "none"),
         ("", "none"),
     ] {
-        let job = job_text(alloc, line).expect(&rt, "memory");
-        assert_eq!(rt; job.as_str(), wanted, "{line}");
+        assert_job(&rt, rt.alloc(), line, wanted);
     }
 }
 
 #[test]
 fn words_name_jobs_that_check_a_plan(rt: HostRuntime) {
-    let alloc = rt.alloc();
-    for (line, wanted) in [
+    for &(line, wanted) in &[
         ("check A P Q", "check A P Q None"),
         ("check A --limit 3 P Q", "check A P Q Some(3)"),
         ("check A P Q --charge 3", "none"),
@@ -141,15 +145,13 @@ fn words_name_jobs_that_check_a_plan(rt: HostRuntime) {
         ("check A P Q --nodes 1", "none"),
         ("check A P Q --near 2", "none"),
     ] {
-        let job = job_text(alloc, line).expect(&rt, "memory");
-        assert_eq!(rt; job.as_str(), wanted, "{line}");
+        assert_job(&rt, rt.alloc(), line, wanted);
     }
 }
 
 #[test]
 fn words_name_jobs_that_plan_a_fleet(rt: HostRuntime) {
-    let alloc = rt.alloc();
-    for (line, wanted) in [
+    for &(line, wanted) in &[
         ("fleet A P Q", "fleet A P Q None None"),
         (
             "fleet --nodes 1000000000000000000 A P --limit=0 Q",
@@ -169,15 +171,13 @@ fn words_name_jobs_that_plan_a_fleet(rt: HostRuntime) {
         ("fleet A P Q R", "none"),
         ("fleet A P Q --near 2", "none"),
     ] {
-        let job = job_text(alloc, line).expect(&rt, "memory");
-        assert_eq!(rt; job.as_str(), wanted, "{line}");
+        assert_job(&rt, rt.alloc(), line, wanted);
     }
 }
 
 #[test]
 fn words_name_jobs_that_convert_and_make(rt: HostRuntime) {
-    let alloc = rt.alloc();
-    for (line, wanted) in [
+    for &(line, wanted) in &[
         (
             "convert A W --time-digits 2 --energy-digits 0 --nodes 1",
             "none",
@@ -204,15 +204,13 @@ fn words_name_jobs_that_convert_and_make(rt: HostRuntime) {
         ("make 1 1 0", "none"),
         ("make 1 1 0 M --near 2", "none"),
     ] {
-        let job = job_text(alloc, line).expect(&rt, "memory");
-        assert_eq!(rt; job.as_str(), wanted, "{line}");
+        assert_job(&rt, rt.alloc(), line, wanted);
     }
 }
 
 #[test]
 fn words_name_jobs_on_a_bound(rt: HostRuntime) {
-    let alloc = rt.alloc();
-    for (line, wanted) in [
+    for &(line, wanted) in &[
         ("bound A C --near 2", "bound A C 2 None"),
         ("bound --limit=7 A --near 0 C", "bound A C 0 Some(7)"),
         ("bound A C --near 1000000000", "bound A C 1000000000 None"),
@@ -232,15 +230,13 @@ fn words_name_jobs_on_a_bound(rt: HostRuntime) {
         ("check-bound A A", "none"),
         ("check-bound A", "none"),
     ] {
-        let job = job_text(alloc, line).expect(&rt, "memory");
-        assert_eq!(rt; job.as_str(), wanted, "{line}");
+        assert_job(&rt, rt.alloc(), line, wanted);
     }
 }
 
 #[test]
 fn words_name_jobs_on_a_proof_of_a_route(rt: HostRuntime) {
-    let alloc = rt.alloc();
-    for (line, wanted) in [
+    for &(line, wanted) in &[
         ("prove A 0,1,0 C --near 2", "none"),
         ("prove A 0,1,0 C", "prove A 0,1,0 C None None"),
         (
@@ -254,15 +250,13 @@ fn words_name_jobs_on_a_proof_of_a_route(rt: HostRuntime) {
         ("prove A 0,1,0", "none"),
         ("prove A 0,1,0 C --nodes 3", "none"),
     ] {
-        let job = job_text(alloc, line).expect(&rt, "memory");
-        assert_eq!(rt; job.as_str(), wanted, "{line}");
+        assert_job(&rt, rt.alloc(), line, wanted);
     }
 }
 
 #[test]
 fn words_name_jobs_that_improve_a_plan(rt: HostRuntime) {
-    let alloc = rt.alloc();
-    for (line, wanted) in [
+    for &(line, wanted) in &[
         ("improve A P O --near 2", "none"),
         ("improve A P O", "improve A P O None"),
         ("improve A --limit 3 P O", "improve A P O Some(3)"),
@@ -273,15 +267,13 @@ fn words_name_jobs_that_improve_a_plan(rt: HostRuntime) {
         ("improve A P", "none"),
         ("improve A P O Q", "none"),
     ] {
-        let job = job_text(alloc, line).expect(&rt, "memory");
-        assert_eq!(rt; job.as_str(), wanted, "{line}");
+        assert_job(&rt, rt.alloc(), line, wanted);
     }
 }
 
 #[test]
 fn words_name_jobs_on_several_kinds(rt: HostRuntime) {
-    let alloc = rt.alloc();
-    for (line, wanted) in [
+    for &(line, wanted) in &[
         ("mixed P Q A", "mixed P Q A None"),
         ("mixed P Q B A --limit 12", "mixed P Q B A Some(12)"),
         (
@@ -304,8 +296,7 @@ fn words_name_jobs_on_several_kinds(rt: HostRuntime) {
         ("mixed P Q A --near 1", "none"),
         ("check-mixed P Q A --charge 1", "none"),
     ] {
-        let job = job_text(alloc, line).expect(&rt, "memory");
-        assert_eq!(rt; job.as_str(), wanted, "{line}");
+        assert_job(&rt, rt.alloc(), line, wanted);
     }
 }
 

@@ -1,7 +1,8 @@
-use crate::files::{run_on, run_with, shelf_with};
-use ev_outside::MemoryShelf;
+use crate::files::{assert_file, assert_run, assert_run_on, shelf_with};
+use command_line::usage;
 use evroute_run::Status;
 use std::alloc::{AllocError, Global};
+use std::process::Abort;
 use worked_instances::{NO_STATION, ONE_STATION};
 
 /// A proof of the route 0, 1, 0 of the instance with one station, behind its first two lines.
@@ -19,7 +20,7 @@ const CHARGED: &str = "time 43/2\nat 0\nvia 2 charge 1\nat 1\nat 0\n";
 #[test]
 fn proofs_are_judged(rt: HostRuntime) {
     let alloc = rt.alloc();
-    let cases = [
+    for &(options, plan, labels, status, put) in &[
         (
             "",
             "route 0 v2+1 1 0",
@@ -97,94 +98,78 @@ fn proofs_are_judged(rt: HostRuntime) {
             Status::Refused,
             "refused charge 11\n",
         ),
-    ];
-    for (options, plan, labels, status, put) in cases {
+    ] {
         let line = format!(in alloc; "check-route A 0,1,0 P{options}").expect(&rt, "memory");
         let proof = proof_with(alloc, plan, labels).expect(&rt, "memory");
-        let ended = run_on(alloc, line.as_str(), ONE_STATION, proof.as_str(), &[], &[]).expect(
-            &rt, "memory",
-        );
-        assert_eq!(rt; ended.0, status, "{plan}");
-        assert_eq!(rt; ended.1.as_slice(), put.as_bytes());
+        let (line, proof) = (line.as_str(), proof.as_str());
+        assert_run_on(&rt, alloc, line, ONE_STATION, proof, status, put);
     }
 }
 
-/// How `prove` ends, and what it puts, and what `check-route` then ends with and puts, with these
-/// options.
-fn both(
+/// With these options `prove` ends and puts so, and `check-route` then puts what is told, or the
+/// test fails.
+fn assert_both(
+    rt: &impl Abort,
     alloc: Global,
-    shelf: &mut MemoryShelf,
+    instance: &str,
     options: &str,
-) -> Result<((Status, Vec<u8>), (Status, Vec<u8>)), AllocError> {
-    let prove = format!(in alloc; "prove A 0,1,0 O{options}")?;
-    let proved = run_with(alloc, prove.as_str(), shelf, &[])?;
-    let judge = format!(in alloc; "check-route A 0,1,0 O{options}")?;
-    let judged = run_with(alloc, judge.as_str(), shelf, &[])?;
-    Ok((proved, judged))
+    status: Status,
+    texts: (&str, &str),
+) {
+    let (put, told) = texts;
+    let mut shelf = shelf_with(alloc, instance, "", &[]).expect(rt, "memory");
+    let prove = format!(in alloc; "prove A 0,1,0 O{options}").expect(rt, "memory");
+    assert_run(rt, alloc, prove.as_str(), &mut shelf, status, put);
+    let judge = format!(in alloc; "check-route A 0,1,0 O{options}").expect(rt, "memory");
+    assert_run(rt, alloc, judge.as_str(), &mut shelf, Status::Done, told);
 }
 
 #[test]
 fn what_is_proved_is_accepted(rt: HostRuntime) {
-    let alloc = rt.alloc();
-    for (instance, options, status, put, told) in [
+    for &(instance, options, status, texts) in &[
         (
             ONE_STATION,
             "",
             Status::Done,
-            CHARGED,
-            "accepted\nleast 43/2\n",
+            (CHARGED, "accepted\nleast 43/2\n"),
         ),
         (
             ONE_STATION,
             " --charge 2",
             Status::Negative,
-            "infeasible\n",
-            "accepted\ninfeasible\n",
+            ("infeasible\n", "accepted\ninfeasible\n"),
         ),
         (
             ONE_STATION,
             " --limit 0",
             Status::Negative,
-            "infeasible\n",
-            "accepted\ninfeasible\n",
+            ("infeasible\n", "accepted\ninfeasible\n"),
         ),
         (
             NO_STATION,
             "",
             Status::Done,
-            "time 8/1\nat 0\nat 1\nat 0\n",
-            "accepted\nleast 8/1\n",
+            ("time 8/1\nat 0\nat 1\nat 0\n", "accepted\nleast 8/1\n"),
         ),
     ] {
-        let mut shelf = shelf_with(alloc, instance, "", &[]).expect(&rt, "memory");
-        let (proved, judged) = both(alloc, &mut shelf, options).expect(&rt, "memory");
-        assert_eq!(rt; proved.0, status, "{options}");
-        assert_eq!(rt; proved.1.as_slice(), put.as_bytes());
-        assert_eq!(rt; judged.0, Status::Done, "{options}");
-        assert_eq!(rt; judged.1.as_slice(), told.as_bytes());
+        assert_both(&rt, rt.alloc(), instance, options, status, texts);
     }
 }
 
 #[test]
 fn a_proof_is_written_only_where_an_answer_stands(rt: HostRuntime) {
     let alloc = rt.alloc();
-    for (line, failing, status, put) in [
-        (
-            "prove A 0,1 O",
-            [].as_slice(),
-            Status::Refused,
-            "refused route 4\n",
-        ),
-        ("prove A 0,1,0 A", [].as_slice(), Status::Words, ""),
-        ("prove A 0,1,0 O", [1].as_slice(), Status::Fault, ""),
-        ("prove B 0,1,0 O", [].as_slice(), Status::Fault, ""),
+    for &(line, status, put) in &[
+        ("prove A 0,1 O", Status::Refused, "refused route 4\n"),
+        ("prove B 0,1,0 O", Status::Fault, ""),
     ] {
-        let mut shelf = shelf_with(alloc, ONE_STATION, "", failing).expect(&rt, "memory");
-        let ended = run_with(alloc, line, &mut shelf, &[]).expect(&rt, "memory");
-        assert_eq!(rt; ended.0, status, "{line}");
-        if status != Status::Words {
-            assert_eq!(rt; ended.1.as_slice(), put.as_bytes());
-        }
-        assert!(rt; shelf.get("O").is_none(), "{line}");
+        let shelf = assert_run_on(&rt, alloc, line, ONE_STATION, "", status, put);
+        assert_file(&rt, &shelf, "O", None);
     }
+    let mut shelf = shelf_with(alloc, ONE_STATION, "", &[1]).expect(&rt, "memory");
+    assert_run(&rt, alloc, "prove A 0,1,0 O", &mut shelf, Status::Fault, "");
+    assert_file(&rt, &shelf, "O", None);
+    let line = "prove A 0,1,0 A";
+    let shelf = assert_run_on(&rt, alloc, line, ONE_STATION, "", Status::Words, usage());
+    assert_file(&rt, &shelf, "O", None);
 }

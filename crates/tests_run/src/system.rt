@@ -47,7 +47,7 @@ fn run_on_system(rt: &HostRuntime, words: io::Result<Vec<String>>) -> (ExitCode,
 #[test]
 fn a_failing_file_of_the_system_is_named(rt: HostRuntime) {
     let alloc = rt.alloc();
-    let cases = [
+    for &(line, told) in &[
         (
             "fixed /nowhere/instance.json 0,1,0",
             "evroute: /nowhere/instance.json: No such file or directory (os error 2)\n",
@@ -61,8 +61,7 @@ fn a_failing_file_of_the_system_is_named(rt: HostRuntime) {
             "evroute: /dev/full: No space left on device (os error 28)\n",
         ),
         ("make 1 1 0 /", "evroute: /: Is a directory (os error 21)\n"),
-    ];
-    for (line, told) in cases {
+    ] {
         let words = words_of(alloc, line).expect(&rt, "memory");
         let ended = run_on_system(&rt, Ok(words));
         assert_eq!(rt; ended.0, ExitCode::from(4), "{line}");
@@ -72,17 +71,11 @@ fn a_failing_file_of_the_system_is_named(rt: HostRuntime) {
 
 #[test]
 fn words_that_cant_be_had_have_their_own_status(rt: HostRuntime) {
-    let cases = [
-        (
-            Error::from(ErrorKind::InvalidData),
-            7,
-            "evroute: the words can't be had: invalid data\n",
-        ),
-        (Error::from(AllocError), 5, "evroute: out of memory\n"),
-    ];
-    for (error, code, told) in cases {
-        let ended = run_on_system(&rt, Err(error));
-        assert_eq!(rt; ended.0, ExitCode::from(code));
-        assert_eq!(rt; ended.1.as_str(), told);
-    }
+    let (code, told) = run_on_system(&rt, Err(Error::from(ErrorKind::InvalidData)));
+    assert_eq!(rt; code, ExitCode::from(7));
+    let want = "evroute: the words can't be had: invalid data\n";
+    assert_eq!(rt; told.as_str(), want);
+    let (code, told) = run_on_system(&rt, Err(Error::from(AllocError)));
+    assert_eq!(rt; code, ExitCode::from(5));
+    assert_eq!(rt; told.as_str(), "evroute: out of memory\n");
 }

@@ -12,6 +12,7 @@ use std::cell::Cell;
 use std::env::FillError;
 use std::fmt::Display;
 use std::io::{self, Eprint, Error, ErrorKind};
+use std::process::Abort;
 use std::rt::{Clock, Env};
 use std::time::Duration;
 use worked_instances::THREE_CUSTOMERS;
@@ -90,7 +91,7 @@ fn the_first_line_comes_after_three_seconds_and_then_one_a_second(rt: HostRuntim
 #[test]
 fn a_search_is_told_with_its_bound_and_its_gap(rt: HostRuntime) {
     let desk = Desk::new(rt.alloc(), Some(4000));
-    for (bound, cost, want) in [
+    for &(bound, cost, want) in &[
         (None, None, ", no plan held"),
         (Some(17), None, ", bound 17/1, no plan held"),
         (
@@ -167,7 +168,7 @@ fn watched(
     let mut progress = ToldProgress::new(&desk, is_wanted);
     let status = run_watched(alloc, words.as_slice(), &mut shelf, &mut out, &mut progress);
     let mut left = Vec::new(alloc);
-    for name in ["P", "Q", "O"] {
+    for &name in &["P", "Q", "O"] {
         left.extend_from_slice(shelf.get(name).unwrap_or(b"".as_slice()))?;
     }
     Ok(Ended {
@@ -178,10 +179,39 @@ fn watched(
     })
 }
 
+/// What is told of a job over a clock with this step. It ends, puts and leaves the same as the
+/// quick one, or the test fails.
+fn told_beside(
+    rt: &impl Abort,
+    alloc: Global,
+    line: &str,
+    quick: &Ended,
+    step: Option<u64>,
+    is_wanted: bool,
+) -> String {
+    let other = watched(alloc, line, step, is_wanted).expect(rt, "memory");
+    assert_eq!(rt; other.status, quick.status, "{line}");
+    assert_eq!(rt; other.put.as_slice(), quick.put.as_slice(), "{line}");
+    assert_eq!(rt; other.left.as_slice(), quick.left.as_slice(), "{line}");
+    other.told
+}
+
+/// A job is told so where it is slow, and else not, or the test fails.
+fn assert_watched(rt: &impl Abort, alloc: Global, line: &str, want: &str) {
+    let quick = watched(alloc, line, Some(0), true).expect(rt, "memory");
+    assert_eq!(rt; quick.status, Status::Done, "{line}");
+    assert_eq!(rt; quick.told.as_str(), "", "{line}");
+    let told = told_beside(rt, alloc, line, &quick, Some(4000), true);
+    assert!(rt; told.as_str().starts_with(want), "{told}");
+    for &(step, is_wanted) in &[(Some(4000), false), (None, true)] {
+        let told = told_beside(rt, alloc, line, &quick, step, is_wanted);
+        assert_eq!(rt; told.as_str(), "", "{line}");
+    }
+}
+
 #[test]
 fn a_watched_job_ends_as_any(rt: HostRuntime) {
-    let alloc = rt.alloc();
-    for (line, want) in [
+    for &(line, want) in &[
         (
             "fleet A P Q --limit 11",
             "8000 ms: evroute: nodes 1, open 2, bound 17/1, plan held 19/1, gap 10.53 %\n",
@@ -199,20 +229,7 @@ fn a_watched_job_ends_as_any(rt: HostRuntime) {
             "8000 ms: evroute: rounds 0, routes 3, fractional cost 24/1\n",
         ),
     ] {
-        let quick = watched(alloc, line, Some(0), true).expect(&rt, "memory");
-        assert_eq!(rt; quick.status, Status::Done);
-        assert_eq!(rt; quick.told.as_str(), "", "{line}");
-        let slow = watched(alloc, line, Some(4000), true).expect(&rt, "memory");
-        assert!(rt; slow.told.as_str().starts_with(want), "{}", slow.told);
-        let unwanted = watched(alloc, line, Some(4000), false).expect(&rt, "memory");
-        assert_eq!(rt; unwanted.told.as_str(), "", "{line}");
-        let failing = watched(alloc, line, None, true).expect(&rt, "memory");
-        assert_eq!(rt; failing.told.as_str(), "", "{line}");
-        for other in [slow, unwanted, failing] {
-            assert_eq!(rt; other.status, quick.status);
-            assert_eq!(rt; other.put.as_slice(), quick.put.as_slice());
-            assert_eq!(rt; other.left.as_slice(), quick.left.as_slice());
-        }
+        assert_watched(&rt, rt.alloc(), line, want);
     }
 }
 
@@ -249,7 +266,7 @@ impl<'a> Env for OneVariable<'a> {
 
 #[test]
 fn a_variable_tells_that_nobody_wants_to_be_told(rt: HostRuntime) {
-    for (name, value, want) in [
+    for &(name, value, want) in &[
         ("EVROUTE_PROGRESS", "0", false),
         ("EVROUTE_PROGRESS", "1", true),
         ("EVROUTE_PROGRESS", "", true),

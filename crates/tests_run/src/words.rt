@@ -3,7 +3,7 @@
 use ev_outside::MemoryShelf;
 use plain_words::{Failed, OutOfMemory, broken_json, in_words, left_behind, most_memory};
 use std::alloc::{AllocError, Global};
-use std::test::Fail;
+use std::process::Abort;
 
 /// Words, which are parted by blanks.
 fn parted(alloc: Global, words: &str) -> Result<Vec<String>, AllocError> {
@@ -23,10 +23,15 @@ fn said(alloc: Global, words: &str, line: &str) -> Result<String, AllocError> {
     }
 }
 
+/// This is said of a line that was printed for these words, or the test fails.
+fn assert_said(rt: &impl Abort, alloc: Global, words: &str, line: &str, want: &str) {
+    let found = said(alloc, words, line).expect(rt, "memory");
+    assert_eq!(rt; found.as_str(), want, "at {words}: {line}");
+}
+
 #[test]
-fn refusals_are_told_with_the_file(rt: HostRuntime) -> Result<(), Fail> {
-    let alloc = rt.alloc();
-    for (words, line, want) in [
+fn refusals_are_told_with_the_file(rt: HostRuntime) {
+    for &(words, line, want) in &[
         (
             "fixed --limit 5 shop.json 0,1,0",
             "refused instance 4 max_q",
@@ -98,16 +103,13 @@ fn refusals_are_told_with_the_file(rt: HostRuntime) -> Result<(), Fail> {
         ("fixed a 0,1,0", "time 43/2", ""),
         ("fixed a 0,1,0", "infeasible", ""),
     ] {
-        let found = said(alloc, words, line)?;
-        assert_eq!(rt; found.as_str(), want, "at {line}");
+        assert_said(&rt, rt.alloc(), words, line, want);
     }
-    Ok(())
 }
 
 #[test]
-fn jobs_on_several_kinds_are_told_with_their_files(rt: HostRuntime) -> Result<(), Fail> {
-    let alloc = rt.alloc();
-    for (line, want) in [
+fn jobs_on_several_kinds_are_told_with_their_files(rt: HostRuntime) {
+    for &(line, want) in &[
         (
             "refused kinds 1",
             "b: its nodes, customers or denominator differ from those of the first file",
@@ -145,16 +147,13 @@ fn jobs_on_several_kinds_are_told_with_their_files(rt: HostRuntime) -> Result<()
         ),
         ("accepted", ""),
     ] {
-        let found = said(alloc, "check-mixed p q a b --limit 3", line)?;
-        assert_eq!(rt; found.as_str(), want, "at {line}");
+        assert_said(&rt, rt.alloc(), "check-mixed p q a b --limit 3", line, want);
     }
-    Ok(())
 }
 
 #[test]
-fn broken_rules_are_told_with_the_file(rt: HostRuntime) -> Result<(), Fail> {
-    let alloc = rt.alloc();
-    for (line, want) in [
+fn broken_rules_are_told_with_the_file(rt: HostRuntime) {
+    for &(line, want) in &[
         (
             "rejected plan 1 route 0 walk 4 at 7",
             "b: route 0, at stop 7, both counted from 0, arrives with less than the reserve, or at \
@@ -173,16 +172,13 @@ fn broken_rules_are_told_with_the_file(rt: HostRuntime) -> Result<(), Fail> {
             "a: no route of its own serves customer 3 within the limit",
         ),
     ] {
-        let found = said(alloc, "check a b c", line)?;
-        assert_eq!(rt; found.as_str(), want, "at {line}");
+        assert_said(&rt, rt.alloc(), "check a b c", line, want);
     }
-    Ok(())
 }
 
 #[test]
-fn a_wrong_word_is_named(rt: HostRuntime) -> Result<(), Fail> {
-    let alloc = rt.alloc();
-    for (words, want) in [
+fn a_wrong_word_is_named(rt: HostRuntime) {
+    for &(words, want) in &[
         ("", ""),
         ("--help", ""),
         ("fixed -h", ""),
@@ -237,58 +233,51 @@ fn a_wrong_word_is_named(rt: HostRuntime) -> Result<(), Fail> {
             "CUSTOMERS x: no whole number of at most 4294967295",
         ),
     ] {
-        let found = said(
-            alloc,
-            words,
-            "evroute fixed FILE ROUTE [--limit N] [--charge N]",
-        )?;
-        assert_eq!(rt; found.as_str(), want, "at {words}");
+        let line = "evroute fixed FILE ROUTE [--limit N] [--charge N]";
+        assert_said(&rt, rt.alloc(), words, line, want);
     }
-    Ok(())
 }
 
-#[test]
-fn a_text_that_is_no_json_is_told_by_its_byte(rt: HostRuntime) -> Result<(), Fail> {
-    let alloc = rt.alloc();
+/// What is told of the bytes of a file `A` that is no JSON text, or nothing.
+fn told_of(alloc: Global, bytes: &[u8]) -> Result<Option<String>, AllocError> {
     let words = parted(alloc, "fleet A P Q")?;
     let mut shelf = MemoryShelf::new(alloc, Vec::new(alloc));
-    for (bytes, want) in [
-        (
-            b"{".as_slice(),
-            "A: the JSON text ends too early, at byte 1",
-        ),
-        (b"".as_slice(), "A: the JSON text ends too early, at byte 0"),
-        (
-            b"{\"a\":\n [1, 2,, 3]}".as_slice(),
-            "A: no JSON text from byte 13 on",
-        ),
-        (
-            b"{\"a\":1}\n\nx".as_slice(),
-            "A: no JSON text from byte 9 on",
-        ),
-        (
-            b"{\"a\": \"\xff\"}".as_slice(),
-            "A: no JSON text from byte 7 on",
-        ),
-        (
-            b"\xef\xbb\xbf{}".as_slice(),
-            "A: begins with a byte order mark, which no JSON text has",
-        ),
-    ] {
-        shelf.set("A", bytes)?;
-        let told = broken_json(alloc, &mut shelf, words.as_slice(), "refused instance 2")?;
-        assert_eq!(rt; told.expect(&rt, "words").as_str(), want);
-    }
-    shelf.set("A", b"{}".as_slice())?;
-    let told = broken_json(alloc, &mut shelf, words.as_slice(), "refused instance 2")?;
-    assert!(rt; told.is_none());
-    Ok(())
+    shelf.set("A", bytes)?;
+    broken_json(alloc, &mut shelf, words.as_slice(), "refused instance 2")
 }
 
 #[test]
-fn what_a_failure_leaves_is_told(rt: HostRuntime) -> Result<(), Fail> {
-    let alloc = rt.alloc();
-    for (words, failed, want) in [
+fn a_text_that_is_no_json_is_told_by_its_byte(rt: HostRuntime) {
+    let cases: &[(&[u8], &str)] = &[
+        (b"{", "A: the JSON text ends too early, at byte 1"),
+        (b"", "A: the JSON text ends too early, at byte 0"),
+        (b"{\"a\":\n [1, 2,, 3]}", "A: no JSON text from byte 13 on"),
+        (b"{\"a\":1}\n\nx", "A: no JSON text from byte 9 on"),
+        (b"{\"a\": \"\xff\"}", "A: no JSON text from byte 7 on"),
+        (
+            b"\xef\xbb\xbf{}",
+            "A: begins with a byte order mark, which no JSON text has",
+        ),
+    ];
+    for &(bytes, want) in cases {
+        let told = told_of(rt.alloc(), bytes).expect(&rt, "memory");
+        assert_eq!(rt; told.expect(&rt, "words").as_str(), want);
+    }
+    let told = told_of(rt.alloc(), b"{}").expect(&rt, "memory");
+    assert!(rt; told.is_none());
+}
+
+/// What a failure leaves is told so, or the test fails.
+fn assert_left(rt: &impl Abort, alloc: Global, words: &str, failed: Failed<'_>, want: &str) {
+    let list = parted(alloc, words).expect(rt, "memory");
+    let told = left_behind(alloc, list.as_slice(), failed).expect(rt, "memory");
+    let told = told.unwrap_or(String::new(alloc));
+    assert_eq!(rt; told.as_str(), want, "{words}");
+}
+
+#[test]
+fn what_a_failure_leaves_is_told(rt: HostRuntime) {
+    for &(words, failed, want) in &[
         (
             "fleet a --limit 3 b c",
             Failed::File("b"),
@@ -347,43 +336,38 @@ fn what_a_failure_leaves_is_told(rt: HostRuntime) -> Result<(), Fail> {
         ("check a b c", Failed::File("b"), ""),
         ("fixed a 0,1,0", Failed::Output("time 43/2"), ""),
     ] {
-        let list = parted(alloc, words)?;
-        let told = left_behind(alloc, list.as_slice(), failed)?;
-        match told {
-            Some(told) => assert_eq!(rt; told.as_str(), want, "{words}"),
-            None => assert_eq!(rt; "", want, "{words}"),
-        }
+        assert_left(&rt, rt.alloc(), words, failed, want);
     }
-    Ok(())
 }
 
 #[test]
-fn the_most_memory_is_read_and_told(rt: HostRuntime) -> Result<(), Fail> {
-    let alloc = rt.alloc();
-    for (status, want) in [
+fn the_most_memory_is_read(rt: HostRuntime) {
+    for &(status, want) in &[
         (
             "Name:\tevroute\nVmPeak:\t    5120 kB\nVmHWM:\t 1263616 kB\nVmRSS:\t    1024 kB\n",
-            Some((1_263_616, "evroute: out of memory after 1,234 MB")),
+            Some(1_263_616),
         ),
-        (
-            "VmHWM:\t    3072 kB",
-            Some((3072, "evroute: out of memory after 3 MB")),
-        ),
-        (
-            "VmHWM: 1024000 kB",
-            Some((1_024_000, "evroute: out of memory after 1,000 MB")),
-        ),
+        ("VmHWM:\t    3072 kB", Some(3072)),
+        ("VmHWM: 1024000 kB", Some(1_024_000)),
         ("VmHWM:\t kB\nVmHWM: 7 kB\n", None),
         ("Name:\tevroute\nVmRSS:\t    1024 kB\n", None),
         ("VmHWM:", None),
         ("", None),
     ] {
         let found = most_memory(status.as_bytes());
-        assert_eq!(rt; found, want.map(|(kilobytes, _)| kilobytes), "{status}");
-        if let Some((kilobytes, line)) = want {
-            let told = format!(in alloc; "{}", OutOfMemory { kilobytes })?;
-            assert_eq!(rt; told.as_str(), line);
-        }
+        assert_eq!(rt; found, want, "{status}");
     }
-    Ok(())
+}
+
+#[test]
+fn the_most_memory_is_told(rt: HostRuntime) {
+    let alloc = rt.alloc();
+    for &(kilobytes, want) in &[
+        (1_263_616, "evroute: out of memory after 1,234 MB"),
+        (3072, "evroute: out of memory after 3 MB"),
+        (1_024_000, "evroute: out of memory after 1,000 MB"),
+    ] {
+        let told = format!(in alloc; "{}", OutOfMemory { kilobytes }).expect(&rt, "memory");
+        assert_eq!(rt; told.as_str(), want);
+    }
 }
