@@ -34,8 +34,9 @@ pub fn written_certificates_are_read()
 /// A text means one certificate: bytes are the text of no two that fit, but for how the forbidden
 /// pairs are kept; and what is written of a certificate that fits tells it.
 pub fn texts_mean_one_certificate()
-    ensures text { (g : Network) → IsNetwork g → customer_count g ≤ most_customers → (bytes : List ℕ)
-        (c d : Certificate) → IsSpelledBy g bytes c → IsSpelledBy g bytes d → AreSame c d }
+    ensures text { (g : Network) → IsNetwork g → customer_count g ≤ most_customers →
+        (bytes : List ℕ) (c d : Certificate) → IsSpelledBy g bytes c → IsSpelledBy g bytes d →
+        AreSame c d }
     ensures written { (g : Network) (c d : Certificate) → Fits g c → Fits g d →
         All IsKept c.sections → All IsKept d.sections → written g c ≡ written g d →
         AreSame c d }
