@@ -6,4 +6,5 @@ pub mod LabelSteps
 pub mod StationSteps
 pub mod HomeSteps
 pub mod Faults
+pub mod RoutePlaces
 pub mod StartState

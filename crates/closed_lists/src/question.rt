@@ -157,18 +157,6 @@ impl<'a> Question<'a> {
         self.inst.min_q()
     }
 
-    /// The place of a node on a route: 0 for the depot, one more than a customer's number.
-    fn place_of(&self, node: usize) -> usize
-        requires { node < node_count self.now.network }
-        ensures value { result ≡ place_of self.now.network node }
-        ensures within { result ≤ self.now.pairs.customers }
-    {
-        match self.inst.customer_number(node) {
-            Some(number) => number + 1,
-            None => 0,
-        }
-    }
-
     /// The number of the customer at a node; `None` exactly where the node is no customer. It takes
     /// no memory.
     pub fn customer_number(&self, node: usize) -> Option<usize>
@@ -188,7 +176,9 @@ impl<'a> Question<'a> {
         ensures { result ≡ allows_of self.now.pairs (place_of self.now.network last)
             (place_of self.now.network node) }
     {
-        self.pairs.allows(self.place_of(last), self.place_of(node))
+        let before = self.inst.place_of(last);
+        let next = self.inst.place_of(node);
+        self.pairs.allows(before, next)
     }
 
     /// What is paid when a customer is served besides.

@@ -70,7 +70,6 @@ fn partly_used(
     shares: &[Share],
     over: u64,
 ) -> Result<Vec<Choice>, AllocError>
-    requires few { length (customer_nodes inst.now) ≤ most_customers }
     requires live { HasNode tree.now.nodes key IsLive }
     ensures { IfOk result (λ chosen. All (IsChoice tree.now key) chosen.items) }
 {
@@ -93,7 +92,6 @@ fn nearest(
     over: u64,
     chosen: &[Choice],
 ) -> Option<Choice>
-    requires few { length (customer_nodes inst.now) ≤ most_customers }
     requires live { HasNode tree.now.nodes key IsLive }
     ensures { MayChoose tree.now key result }
 {
@@ -115,7 +113,6 @@ fn nearer_on(
     plan: &RoutePlan,
     best: Option<Choice>,
 ) -> Option<Choice>
-    requires few { length (customer_nodes inst.now) ≤ most_customers }
     requires live { HasNode tree.now.nodes key IsLive }
     requires best { MayChoose tree.now key best }
     ensures { MayChoose tree.now key result }
@@ -150,7 +147,6 @@ fn with_pair(
     j: usize,
     best: Option<Choice>,
 ) -> Option<Choice>
-    requires few { length (customer_nodes inst.now) ≤ most_customers }
     requires live { HasNode tree.now.nodes key IsLive }
     requires best { MayChoose tree.now key best }
     ensures { MayChoose tree.now key result }
@@ -178,9 +174,7 @@ fn nearer(best: Option<Choice>, choice: Choice) -> Option<Choice>
 }
 
 /// The shares of the routes on which the second place follows the first.
-fn used_by(inst: &Instance, shares: &[Share], i: usize, j: usize) -> u64
-    requires { length (customer_nodes inst.now) ≤ most_customers }
-{
+fn used_by(inst: &Instance, shares: &[Share], i: usize, j: usize) -> u64 {
     let mut used = 0u64;
     for share in shares {
         if follows(inst, &share.plan, i, j) {
@@ -191,9 +185,7 @@ fn used_by(inst: &Instance, shares: &[Share], i: usize, j: usize) -> u64
 }
 
 /// Whether the second place follows the first on the route.
-fn follows(inst: &Instance, plan: &RoutePlan, i: usize, j: usize) -> bool
-    requires { length (customer_nodes inst.now) ≤ most_customers }
-{
+fn follows(inst: &Instance, plan: &RoutePlan, i: usize, j: usize) -> bool {
     let mut before = 0;
     for stop in plan.stops.as_slice() {
         let place = place_of(inst, stop.node);
@@ -207,16 +199,12 @@ fn follows(inst: &Instance, plan: &RoutePlan, i: usize, j: usize) -> bool
     false
 }
 
-/// The place of a node: one more than the number of the customer there, 0 where there is none.
-fn place_of(inst: &Instance, node: usize) -> usize
-    requires { length (customer_nodes inst.now) ≤ most_customers }
-{
-    if node >= inst.nodes() {
-        return 0;
-    }
-    match inst.customer_number(node) {
-        Some(number) => number + 1,
-        None => 0,
+/// The place of a node on a route, 0 for a number that is no node's.
+fn place_of(inst: &Instance, node: usize) -> usize {
+    if node < inst.nodes() {
+        inst.place_of(node)
+    } else {
+        0
     }
 }
 

@@ -1,14 +1,15 @@
 -- What the fields of an instance say of its network.
-use Rattle.std.proofs.Common.{◌≡◌, ◌∙◌, ℕ, ◌+◌, ◌*◌, ◌<◌, ◌≤◌, ◌^◌, List, [], ◌∷◌, Vec, Global, Option, None, Some, Bool, true, false, cond, All, IfSome, length, map, filter, get_or, slice_get, option_map, refl, sym, ap, arith}
+use Rattle.std.proofs.Common.{◌≡◌, ◌∙◌, ℕ, ◌+◌, ◌*◌, ◌<◌, ◌≤◌, ◌^◌, List, [], ◌∷◌, Vec, Global, Option, None, Some, Bool, true, false, cond, not, All, IfSome, length, map, filter, get_or, slice_get, option_map, refl, sym, ap, arith}
 use Rattle.std.proofs.lemmas.List.{get_or-map, length-map}
 use Rattle.std.proofs.Math.Nat.{mul-le-mul}
 use Rattle.std.proofs.lemmas.List.Elements.{All-cons, All-filter, All-from_get_or, All-get_or, All-nil}
 use Rattle.std.proofs.lemmas.List.FromFn.{get_or-range_with_len, length-range_with_len}
+use Rattle.std.proofs.lemmas.List.Filters.{length-filter_both}
 use Rattle.std.proofs.lemmas.List.Kept.{IsStrictlyIncreasing-filter}
 use Rattle.std.proofs.lemmas.Option.{slice_get_read, slice_get_within}
 use Rattle.std.specs.List.{range_with_len}
 use Rattle.std.specs.List.Sorted.{IsStrictlyIncreasing}
-use Rattle.ev_model.specs.Network.{Network, curve_at, is_customer, node_count}
+use Rattle.ev_model.specs.Network.{Network, curve_at, is_customer, most_nodes, node_count}
 use Rattle.instance_reader.specs.Inside.{IsInstance, network_inside, points_at}
 use Rattle.instance_reader.specs.Instance.{IsCurveAt, IsCustomerNumber, TellsChargeTime, customer_nodes}
 use Rattle.instance_reader.specs.declared.curves.StationCurve.{StationCurve}
@@ -81,3 +82,15 @@ customers_rise g =
 pub customer_within : (g : Network) (node : ℕ) (o : Option ℕ) → IsCustomerNumber g node o → IfSome o (λ number. number < length (customer_nodes g))
 customer_within g node None h = tt
 customer_within g node (Some number) h = slice_get_within (customer_nodes g) number node h.1
+
+pub customers_are_nodes : (g : Network) → length (customer_nodes g) ≤ node_count g
+customers_are_nodes g =
+    let parts = length-filter_both (is_customer g) (λ node. not (is_customer g node)) (λ node. refl) (range_with_len 0 (node_count g)) in
+    omega (arith, parts, length-range_with_len 0 (node_count g))
+
+-- the number of a customer is small
+pub number_small : (g : Network) (node : ℕ) (o : Option ℕ) → node_count g ≤ most_nodes → IsCustomerNumber g node o → IfSome o (λ number. number < most_nodes)
+number_small g node None few is = tt
+number_small g node (Some number) few is =
+    let within = slice_get_within (customer_nodes g) number node is.1 in
+    omega (arith, within, few, customers_are_nodes g)

@@ -1,5 +1,5 @@
 -- What callers see of an instance beside its network.
-use Rattle.std.specs.Prelude.{◌≡◌, ℕ, ◌≤◌, List, Option, None, Some, false, true, filter, slice_get}
+use Rattle.std.specs.Prelude.{◌≡◌, ℕ, ◌≤◌, List, Option, None, Some, zero, suc, false, true, filter, slice_get}
 use Rattle.std.specs.List.{range_with_len}
 use Rattle.ev_model.specs.Curve.{charge_time}
 use Rattle.ev_model.specs.Network.{Network, curve_at, is_customer, node_count}
@@ -19,6 +19,11 @@ abbrev pub IsCustomerNumber : Network → ℕ → Option ℕ → Type 0
 IsCustomerNumber g node None = is_customer g node ≡ false
 IsCustomerNumber g node (Some number) =
     (is_customer g node ≡ true) × (slice_get (customer_nodes g) number ≡ Some node)
+
+-- the place of a node on a route: one more than the number of the customer there, 0 where no customer is
+abbrev pub IsRoutePlace : Network → ℕ → ℕ → Type 0
+IsRoutePlace g node zero = IsCustomerNumber g node None
+IsRoutePlace g node (suc number) = IsCustomerNumber g node (Some number)
 
 -- a scaled curve tells the charge times on breakpoints (time, charge), up to a battery of `capacity`
 pub record TellsChargeTime (capacity denominator : ℕ) (points scaled : List (ℕ × ℕ)) : Type 0 where

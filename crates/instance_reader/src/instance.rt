@@ -3,7 +3,7 @@
 ghost use Rattle.std.specs.Prelude.{◌≡◌, ◌*◌, ◌^◌, ◌<◌, ◌≤◌, None, true, All, IfOk, IfErr, IfSome, MatchOption, length};
 ghost use Rattle.std.specs.List.Sorted.{IsStrictlyIncreasing};
 ghost use Rattle.ev_model.specs.Network.{IsNetwork, curve_at, energy, is_customer, most_nodes, node_count, plug_time, process_time, scaled_limit, travel_time};
-ghost use Rattle.instance_reader.specs.Instance.{IsCurveAt, IsCustomerNumber, customer_nodes};
+ghost use Rattle.instance_reader.specs.Instance.{IsCurveAt, IsCustomerNumber, IsRoutePlace, customer_nodes};
 
 use crate::curves::StationCurve;
 use crate::faults::LimitFault;
@@ -180,8 +180,22 @@ impl Instance {
         requires { node < node_count self.now }
         ensures value { IsCustomerNumber self.now node result }
         ensures within { IfSome result (λ number. number < length (customer_nodes self.now)) }
+        ensures small { IfSome result (λ number. number < most_nodes) }
     {
         self.customer_numbers[node]
+    }
+
+    /// The place of a node on a route: one more than the number of the customer there, 0 exactly
+    /// where the node is no customer.
+    pub fn place_of(&self, node: usize) -> usize
+        requires { node < node_count self.now }
+        ensures value { IsRoutePlace self.now node result }
+        ensures within { result ≤ length (customer_nodes self.now) }
+    {
+        match self.customer_number(node) {
+            Some(number) => number + 1,
+            None => 0,
+        }
     }
 
     /// The instance with another limit, whether smaller or larger. It is refused exactly where the

@@ -31,16 +31,12 @@ pub fn keeps_pairs(inst: &Instance, pairs: &Pairs, order: &[usize]) -> bool
     pairs.allows(before, 0)
 }
 
-/// The place of a node on a route: one more than the number of the customer there, 0 where there is
-/// none.
+/// The place of a node on a route, which the definitions of bounds tell by a count.
+#[tactic(auto, using(closed_lists::proofs::RoutePlaces::placed))]
 fn place_of(inst: &Instance, node: usize) -> usize
-    requires few { length (customer_nodes inst.now) ≤ most_customers }
     requires known { node < node_count inst.now }
     ensures value { result ≡ place_of inst.now node }
     ensures within { result ≤ length (customer_nodes inst.now) }
 {
-    match inst.customer_number(node) {
-        Some(number) => number + 1,
-        None => 0,
-    }
+    inst.place_of(node)
 }

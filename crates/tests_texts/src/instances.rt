@@ -177,6 +177,9 @@ fn an_instance_tells_its_customers_and_its_stations(rt: HostRuntime) {
     assert_eq!(rt; instance.customers(), [1].as_slice());
     assert_eq!(rt; instance.customer_number(1), Some(0));
     assert_eq!(rt; instance.customer_number(2), None);
+    assert_eq!(rt; instance.place_of(0), 0);
+    assert_eq!(rt; instance.place_of(1), 1);
+    assert_eq!(rt; instance.place_of(2), 0);
     assert!(rt; instance.curve_at(1).is_none());
     let curve = instance.curve_at(2).expect(&rt, "a station");
     assert_eq!(rt; curve.breaks(), [(0, 0), (8, 8), (10, 20)].as_slice());
