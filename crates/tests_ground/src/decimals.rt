@@ -454,14 +454,24 @@ const ROWS: [Row; 88] = [
     },
 ];
 
+/// How a fault is spelled.
+fn spelled(rt: &impl Abort, alloc: Global, fault: ImportFault) -> Vec<u8> {
+    format!(in alloc; "{fault:?}")
+        .expect(rt, "memory")
+        .into_bytes()
+}
+
+/// The text that the row's text becomes, or its fault.
+fn answer(rt: &impl Abort, alloc: Global, row: &Row) -> Vec<u8> {
+    match convert(alloc, row.text.as_bytes(), row.digits.0, row.digits.1) {
+        Ok(text) => text,
+        Err(fault) => spelled(rt, alloc, fault),
+    }
+}
+
 fn convert_all(rt: &impl Abort, alloc: Global, rows: &[Row]) {
     for row in rows {
-        let answer = match convert(alloc, row.text.as_bytes(), row.digits.0, row.digits.1) {
-            Ok(text) => text,
-            Err(fault) => format!(in alloc; "{fault:?}")
-                .expect(rt, "memory")
-                .into_bytes(),
-        };
+        let answer = answer(rt, alloc, row);
         assert_eq!(rt; answer.as_slice(), row.wanted.as_bytes(), "{}", row.text);
     }
 }
@@ -471,15 +481,24 @@ fn converts_texts(rt: HostRuntime) {
     convert_all(&rt, rt.alloc(), &ROWS);
 }
 
+/// The text is longer than any that is converted, with so many digits, or the test fails.
+fn assert_too_long(rt: &impl Abort, alloc: Global, text: &[u8], digits: u32) {
+    let fault = convert(alloc, text, digits, digits);
+    assert!(rt; matches!(fault, Err(ImportFault::TooLong { len: 67108865 })));
+}
+
+/// The text is converted to itself, or the test fails.
+fn assert_same(rt: &impl Abort, alloc: Global, text: &[u8]) {
+    let converted = convert(alloc, text, 0, 0).expect(rt, "a text");
+    assert_eq!(rt; converted.as_slice(), text);
+}
+
 #[test]
 fn refuses_a_text_past_the_limit(rt: HostRuntime) {
     let alloc = rt.alloc();
     let blanks = vec![in alloc; b' '; (1 << 26) + 1].expect(&rt, "memory");
-    let longest = &blanks[1..];
-    let converted = convert(alloc, longest, 0, 0).expect(&rt, "the longest text");
-    assert_eq!(rt; converted.as_slice(), longest);
-    for digits in [0, 10] {
-        let fault = convert(alloc, &blanks, digits, digits);
-        assert!(rt; matches!(fault, Err(ImportFault::TooLong { len: 67108865 })));
-    }
+    let longest = blanks.get(1..).expect(&rt, "the longest text");
+    assert_same(&rt, alloc, longest);
+    assert_too_long(&rt, alloc, &blanks, 0);
+    assert_too_long(&rt, alloc, &blanks, 10);
 }

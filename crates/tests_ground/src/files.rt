@@ -3,10 +3,10 @@
 use ev_outside::{
     FileShelf, MemoryShelf, PieceStorage, Shelf, ShelfFault, StorageShelf, SureShelf, SystemFiles,
 };
-use std::alloc::Global;
+use std::alloc::{AllocError, Global};
 use std::fs;
+use std::process::Abort;
 use std::rt::Files;
-use std::test::Fail;
 
 /// What a read of at most `most` bytes appends to a buffer that holds one byte already.
 fn read_from<S: Shelf>(
@@ -28,61 +28,96 @@ fn write_to<S: Shelf>(shelf: &mut S, name: &str, bytes: &[u8]) -> Result<(), She
     shelf.write(name, bytes)
 }
 
+/// A read of at most `most` bytes gives these, or the test fails.
+fn assert_read<S: Shelf>(
+    rt: &impl Abort,
+    alloc: Global,
+    shelf: &mut S,
+    name: &str,
+    most: usize,
+    bytes: &[u8],
+) {
+    let read = read_from(alloc, shelf, name, most).expect(rt, "a read");
+    assert_eq!(rt; read.first().copied(), Some(b'>'), "of at most {most}");
+    assert_eq!(rt; read.get(1..), Some(bytes), "of at most {most}");
+}
+
+/// A read of the name fails, or the test does.
+fn assert_read_fails<S: Shelf>(rt: &impl Abort, alloc: Global, shelf: &mut S, name: &str) {
+    let fault = read_from(alloc, shelf, name, 100).err();
+    assert_eq!(rt; fault, Some(ShelfFault::Failed), "{name}");
+}
+
+/// The shelf holds these bytes under the name, or the test fails.
+fn assert_held(rt: &impl Abort, shelf: &MemoryShelf, name: &str, bytes: &[u8]) {
+    assert_eq!(rt; shelf.get(name), Some(bytes), "{name}");
+}
+
 /// What the files tell people of their last failure.
-fn last_failure<R: Files>(alloc: Global, files: &SystemFiles<'_, R>) -> Result<String, Fail> {
+fn last_failure<R: Files>(alloc: Global, files: &SystemFiles<'_, R>) -> Result<String, AllocError> {
     match files.last_failure() {
-        Some(failure) => Ok(failure.to_string(alloc)?),
+        Some(failure) => failure.to_string(alloc),
         None => Ok(String::new(alloc)),
     }
 }
 
+/// Ten thousand bytes, of which no two of 251 in a row are the same.
+fn long_bytes(rt: &impl Abort, alloc: Global) -> Vec<u8> {
+    let mut long = Vec::new(alloc);
+    for at in 0..10000u32 {
+        long.push((at % 251) as u8).expect(rt, "memory");
+    }
+    long
+}
+
 /// A file of several pieces is read whole, and up to a byte inside a piece.
 #[test]
-fn a_long_file_is_read_up_to_a_byte(rt: HostRuntime) -> Result<(), Fail> {
+fn a_long_file_is_read_up_to_a_byte(rt: HostRuntime) {
     let alloc = rt.alloc();
     let name = "ev_outside_long_file";
     let mut shelf = FileShelf::new(alloc, &rt);
-    let mut long = Vec::new(alloc);
-    for at in 0..10000u32 {
-        long.push((at % 251) as u8)?;
-    }
-    write_to(&mut shelf, name, long.as_slice())?;
-    for (most, want) in [
-        (20000usize, 10000usize),
+    let long = long_bytes(&rt, alloc);
+    write_to(&mut shelf, name, long.as_slice()).expect(&rt, "a write");
+    for &(most, want) in &[
+        (20000, 10000),
         (10000, 10000),
         (9999, 9999),
         (4096, 4096),
         (0, 0),
     ] {
-        let read = read_from(alloc, &mut shelf, name, most)?;
-        assert_eq!(rt; read.len(), 1 + want, "of at most {most}");
-        assert_eq!(rt; read.first().copied(), Some(b'>'), "of at most {most}");
-        assert!(rt; long.starts_with(&read[1..]), "of at most {most}");
+        let wanted = long.get(..want).expect(&rt, "so many bytes");
+        assert_read(&rt, alloc, &mut shelf, name, most, wanted);
     }
-    fs::remove_file(&rt, name)?;
-    Ok(())
+    fs::remove_file(&rt, name).expect(&rt, "a file that is removed");
 }
 
 #[test]
-fn a_shorter_text_takes_the_place_of_a_longer_one(rt: HostRuntime) -> Result<(), Fail> {
+fn a_shorter_text_takes_the_place_of_a_longer_one(rt: HostRuntime) {
     let alloc = rt.alloc();
     let name = "ev_outside_short_file";
     let mut shelf = FileShelf::new(alloc, &rt);
-    for text in [b"a longer text".as_slice(), b"short", b""] {
-        write_to(&mut shelf, name, text)?;
-        let read = read_from(alloc, &mut shelf, name, 100)?;
-        assert_eq!(rt; read.get(1..), Some(text));
+    for &text in &["a longer text", "short", ""] {
+        write_to(&mut shelf, name, text.as_bytes()).expect(&rt, "a write");
+        assert_read(&rt, alloc, &mut shelf, name, 100, text.as_bytes());
     }
-    fs::remove_file(&rt, name)?;
-    Ok(())
+    fs::remove_file(&rt, name).expect(&rt, "a file that is removed");
+}
+
+/// What the system answers to a read of the name, or to a text that is written under it.
+fn fault_of<S: Shelf>(alloc: Global, shelf: &mut S, name: &str, reads: bool) -> Option<ShelfFault> {
+    if reads {
+        read_from(alloc, shelf, name, 100).err()
+    } else {
+        write_to(shelf, name, b"text").err()
+    }
 }
 
 /// What the system refuses is refused, and people are told the name and the cause.
 #[test]
-fn a_call_that_the_system_refuses_has_failed(rt: HostRuntime) -> Result<(), Fail> {
+fn a_call_that_the_system_refuses_has_failed(rt: HostRuntime) {
     let alloc = rt.alloc();
     let mut shelf = FileShelf::new(alloc, &rt);
-    for (reads, name, cause) in [
+    for &(reads, name, cause) in &[
         (
             true,
             "ev_outside_no_file",
@@ -97,109 +132,97 @@ fn a_call_that_the_system_refuses_has_failed(rt: HostRuntime) -> Result<(), Fail
             "No such file or directory (os error 2)",
         ),
     ] {
-        let fault = if reads {
-            read_from(alloc, &mut shelf, name, 100).err()
-        } else {
-            write_to(&mut shelf, name, b"text").err()
-        };
+        let fault = fault_of(alloc, &mut shelf, name, reads);
         assert_eq!(rt; fault, Some(ShelfFault::Failed), "{name}");
-        let told = last_failure(alloc, shelf.storage())?;
-        let wanted = format!(in alloc; "{name}: {cause}")?;
+        let told = last_failure(alloc, shelf.storage()).expect(&rt, "memory");
+        let wanted = format!(in alloc; "{name}: {cause}").expect(&rt, "memory");
         assert_eq!(rt; told.as_str(), wanted.as_str());
     }
-    Ok(())
 }
 
 #[test]
-fn a_shelf_in_memory_fails_where_it_is_told_to(rt: HostRuntime) -> Result<(), Fail> {
+fn a_shelf_in_memory_fails_where_it_is_told_to(rt: HostRuntime) {
     let alloc = rt.alloc();
-    let mut shelf = MemoryShelf::new(alloc, [1, 3].to_vec(alloc)?);
-    shelf.set("plan", b"first")?;
-    assert_eq!(rt; shelf.get("plan"), Some(b"first".as_slice()));
-    assert_eq!(rt; shelf.get("certificate"), None);
+    let fails = [1, 3].to_vec(alloc).expect(&rt, "memory");
+    let mut shelf = MemoryShelf::new(alloc, fails);
+    shelf.set("plan", b"first").expect(&rt, "memory");
+    assert_held(&rt, &shelf, "plan", b"first");
+    assert!(rt; shelf.get("certificate").is_none());
 
     // The calls 0 to 6: the calls 1 and 3 fail, and so does a read of what isn't there.
-    assert_eq!(rt;
-        read_from(alloc, &mut shelf, "plan", 3)?.as_slice(),
-        b">fir".as_slice()
-    );
-    assert_eq!(rt;
-        write_to(&mut shelf, "plan", b"second"),
-        Err(ShelfFault::Failed)
-    );
-    assert_eq!(rt; shelf.get("plan"), Some(b"first".as_slice()));
-    write_to(&mut shelf, "plan", b"second")?;
-    assert_eq!(rt;
-        read_from(alloc, &mut shelf, "plan", 100).err(),
-        Some(ShelfFault::Failed)
-    );
-    assert_eq!(rt;
-        read_from(alloc, &mut shelf, "plan", 100)?.as_slice(),
-        b">second".as_slice()
-    );
-    assert_eq!(rt;
-        read_from(alloc, &mut shelf, "absent", 100).err(),
-        Some(ShelfFault::Failed)
-    );
-    write_to(&mut shelf, "absent", b"")?;
-    assert_eq!(rt; shelf.get("absent"), Some(b"".as_slice()));
-    assert_eq!(rt; shelf.get("plan"), Some(b"second".as_slice()));
-    Ok(())
+    assert_read(&rt, alloc, &mut shelf, "plan", 3, b"fir");
+    let fault = write_to(&mut shelf, "plan", b"second").err();
+    assert_eq!(rt; fault, Some(ShelfFault::Failed));
+    assert_held(&rt, &shelf, "plan", b"first");
+    write_to(&mut shelf, "plan", b"second").expect(&rt, "a write");
+    assert_read_fails(&rt, alloc, &mut shelf, "plan");
+    assert_read(&rt, alloc, &mut shelf, "plan", 100, b"second");
+    assert_read_fails(&rt, alloc, &mut shelf, "absent");
+    write_to(&mut shelf, "absent", b"").expect(&rt, "a write");
+    assert_held(&rt, &shelf, "absent", b"");
+    assert_held(&rt, &shelf, "plan", b"second");
+}
+
+/// A file is read and another written over a storage that takes `piece` bytes at a time and fails
+/// at one of its calls, and this is the first fault, or the test fails.
+///
+/// The calls are an open, up to five reads of pieces, and one more that gives nothing; then a
+/// create and up to five writes.
+fn assert_in_pieces(
+    rt: &impl Abort,
+    alloc: Global,
+    piece: usize,
+    fails: u64,
+    wanted: Option<ShelfFault>,
+) {
+    let mut shelf = shelf_in_pieces(rt, alloc, piece, fails);
+    let read = read_from(alloc, &mut shelf, "plan", 100);
+    let written = write_to(&mut shelf, "copy", b"copy!");
+    let fault = read.as_ref().err().copied().or(written.err());
+    assert_eq!(rt; fault, wanted, "pieces of {piece}, call {fails} fails");
+    if wanted.is_none() {
+        let read = read.expect(rt, "a read");
+        assert_eq!(rt; read.as_slice(), b">five!".as_slice(), "pieces of {piece}");
+        assert_read(rt, alloc, &mut shelf, "copy", 4, b"copy");
+    }
+    assert_read_fails(rt, alloc, &mut shelf, "absent");
+}
+
+/// A shelf of one file over such a storage.
+fn shelf_in_pieces(
+    rt: &impl Abort,
+    alloc: Global,
+    piece: usize,
+    fails: u64,
+) -> StorageShelf<PieceStorage> {
+    let mut files = MemoryShelf::new(alloc, Vec::new(alloc));
+    files.set("plan", b"five!").expect(rt, "memory");
+    let fails = [fails].to_vec(alloc).expect(rt, "memory");
+    StorageShelf::over(PieceStorage::new(alloc, files, piece, fails))
 }
 
 #[test]
-fn files_are_read_and_written_whole_in_pieces_of_any_length(rt: HostRuntime) -> Result<(), Fail> {
-    let alloc = rt.alloc();
-    for (piece, fails, wanted) in [
-        (1usize, 100u64, None),
+fn files_are_read_and_written_whole_in_pieces_of_any_length(rt: HostRuntime) {
+    for &(piece, fails, wanted) in &[
+        (1, 100, None),
         (2, 100, None),
         (1000, 100, None),
         (2, 0, Some(ShelfFault::Failed)),
         (2, 2, Some(ShelfFault::Failed)),
         (2, 6, Some(ShelfFault::Failed)),
     ] {
-        let mut files = MemoryShelf::new(alloc, Vec::new(alloc));
-        files.set("plan", b"five!")?;
-        let storage = PieceStorage::new(alloc, files, piece, [fails].to_vec(alloc)?);
-        let mut shelf = StorageShelf::over(storage);
-
-        // An open, up to five reads of pieces, and one more that gives nothing; then a create and
-        // up to five writes.
-        let read = read_from(alloc, &mut shelf, "plan", 100);
-        let written = write_to(&mut shelf, "copy", b"copy!");
-        let fault = read.as_ref().err().copied().or(written.err());
-        assert_eq!(rt; fault, wanted, "pieces of {piece}, call {fails} fails");
-        if wanted.is_none() {
-            assert_eq!(rt; read?.as_slice(), b">five!".as_slice(), "pieces of {piece}");
-            assert_eq!(rt;
-                read_from(alloc, &mut shelf, "copy", 4)?.as_slice(),
-                b">copy".as_slice(),
-                "pieces of {piece}"
-            );
-        }
-        assert_eq!(rt;
-            read_from(alloc, &mut shelf, "absent", 4).err(),
-            Some(ShelfFault::Failed)
-        );
+        assert_in_pieces(&rt, rt.alloc(), piece, fails, wanted);
     }
-    Ok(())
 }
 
 #[test]
-fn sure_files_never_fail(rt: HostRuntime) -> Result<(), Fail> {
+fn sure_files_never_fail(rt: HostRuntime) {
     let alloc = rt.alloc();
     let mut shelf = SureShelf::new(alloc);
-    assert_eq!(rt;
-        read_from(alloc, &mut shelf, "plan", 100)?.as_slice(),
-        b">".as_slice()
-    );
-    write_to(&mut shelf, "plan", b"text")?;
-    assert_eq!(rt;
-        read_from(alloc, &mut shelf, "plan", 3)?.as_slice(),
-        b">tex".as_slice()
-    );
-    shelf.set("plan", b"other")?;
+    assert_read(&rt, alloc, &mut shelf, "plan", 100, b"");
+    write_to(&mut shelf, "plan", b"text").expect(&rt, "a write");
+    assert_read(&rt, alloc, &mut shelf, "plan", 3, b"tex");
+    shelf.set("plan", b"other").expect(&rt, "memory");
     assert_eq!(rt; shelf.get("plan"), Some(b"other".as_slice()));
     assert_eq!(rt; shelf.get("certificate"), None);
-    Ok(())
 }

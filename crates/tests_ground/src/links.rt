@@ -19,6 +19,17 @@ fn next_random(seed: u64) -> u64 {
         .wrapping_add(1442695040888963407)
 }
 
+/// Puts a free item at the end of the list.
+fn link_last(rt: &impl Abort, rings: &mut Rings, list: usize, i: usize)
+    requires list { list < length rings.old.lists }
+    requires item { i < rings.old.items }
+    ensures lists { length rings.new.lists ≡ length rings.old.lists }
+    ensures items { rings.new.items ≡ rings.old.items }
+{
+    assert!(rt; !rings.is_linked(i));
+    rings.link_last(list, i);
+}
+
 /// Two lists, of which the first has the items 0, 1 and 2, in this order.
 fn three_in_a_list(rt: &impl Abort, alloc: Global) -> Rings
     ensures lists { length result.lists ≡ 2 }
@@ -26,13 +37,18 @@ fn three_in_a_list(rt: &impl Abort, alloc: Global) -> Rings
 {
     let mut rings = Rings::new(alloc);
     rings.grow(2, 3).expect(rt, "memory");
-    assert!(rt; !rings.is_linked(0));
-    rings.link_last(0, 0);
-    assert!(rt; !rings.is_linked(1));
-    rings.link_last(0, 1);
-    assert!(rt; !rings.is_linked(2));
-    rings.link_last(0, 2);
+    link_last(rt, &mut rings, 0, 0);
+    link_last(rt, &mut rings, 0, 1);
+    link_last(rt, &mut rings, 0, 2);
     rings
+}
+
+/// What stands behind an item that is linked.
+fn behind(rt: &impl Abort, rings: &Rings, i: usize) -> Option<usize>
+    requires { i < rings.now.items }
+{
+    assert!(rt; rings.is_linked(i));
+    rings.next(i)
 }
 
 #[test]
@@ -41,9 +57,9 @@ fn an_item_is_unlinked_from_the_middle(rt: HostRuntime) {
     assert!(rt; rings.is_linked(1));
     rings.unlink(1);
     assert_eq!(rt; rings.first(0), Some(0));
-    assert!(rt; rings.is_linked(0) && rings.is_linked(2) && !rings.is_linked(1));
-    assert_eq!(rt; rings.next(0), Some(2));
-    assert_eq!(rt; rings.next(2), None);
+    assert!(rt; !rings.is_linked(1));
+    assert_eq!(rt; behind(&rt, &rings, 0), Some(2));
+    assert_eq!(rt; behind(&rt, &rings, 2), None);
     assert_eq!(rt; rings.first(1), None);
 }
 
@@ -53,10 +69,9 @@ fn an_item_is_linked_before_another(rt: HostRuntime) {
     rings.grow(2, 4).expect(&rt, "memory");
     assert!(rt; rings.is_linked(2) && !rings.is_linked(3));
     rings.link_before(2, 3);
-    assert!(rt; rings.is_linked(1) && rings.is_linked(2) && rings.is_linked(3));
-    assert_eq!(rt; rings.next(1), Some(3));
-    assert_eq!(rt; rings.next(3), Some(2));
-    assert_eq!(rt; rings.next(2), None);
+    assert_eq!(rt; behind(&rt, &rings, 1), Some(3));
+    assert_eq!(rt; behind(&rt, &rings, 3), Some(2));
+    assert_eq!(rt; behind(&rt, &rings, 2), None);
 }
 
 #[test]
@@ -66,9 +81,17 @@ fn an_item_is_linked_before_the_first(rt: HostRuntime) {
     assert!(rt; rings.is_linked(0) && !rings.is_linked(3));
     rings.link_before(0, 3);
     assert_eq!(rt; rings.first(0), Some(3));
-    assert!(rt; rings.is_linked(0) && rings.is_linked(3));
-    assert_eq!(rt; rings.next(3), Some(0));
-    assert_eq!(rt; rings.next(0), Some(1));
+    assert_eq!(rt; behind(&rt, &rings, 3), Some(0));
+    assert_eq!(rt; behind(&rt, &rings, 0), Some(1));
+}
+
+/// Puts an item that the heap doesn't hold.
+fn put(rt: &impl Abort, heap: &mut IndexHeap, i: usize, key: u64)
+    requires { i < length heap.old }
+    ensures { length heap.new ≡ length heap.old }
+{
+    assert!(rt; !heap.holds(i));
+    heap.put(i, key);
 }
 
 /// A heap that holds the items 0, 1 and 2 under these keys.
@@ -77,12 +100,9 @@ fn three_in_a_heap(rt: &impl Abort, alloc: Global, keys: [u64; 3]) -> IndexHeap
 {
     let mut heap = IndexHeap::new(alloc);
     heap.grow(3).expect(rt, "memory");
-    assert!(rt; !heap.holds(0));
-    heap.put(0, keys[0]);
-    assert!(rt; !heap.holds(1));
-    heap.put(1, keys[1]);
-    assert!(rt; !heap.holds(2));
-    heap.put(2, keys[2]);
+    put(rt, &mut heap, 0, keys[0]);
+    put(rt, &mut heap, 1, keys[1]);
+    put(rt, &mut heap, 2, keys[2]);
     heap
 }
 

@@ -4,7 +4,7 @@ use ev_outside::{MemorySink, OutSink, Sink, SinkFault, SureSink};
 use std::cell::Cell;
 use std::fmt::Display;
 use std::io::{self, Error, Print};
-use std::test::Fail;
+use std::process::Abort;
 
 /// Puts by the trait alone.
 fn put_into<K: Sink>(sink: &mut K, bytes: &[u8]) -> Result<(), SinkFault> {
@@ -45,56 +45,69 @@ impl Print for NarrowOutput {
     }
 }
 
+/// Five bytes are put so into an output that takes at most `most` at a time and fails at one of its
+/// calls, and it took this many, or the test fails.
+fn assert_put(
+    rt: &impl Abort,
+    most: usize,
+    fails: u64,
+    wanted: Result<(), SinkFault>,
+    taken: usize,
+) {
+    let output = NarrowOutput {
+        most,
+        fails,
+        calls: Cell::new(0),
+        taken: Cell::new(0),
+    };
+    let mut out = OutSink::new(&output);
+    assert_eq!(rt; put_into(&mut out, b"five!"), wanted, "{most} at a time");
+    assert_eq!(rt; output.taken.get(), taken, "{most} at a time");
+    assert_eq!(rt; out.stream().last_failure().is_some(), wanted.is_err());
+}
+
 /// The output counts what was taken, and not what was asked.
 #[test]
-fn a_narrow_output_takes_all_bytes_or_has_failed(rt: HostRuntime) -> Result<(), Fail> {
-    for (most, fails, wanted, taken) in [
-        (2usize, 9u64, Ok(()), 5usize),
+fn a_narrow_output_takes_all_bytes_or_has_failed(rt: HostRuntime) {
+    for &(most, fails, wanted, taken) in &[
+        (2, 9, Ok(()), 5),
         (9, 9, Ok(()), 5),
         (2, 1, Err(SinkFault::Failed), 2),
         (0, 9, Err(SinkFault::Failed), 0),
     ] {
-        let output = NarrowOutput {
-            most,
-            fails,
-            calls: Cell::new(0),
-            taken: Cell::new(0),
-        };
-        let mut out = OutSink::new(&output);
-        assert_eq!(rt; put_into(&mut out, b"five!"), wanted, "{most} at a time");
-        assert_eq!(rt; output.taken.get(), taken, "{most} at a time");
-        assert_eq!(rt; out.stream().last_failure().is_some(), wanted.is_err());
+        assert_put(&rt, most, fails, wanted, taken);
     }
-    Ok(())
 }
 
 #[test]
-fn the_output_takes_what_is_put(rt: HostRuntime) -> Result<(), Fail> {
+fn the_output_takes_what_is_put(rt: HostRuntime) {
     let mut out = OutSink::new(&rt);
-    put_into(&mut out, b"the output takes this line\n")?;
-    put_into(&mut out, b"")?;
+    put_into(&mut out, b"the output takes this line\n").expect(&rt, "a put");
+    put_into(&mut out, b"").expect(&rt, "a put");
     assert!(rt; out.stream().last_failure().is_none());
-    Ok(())
 }
 
 #[test]
-fn a_failing_sink_in_memory_keeps_the_first_half(rt: HostRuntime) -> Result<(), Fail> {
+fn a_failing_sink_in_memory_keeps_the_first_half(rt: HostRuntime) {
     let alloc = rt.alloc();
-    let mut sink = MemorySink::new(alloc, [1, 2].to_vec(alloc)?);
-    put_into(&mut sink, b"whole;")?;
-    assert_eq!(rt; put_into(&mut sink, b"12345"), Err(SinkFault::Failed));
-    assert_eq!(rt; put_into(&mut sink, b"x"), Err(SinkFault::Failed));
-    put_into(&mut sink, b";end")?;
+    let fails = [1, 2].to_vec(alloc).expect(&rt, "memory");
+    let mut sink = MemorySink::new(alloc, fails);
+    for &(text, wanted) in &[
+        ("whole;", Ok(())),
+        ("12345", Err(SinkFault::Failed)),
+        ("x", Err(SinkFault::Failed)),
+        (";end", Ok(())),
+    ] {
+        assert_eq!(rt; put_into(&mut sink, text.as_bytes()), wanted, "{text}");
+    }
     assert_eq!(rt; sink.bytes(), b"whole;12;end".as_slice());
-    Ok(())
 }
 
 #[test]
-fn a_sure_output_never_fails(rt: HostRuntime) -> Result<(), Fail> {
+fn a_sure_output_never_fails(rt: HostRuntime) {
     let alloc = rt.alloc();
     let mut sink = SureSink::new(alloc);
-    put_into(&mut sink, b"two ")?;
-    put_into(&mut sink, b"texts")?;
+    put_into(&mut sink, b"two ").expect(&rt, "a put");
+    put_into(&mut sink, b"texts").expect(&rt, "a put");
     assert_eq!(rt; sink.bytes(), b"two texts".as_slice());
-    Ok(())
 }
