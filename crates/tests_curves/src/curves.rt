@@ -1,6 +1,7 @@
 //! Curves, scaled and cut, and their denominators.
 
 ghost use Rattle.std.specs.Prelude.{◌≡◌, ◌≤◌};
+ghost use Rattle.charge_curve.specs.CutCurve.{IsSmall};
 ghost use Rattle.charge_curve.specs.Points.{last_level};
 
 use charge_curve::{Curve, CurveFault, Scaled, common_denominator};
@@ -26,25 +27,33 @@ fn curves_are_scaled_and_cut(rt: HostRuntime) {
     assert_eq!(rt; cut.breaks(), [(0, 0), (8, 8), (9, 14)].as_slice());
 }
 
+/// Through these points there is a curve up to this level, or it has this fault, or the test fails.
+fn assert_fault(
+    rt: &impl Abort,
+    alloc: Global,
+    points: &[(u64, u64)],
+    max_q: u64,
+    wanted: Option<CurveFault>,
+)
+    requires { IsSmall points.now max_q }
+{
+    let fault = Curve::new(alloc, points, max_q).err();
+    assert_eq!(rt; fault, wanted);
+}
+
 #[test]
 fn the_first_broken_rule_is_named(rt: HostRuntime) {
     let alloc = rt.alloc();
-    let fault = |points: &[(u64, u64)], max_q| Curve::new(alloc, points, max_q).err();
-    assert_eq!(rt;
-        fault(&[(0, 0), (4, 8), (10, 10)], 11),
-        Some(CurveFault::Short { last: 10 })
-    );
-    assert_eq!(rt; fault(&[(0, 0)], 10), Some(CurveFault::Start));
-    assert_eq!(rt; fault(&[(0, 1), (4, 8)], 8), Some(CurveFault::Start));
-    assert_eq!(rt;
-        fault(&[(0, 0), (4, 8), (4, 10)], 10),
-        Some(CurveFault::Rise { index: 2 })
-    );
-    assert_eq!(rt;
-        fault(&[(0, 0), (6, 2), (10, 10)], 10),
-        Some(CurveFault::Concave { index: 2 })
-    );
-    assert_eq!(rt; fault(&[(0, 0), (2, 2), (10, 10)], 10), None);
+    let short = Some(CurveFault::Short { last: 10 });
+    assert_fault(&rt, alloc, &[(0, 0), (4, 8), (10, 10)], 11, short);
+    let start = Some(CurveFault::Start);
+    assert_fault(&rt, alloc, &[(0, 0)], 10, start);
+    assert_fault(&rt, alloc, &[(0, 1), (4, 8)], 8, start);
+    let rise = Some(CurveFault::Rise { index: 2 });
+    assert_fault(&rt, alloc, &[(0, 0), (4, 8), (4, 10)], 10, rise);
+    let concave = Some(CurveFault::Concave { index: 2 });
+    assert_fault(&rt, alloc, &[(0, 0), (6, 2), (10, 10)], 10, concave);
+    assert_fault(&rt, alloc, &[(0, 0), (2, 2), (10, 10)], 10, None);
 }
 
 #[test]
@@ -53,9 +62,18 @@ fn the_denominator_makes_slopes_whole(rt: HostRuntime) {
     let fast = Curve::new(alloc, &[(0, 0), (4, 8), (10, 10)], 10).expect(&rt, "a curve");
     let slow = Curve::new(alloc, &[(0, 0), (4, 6), (20, 13)], 10).expect(&rt, "a curve");
     let curves = Vec::from_array(alloc, [fast, slow]).expect(&rt, "memory");
-    assert_eq!(rt; common_denominator(curves.as_slice(), 42), Some(42));
-    assert_eq!(rt; common_denominator(curves.as_slice(), 41), None);
-    assert_eq!(rt; common_denominator(&curves[0..1], 1_000_000_000), Some(2));
-    assert_eq!(rt; common_denominator(&[], 1), Some(1));
-    assert_eq!(rt; common_denominator(&[], 0), None);
+    for &(count, limit, wanted) in &[
+        (2, 42, Some(42)),
+        (2, 41, None),
+        (1, 1_000_000_000, Some(2)),
+        (0, 1, Some(1)),
+        (0, 0, None),
+    ] {
+        let first = curves.get(..count).expect(&rt, "so many curves");
+        assert_eq!(rt;
+            common_denominator(first, limit),
+            wanted,
+            "{count} up to {limit}"
+        );
+    }
 }

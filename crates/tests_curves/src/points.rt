@@ -6,6 +6,7 @@ use crate::curves::scaled_curve;
 use dominance::{Covers, LabelValue, Row};
 use piece_fn::PieceFn;
 use std::alloc::{AllocError, Global};
+use std::process::Abort;
 
 const MOST: u64 = 1_000_000_000_000_000_000;
 
@@ -19,15 +20,15 @@ fn three_points(alloc: Global) -> Result<PieceFn, AllocError>
 #[test]
 fn a_value_steps_along_an_arc(rt: HostRuntime) {
     let f = three_points(rt.alloc()).expect(&rt, "memory");
-    for (limit, points) in [
-        (MOST, [(5u64, 22u64), (6, 23), (8, 35)].as_slice()),
-        (30, [(5, 22), (6, 23), (7, 29)].as_slice()),
+    for (limit, points) in &[
+        (MOST, [(5, 22), (6, 23), (8, 35)]),
+        (30, [(5, 22), (6, 23), (7, 29)]),
     ] {
         let shifted = f
-            .shift(2, 6, limit)
+            .shift(2, 6, *limit)
             .expect(&rt, "memory")
             .expect(&rt, "a level is left");
-        assert_eq!(rt; shifted.points(), points);
+        assert_eq!(rt; shifted.points(), points.as_slice());
     }
     assert!(rt; f.shift(11, 0, MOST).expect(&rt, "memory").is_none());
 }
@@ -148,12 +149,22 @@ fn covers_alike(value: &PieceFn, row: &Row, other: &PieceFn, other_row: &Row) ->
     value.least() == row.least()
 }
 
+/// The value through some points, and the row of its times.
+fn value_and_row(rt: &impl Abort, alloc: Global, points: &[(u64, u64)]) -> (PieceFn, Row) {
+    assert!(rt; PieceFn::is_points(points));
+    let value = PieceFn::from_points(alloc, points).expect(rt, "memory");
+    let row = row_of(alloc, &value)
+        .expect(rt, "memory")
+        .expect(rt, "times in order");
+    (value, row)
+}
+
 #[test]
 fn few_points_and_plain_rows_agree(rt: HostRuntime) {
     let alloc = rt.alloc();
     let other = PieceFn::from_points(alloc, &[(1, 1), (3, 3), (4, 6)]).expect(&rt, "memory");
     let other_row = Row::from_times(alloc, 1, &[1, 2, 3, 6]).expect(&rt, "memory");
-    for points in [
+    for points in &[
         [(0, 0), (1, 0), (2, 0)],
         [(1, 1), (3, 3), (4, 6)],
         [(2, 0), (3, 2), (5, 2)],
@@ -161,11 +172,7 @@ fn few_points_and_plain_rows_agree(rt: HostRuntime) {
         [(1, 0), (2, 1), (4, 7)],
         [(2, 1), (4, 1), (5, 2)],
     ] {
-        assert!(rt; PieceFn::is_points(&points));
-        let value = PieceFn::from_points(alloc, &points).expect(&rt, "memory");
-        let row = row_of(alloc, &value)
-            .expect(&rt, "memory")
-            .expect(&rt, "times in order");
+        let (value, row) = value_and_row(&rt, alloc, points);
         assert!(rt; is_row(&value, &row));
         assert!(rt; shifts_alike(&value, &row, 6).expect(&rt, "memory"));
         assert!(rt; covers_alike(&value, &row, &other, &other_row));

@@ -25,7 +25,7 @@ fn five_labels(rt: &impl Abort, alloc: Global) -> Pool<Row>
     assert_eq!(rt; added, Some(0));
     assert!(rt; pool.len() == 1);
     // number, bucket, level, time, what `add` answers
-    for (bucket, level, time, number) in [
+    for &(bucket, level, time, number) in &[
         (1, 3, 11, None),
         (0, 3, 12, Some(1)),
         (1, 5, 14, Some(2)),

@@ -24,10 +24,8 @@ fn a_row_covers_itself_and_nothing_later(rt: HostRuntime) {
 #[test]
 fn a_row_steps_along_an_arc(rt: HostRuntime) {
     let row = four_levels(rt.alloc()).expect(&rt, "memory");
-    for (limit, times) in [
-        (MOST, [22u64, 23, 29, 35].as_slice()),
-        (30, [22, 23, 29].as_slice()),
-    ] {
+    let cases: &[(u64, &[u64])] = &[(MOST, &[22, 23, 29, 35]), (30, &[22, 23, 29])];
+    for &(limit, times) in cases {
         let shifted = row
             .shift(2, 6, limit)
             .expect(&rt, "memory")
