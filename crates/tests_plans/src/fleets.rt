@@ -1,12 +1,13 @@
 //! What the judge says of fleet plans.
 
-use crate::stops::{at, via};
+use crate::stops::{CHARGE, CUSTOMER, DEPOT, PASS, charge};
 use ev_list::Listed;
 use ev_model::Stop;
 use instance_reader::{Instance, read_instance};
 use plan_check::{LargeFault, PlanFault, check_fleet, check_large};
 use route_plan::{FleetPlan, RoutePlan, WalkFault};
 use std::alloc::Global;
+use std::process::Abort;
 use worked_instances::{DEPOT_ALONE, ONE_STATION};
 
 /// What the judge says of routes with these stops; `None` where memory was refused or there are too
@@ -25,73 +26,79 @@ fn judged(alloc: Global, inst: &Instance, routes: &[&[Stop]]) -> Option<Result<u
     Some(check_fleet(inst, &plan))
 }
 
+/// The judge says so of routes with these stops, or the test fails.
+fn assert_judged(
+    rt: &impl Abort,
+    alloc: Global,
+    instance: &str,
+    routes: &[&[Stop]],
+    wanted: Result<u128, PlanFault>,
+) {
+    let inst = read_instance(alloc, instance.as_bytes()).expect(rt, "an instance");
+    assert_eq!(rt; judged(alloc, &inst, routes), Some(wanted));
+}
+
+/// The customer's route, with one unit from the station on the way.
+const GOOD: [Stop; 4] = [DEPOT, CHARGE, CUSTOMER, DEPOT];
+
 #[test]
 fn a_fleet_plan_costs_the_scaled_times_of_its_routes(rt: HostRuntime) {
     let alloc = rt.alloc();
-    let inst = read_instance(alloc, ONE_STATION.as_bytes()).expect(&rt, "an instance");
-    let good = [at(0), via(2, 1), at(1), at(0)];
-    assert_eq!(rt; judged(alloc, &inst, &[&good]), Some(Ok(43)));
-    let alone = read_instance(alloc, DEPOT_ALONE.as_bytes()).expect(&rt, "an instance");
-    assert_eq!(rt; judged(alloc, &alone, &[]), Some(Ok(0)));
+    assert_judged(&rt, alloc, ONE_STATION, &[&GOOD], Ok(43));
+    assert_judged(&rt, alloc, DEPOT_ALONE, &[], Ok(0));
 }
 
 #[test]
 fn a_walk_is_judged_before_the_customers(rt: HostRuntime) {
+    const FLAT: [Stop; 3] = [DEPOT, CUSTOMER, DEPOT];
     let alloc = rt.alloc();
-    let inst = read_instance(alloc, ONE_STATION.as_bytes()).expect(&rt, "an instance");
-    let good = [at(0), via(2, 1), at(1), at(0)];
-    let flat = [at(0), at(1), at(0)];
     let fault = WalkFault::Empty { at: 2 };
     let first = PlanFault::Walk { route: 0, fault };
+    assert_judged(&rt, alloc, ONE_STATION, &[&FLAT], Err(first));
     let third = PlanFault::Walk { route: 2, fault };
-    assert_eq!(rt; judged(alloc, &inst, &[&flat]), Some(Err(first)));
-    assert_eq!(rt;
-        judged(alloc, &inst, &[&good, &good, &flat]),
-        Some(Err(third))
-    );
+    assert_judged(&rt, alloc, ONE_STATION, &[&GOOD, &GOOD, &FLAT], Err(third));
 }
+
+/// A route that passes the station.
+const EMPTY: [Stop; 3] = [DEPOT, PASS, DEPOT];
 
 #[test]
 fn each_customer_is_served_once(rt: HostRuntime) {
     let alloc = rt.alloc();
-    let inst = read_instance(alloc, ONE_STATION.as_bytes()).expect(&rt, "an instance");
-    let good = [at(0), via(2, 1), at(1), at(0)];
-    let empty = [at(0), via(2, 0), at(0)];
-    let again = [at(0), via(2, 3), at(1), via(2, 4), at(1), at(0)];
     let twice = PlanFault::Twice { customer: 1 };
+    assert_judged(&rt, alloc, ONE_STATION, &[&GOOD, &GOOD, &EMPTY], Err(twice));
+    let again = [DEPOT, charge(3), CUSTOMER, charge(4), CUSTOMER, DEPOT];
+    assert_judged(&rt, alloc, ONE_STATION, &[&again], Err(twice));
     let unserved = PlanFault::Unserved { customer: 1 };
-    assert_eq!(rt;
-        judged(alloc, &inst, &[&good, &good, &empty]),
-        Some(Err(twice))
-    );
-    assert_eq!(rt; judged(alloc, &inst, &[&again]), Some(Err(twice)));
-    assert_eq!(rt; judged(alloc, &inst, &[]), Some(Err(unserved)));
+    assert_judged(&rt, alloc, ONE_STATION, &[], Err(unserved));
 }
 
 #[test]
 fn each_route_serves_customers_alone(rt: HostRuntime) {
+    const STATION: Stop = Stop {
+        node: 2,
+        added: 1,
+        via: false,
+    };
+    const ASTRAY: [Stop; 4] = [DEPOT, STATION, CUSTOMER, DEPOT];
     let alloc = rt.alloc();
-    let inst = read_instance(alloc, ONE_STATION.as_bytes()).expect(&rt, "an instance");
-    let empty = [at(0), via(2, 0), at(0)];
-    let mut station = at(2);
-    station.added = 1;
-    let astray = [at(0), station, at(1), at(0)];
     let no_customer = PlanFault::EmptyRoute { route: 1 };
-    let stray = PlanFault::Stray { route: 0, at: 1 };
-    assert_eq!(rt;
-        judged(alloc, &inst, &[&astray, &empty]),
-        Some(Err(no_customer))
+    assert_judged(
+        &rt,
+        alloc,
+        ONE_STATION,
+        &[&ASTRAY, &EMPTY],
+        Err(no_customer),
     );
-    assert_eq!(rt; judged(alloc, &inst, &[&astray]), Some(Err(stray)));
+    let stray = PlanFault::Stray { route: 0, at: 1 };
+    assert_judged(&rt, alloc, ONE_STATION, &[&ASTRAY], Err(stray));
 }
 
 #[test]
 fn any_number_of_customers_is_judged(rt: HostRuntime) {
     let alloc = rt.alloc();
     let inst = read_instance(alloc, ONE_STATION.as_bytes()).expect(&rt, "an instance");
-    let stops = [at(0), via(2, 1), at(1), at(0)]
-        .to_vec(alloc)
-        .expect(&rt, "memory");
+    let stops = GOOD.to_vec(alloc).expect(&rt, "memory");
     let mut plan = FleetPlan {
         routes: Listed::new(alloc),
     };

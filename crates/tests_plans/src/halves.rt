@@ -1,6 +1,6 @@
 //! A plan in halves of a unit, rounded both ways.
 
-ghost use Rattle.std.specs.Prelude.{◌≡◌, IfSome};
+ghost use Rattle.std.specs.Prelude.{◌≡◌, ◌<◌, IfSome};
 ghost use Rattle.ev_model.specs.Feasible.{IsFeasible};
 
 use ev_list::Listed;
@@ -9,6 +9,7 @@ use instance_reader::{Instance, read_instance};
 use rounding_law::{best_rounding, rounded};
 use route_plan::{FracPlan, RoutePlan, walk};
 use std::alloc::Global;
+use std::process::Abort;
 use worked_instances::PLUG_TIME;
 
 /// The plan that charges a half of a unit before the customer and three halves after it, feasible
@@ -85,15 +86,29 @@ fn outcome(inst: &Instance, plan: &RoutePlan) -> Option<(u64, u64, u64)> {
     Some((stops.get(1)?.added, stops.get(3)?.added, walk.time))
 }
 
+/// Rounded with this offset the plan has this outcome, or the test fails.
+fn assert_rounded(
+    rt: &impl Abort,
+    alloc: Global,
+    inst: &Instance,
+    plan: &FracPlan,
+    offset: u64,
+    wanted: (u64, u64, u64),
+)
+    requires offset { offset < plan.now.k }
+    requires feasible { IsFeasible inst.now plan.now.k 10 plan.now.stops }
+{
+    let whole = rounded(alloc, plan, offset, 10, inst).expect(rt, "memory");
+    assert_eq!(rt; outcome(inst, &whole), Some(wanted));
+}
+
 #[test]
 fn halves_round_to_a_plan_that_plugs_in_once_and_to_one_that_plugs_in_twice(rt: HostRuntime) {
     let alloc = rt.alloc();
     let inst = read_instance(alloc, PLUG_TIME.as_bytes()).expect(&rt, "an instance");
     let plan = over_halves(alloc, &inst).expect(&rt, "a plan in halves");
-    let first = rounded(alloc, &plan, 0, 10, &inst).expect(&rt, "memory");
-    assert_eq!(rt; outcome(&inst, &first), Some((0, 2, 48)));
-    let second = rounded(alloc, &plan, 1, 10, &inst).expect(&rt, "memory");
-    assert_eq!(rt; outcome(&inst, &second), Some((1, 1, 50)));
+    assert_rounded(&rt, alloc, &inst, &plan, 0, (0, 2, 48));
+    assert_rounded(&rt, alloc, &inst, &plan, 1, (1, 1, 50));
     let best = best_rounding(alloc, &inst, 10, &plan).expect(&rt, "memory");
     assert_eq!(rt; outcome(&inst, &best), Some((0, 2, 48)));
 }

@@ -1,18 +1,19 @@
 //! The texts of plans.
 
-ghost use Rattle.std.specs.Prelude.{◌≡◌, IfOk};
+ghost use Rattle.std.specs.Prelude.{◌≡◌};
 
 use ev_list::Listed;
 use ev_text::TextFault;
 use route_plan::{
     FleetPlan, PlanText, RoutePlan, Stop, push_fleet_plan, push_plan, read_fleet_plan, read_plan,
 };
-use std::alloc::{AllocError, Global};
+use std::alloc::Global;
+use std::process::Abort;
 
 #[test]
 fn the_first_fault_of_a_plan_file_is_named(rt: HostRuntime) {
     let alloc = rt.alloc();
-    for (text, fault) in [
+    for &(text, fault) in &[
         ("evroute plan 1", TextFault::End { at: 0 }),
         ("evroute plan 1\nnon", TextFault::End { at: 15 }),
         ("evroute plan 1\nnox", TextFault::Word { at: 15 }),
@@ -75,26 +76,26 @@ fn plans_are_read_with_their_stops(rt: HostRuntime) {
     );
 }
 
-fn plan_of(alloc: Global, stops: &[Stop]) -> Result<RoutePlan, AllocError>
-    ensures { IfOk result (λ plan. plan.stops ≡ stops.now) }
+fn plan_of(rt: &impl Abort, alloc: Global, stops: &[Stop]) -> RoutePlan
+    ensures { result.stops ≡ stops.now }
 {
-    let stops = Vec::from_slice(alloc, stops)?;
-    Ok(RoutePlan {
+    let stops = Vec::from_slice(alloc, stops).expect(rt, "memory");
+    RoutePlan {
         stops: Listed::from_vec(stops),
-    })
+    }
 }
 
 #[test]
-fn plans_are_written_behind_what_stands_there(rt: HostRuntime) -> Result<(), AllocError> {
+fn plans_are_written_behind_what_stands_there(rt: HostRuntime) {
     let alloc = rt.alloc();
-    let mut out = Vec::from_slice(alloc, b"is ")?;
-    push_plan(alloc, &mut out, &plan_of(alloc, STOPS.as_slice())?)?;
-    push_fleet_plan(alloc, &mut out, None)?;
+    let mut out = Vec::from_slice(alloc, b"is ").expect(&rt, "memory");
+    let plan = plan_of(&rt, alloc, STOPS.as_slice());
+    push_plan(alloc, &mut out, &plan).expect(&rt, "memory");
+    push_fleet_plan(alloc, &mut out, None).expect(&rt, "memory");
     let mut routes = Listed::new(alloc);
-    routes.push(plan_of(alloc, STOPS.as_slice())?)?;
-    push_fleet_plan(alloc, &mut out, Some(&FleetPlan { routes }))?;
+    routes.push(plan).expect(&rt, "memory");
+    push_fleet_plan(alloc, &mut out, Some(&FleetPlan { routes })).expect(&rt, "memory");
     let wanted =
         b"is route 0 v1000000000+1000000000 v1\nevroute plan 1\nnone\nevroute plan 1\nroutes 1\nroute 0 v1000000000+1000000000 v1\n";
     assert_eq!(rt; out.as_slice(), wanted.as_slice());
-    Ok(())
 }

@@ -1,16 +1,17 @@
 //! The word of a route, and the walk along a plan.
 
-use crate::stops::{at, via};
+use crate::stops::{CHARGE, CUSTOMER, DEPOT, PASS, charge};
 use instance_reader::read_instance;
-use route_plan::{RouteFault, Walk, WalkFault, read_route, walk};
+use route_plan::{RouteFault, Stop, Walk, WalkFault, read_route, walk};
 use std::alloc::Global;
+use std::process::Abort;
 use worked_instances::{LEAST_LEVELS, ONE_STATION};
 
 #[test]
 fn the_first_broken_rule_of_a_route_is_named(rt: HostRuntime) {
     let alloc = rt.alloc();
     let inst = read_instance(alloc, ONE_STATION.as_bytes()).expect(&rt, "an instance");
-    for (word, wanted) in [
+    for &(word, wanted) in &[
         ("0,2,1,2,0", None),
         ("0,1000000001,0", Some(RouteFault::Text { at: 2 })),
         ("0,1000000000,0", Some(RouteFault::Unknown { at: 1 })),
@@ -45,24 +46,40 @@ fn a_route_has_at_most_400_nodes(rt: HostRuntime) {
     assert_eq!(rt; found, Some(RouteFault::TooLong));
 }
 
+/// A walk of the instance from level 10 ends so, or the test fails.
+fn assert_walked(
+    rt: &impl Abort,
+    alloc: Global,
+    instance: &str,
+    stops: &[Stop],
+    wanted: Result<Walk, WalkFault>,
+) {
+    let inst = read_instance(alloc, instance.as_bytes()).expect(rt, "an instance");
+    assert_eq!(rt; walk(&inst, 10, stops), wanted);
+}
+
+/// With so much charged behind the customer a walk that has to keep levels ends so, or the test
+/// fails.
+fn assert_charged(rt: &impl Abort, alloc: Global, added: u64, wanted: Result<Walk, WalkFault>) {
+    let stops = [DEPOT, CUSTOMER, charge(added), DEPOT];
+    assert_walked(rt, alloc, LEAST_LEVELS, &stops, wanted);
+}
+
 #[test]
 fn a_walk_tells_time_and_last_level_or_the_first_broken_rule(rt: HostRuntime) {
+    const CHARGED: [Stop; 4] = [DEPOT, CHARGE, CUSTOMER, DEPOT];
     let alloc = rt.alloc();
-    let inst = read_instance(alloc, ONE_STATION.as_bytes()).expect(&rt, "an instance");
-    let least = read_instance(alloc, LEAST_LEVELS.as_bytes()).expect(&rt, "an instance");
-    let charged = [at(0), via(2, 1), at(1), at(0)];
     let end = Walk { time: 43, last: 0 };
-    assert_eq!(rt; walk(&inst, 10, charged.as_slice()), Ok(end));
+    assert_walked(&rt, alloc, ONE_STATION, &CHARGED, Ok(end));
     let below = WalkFault::Empty { at: 3 };
-    assert_eq!(rt; walk(&least, 10, charged.as_slice()), Err(below));
-    for (added, wanted) in [
+    assert_walked(&rt, alloc, LEAST_LEVELS, &CHARGED, Err(below));
+    for &(added, wanted) in &[
         (7, Err(WalkFault::Empty { at: 3 })),
         (8, Ok(Walk { time: 62, last: 5 })),
         (9, Err(WalkFault::Full { at: 2 })),
     ] {
-        let stops = [at(0), at(1), via(2, added), at(0)];
-        assert_eq!(rt; walk(&least, 10, stops.as_slice()), wanted);
+        assert_charged(&rt, alloc, added, wanted);
     }
-    let passing = [at(0), via(2, 0), at(0), via(2, 9), at(0)];
-    assert_eq!(rt; walk(&least, 10, passing.as_slice()), Err(below));
+    let passing = [DEPOT, PASS, DEPOT, charge(9), DEPOT];
+    assert_walked(&rt, alloc, LEAST_LEVELS, &passing, Err(below));
 }

@@ -2,19 +2,38 @@
 
 use route_plan::Stop;
 
-/// A stop that was not inserted and charges nothing.
-pub(crate) const fn at(node: usize) -> Stop {
-    Stop {
-        node,
-        added: 0,
-        via: false,
-    }
-}
+/// A stop at the depot.
+pub(crate) const DEPOT: Stop = Stop {
+    node: 0,
+    added: 0,
+    via: false,
+};
 
-/// An inserted stop.
-pub(crate) const fn via(node: usize, added: u64) -> Stop {
+/// A stop at the customer.
+pub(crate) const CUSTOMER: Stop = Stop {
+    node: 1,
+    added: 0,
+    via: false,
+};
+
+/// An inserted stop at the station, for nothing.
+pub(crate) const PASS: Stop = Stop {
+    node: 2,
+    added: 0,
+    via: true,
+};
+
+/// An inserted stop at the station, for one unit.
+pub(crate) const CHARGE: Stop = Stop {
+    node: 2,
+    added: 1,
+    via: true,
+};
+
+/// An inserted stop at the station.
+pub(crate) const fn charge(added: u64) -> Stop {
     Stop {
-        node,
+        node: 2,
         added,
         via: true,
     }
