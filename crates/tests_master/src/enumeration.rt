@@ -115,7 +115,7 @@ pub(crate) fn next(number: u64) -> u64 {
 /// The helpers, and as many columns as are asked for, drawn from a number.
 fn draw(alloc: Global, mut number: u64, count: usize) -> Result<Vec<Column>, AllocError> {
     let mut columns = Vec::new(alloc);
-    for set in [1, 2, 4] {
+    for &set in &[1, 2, 4] {
         columns.push(Column {
             set,
             cost: 0,

@@ -2,7 +2,7 @@
 
 ghost use Rattle.std.specs.Prelude.{◌≤◌, ◌^◌};
 
-use crate::cases::CASES;
+use crate::cases::{CASES, Case};
 use crate::sets::set_of;
 use customer_sets::CustSet;
 use master_simplex::{Lp, LpFault, solve};
@@ -30,6 +30,12 @@ fn solved(rt: &impl Abort, alloc: Global, table: &mut Table) -> Lp {
         panic!(rt; "no answer");
     };
     lp
+}
+
+/// The table has an answer, and it costs so, or the test fails.
+fn assert_costs(rt: &impl Abort, alloc: Global, table: &mut Table, cost: Option<(i128, i128)>) {
+    let lp = solved(rt, alloc, table);
+    assert!(rt; costs(&lp, cost));
 }
 
 /// The sum of the prices.
@@ -68,8 +74,7 @@ fn three_pairs_cover_by_halves(rt: HostRuntime) {
 fn without_columns_there_is_a_ray(rt: HostRuntime) {
     let alloc = rt.alloc();
     let mut table = table_of(&rt, alloc, 1, 1 << 40, &[]);
-    let lp = solved(&rt, alloc, &mut table);
-    assert!(rt; costs(&lp, None));
+    assert_costs(&rt, alloc, &mut table, None);
     let mut table = table_of(&rt, alloc, 0, 1 << 40, &[]);
     let lp = solved(&rt, alloc, &mut table);
     assert!(rt; lp.weight == 1 && lp.over == 1 && lp.shares.is_empty());
@@ -95,27 +100,24 @@ fn pivot(rt: &impl Abort, table: &mut Table, row: usize, col: usize) {
 #[test]
 fn helpers_come_back_where_a_share_is_below_zero(rt: HostRuntime) {
     let alloc = rt.alloc();
-    let columns = [(3, 5), (5, 5), (1, 1), (2, 9), (4, 1)];
-    let mut table = table_of(&rt, alloc, 3, 1 << 40, &columns);
-    pivot(&rt, &mut table, 1, 3);
-    pivot(&rt, &mut table, 2, 4);
-    pivot(&rt, &mut table, 0, 5);
+    let columns = &[(3, 5), (5, 5), (1, 1), (2, 9), (4, 1)];
+    let mut table = table_of(&rt, alloc, 3, 1 << 40, columns);
+    for &(row, col) in &[(1, 3), (2, 4), (0, 5)] {
+        pivot(&rt, &mut table, row, col);
+    }
     assert!(rt; table.rows() == 3);
     assert_eq!(rt; table.entry(0, table.columns()), -1);
-    let lp = solved(&rt, alloc, &mut table);
-    assert!(rt; costs(&lp, Some((6, 1))));
+    assert_costs(&rt, alloc, &mut table, Some((6, 1)));
 }
 
 #[test]
 fn a_further_column_lowers_the_cost(rt: HostRuntime) {
     let alloc = rt.alloc();
     let mut table = table_of(&rt, alloc, 3, 1 << 40, &[(3, 11), (6, 11)]);
-    let lp = solved(&rt, alloc, &mut table);
-    assert!(rt; costs(&lp, None));
-    for (bits, cost, twice) in [(5, 12, 34), (7, 15, 30), (2, 3, 30), (1, 1, 24)] {
+    assert_costs(&rt, alloc, &mut table, None);
+    for &(bits, cost, twice) in &[(5, 12, 34), (7, 15, 30), (2, 3, 30), (1, 1, 24)] {
         table.add_column(set_of(bits), cost).expect(&rt, "memory");
-        let lp = solved(&rt, alloc, &mut table);
-        assert!(rt; costs(&lp, Some((twice, 2))));
+        assert_costs(&rt, alloc, &mut table, Some((twice, 2)));
     }
 }
 
@@ -128,17 +130,24 @@ fn a_chain_of_128_customers_is_covered_by_pairs(rt: HostRuntime) {
         let pair = CustSet::empty().with(c).with(c + 1);
         table.add_column(pair, cost).expect(&rt, "memory");
     }
-    let lp = solved(&rt, alloc, &mut table);
-    assert!(rt; costs(&lp, Some((64_000_000_000_000_000_000, 1))));
+    assert_costs(
+        &rt,
+        alloc,
+        &mut table,
+        Some((64_000_000_000_000_000_000, 1)),
+    );
+}
+
+/// The table of the case has an answer that costs what an enumeration found, or the test fails.
+fn assert_case(rt: &impl Abort, alloc: Global, case: &Case) {
+    assert!(rt; case.customers <= 128);
+    let mut table = table_of(rt, alloc, case.customers, 1 << 40, case.columns);
+    assert_costs(rt, alloc, &mut table, case.cost);
 }
 
 #[test]
 fn costs_are_those_of_an_enumeration_of_bases(rt: HostRuntime) {
-    let alloc = rt.alloc();
     for case in &CASES {
-        assert!(rt; case.customers <= 128);
-        let mut table = table_of(&rt, alloc, case.customers, 1 << 40, case.columns);
-        let lp = solved(&rt, alloc, &mut table);
-        assert!(rt; costs(&lp, case.cost));
+        assert_case(&rt, rt.alloc(), case);
     }
 }

@@ -2,7 +2,7 @@
 
 ghost use Rattle.std.specs.Prelude.{◌≤◌};
 
-use customer_sets::CustSet;
+use crate::sets::set_of;
 use master_table::{Caps, Table, TableFault};
 use std::alloc::Global;
 use std::process::Abort;
@@ -13,13 +13,8 @@ fn each_two(rt: &impl Abort, alloc: Global, body: u64) -> Table
     requires few { body ≤ 2 }
 {
     let mut table = Table::new(alloc, 3, Caps { body, cost: 100 }).expect(rt, "memory");
-    let sets = [
-        CustSet::empty().with(0).with(1),
-        CustSet::empty().with(1).with(2),
-        CustSet::empty().with(0).with(2),
-    ];
-    for set in sets {
-        table.add_column(set, 11).expect(rt, "memory");
+    for &bits in &[3, 6, 5] {
+        table.add_column(set_of(bits), 11).expect(rt, "memory");
     }
     table
 }
@@ -48,22 +43,29 @@ fn a_coefficient_of_two_is_past_a_cap_of_one(rt: HostRuntime) {
     assert_eq!(rt; entry(&rt, &table, 2, 5), 1);
 }
 
+/// The row has these entries, or the test fails.
+fn assert_row(rt: &impl Abort, table: &Table, i: usize, row: &[i128]) {
+    for (j, x) in row.iter().enumerate() {
+        assert_eq!(rt; entry(rt, table, i, j), *x);
+    }
+}
+
+/// The rows, where the columns of customers 0 and 1 and of customers 1 and 2 are in the basis.
+const ROWS: [[i128; 7]; 5] = [
+    [1, 0, 0, 1, 0, 1, 1],
+    [-1, 1, 0, 0, 1, -1, 0],
+    [1, -1, 1, 0, 0, 2, 1],
+    [0, -11, 0, 0, 0, 11, -11],
+    [1, -1, 1, 0, 0, 2, 1],
+];
+
 #[test]
 fn rows_are_brought_to_the_basis(rt: HostRuntime) {
     let mut table = each_two(&rt, rt.alloc(), 2);
     assert_eq!(rt; pivot(&rt, &mut table, 0, 3), Ok(()));
     assert_eq!(rt; pivot(&rt, &mut table, 1, 4), Ok(()));
-    let rows = [
-        [1, 0, 0, 1, 0, 1, 1],
-        [-1, 1, 0, 0, 1, -1, 0],
-        [1, -1, 1, 0, 0, 2, 1],
-        [0, -11, 0, 0, 0, 11, -11],
-        [1, -1, 1, 0, 0, 2, 1],
-    ];
-    for (i, row) in rows.iter().enumerate() {
-        for (j, x) in row.iter().enumerate() {
-            assert_eq!(rt; entry(&rt, &table, i, j), *x);
-        }
+    for (i, row) in ROWS.iter().enumerate() {
+        assert_row(&rt, &table, i, row);
     }
     assert_eq!(rt; table.weight(), 1);
     assert_eq!(rt; table.helper_weight(), 1);

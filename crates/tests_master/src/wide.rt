@@ -19,14 +19,11 @@ fn route_of(bits: u64, time: u64) -> ListedRoute {
 
 #[test]
 fn small_bases_are_not_too_wide(rt: HostRuntime) {
-    let routes = [route_of(3, 3), route_of(6, 4), route_of(5, 5)];
     let alloc = rt.alloc();
-    assert_eq!(rt;
-        is_too_wide(alloc, 3, &routes, &[3, 4, 5]).ok(),
-        Some(false)
-    );
-    assert_eq!(rt; is_too_wide(alloc, 3, &routes, &[]).ok(), Some(false));
-    assert_eq!(rt; is_too_wide(alloc, 0, &[], &[]).ok(), Some(false));
+    let routes = [route_of(3, 3), route_of(6, 4), route_of(5, 5)];
+    assert!(rt; !is_wide(&rt, alloc, 3, &routes, None, 3, 6));
+    assert!(rt; !is_wide(&rt, alloc, 3, &routes, None, 0, 0));
+    assert!(rt; !is_wide(&rt, alloc, 0, &[], None, 0, 0));
 }
 
 /// Customers in a row, with a route for each: it serves this one, the one before and the third
@@ -44,7 +41,7 @@ impl Chain {
     /// The customers of the route at a place of the chain.
     fn customers(self, place: usize) -> CustSet {
         let mut set = CustSet::empty();
-        for back in [0, 1, 3] {
+        for &back in &[0, 1, 3] {
             set = with_some(set, self.first, place.checked_sub(back));
         }
         if self.is_ring && place == 0 {
@@ -135,7 +132,7 @@ fn is_wide(
 fn a_long_chain_is_past_a_cap_with_a_listed_route_outside_its_basis_too(rt: HostRuntime) {
     let alloc = rt.alloc();
     // routes, customers, the entry ahead and the others, whether the basis is too wide
-    for (count, customers, ahead, from, to, wide) in [
+    for &(count, customers, ahead, from, to, wide) in &[
         (75, 75, None, 75, 150, true),
         (74, 74, None, 74, 148, false),
         (75, 75, None, 75, 149, true),
@@ -173,7 +170,7 @@ fn shares_of_two_rings_have_a_weight_past_a_cap(rt: HostRuntime) {
         ..first
     };
     let routes = routes_of(&rt, alloc, &[first, other]);
-    for (from, to, wide) in [(83, 166, true), (83, 123, false), (123, 166, false)] {
+    for &(from, to, wide) in &[(83, 166, true), (83, 123, false), (123, 166, false)] {
         let answer = is_wide(&rt, alloc, 83, routes.as_slice(), None, from, to);
         assert_eq!(rt; answer, wide, "entries from {from} to {to}");
     }
@@ -181,8 +178,9 @@ fn shares_of_two_rings_have_a_weight_past_a_cap(rt: HostRuntime) {
 
 #[test]
 fn the_prices_of_a_ring_break_the_cost_cap(rt: HostRuntime) {
+    const TIMES: [(u64, bool); 2] = [(1 << 58, false), (1 << 59, true)];
     let alloc = rt.alloc();
-    for (time, wide) in [(1 << 58, false), (1 << 59, true)] {
+    for &(time, wide) in &TIMES {
         let ring = Chain {
             first: 0,
             count: 43,
