@@ -24,22 +24,22 @@ pub(crate) const OTHER_CUSTOMERS: &str =
 pub(crate) const WHOLE_SLOPE: &str =
     r#"{"max_q":10,"css":[{"node_id":2,"cs_type":"fast"}],"breakpoints_by_type":[{"cs_type":"fast","time":[0,10],"charge":[0,10]}],"process_times":[0,0,0],"energy_matrix":[[0,6,3],[6,0,2],[5,2,0]],"time_matrix":[[0,10,8],[10,0,3],[8,3,0]]}"#;
 
+/// The stop at the depot, that was not inserted and charges nothing.
+pub(crate) const DEPOT: Stop = Stop {
+    node: 0,
+    added: 0,
+    via: false,
+};
+
+/// Such a stop at node 1.
+pub(crate) const FIRST: Stop = Stop { node: 1, ..DEPOT };
+
+/// Such a stop at node 2.
+pub(crate) const SECOND: Stop = Stop { node: 2, ..DEPOT };
+
 /// A stop that was not inserted and charges nothing.
 pub(crate) const fn at(node: usize) -> Stop {
-    Stop {
-        node,
-        added: 0,
-        via: false,
-    }
-}
-
-/// An inserted stop.
-pub(crate) const fn via(node: usize, added: u64) -> Stop {
-    Stop {
-        node,
-        added,
-        via: true,
-    }
+    Stop { node, ..DEPOT }
 }
 
 /// A route of a kind over these stops.

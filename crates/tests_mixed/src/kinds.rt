@@ -22,35 +22,39 @@ fn said_of(alloc: Global, texts: &[&str]) -> Option<Option<usize>> {
 #[test]
 fn kinds_may_have_other_times(rt: HostRuntime) {
     let alloc = rt.alloc();
-    assert_eq!(rt; said_of(alloc, &[TWO_CUSTOMERS]), Some(None));
-    assert_eq!(rt; said_of(alloc, &[TWO_CUSTOMERS, OTHER_TIMES]), Some(None));
-    assert_eq!(rt;
-        said_of(alloc, &[TWO_CUSTOMERS, OTHER_TIMES, TWO_CUSTOMERS]),
-        Some(None)
-    );
+    let cases: &[&[&str]] = &[
+        &[TWO_CUSTOMERS],
+        &[TWO_CUSTOMERS, OTHER_TIMES],
+        &[TWO_CUSTOMERS, OTHER_TIMES, TWO_CUSTOMERS],
+    ];
+    for &texts in cases {
+        assert_eq!(rt; said_of(alloc, texts), Some(None));
+    }
 }
 
 #[test]
 fn the_first_kind_that_differs_is_told(rt: HostRuntime) {
     let alloc = rt.alloc();
-    let nodes = [TWO_CUSTOMERS, THREE_CUSTOMERS, NO_STATION];
-    assert_eq!(rt; said_of(alloc, &nodes), Some(Some(1)));
-    let last = [TWO_CUSTOMERS, OTHER_TIMES, NO_STATION];
-    assert_eq!(rt; said_of(alloc, &last), Some(Some(2)));
+    for &(texts, kind) in &[
+        ([TWO_CUSTOMERS, THREE_CUSTOMERS, NO_STATION], 1),
+        ([TWO_CUSTOMERS, OTHER_TIMES, NO_STATION], 2),
+    ] {
+        assert_eq!(rt; said_of(alloc, &texts), Some(Some(kind)));
+    }
 }
 
 #[test]
 fn the_same_nodes_may_be_other_customers(rt: HostRuntime) {
     let alloc = rt.alloc();
-    let customers = [TWO_CUSTOMERS, OTHER_CUSTOMERS];
-    assert_eq!(rt; said_of(alloc, &customers), Some(Some(1)));
+    let told = said_of(alloc, &[TWO_CUSTOMERS, OTHER_CUSTOMERS]);
+    assert_eq!(rt; told, Some(Some(1)));
 }
 
 #[test]
 fn the_denominators_are_compared(rt: HostRuntime) {
     let alloc = rt.alloc();
-    let halves = [WHOLE_SLOPE, ONE_STATION];
-    assert_eq!(rt; said_of(alloc, &halves), Some(Some(1)));
+    let told = said_of(alloc, &[WHOLE_SLOPE, ONE_STATION]);
+    assert_eq!(rt; told, Some(Some(1)));
 }
 
 #[test]

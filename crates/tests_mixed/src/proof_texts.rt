@@ -50,7 +50,7 @@ fn fault_of(alloc: Global, text: &[u8]) -> Option<CertText> {
 fn proofs_are_written_as_they_were_read(rt: HostRuntime) {
     let alloc = rt.alloc();
     let kinds = kinds_of(alloc, &[TWO_CUSTOMERS, OTHER_TIMES]);
-    for text in [EXACT, WIDE, NONE] {
+    for &text in &[EXACT, WIDE, NONE] {
         let out = copied(alloc, kinds.as_slice(), text.as_bytes()).expect(&rt, "a copy");
         assert!(rt; out.as_slice().starts_with(b"> "));
         assert_eq!(rt; &out[2..], text.as_bytes(), "{text}");
@@ -86,7 +86,7 @@ fn labels_and_routes_are_read_by_their_kinds(rt: HostRuntime) {
 #[test]
 fn the_first_fault_of_a_proof_is_named(rt: HostRuntime) {
     let alloc = rt.alloc();
-    for (old, new, wanted) in [
+    for &(old, new, wanted) in &[
         ("mixed 1", "mixed 2", CertText::Version),
         ("mixed 1", "mixed one", CertText::Text { at: 0 }),
         ("kinds 2", "kinds 1", CertText::Range { at: 22 }),
@@ -110,7 +110,7 @@ fn the_first_fault_of_a_proof_is_named(rt: HostRuntime) {
 #[test]
 fn each_cut_of_a_proof_is_refused(rt: HostRuntime) {
     let alloc = rt.alloc();
-    for text in [EXACT, WIDE, NONE] {
+    for &text in &[EXACT, WIDE, NONE] {
         let bytes = text.as_bytes();
         for end in 0..bytes.len() {
             let fault = fault_of(alloc, &bytes[..end]).expect(&rt, "a fault");
@@ -122,7 +122,7 @@ fn each_cut_of_a_proof_is_refused(rt: HostRuntime) {
 #[test]
 fn counts_are_not_allocated_ahead(rt: HostRuntime) {
     let alloc = rt.alloc();
-    for (old, new, at) in [
+    for &(old, new, at) in &[
         ("exact 1 2", "exact 1 18446744073709551615", 99),
         ("kind 0 3", "kind 0 18446744073709551615", 180),
     ] {
@@ -135,7 +135,7 @@ fn counts_are_not_allocated_ahead(rt: HostRuntime) {
 #[test]
 fn broken_rules_are_told_in_one_line(rt: HostRuntime) {
     let alloc = rt.alloc();
-    for (verdict, wanted) in [
+    for &(verdict, wanted) in &[
         (MixedVerdict::Start { kind: 1 }, "rejected mixed 1 kind 1\n"),
         (
             MixedVerdict::Step {

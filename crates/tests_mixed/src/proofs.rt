@@ -1,6 +1,6 @@
 //! What the judge says of proofs for several kinds of vehicles.
 
-use crate::instances::{OTHER_TIMES, are_of_a_fleet, at, route_of};
+use crate::instances::{DEPOT, FIRST, OTHER_TIMES, SECOND, are_of_a_fleet, route_of};
 use crate::ranges::are_in_ranges;
 use crate::worked::{Parts, certificate_of, exact, proof_of};
 use certificate_check::{Verdict, check_certificate};
@@ -58,8 +58,8 @@ fn judged_with(alloc: Global, root: MixedRoot) -> Option<MixedVerdict> {
 /// A root that says of a basis of these columns that it is too wide.
 fn narrow(alloc: Global) -> Result<MixedRoot, AllocError> {
     let mut columns = Listed::new(alloc);
-    columns.push(route_of(alloc, 1, &[at(0), at(1), at(0)])?)?;
-    columns.push(route_of(alloc, 0, &[at(0), at(2), at(0)])?)?;
+    columns.push(route_of(alloc, 1, &[DEPOT, FIRST, DEPOT])?)?;
+    columns.push(route_of(alloc, 0, &[DEPOT, SECOND, DEPOT])?)?;
     let basis = [BasisEntry::Column(0), BasisEntry::Column(1)];
     Ok(MixedRoot::Wide {
         columns,
@@ -71,15 +71,7 @@ fn narrow(alloc: Global) -> Result<MixedRoot, AllocError> {
 fn the_first_broken_rule_is_told_with_its_kind(rt: HostRuntime) {
     let alloc = rt.alloc();
     let kinds = short_kinds(alloc, &[TWO_CUSTOMERS, OTHER_TIMES]).expect(&rt, "two kinds");
-    let listed = |listed| Parts { listed, ..NEAREST };
-    let step = |kind, node| MixedVerdict::Step {
-        kind,
-        label: 0,
-        node,
-    };
-    let end = |kind| MixedVerdict::End { kind, label: 1 };
-    let start = |kind| MixedVerdict::Start { kind };
-    for (parts, verdict) in [
+    for (parts, verdict) in &[
         (NEAREST, MixedVerdict::Accepted),
         (
             Parts {
@@ -88,18 +80,60 @@ fn the_first_broken_rule_is_told_with_its_kind(rt: HostRuntime) {
             },
             MixedVerdict::Accepted,
         ),
-        (listed([0, 0]), start(0)),
-        (listed([5, 0]), start(1)),
-        (listed([1, 0]), step(0, 1)),
-        (listed([5, 1]), step(1, 1)),
-        (listed([5, 2]), step(1, 2)),
-        (ALONE, end(1)),
+        (
+            Parts {
+                listed: [0, 0],
+                ..NEAREST
+            },
+            MixedVerdict::Start { kind: 0 },
+        ),
+        (
+            Parts {
+                listed: [5, 0],
+                ..NEAREST
+            },
+            MixedVerdict::Start { kind: 1 },
+        ),
+        (
+            Parts {
+                listed: [1, 0],
+                ..NEAREST
+            },
+            MixedVerdict::Step {
+                kind: 0,
+                label: 0,
+                node: 1,
+            },
+        ),
+        (
+            Parts {
+                listed: [5, 1],
+                ..NEAREST
+            },
+            MixedVerdict::Step {
+                kind: 1,
+                label: 0,
+                node: 1,
+            },
+        ),
+        (
+            Parts {
+                listed: [5, 2],
+                ..NEAREST
+            },
+            MixedVerdict::Step {
+                kind: 1,
+                label: 0,
+                node: 2,
+            },
+        ),
+        (ALONE, MixedVerdict::End { kind: 1, label: 1 }),
         (
             Parts {
                 prices: [9, 8],
                 ..NEAREST
             },
-            end(0),
+            MixedVerdict::End { kind: 0, label: 1 },
         ),
         (
             Parts {
@@ -130,20 +164,27 @@ fn the_first_broken_rule_is_told_with_its_kind(rt: HostRuntime) {
             MixedVerdict::Root,
         ),
     ] {
-        let proof = proof_of(alloc, 2, &parts).expect(&rt, "memory");
-        assert_eq!(rt; judged(alloc, kinds.as_slice(), &proof), Some(verdict));
+        let proof = proof_of(alloc, 2, parts).expect(&rt, "memory");
+        assert_eq!(rt; judged(alloc, kinds.as_slice(), &proof), Some(*verdict));
     }
 }
 
 #[test]
 fn each_share_is_driven_by_its_kind(rt: HostRuntime) {
     let alloc = rt.alloc();
-    let halves = exact(alloc, 2, &[(1, 1, 1), (2, 0, 2), (1, 1, 1)]).expect(&rt, "memory");
-    assert_eq!(rt; judged_with(alloc, halves), Some(MixedVerdict::Accepted));
-    let mixed = exact(alloc, 2, &[(1, 1, 1), (2, 0, 2), (1, 0, 1)]).expect(&rt, "memory");
-    assert_eq!(rt; judged_with(alloc, mixed), Some(MixedVerdict::Root));
-    let one = exact(alloc, 1, &[(1, 1, 1)]).expect(&rt, "memory");
-    assert_eq!(rt; judged_with(alloc, one), Some(MixedVerdict::Root));
+    let cases: &[(u64, &[(u64, usize, usize)], MixedVerdict)] = &[
+        (
+            2,
+            &[(1, 1, 1), (2, 0, 2), (1, 1, 1)],
+            MixedVerdict::Accepted,
+        ),
+        (2, &[(1, 1, 1), (2, 0, 2), (1, 0, 1)], MixedVerdict::Root),
+        (1, &[(1, 1, 1)], MixedVerdict::Root),
+    ];
+    for &(over, routes, verdict) in cases {
+        let root = exact(alloc, over, routes).expect(&rt, "memory");
+        assert_eq!(rt; judged_with(alloc, root), Some(verdict));
+    }
 }
 
 #[test]
@@ -197,12 +238,8 @@ fn judged_alone(alloc: Global, inst: &Instance, parts: &Parts) -> Option<MixedVe
 fn a_proof_for_one_kind_is_judged_as_its_certificate(rt: HostRuntime) {
     let alloc = rt.alloc();
     let kinds = short_kinds(alloc, &[TWO_CUSTOMERS]).expect(&rt, "a kind");
-    let step = MixedVerdict::Step {
-        kind: 0,
-        label: 0,
-        node: 2,
-    };
-    for (parts, verdict) in [
+    let inst = kinds.as_slice().first().expect(&rt, "a kind");
+    for (parts, verdict) in &[
         (ALONE, MixedVerdict::Accepted),
         (
             Parts {
@@ -216,7 +253,11 @@ fn a_proof_for_one_kind_is_judged_as_its_certificate(rt: HostRuntime) {
                 listed: [2, 0],
                 ..ALONE
             },
-            step,
+            MixedVerdict::Step {
+                kind: 0,
+                label: 0,
+                node: 2,
+            },
         ),
         (
             Parts {
@@ -241,9 +282,8 @@ fn a_proof_for_one_kind_is_judged_as_its_certificate(rt: HostRuntime) {
             MixedVerdict::Root,
         ),
     ] {
-        let proof = proof_of(alloc, 1, &parts).expect(&rt, "memory");
-        assert_eq!(rt; judged(alloc, kinds.as_slice(), &proof), Some(verdict));
-        let inst = kinds.as_slice().first().expect(&rt, "a kind");
-        assert_eq!(rt; judged_alone(alloc, inst, &parts), Some(verdict));
+        let proof = proof_of(alloc, 1, parts).expect(&rt, "memory");
+        assert_eq!(rt; judged(alloc, kinds.as_slice(), &proof), Some(*verdict));
+        assert_eq!(rt; judged_alone(alloc, inst, parts), Some(*verdict));
     }
 }

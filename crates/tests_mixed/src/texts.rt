@@ -1,15 +1,16 @@
 //! The texts of plans of fleets of several kinds of vehicles.
 
-use crate::instances::{at, route_of, via};
+use crate::instances::{DEPOT, FIRST, route_of};
 use ev_model::Stop;
 use ev_text::TextFault;
-use mixed_plan::{PlanText, push_mixed_plan, read_mixed_plan};
-use std::alloc::AllocError;
+use mixed_plan::{MixedRoute, PlanText, push_mixed_plan, read_mixed_plan};
+use std::alloc::{AllocError, Global};
+use std::process::Abort;
 
 #[test]
 fn the_first_fault_of_a_plan_is_named(rt: HostRuntime) {
     let alloc = rt.alloc();
-    for (text, fault) in [
+    for &(text, fault) in &[
         ("evroute mixed plan 1", TextFault::End { at: 0 }),
         ("evroute mixed plan 1\nnon", TextFault::End { at: 21 }),
         ("evroute mixed plan 1\nnox", TextFault::Word { at: 21 }),
@@ -48,41 +49,44 @@ fn the_first_fault_of_a_plan_is_named(rt: HostRuntime) {
     }
 }
 
-#[test]
-fn plans_are_read_with_their_kinds(rt: HostRuntime) {
-    let alloc = rt.alloc();
-    let none = read_mixed_plan(alloc, 1, b"evroute mixed plan 1\nnone\n").expect(&rt, "a plan");
-    assert!(rt; none.is_none());
-    let text = b"evroute mixed plan 1\nroutes 2\nkind 1 route 0 1 0\nkind 0 route 0 v2+3 0\n";
-    let routes = read_mixed_plan(alloc, 2, text)
-        .expect(&rt, "a text")
-        .expect(&rt, "a plan");
-    assert_eq!(rt; routes.len(), 2);
-    assert_eq!(rt; (routes[0].kind, routes[1].kind), (1, 0));
-    let first = [at(0), at(1), at(0)];
-    let second = [at(0), via(2, 3), at(0)];
-    assert_eq!(rt; routes[0].plan.stops.as_slice(), first.as_slice());
-    assert_eq!(rt; routes[1].plan.stops.as_slice(), second.as_slice());
-}
+/// The stops of a route to node 1.
+const TO_FIRST: &[Stop] = &[DEPOT, FIRST, DEPOT];
 
-/// The stops of [`plans_are_written_behind_what_stands_there`].
-const STOPS: [Stop; 3] = [
-    Stop {
-        node: 0,
-        added: 0,
-        via: false,
-    },
+/// The stops of a route that charges at node 2.
+const CHARGED: &[Stop] = &[
+    DEPOT,
     Stop {
         node: 2,
         added: 3,
         via: true,
     },
-    Stop {
-        node: 0,
-        added: 0,
-        via: false,
-    },
+    DEPOT,
 ];
+
+/// The route is of this kind and has these stops, or the test fails.
+fn assert_route(rt: &impl Abort, route: &MixedRoute, kind: usize, stops: &[Stop]) {
+    assert_eq!(rt; route.kind, kind);
+    assert_eq!(rt; route.plan.stops.as_slice(), stops);
+}
+
+/// The text for one kind is one of no plan, or the test fails.
+fn assert_no_plan(rt: &impl Abort, alloc: Global, text: &[u8]) {
+    let none = read_mixed_plan(alloc, 1, text).expect(rt, "a text");
+    assert!(rt; none.is_none());
+}
+
+#[test]
+fn plans_are_read_with_their_kinds(rt: HostRuntime) {
+    let alloc = rt.alloc();
+    assert_no_plan(&rt, alloc, b"evroute mixed plan 1\nnone\n");
+    let text = b"evroute mixed plan 1\nroutes 2\nkind 1 route 0 1 0\nkind 0 route 0 v2+3 0\n";
+    let routes = read_mixed_plan(alloc, 2, text)
+        .expect(&rt, "a text")
+        .expect(&rt, "a plan");
+    assert_eq!(rt; routes.len(), 2);
+    assert_route(&rt, &routes[0], 1, TO_FIRST);
+    assert_route(&rt, &routes[1], 0, CHARGED);
+}
 
 #[test]
 fn plans_are_written_behind_what_stands_there(rt: HostRuntime) -> Result<(), AllocError> {
@@ -90,7 +94,7 @@ fn plans_are_written_behind_what_stands_there(rt: HostRuntime) -> Result<(), All
     let mut out = Vec::from_slice(alloc, b"is ")?;
     push_mixed_plan(alloc, &mut out, None)?;
     let mut routes = Vec::new(alloc);
-    routes.push(route_of(alloc, 1, STOPS.as_slice())?)?;
+    routes.push(route_of(alloc, 1, CHARGED)?)?;
     push_mixed_plan(alloc, &mut out, Some(routes.as_slice()))?;
     let wanted =
         b"is evroute mixed plan 1\nnone\nevroute mixed plan 1\nroutes 1\nkind 1 route 0 v2+3 0\n";

@@ -1,7 +1,7 @@
 //! Worked proofs for two kinds of vehicles and the same two customers, and certificates for one
 //! kind.
 
-use crate::instances::{at, route_of};
+use crate::instances::{DEPOT, at, route_of};
 use bound_certificate::{Certificate, Root, Section, Share, TreeLine};
 use customer_sets::{CustSet, Pairs};
 use ev_list::Listed;
@@ -29,8 +29,8 @@ pub(crate) fn proof_of(
     parts: &Parts,
 ) -> Result<MixedProof, AllocError> {
     let mut lists = Vec::new(alloc);
-    for ((first, second), listed) in WAYS.iter().zip(parts.listed.iter()).take(kinds) {
-        lists.push(labels(alloc, *first, *second, *listed)?)?;
+    for (ways, listed) in WAYS.iter().zip(parts.listed.iter()).take(kinds) {
+        lists.push(labels(alloc, *ways, *listed)?)?;
     }
     let [first, second] = parts.drivers;
     Ok(MixedProof {
@@ -50,7 +50,7 @@ pub(crate) fn exact(
 ) -> Result<MixedRoot, AllocError> {
     let mut shares = Vec::new(alloc);
     for (share, kind, node) in routes {
-        let route = route_of(alloc, *kind, &[at(0), at(*node), at(0)])?;
+        let route = route_of(alloc, *kind, &[DEPOT, at(*node), DEPOT])?;
         shares.push(MixedShare {
             share: *share,
             route,
@@ -64,18 +64,17 @@ pub(crate) fn exact(
 
 /// A certificate of one section, with the bound, the prices and the labels of the first kind.
 pub(crate) fn certificate_of(alloc: Global, parts: &Parts) -> Result<Certificate, AllocError> {
-    let (first, second) = WAYS[0];
     let section = Section {
         weight: 1,
         prices: Listed::from_vec(Vec::from_slice(alloc, &parts.prices)?),
         pairs: Pairs::new(2),
-        labels: labels(alloc, first, second, parts.listed[0])?,
+        labels: labels(alloc, WAYS[0], parts.listed[0])?,
     };
     let mut sections = Listed::new(alloc);
     sections.push(section)?;
     let mut shares = Vec::new(alloc);
-    for node in [1, 2] {
-        let plan = route_of(alloc, 0, &[at(0), at(node), at(0)])?.plan;
+    for &node in &[1, 2] {
+        let plan = route_of(alloc, 0, &[DEPOT, at(node), DEPOT])?.plan;
         shares.push(Share { share: 1, plan })?;
     }
     Ok(Certificate {
@@ -89,33 +88,36 @@ pub(crate) fn certificate_of(alloc: Global, parts: &Parts) -> Result<Certificate
     })
 }
 
-/// The first of all labels that a vehicle comes to which takes so long to the first customer and to
-/// the second, and 5 from one to the other.
-fn labels(
-    alloc: Global,
-    first: u64,
-    second: u64,
-    listed: usize,
-) -> Result<Listed<Label>, AllocError> {
-    let none = CustSet::empty();
-    let both = none.with(0).with(1);
-    let mut labels = Vec::new(alloc);
-    for (node, set, level, time) in [
-        (0, none, 10, 0),
-        (1, none.with(0), 9, first),
-        (2, none.with(1), 9, second),
-        (2, both, 8, first.saturating_add(5)),
-        (1, both, 8, second.saturating_add(5)),
-    ]
-    .iter()
-    .take(listed)
-    {
-        labels.push(Label {
-            last: *node,
-            node: *node,
-            set: *set,
-            value: PieceFn::point(alloc, *level, *time),
-        })?;
+/// To which customers the vehicle of each label has driven, in order.
+const DRIVEN: [&[usize]; 5] = [&[], &[1], &[2], &[1, 2], &[2, 1]];
+
+/// The first of all labels that a vehicle comes to which takes so long to each customer.
+fn labels(alloc: Global, ways: (u64, u64), listed: usize) -> Result<Listed<Label>, AllocError> {
+    let mut labels = Listed::new(alloc);
+    for driven in DRIVEN.iter().take(listed) {
+        labels.push(label_of(alloc, ways, driven))?;
     }
-    Ok(Listed::from_vec(labels))
+    Ok(labels)
+}
+
+/// The label of a vehicle that has driven to these customers: a unit of charge each, and 5 from one
+/// to the other.
+fn label_of(alloc: Global, ways: (u64, u64), driven: &[usize]) -> Label {
+    let (mut node, mut set, mut level, mut time) = (0usize, CustSet::empty(), 10u64, 0u64);
+    for customer in driven {
+        let (number, way) = match *customer {
+            1 => (0, ways.0),
+            _ => (1, ways.1),
+        };
+        time = time.saturating_add(if node == 0 { way } else { 5 });
+        level = level.saturating_sub(1);
+        set = set.with(number);
+        node = *customer;
+    }
+    Label {
+        last: node,
+        node,
+        set,
+        value: PieceFn::point(alloc, level, time),
+    }
 }
