@@ -157,8 +157,8 @@ fn judged(
 #[test]
 fn a_worked_list_is_closed_and_without_a_label_it_is_not(rt: HostRuntime) {
     let alloc = rt.alloc();
-    for (text, price, left_out, verdict) in [
-        (ONE_STATION, 43u64, 9usize, Ok(())),
+    for &(text, price, left_out, verdict) in &[
+        (ONE_STATION, 43, 9, Ok(())),
         (ONE_STATION, 44, 9, Err(ClosedFault::End { label: 4 })),
         (ONE_STATION, 46, 9, Err(ClosedFault::End { label: 3 })),
         (WITH_RESERVE, 46, 9, Ok(())),
@@ -195,8 +195,8 @@ fn a_worked_list_is_closed_and_without_a_label_it_is_not(rt: HostRuntime) {
 #[test]
 fn a_label_is_found_wherever_it_stands(rt: HostRuntime) {
     let alloc = rt.alloc();
-    for (left_out, verdict) in [
-        (9usize, Ok(())),
+    for &(left_out, verdict) in &[
+        (9, Ok(())),
         (4, Err(ClosedFault::Step { label: 4, node: 1 })),
     ] {
         assert_eq!(rt;

@@ -170,7 +170,7 @@ fn answers_on_worked_instances_are_those_of_an_enumeration_of_routes(rt: HostRun
     let alloc = rt.alloc();
     let mut draws = Draws::new(1);
     let mut counts = Counts { closed: 0, open: 0 };
-    for text in [
+    for &text in &[
         ONE_STATION,
         PLUG_TIME,
         LEAST_LEVELS,

@@ -64,10 +64,10 @@ fn told(inst: &Instance, answer: Priced) -> Option<Option<(u64, usize)>> {
 #[test]
 fn a_route_is_found_exactly_where_one_earns(rt: HostRuntime) {
     let alloc = rt.alloc();
-    for (text, each, pair, answer) in [
-        (ONE_STATION, 43u64, None, None),
-        (ONE_STATION, 44, None, Some((43u64, 1usize))),
-        (ONE_STATION, 100, Some((0usize, 1usize)), None),
+    for &(text, each, pair, answer) in &[
+        (ONE_STATION, 43, None, None),
+        (ONE_STATION, 44, None, Some((43, 1))),
+        (ONE_STATION, 100, Some((0, 1)), None),
         (RESERVE, 46, None, None),
         (RESERVE, 47, None, Some((46, 1))),
         (TWO_CUSTOMERS, 6, None, None),

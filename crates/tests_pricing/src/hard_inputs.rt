@@ -21,6 +21,12 @@ const ONE_PLACE: Family = Family {
     rest: "",
 };
 
+/// The scaled time of the route of [`FAR_CUSTOMER`].
+const FAR: u64 = 1_000_000_000_000_000_000;
+
+/// The price that the route is worth.
+const FAR_PRICE: i128 = 1_000_000_000_000_000_000;
+
 /// A customer whose route takes the whole limit: a scaled time of 10^18.
 const FAR_CUSTOMER: &str =
     r#"{"max_q":1000000000,"css":[{"node_id":2,"cs_type":"slow"}],"breakpoints_by_type":[{"cs_type":"slow","time":[0,1],"charge":[0,1000000000]}],"process_times":[],"energy_matrix":[[0,0,0],[0,0,0],[0,0,0]],"time_matrix":[[0,500000000,0],[500000000,0,500000000],[0,500000000,0]]}"#;
@@ -30,7 +36,7 @@ const STATIONS_ALONE: &str =
     r#"{"max_q":10,"css":[{"node_id":1,"cs_type":"fast"},{"node_id":2,"cs_type":"fast"}],"breakpoints_by_type":[{"cs_type":"fast","time":[0,4,10],"charge":[0,8,10]}],"process_times":[],"energy_matrix":[[0,1,1],[1,0,1],[1,1,0]],"time_matrix":[[0,1,1],[1,0,1],[1,1,0]]}"#;
 
 /// Which pairs of places are forbidden.
-#[derive(Clone, Copy, PartialEq, Eq)]
+#[derive(Clone, Copy)]
 enum Forbidden {
     None,
     /// Those of two customers.
@@ -103,11 +109,11 @@ fn told(
 fn customers_at_one_place_are_priced(rt: HostRuntime) {
     let alloc = rt.alloc();
     let inst = ONE_PLACE.drawn(&rt, alloc, &mut Draws::new(0));
-    for (weight, each, last, forbidden, answer) in [
-        (0u64, 0, 0, Forbidden::None, None),
+    for &(weight, each, last, forbidden, answer) in &[
+        (0, 0, 0, Forbidden::None, None),
         (1, -1, 0, Forbidden::None, None),
         (1 << 40, -MOST, -MOST, Forbidden::None, None),
-        (1 << 40, -MOST, MOST, Forbidden::None, Some((0u64, 1usize))),
+        (1 << 40, -MOST, MOST, Forbidden::None, Some((0, 1))),
         (0, -MOST, 1, Forbidden::None, Some((0, 1))),
         (1, MOST, MOST, Forbidden::Customers, Some((0, 1))),
         (1, 0, 1, Forbidden::Customers, Some((0, 1))),
@@ -131,14 +137,13 @@ fn customers_at_one_place_are_priced(rt: HostRuntime) {
 #[test]
 fn prices_and_weights_at_their_ends_are_weighed(rt: HostRuntime) {
     let alloc = rt.alloc();
-    let far = 1_000_000_000_000_000_000;
-    for (text, weight, each, last, answer) in [
-        (FAR_CUSTOMER, 1u64, 0, i128::from(far), None),
-        (FAR_CUSTOMER, 1, 0, i128::from(far) + 1, Some((far, 1usize))),
-        (FAR_CUSTOMER, 19342813, 0, MOST, Some((far, 1))),
+    for &(text, weight, each, last, answer) in &[
+        (FAR_CUSTOMER, 1, 0, FAR_PRICE, None),
+        (FAR_CUSTOMER, 1, 0, FAR_PRICE + 1, Some((FAR, 1))),
+        (FAR_CUSTOMER, 19342813, 0, MOST, Some((FAR, 1))),
         (FAR_CUSTOMER, 19342814, 0, MOST, None),
         (FAR_CUSTOMER, 1 << 40, 0, MOST, None),
-        (FAR_CUSTOMER, 0, 0, 1, Some((far, 1))),
+        (FAR_CUSTOMER, 0, 0, 1, Some((FAR, 1))),
         (FAR_CUSTOMER, 0, 0, 0, None),
         (TWO_CUSTOMERS, 0, -MOST, MOST, Some((8, 1))),
         (TWO_CUSTOMERS, 1 << 40, MOST, -MOST, Some((8, 1))),

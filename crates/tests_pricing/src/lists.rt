@@ -15,7 +15,7 @@ use std::alloc::{AllocError, Global};
 use std::process::Abort;
 
 /// What becomes of a label of a list.
-#[derive(Clone, Copy, PartialEq, Eq)]
+#[derive(Clone, Copy)]
 pub(crate) enum Change {
     Kept,
     LeftOut,
@@ -192,7 +192,7 @@ pub(crate) fn compare(
     draws: &mut Draws,
     counts: &mut Counts,
 ) -> Result<(), AllocError> {
-    for change in CHANGES {
+    for &change in &CHANGES {
         let at = draws.below(labels.len().max(1));
         let customer = draws.below(inst.customers().len().max(1).min(128));
         let list = changed_list(alloc, inst, labels, at, change, customer)?;
