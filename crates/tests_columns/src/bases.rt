@@ -14,11 +14,18 @@ fn lists(alloc: Global, basis: &[usize], entries: &[BasisEntry]) -> Option<bool>
 #[test]
 fn columns_are_counted_behind_the_helpers(rt: HostRuntime) {
     let alloc = rt.alloc();
-    let entries = [
-        BasisEntry::Column(0),
-        BasisEntry::Helper(1),
-        BasisEntry::Column(3),
+    let cases: &[(&[usize], &[BasisEntry])] = &[
+        (
+            &[2, 1, 5],
+            &[
+                BasisEntry::Column(0),
+                BasisEntry::Helper(1),
+                BasisEntry::Column(3),
+            ],
+        ),
+        (&[], &[]),
     ];
-    assert_eq!(rt; lists(alloc, &[2, 1, 5], &entries), Some(true));
-    assert_eq!(rt; lists(alloc, &[], &[]), Some(true));
+    for &(basis, entries) in cases {
+        assert_eq!(rt; lists(alloc, basis, entries), Some(true));
+    }
 }

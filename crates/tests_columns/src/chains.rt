@@ -67,18 +67,30 @@ fn bound(
 #[test]
 fn the_bound_of_chains_is_the_cost_of_their_plans(rt: HostRuntime) {
     let alloc = rt.alloc();
-    let one: Places = &[(1, 2), (2, 3)];
-    let two: Places = &[(2, 1), (2, 3), (3, 1)];
-    assert_eq!(rt;
-        bound(alloc, THREE_CUSTOMERS, 14, one, &[(3, 1)]),
-        Some((1, 14, 1))
-    );
-    assert_eq!(rt;
-        bound(alloc, THREE_CUSTOMERS, 14, &[(1, 2)], two),
-        Some((1, 19, 2))
-    );
-    assert_eq!(rt; bound(alloc, NO_STATION, 8, &[], &[]), Some((1, 8, 1)));
-    assert_eq!(rt; bound(alloc, DEPOT_ALONE, 8, &[], &[]), Some((1, 0, 0)));
+    let cases: &[(&str, u64, Places, Places, (u64, i128, usize))] = &[
+        (
+            THREE_CUSTOMERS,
+            14,
+            &[(1, 2), (2, 3)],
+            &[(3, 1)],
+            (1, 14, 1),
+        ),
+        (
+            THREE_CUSTOMERS,
+            14,
+            &[(1, 2)],
+            &[(2, 1), (2, 3), (3, 1)],
+            (1, 19, 2),
+        ),
+        (NO_STATION, 8, &[], &[], (1, 8, 1)),
+        (DEPOT_ALONE, 8, &[], &[], (1, 0, 0)),
+    ];
+    for &(text, limit, required, forbidden, answer) in cases {
+        assert_eq!(rt;
+            bound(alloc, text, limit, required, forbidden),
+            Some(answer)
+        );
+    }
 }
 
 #[test]

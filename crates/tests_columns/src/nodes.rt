@@ -79,8 +79,8 @@ pub(crate) fn bounded(alloc: Global, text: &str, limit: u64) -> Option<Told> {
 #[test]
 fn bounds_without_pairs_are_linear_optima(rt: HostRuntime) {
     let alloc = rt.alloc();
-    for (text, limit, answer) in [
-        (THREE_CUSTOMERS, 11u64, Told::Exact(33, 2, 2, 3)),
+    for &(text, limit, answer) in &[
+        (THREE_CUSTOMERS, 11, Told::Exact(33, 2, 2, 3)),
         (TWO_CUSTOMERS, 7, Told::Empty),
         (TWO_CUSTOMERS, 12, Told::Exact(16, 1, 1, 2)),
         (TWO_CUSTOMERS, 13, Told::Exact(13, 1, 1, 1)),
@@ -118,18 +118,14 @@ fn estimated(
 #[test]
 fn estimates_are_optima_over_the_routes_of_the_pool(rt: HostRuntime) {
     let alloc = rt.alloc();
-    for (text, limit, forbidden, answer) in [
-        (THREE_CUSTOMERS, 11u64, [].as_slice(), Some(17u128)),
-        (
-            THREE_CUSTOMERS,
-            11,
-            [(1usize, 2usize), (2, 1)].as_slice(),
-            Some(19),
-        ),
-        (TWO_CUSTOMERS, 13, [].as_slice(), Some(13)),
-        (TWO_CUSTOMERS, 13, [(1, 2), (2, 1)].as_slice(), Some(16)),
-        (TWO_CUSTOMERS, 7, [].as_slice(), None),
-    ] {
+    let cases: &[(&str, u64, &[(usize, usize)], Option<u128>)] = &[
+        (THREE_CUSTOMERS, 11, &[], Some(17)),
+        (THREE_CUSTOMERS, 11, &[(1, 2), (2, 1)], Some(19)),
+        (TWO_CUSTOMERS, 13, &[], Some(13)),
+        (TWO_CUSTOMERS, 13, &[(1, 2), (2, 1)], Some(16)),
+        (TWO_CUSTOMERS, 7, &[], None),
+    ];
+    for &(text, limit, forbidden, answer) in cases {
         assert_eq!(rt; estimated(alloc, text, limit, forbidden), Some(answer));
     }
 }

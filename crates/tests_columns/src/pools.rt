@@ -38,12 +38,13 @@ fn keeps(alloc: Global, forbidden: &[(usize, usize)], places: &[usize]) -> Optio
 #[test]
 fn own_routes_keep_the_pairs_without_the_depot(rt: HostRuntime) {
     let alloc = rt.alloc();
-    for (forbidden, places) in [
-        ([].as_slice(), [0usize, 1, 2].as_slice()),
-        ([(1usize, 2usize)].as_slice(), [0, 1, 2].as_slice()),
-        ([(0, 2)].as_slice(), [0, 2].as_slice()),
-        ([(3, 0)].as_slice(), [0, 1].as_slice()),
-    ] {
+    let cases: &[(&[(usize, usize)], &[usize])] = &[
+        (&[], &[0, 1, 2]),
+        (&[(1, 2)], &[0, 1, 2]),
+        (&[(0, 2)], &[0, 2]),
+        (&[(3, 0)], &[0, 1]),
+    ];
+    for &(forbidden, places) in cases {
         assert_eq!(rt; keeps(alloc, forbidden, places), Some(true));
     }
 }
@@ -60,13 +61,14 @@ fn earns(alloc: Global, weight: u64, prices: &[i128], places: &[usize]) -> Optio
 #[test]
 fn routes_that_earn_most_come_last(rt: HostRuntime) {
     let alloc = rt.alloc();
-    for (weight, prices, places) in [
-        (1u64, [8i128, 8, 8].as_slice(), [].as_slice()),
-        (1, [8, 9, 8].as_slice(), [1usize].as_slice()),
-        (2, [30, 16, 20].as_slice(), [2, 0].as_slice()),
-        (0, [2, 3, 1].as_slice(), [2, 0, 1].as_slice()),
-        (1, [i128::MAX, 9, -1].as_slice(), [1, 0].as_slice()),
-    ] {
+    let cases: &[(u64, &[i128], &[usize])] = &[
+        (1, &[8, 8, 8], &[]),
+        (1, &[8, 9, 8], &[1]),
+        (2, &[30, 16, 20], &[2, 0]),
+        (0, &[2, 3, 1], &[2, 0, 1]),
+        (1, &[i128::MAX, 9, -1], &[1, 0]),
+    ];
+    for &(weight, prices, places) in cases {
         assert_eq!(rt; earns(alloc, weight, prices, places), Some(true));
     }
 }
