@@ -4,6 +4,7 @@ use crate::told::{Told, judged};
 use drawn_fleets::{instance_text, least_cost};
 use instance_reader::{Instance, read_instance};
 use std::alloc::Global;
+use std::process::Abort;
 
 /// How many instances are drawn.
 const INSTANCES: u64 = 40;
@@ -53,6 +54,22 @@ fn is_at_most(cost: Option<u128>, other: Option<u128>) -> bool {
     }
 }
 
+/// The answers are what the enumeration says of the instance of this number, or the test fails.
+fn assert_right(rt: &impl Abort, told: &Compared, number: u64) {
+    let least = told.least;
+    assert_eq!(rt; told.whole.cost, least, "of instance {number}");
+    assert_eq!(rt; told.whole.bound, least, "bound of instance {number}");
+    assert!(rt; !told.whole.stopped, "of instance {number}");
+    assert!(rt;
+        is_at_most(told.first.bound, least),
+        "bound of instance {number}"
+    );
+    assert!(rt;
+        is_at_most(least, told.first.cost),
+        "plan of instance {number}"
+    );
+}
+
 #[test]
 fn a_search_finds_the_least_cost_of_an_enumeration(rt: HostRuntime) {
     let mut without_plan = 0u64;
@@ -60,19 +77,8 @@ fn a_search_finds_the_least_cost_of_an_enumeration(rt: HostRuntime) {
     let mut limited = 0u64;
     for number in 0..INSTANCES {
         let told = compare(rt.alloc(), number).expect(&rt, "memory, or a refused certificate");
-        let least = told.least;
-        assert_eq!(rt; told.whole.cost, least, "of instance {number}");
-        assert_eq!(rt; told.whole.bound, least, "bound of instance {number}");
-        assert!(rt; !told.whole.stopped, "of instance {number}");
-        assert!(rt;
-            is_at_most(told.first.bound, least),
-            "bound of instance {number}"
-        );
-        assert!(rt;
-            is_at_most(least, told.first.cost),
-            "plan of instance {number}"
-        );
-        without_plan = without_plan.saturating_add(u64::from(least.is_none()));
+        assert_right(&rt, &told, number);
+        without_plan = without_plan.saturating_add(u64::from(told.least.is_none()));
         stopped = stopped.saturating_add(u64::from(told.first.stopped));
         limited = limited.saturating_add(u64::from(told.is_limited));
     }

@@ -10,7 +10,7 @@ use plan_check::check_fleet;
 use std::alloc::Global;
 
 /// What a search answers.
-#[derive(Clone, Copy, Debug, PartialEq, Eq)]
+#[derive(Clone, Copy)]
 pub(crate) struct Told {
     /// The cost of the plan that is held.
     pub(crate) cost: Option<u128>,

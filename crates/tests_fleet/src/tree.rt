@@ -5,6 +5,7 @@ ghost use Rattle.branching.specs.Nodes.{HasNode, IsLive, IsTaken};
 use bound_certificate::TreeLine;
 use branching::Tree;
 use customer_sets::Pairs;
+use std::alloc::Global;
 use std::process::Abort;
 
 /// Takes the next node, which has to be this one, with this section and bound.
@@ -55,6 +56,21 @@ fn close_next(
     tree.close(key, to);
 }
 
+/// These are the lines of the tree, or the test fails.
+fn assert_lines(rt: &impl Abort, alloc: Global, tree: &Tree, wanted: &[TreeLine]) {
+    let lines = tree.lines(alloc).expect(rt, "memory");
+    assert_eq!(rt; lines.as_slice(), wanted);
+}
+
+/// On none of these places the node can be split, or the test fails.
+fn assert_no_split(rt: &impl Abort, tree: &Tree, key: usize, places: &[(usize, usize)])
+    requires live { HasNode tree.now.nodes key IsLive }
+{
+    for (i, j) in places {
+        assert!(rt; !tree.can_split(key, *i, *j));
+    }
+}
+
 #[test]
 fn children_have_the_bound_and_the_section_of_their_split(rt: HostRuntime) {
     let alloc = rt.alloc();
@@ -63,16 +79,35 @@ fn children_have_the_bound_and_the_section_of_their_split(rt: HostRuntime) {
     let keys = split(&rt, &mut tree, 0, 1, 2, 0, 5);
     assert_eq!(rt; keys, (0, 1));
     assert_eq!(rt; tree.least_bound(), Some(5));
-    let lines = tree.lines(alloc).expect(&rt, "memory");
-    assert_eq!(rt;
-        lines.as_slice(),
-        [
+    assert_lines(
+        &rt,
+        alloc,
+        &tree,
+        &[
             TreeLine::Split { i: 1, j: 2 },
             TreeLine::Leaf { section: 0 },
             TreeLine::Leaf { section: 0 },
-        ]
-        .as_slice()
+        ],
     );
+}
+
+/// Splits the root, which has to be the next node, on the places 1 and 2.
+fn split_root(rt: &impl Abort, tree: &mut Tree) {
+    take_next(rt, tree, 0, 0, 0);
+    assert_no_split(rt, tree, 0, &[(0, 1), (2, 2), (4, 1)]);
+    assert!(rt; allows(rt, tree.pairs(0), 1, 0));
+    let keys = split(rt, tree, 0, 1, 2, 5, 40);
+    assert_eq!(rt; keys, (0, 1));
+}
+
+/// Splits its second child, which has to be the next node, on the places 2 and 3.
+fn split_child(rt: &impl Abort, tree: &mut Tree) {
+    take_next(rt, tree, 1, 5, 40);
+    assert_no_split(rt, tree, 1, &[(1, 2)]);
+    assert!(rt; allows(rt, tree.pairs(1), 1, 2));
+    assert!(rt; !allows(rt, tree.pairs(1), 1, 0));
+    let keys = split(rt, tree, 1, 2, 3, 5, 50);
+    assert_eq!(rt; keys, (1, 2));
 }
 
 #[test]
@@ -80,33 +115,22 @@ fn a_small_tree_is_searched_by_bounds(rt: HostRuntime) {
     let alloc = rt.alloc();
     let mut tree = Tree::new(alloc, 3).expect(&rt, "memory");
     assert_eq!(rt; tree.least_bound(), Some(0));
-    take_next(&rt, &mut tree, 0, 0, 0);
-    assert!(rt; !tree.can_split(0, 0, 1));
-    assert!(rt; !tree.can_split(0, 2, 2));
-    assert!(rt; !tree.can_split(0, 4, 1));
-    assert!(rt; allows(&rt, tree.pairs(0), 1, 0));
-    let keys = split(&rt, &mut tree, 0, 1, 2, 5, 40);
-    assert_eq!(rt; keys, (0, 1));
+    split_root(&rt, &mut tree);
     // of equal bounds the least key
     close_next(&rt, &mut tree, 0, 5, 40, 8);
-    take_next(&rt, &mut tree, 1, 5, 40);
-    assert!(rt; !tree.can_split(1, 1, 2));
-    assert!(rt; allows(&rt, tree.pairs(1), 1, 2));
-    assert!(rt; !allows(&rt, tree.pairs(1), 1, 0));
-    let keys = split(&rt, &mut tree, 1, 2, 3, 5, 50);
-    assert_eq!(rt; keys, (1, 2));
+    split_child(&rt, &mut tree);
     close_next(&rt, &mut tree, 1, 5, 50, 9);
-    let lines = tree.lines(alloc).expect(&rt, "memory");
-    assert_eq!(rt;
-        lines.as_slice(),
-        [
+    assert_lines(
+        &rt,
+        alloc,
+        &tree,
+        &[
             TreeLine::Split { i: 1, j: 2 },
             TreeLine::Leaf { section: 8 },
             TreeLine::Split { i: 2, j: 3 },
             TreeLine::Leaf { section: 9 },
             TreeLine::Leaf { section: 5 },
-        ]
-        .as_slice()
+        ],
     );
     close_next(&rt, &mut tree, 2, 5, 50, 10);
     assert_eq!(rt; tree.least_bound(), None);

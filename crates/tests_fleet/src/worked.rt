@@ -21,8 +21,8 @@ fn planned(
 #[test]
 fn plans_cost_what_the_bounds_say(rt: HostRuntime) {
     let alloc = rt.alloc();
-    for (text, limit, answer) in [
-        (DEPOT_ALONE, 10u64, (Some(0u128), Some(0u128), false)),
+    for &(text, limit, answer) in &[
+        (DEPOT_ALONE, 10, (Some(0), Some(0), false)),
         (ONE_STATION, 43, (Some(43), Some(43), false)),
         (TWO_CUSTOMERS, 13, (Some(13), Some(13), false)),
         (TWO_CUSTOMERS, 12, (Some(16), Some(16), false)),
