@@ -148,7 +148,7 @@ fn prices_are_the_greatest_that_near_routes_allow(rt: HostRuntime) {
     for number in 0..SMALL_INSTANCES {
         let inst = drawn(alloc, number, number % 4 + 1).expect(&rt, "an instance");
         let orders = all_orders(alloc, &inst, false).expect(&rt, "orders");
-        for near in [0, 1, 2, 1_000_000_000] {
+        for &near in &[0, 1, 2, 1_000_000_000] {
             let is_greatest = is_greatest(alloc, &inst, orders.as_slice(), near);
             assert_eq!(rt; is_greatest, Some(true), "instance {number}, near {near}");
         }

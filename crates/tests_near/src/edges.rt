@@ -25,7 +25,7 @@ fn first_price(alloc: Global, text: &str, near: usize) -> Option<(Option<u128>, 
 #[test]
 fn no_customer_costs_nothing(rt: HostRuntime) {
     let alloc = rt.alloc();
-    for near in [0, 1, 1_000_000_000] {
+    for &near in &[0, 1, 1_000_000_000] {
         let told = judged_text(alloc, DEPOT_ALONE, near).expect(&rt, "a proof");
         assert_eq!(rt; told.bound, Some(0), "near {near}");
         assert!(rt; told.prices.is_empty(), "near {near}");
@@ -35,7 +35,7 @@ fn no_customer_costs_nothing(rt: HostRuntime) {
 #[test]
 fn one_customer_costs_its_own_route(rt: HostRuntime) {
     let alloc = rt.alloc();
-    for near in [0, 1, 1_000_000_000] {
+    for &near in &[0, 1, 1_000_000_000] {
         let told = first_price(alloc, NO_STATION, near);
         assert_eq!(rt; told, Some((Some(8), Some(8))), "near {near}");
     }
@@ -53,7 +53,7 @@ fn nobody_is_served_where_the_limit_is_0(rt: HostRuntime) {
 #[test]
 fn a_customer_without_a_near_route_leaves_no_bound(rt: HostRuntime) {
     let alloc = rt.alloc();
-    for near in [0, 1] {
+    for &near in &[0, 1] {
         let told = judged_text(alloc, OUT_OF_REACH, near).expect(&rt, "a proof");
         assert_eq!(rt; told.bound, None, "near {near}");
     }

@@ -183,7 +183,7 @@ fn the_judge_finds_what_a_look_at_each_level_finds(rt: HostRuntime) {
     let alloc = rt.alloc();
     let mut words = Pcg32::new(4, 1);
     let mut counts = Counts::none();
-    for (text, limit, near) in [
+    for &(text, limit, near) in &[
         (ONE_STATION, None, 0),
         (ONE_STATION, Some(22), 0),
         (LEAST_LEVELS, None, 0),

@@ -8,7 +8,7 @@ use ng_pricing::{NearProof, NearVerdict, check_near, near_bound, push_near, read
 use std::alloc::Global;
 
 /// What a bound says.
-#[derive(Debug, Drop, PartialEq)]
+#[derive(Drop)]
 pub(crate) struct Told {
     /// The bound, scaled.
     pub(crate) bound: Option<u128>,
