@@ -1,9 +1,10 @@
 //! The commands of the program, as the usage text has them.
 
-/// A command: the names behind it, in order, how many more there may be like the last, and its
-/// options.
+/// A command: its word, the names behind it in order, how many more there may be like the last, and
+/// its options.
 #[derive(Clone, Copy)]
 pub(crate) struct Command {
+    pub(crate) word: &'static str,
     pub(crate) names: &'static [&'static str],
     pub(crate) more: usize,
     pub(crate) options: &'static [NumberOption],
@@ -53,61 +54,85 @@ const NEAR: NumberOption = NumberOption {
     is_required: true,
 };
 
+/// The commands.
+const COMMANDS: &[Command] = &[
+    Command {
+        word: "fixed",
+        names: &["FILE", "ROUTE"],
+        more: 0,
+        options: &[LIMIT, CHARGE],
+    },
+    Command {
+        word: "fleet",
+        names: &["FILE", "PLAN", "CERT"],
+        more: 0,
+        options: &[LIMIT, NODES],
+    },
+    Command {
+        word: "check",
+        names: &["FILE", "PLAN", "CERT"],
+        more: 0,
+        options: &[LIMIT],
+    },
+    Command {
+        word: "convert",
+        names: &["FILE", "OUTFILE"],
+        more: 0,
+        options: &[TIME_DIGITS, ENERGY_DIGITS],
+    },
+    Command {
+        word: "make",
+        names: &["SEED", "CUSTOMERS", "STATIONS", "OUTFILE"],
+        more: 0,
+        options: &[],
+    },
+    Command {
+        word: "bound",
+        names: &["FILE", "CERT"],
+        more: 0,
+        options: &[NEAR, LIMIT],
+    },
+    Command {
+        word: "check-bound",
+        names: &["FILE", "CERT"],
+        more: 0,
+        options: &[LIMIT],
+    },
+    Command {
+        word: "prove",
+        names: &["FILE", "ROUTE", "CERT"],
+        more: 0,
+        options: &[LIMIT, CHARGE],
+    },
+    Command {
+        word: "check-route",
+        names: &["FILE", "ROUTE", "CERT"],
+        more: 0,
+        options: &[LIMIT, CHARGE],
+    },
+    Command {
+        word: "improve",
+        names: &["FILE", "PLAN", "OUTFILE"],
+        more: 0,
+        options: &[LIMIT],
+    },
+    Command {
+        word: "mixed",
+        names: &["PLAN", "CERT", "FILE"],
+        more: 7,
+        options: &[LIMIT],
+    },
+    Command {
+        word: "check-mixed",
+        names: &["PLAN", "CERT", "FILE"],
+        more: 7,
+        options: &[LIMIT],
+    },
+];
+
 /// The command of a word.
 pub(crate) fn command_of(word: &str) -> Option<Command> {
-    match word {
-        "fixed" => Some(Command {
-            names: &["FILE", "ROUTE"],
-            more: 0,
-            options: &[LIMIT, CHARGE],
-        }),
-        "fleet" => Some(Command {
-            names: &["FILE", "PLAN", "CERT"],
-            more: 0,
-            options: &[LIMIT, NODES],
-        }),
-        "check" => Some(Command {
-            names: &["FILE", "PLAN", "CERT"],
-            more: 0,
-            options: &[LIMIT],
-        }),
-        "convert" => Some(Command {
-            names: &["FILE", "OUTFILE"],
-            more: 0,
-            options: &[TIME_DIGITS, ENERGY_DIGITS],
-        }),
-        "make" => Some(Command {
-            names: &["SEED", "CUSTOMERS", "STATIONS", "OUTFILE"],
-            more: 0,
-            options: &[],
-        }),
-        "bound" => Some(Command {
-            names: &["FILE", "CERT"],
-            more: 0,
-            options: &[NEAR, LIMIT],
-        }),
-        "check-bound" => Some(Command {
-            names: &["FILE", "CERT"],
-            more: 0,
-            options: &[LIMIT],
-        }),
-        "prove" | "check-route" => Some(Command {
-            names: &["FILE", "ROUTE", "CERT"],
-            more: 0,
-            options: &[LIMIT, CHARGE],
-        }),
-        "improve" => Some(Command {
-            names: &["FILE", "PLAN", "OUTFILE"],
-            more: 0,
-            options: &[LIMIT],
-        }),
-        "mixed" | "check-mixed" => Some(Command {
-            names: &["PLAN", "CERT", "FILE"],
-            more: 7,
-            options: &[LIMIT],
-        }),
-        _ => None,
-    }
+    COMMANDS.iter().copied().find(|it| it.word == word)
 }
 
 /// The greatest number that a name stands for; `None` where it is no number.

@@ -1,6 +1,6 @@
 //! What stands in the files of a job that failed.
 
-use crate::names::names_of;
+use crate::names::{names_of, written_of};
 use std::alloc::{AllocError, Global};
 
 /// What failed last.
@@ -21,24 +21,21 @@ pub fn left_behind(
     failed: Failed<'_>,
 ) -> Result<Option<String>, AllocError> {
     let names = names_of(alloc, words)?;
-    let names = names.as_slice();
-    let files = match names {
-        ["fleet", _, files @ ..] => files,
-        ["mixed", _, _, ..] => &names[1..3],
-        ["improve", _, _, files @ ..] => files,
-        ["prove", _, _, files @ ..] => files,
-        ["bound", _, files @ ..] => files,
-        ["convert", _, files @ ..] => files,
-        ["make", _, _, _, files @ ..] => files,
-        _ => return Ok(None),
+    let Some(files) = written_of(names.as_slice()) else {
+        return Ok(None);
     };
+    match place_of(files, failed) {
+        Some(at) => told_of(alloc, files, at),
+        None => Ok(None),
+    }
+}
+
+/// At which of these files it failed; behind all of them where it was the output.
+fn place_of(files: &[&str], failed: Failed<'_>) -> Option<usize> {
     match failed {
-        Failed::Output(line) if is_behind_files(line) => told_of(alloc, files, files.len()),
-        Failed::Output(_) => Ok(None),
-        Failed::File(name) => match files.iter().position(|file| *file == name) {
-            Some(at) => told_of(alloc, files, at),
-            None => Ok(None),
-        },
+        Failed::Output(line) if is_behind_files(line) => Some(files.len()),
+        Failed::Output(_) => None,
+        Failed::File(name) => files.iter().position(|file| *file == name),
     }
 }
 

@@ -1,6 +1,6 @@
 //! A certificate or a proof that was written and that its judge can't read.
 
-use crate::names::names_of;
+use crate::names::{names_of, search_files};
 use std::alloc::{AllocError, Global};
 use std::fs::metadata;
 use std::rt::Files;
@@ -18,18 +18,32 @@ pub fn long_certificate<R: Files>(
     words: &[String],
 ) -> Result<Option<String>, AllocError> {
     let names = names_of(alloc, words)?;
-    let (cert, judge) = match names.as_slice() {
-        ["fleet", _, _, cert] => (cert, "check"),
-        ["prove", _, _, cert] => (cert, "check-route"),
-        ["bound", _, cert] => (cert, "check-bound"),
-        ["mixed", _, cert, ..] => (cert, "check-mixed"),
-        _ => return Ok(None),
+    let Some((cert, judge)) = judged(names.as_slice()) else {
+        return Ok(None);
     };
-    match metadata(files, *cert) {
+    match metadata(files, cert) {
         Ok(found) if found.is_file() && found.len() > MOST => Ok(Some(format!(in alloc;
             "{cert}: {} bytes long, and evroute {judge} reads at most {MOST}",
             found.len()
         )?)),
         _ => Ok(None),
+    }
+}
+
+/// The certificate, or the proof, that a job wrote, and the command that judges it.
+fn judged<'a>(names: &[&'a str]) -> Option<(&'a str, &'static str)> {
+    let judge = judge_of(names.first()?)?;
+    let cert = search_files(names)?.last()?;
+    Some((cert, judge))
+}
+
+/// The command that judges what a command found.
+fn judge_of(command: &str) -> Option<&'static str> {
+    match command {
+        "fleet" => Some("check"),
+        "prove" => Some("check-route"),
+        "bound" => Some("check-bound"),
+        "mixed" => Some("check-mixed"),
+        _ => None,
     }
 }

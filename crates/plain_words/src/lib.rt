@@ -16,6 +16,7 @@ mod progress;
 mod reach;
 mod refused;
 mod rejected;
+mod sentences;
 mod taken;
 mod told;
 mod writing;
@@ -25,7 +26,6 @@ pub use heard::HeardSink;
 pub use json::broken_json;
 pub use left::{Failed, left_behind};
 pub use length::long_certificate;
-use names::{name_at, names_of};
 pub use reach::out_of_reach;
 use std::alloc::{AllocError, Global};
 pub use taken::{OutOfMemory, PlainDiagnostics, most_memory};
@@ -37,16 +37,8 @@ pub use writing::unwritable;
 /// words is wrong. `None` for any other line, and where no word is wrong. `words` stand behind the
 /// program's name.
 pub fn in_words(alloc: Global, words: &[String], line: &str) -> Result<Option<String>, AllocError> {
-    let parts = line.split(' ').collect::<Vec<&str>>(alloc)?;
-    let names = names_of(alloc, words)?;
-    match parts.as_slice() {
-        ["refused", cause @ ..] => refused::in_words(alloc, names.as_slice(), cause),
-        ["rejected", rule @ ..] => rejected::in_words(alloc, names.as_slice(), rule),
-        ["alone", node] => Ok(Some(format!(in alloc;
-            "{}: no route of its own serves customer {node} within the limit",
-            name_at(names.as_slice(), 1)
-        )?)),
-        ["evroute", ..] => wrong_words::in_words(alloc, words),
-        _ => Ok(None),
+    if line.split(' ').next() == Some("evroute") {
+        return wrong_words::in_words(alloc, words);
     }
+    sentences::in_words(alloc, words, line)
 }

@@ -54,6 +54,48 @@ pub(crate) fn plan_of<'a>(names: &[&'a str]) -> &'a str {
     }
 }
 
+/// The name of the certificate, or the proof, of a job that reads one.
+pub(crate) fn certificate_of<'a>(names: &[&'a str]) -> &'a str {
+    match names.first() {
+        Some(command) if matches!(*command, "check-bound" | "check-mixed") => name_at(names, 2),
+        _ => name_at(names, 3),
+    }
+}
+
+/// The file of the kind with a number, which is counted from 0.
+pub(crate) fn kind_file<'a>(names: &[&'a str], kind: &str) -> &'a str {
+    match kind.parse::<usize>() {
+        Ok(kind) => name_at(instances_of(names), kind),
+        Err(_) => "the file",
+    }
+}
+
+/// The files that a job writes, in order.
+pub(crate) fn written_of<'a, 'b>(names: &'b [&'a str]) -> Option<&'b [&'a str]> {
+    match names.first().copied()? {
+        "mixed" => names.get(1..3),
+        "fleet" | "bound" | "convert" => names.get(2..),
+        "improve" | "prove" => names.get(3..),
+        "make" => names.get(4..),
+        _ => None,
+    }
+}
+
+/// Those that a job writes behind a search; `None` where it has too few names or too many.
+pub(crate) fn search_files<'a, 'b>(names: &'b [&'a str]) -> Option<&'b [&'a str]> {
+    let count = match names.first().copied()? {
+        "fleet" | "improve" | "prove" => 4,
+        "bound" => 3,
+        "mixed" => names.len(),
+        _ => return None,
+    };
+    if names.len() == count {
+        written_of(names)
+    } else {
+        None
+    }
+}
+
 /// One of these files, in words.
 pub(crate) fn one_of(alloc: Global, files: &[&str]) -> Result<String, AllocError> {
     let mut told = String::new(alloc);

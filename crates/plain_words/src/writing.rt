@@ -1,6 +1,6 @@
 //! Files that can't be written, seen before a long search.
 
-use crate::names::names_of;
+use crate::names::{names_of, search_files};
 use std::alloc::{AllocError, Global};
 use std::fs::metadata;
 use std::io::ErrorKind;
@@ -16,16 +16,15 @@ pub fn unwritable<R: Files>(
     words: &[String],
 ) -> Result<Option<String>, AllocError> {
     let names = names_of(alloc, words)?;
-    match names.as_slice() {
-        ["fleet", _, plan, cert] | ["mixed", plan, cert, ..] => match told_of(alloc, files, plan)? {
-            Some(told) => Ok(Some(told)),
-            None => told_of(alloc, files, cert),
-        },
-        ["improve", _, _, outfile] => told_of(alloc, files, outfile),
-        ["prove", _, _, cert] => told_of(alloc, files, cert),
-        ["bound", _, cert] => told_of(alloc, files, cert),
-        _ => Ok(None),
+    let Some(written) = search_files(names.as_slice()) else {
+        return Ok(None);
+    };
+    for file in written {
+        if let Some(told) = told_of(alloc, files, file)? {
+            return Ok(Some(told));
+        }
     }
+    Ok(None)
 }
 
 /// What is said of a file that can't be written.

@@ -31,6 +31,13 @@ fn asks_for_usage(words: &[String]) -> bool {
             .any(|word| matches!(word.as_str(), "-h" | "--help" | "help"))
 }
 
+/// An option among the words, and its value, where any word follows it.
+#[derive(Clone, Copy)]
+struct GivenOption<'a> {
+    word: &'a str,
+    value: Option<&'a str>,
+}
+
 /// What is wrong with the options, from the left; last, which one is missing.
 fn wrong_options(
     alloc: Global,
@@ -38,42 +45,57 @@ fn wrong_options(
     command: &Command,
     words: &[String],
 ) -> Result<Option<String>, AllocError> {
-    let mut given: Vec<&str> = Vec::new(alloc);
+    let given = given_options(alloc, words)?;
+    let given = given.as_slice();
+    for (at, option) in given.iter().enumerate() {
+        if let Some(wrong) = wrong_option(alloc, name, command, *option)? {
+            return Ok(Some(wrong));
+        }
+        if is_given(&given[..at], option.word) {
+            return Ok(Some(format!(in alloc; "{} is given twice", option.word)?));
+        }
+    }
+    missing_option(alloc, name, command, given)
+}
+
+/// The options among the words, in order.
+fn given_options<'a>(
+    alloc: Global,
+    words: &'a [String],
+) -> Result<Vec<GivenOption<'a>>, AllocError> {
+    let mut given = Vec::new(alloc);
     let mut is_value = false;
     for (at, word) in words.iter().enumerate() {
         let word = word.as_str();
         if is_value {
             is_value = false;
-            continue;
-        }
-        if word == "--" {
+        } else if word == "--" {
             break;
+        } else if is_option(word) {
+            is_value = !word.contains('=');
+            given.push(option_at(words, at, word))?;
         }
-        if !is_option(word) {
-            continue;
-        }
-        is_value = !word.contains('=');
-        let (option, value) = option_at(words, at, word);
-        if let Some(wrong) = wrong_option(alloc, name, command, option, value)? {
-            return Ok(Some(wrong));
-        }
-        if given.contains(&option) {
-            return Ok(Some(format!(in alloc; "{option} is given twice")?));
-        }
-        given.push(option)?;
     }
-    missing_option(alloc, name, command, given.as_slice())
+    Ok(given)
 }
 
 /// The option of the word at a place, and its value, which follows a `=` or is the next word.
-fn option_at<'a>(words: &'a [String], at: usize, word: &'a str) -> (&'a str, Option<&'a str>) {
-    if let Some((option, value)) = word.split_once('=') {
-        return (option, Some(value));
+fn option_at<'a>(words: &'a [String], at: usize, word: &'a str) -> GivenOption<'a> {
+    match word.split_once('=') {
+        Some((word, value)) => GivenOption {
+            word,
+            value: Some(value),
+        },
+        None => GivenOption {
+            word,
+            value: words.get(at.saturating_add(1)).map(|next| next.as_str()),
+        },
     }
-    match words.get(at.saturating_add(1)) {
-        Some(next) => (word, Some(next.as_str())),
-        None => (word, None),
-    }
+}
+
+/// Whether an option is among those given.
+fn is_given(given: &[GivenOption<'_>], word: &str) -> bool {
+    given.iter().any(|option| option.word == word)
 }
 
 /// What is wrong with one option and its value.
@@ -81,22 +103,28 @@ fn wrong_option(
     alloc: Global,
     name: &str,
     command: &Command,
-    option: &str,
-    value: Option<&str>,
+    given: GivenOption<'_>,
 ) -> Result<Option<String>, AllocError> {
-    let Some(known) = option_of(command, option) else {
-        return Ok(Some(format!(in alloc; "{option} is no option of {name}")?));
-    };
-    let Some(value) = value else {
-        return Ok(Some(format!(in alloc; "{option} needs a number behind it")?));
-    };
-    if is_number(value, known.most) {
-        return Ok(None);
+    match option_of(command, given.word) {
+        Some(known) => wrong_value(alloc, given, known.most),
+        None => Ok(Some(format!(in alloc; "{} is no option of {name}", given.word)?)),
     }
-    Ok(Some(format!(in alloc;
-        "{option} {value}: no whole number of at most {}",
-        known.most
-    )?))
+}
+
+/// What is wrong with the value of an option, which is a number of at most `most`.
+fn wrong_value(
+    alloc: Global,
+    given: GivenOption<'_>,
+    most: u64,
+) -> Result<Option<String>, AllocError> {
+    let option = given.word;
+    match given.value {
+        None => Ok(Some(format!(in alloc; "{option} needs a number behind it")?)),
+        Some(value) if is_number(value, most) => Ok(None),
+        Some(value) => Ok(Some(format!(in alloc;
+            "{option} {value}: no whole number of at most {most}"
+        )?)),
+    }
 }
 
 /// The option of a command with this word.
@@ -109,10 +137,10 @@ fn missing_option(
     alloc: Global,
     name: &str,
     command: &Command,
-    given: &[&str],
+    given: &[GivenOption<'_>],
 ) -> Result<Option<String>, AllocError> {
     for option in command.options {
-        if option.is_required && !given.contains(&option.word) {
+        if option.is_required && !is_given(given, option.word) {
             return Ok(Some(format!(in alloc; "{name} needs {} N", option.word)?));
         }
     }
@@ -132,6 +160,18 @@ fn wrong_names(
             "{name} takes {wanted} names behind it, and {given} are given"
         )?));
     }
+    if let Some(wrong) = wrong_number(alloc, command, names)? {
+        return Ok(Some(wrong));
+    }
+    twice(alloc, names)
+}
+
+/// Which name is to be a number and is none.
+fn wrong_number(
+    alloc: Global,
+    command: &Command,
+    names: &[&str],
+) -> Result<Option<String>, AllocError> {
     for (name, what) in names.iter().skip(1).zip(command.names) {
         if let Some(most) = greatest(what) {
             if !is_number(name, most) {
@@ -141,7 +181,7 @@ fn wrong_names(
             }
         }
     }
-    twice(alloc, names)
+    Ok(None)
 }
 
 /// How many names a command takes, where so many are too few or too many.

@@ -44,6 +44,21 @@ fn refusals_are_told_with_the_file(rt: HostRuntime) {
             "a: no JSON text (in UTF-8, without a byte order mark)",
         ),
         (
+            "fixed a 0,1,0",
+            "refused instance 9 f[0] rise 2",
+            "a: f[0] doesn't rise at point 2",
+        ),
+        (
+            "fixed a 0,1,0",
+            "refused instance 9 f[0] size 1",
+            "a: f[0] has too many points",
+        ),
+        (
+            "fixed a 0,1,0",
+            "refused instance 13 f[0]",
+            "a: f[0] breaks a rule",
+        ),
+        (
             "check a b c",
             "refused plan 4 at 7",
             "b: ends too early, at byte 7",
