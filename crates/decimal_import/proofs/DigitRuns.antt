@@ -9,3 +9,5 @@ digits_within (b ∷ bs) = let more = digits_within bs in grind arith
 pub take_digits : (bs : List ℕ) → take (length (digits_in_front bs)) bs ≡ digits_in_front bs
 take_digits [] = refl
 take_digits (b ∷ bs) = let more = take_digits bs in grind arith
+
+pub ruleset runs_in_front = (digits_within, take_digits)

@@ -11,7 +11,7 @@ pub(crate) fn split_digits(bytes: &[u8]) -> (&[u8], &[u8])
 }
 
 /// How many digits stand in front.
-#[tactic(auto, using(crate::proofs::DigitRuns::digits_within, crate::proofs::DigitRuns::take_digits))]
+#[tactic(auto, using(crate::proofs::DigitRuns::runs_in_front))]
 fn digit_count(bytes: &[u8]) -> usize
     ensures count { result ≡ length (digits_in_front bytes.now) }
     ensures front { take result bytes.now ≡ digits_in_front bytes.now }

@@ -1,4 +1,5 @@
 use Rattle.std.proofs.Common.{arith}
+use Rattle.std.proofs.lemmas.Grind.{common_steps}
 use Rattle.charge_curve.proofs.Denominators.{leaves_end, rises_at}
 use Rattle.charge_curve.proofs.denominator.with_slopes.Goals as goal
 
@@ -14,3 +15,9 @@ returns-clause-some c = (
   c.loop-index.invariant.1,
   leaves_end c.args.full c.args.denominator c.loop-index.common c.args.points.now c.loop-index.index (omega arith) c.loop-index.invariant.2,
 )
+
+pub loop-index-preserved : goal.loop-index-preserved
+loop-index-preserved = grind (arith, common_steps)
+
+pub loop-index-preserved-then-from-full : goal.loop-index-preserved-then-from-full
+loop-index-preserved-then-from-full = grind (arith, common_steps)

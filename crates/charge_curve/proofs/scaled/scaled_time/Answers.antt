@@ -1,4 +1,5 @@
 use Rattle.std.proofs.Common.{◌∙◌, arith}
+use Rattle.std.proofs.lemmas.Grind.{common_steps}
 use Rattle.std.proofs.Math.Nat.{mul-le-mul_left}
 use Rattle.charge_curve.proofs.Denominators.{rises_at}
 use Rattle.charge_curve.proofs.Steps.{charge_time-here, charge_time-next}
@@ -18,3 +19,6 @@ returns-then-level-to-clause-value c =
 
 pub loop-index-preserved : goal.loop-index-preserved
 loop-index-preserved c = charge_time-next c.args.d c.args.level c.args.points.now c.loop-index.index (0, 0) (omega arith) c.if-level-to.false ∙ c.loop-index.invariant
+
+pub returns-clause-value : goal.returns-clause-value
+returns-clause-value = grind (arith, common_steps)

@@ -1,4 +1,5 @@
-use Rattle.std.proofs.Common.{sym, ◌∙◌, subst, Some, refl}
+use Rattle.std.proofs.Common.{sym, ◌∙◌, subst, Some, refl, arith}
+use Rattle.std.proofs.lemmas.Grind.{elements}
 use Rattle.index_links.specs.Lists.{Lists, list_at}
 use Rattle.index_links.specs.Forest.{IsForest, IsCut}
 use Rattle.index_links.proofs.Members.{head_in, only_item}
@@ -28,3 +29,6 @@ returns-clause-cut c =
     subst (λ (o : Lists). IsCut c.args.keys.now c.args.children.now.lists o.lists c.args.parent (Some c.loop-a.at)) (sym c.unlink.ensures)
     (cut_some c.args.keys.now c.args.children.now.lists c.loop-a.children c.args.parent c.loop-a.at c.loop-a.invariant.forest c.loop-a.invariant.same
     (only_item (list_at c.loop-a.children.lists c.args.parent) c.loop-a.at c.loop-a.invariant.child (c.in_default-neighbours.ensures.one refl)))
+
+pub returns-in_default-clause-cut : goal.returns-in_default-clause-cut
+returns-in_default-clause-cut = grind (arith, elements)

@@ -1,4 +1,5 @@
-use Rattle.std.proofs.Common.{◌<◌, length, sym, ◌∙◌, ap, subst}
+use Rattle.std.proofs.Common.{◌<◌, length, sym, ◌∙◌, ap, subst, arith}
+use Rattle.std.proofs.lemmas.Grind.{common_steps}
 use Rattle.index_links.specs.Lists.{Lists, IsIn, IsLinked, list_at, lists_with_last}
 use Rattle.index_links.specs.Forest.{IsForest, SameLinked}
 use Rattle.index_links.proofs.Forest.{with_lists, loser_free, meld_forest, meld_same, meld_shorter, meld_winner}
@@ -49,3 +50,6 @@ returns-clause-winner c =
     let l = c.winner_and_loser-winner.result.1 in
     subst (λ (z : Lists). IsIn c.winner_and_loser-winner.result.0 (list_at z.lists c.args.parent)) (sym (c.link_last.ensures ∙ ap (λ (z : Lists). with_lists z (lists_with_last z.lists w l)) c.unlink.ensures))
     (meld_winner c.args.keys.now o c.args.parent c.args.a c.args.b w l c.requires.forest c.requires.disjoint c.requires.a c.requires.b c.winner_and_loser-winner.ensures.both c.winner_and_loser-winner.ensures.order)
+
+pub link_last-requires-clause-list : goal.link_last-requires-clause-list
+link_last-requires-clause-list = grind (arith, common_steps)

@@ -1,4 +1,5 @@
 use Rattle.std.proofs.Common.{◌≡◌, ◌-◌, ◌++◌, ◌∙◌, ap, arith, drop, length, sym}
+use Rattle.std.proofs.lemmas.Grind.{common_steps}
 use Rattle.piece_fn.specs.Cuts.{supports}
 use Rattle.piece_fn.proofs.Starts.{supports_are_starts, supports_end}
 use Rattle.piece_fn.proofs.Walks.{some_point}
@@ -12,3 +13,9 @@ returns c =
     let end = supports_end c.args.curve.now ps (length ps - 1) (0, 0) (omega (arith, some)) (omega arith) in
     let left = ap (λ n. supports c.args.curve.now (drop n ps)) index ∙ end in
     c.in_ok-push-2.ensures.items ∙ sym (ap (λ xs. c.loop-index.levels.items ++ xs) left) ∙ c.loop-index.invariant ∙ sym (supports_are_starts c.args.curve.now ps c.requires.curve c.requires.points)
+
+pub bounds-points-points : goal.bounds-points-points
+bounds-points-points = grind (arith, common_steps)
+
+pub loop-index-preserved : goal.loop-index-preserved
+loop-index-preserved = grind (arith, common_steps)

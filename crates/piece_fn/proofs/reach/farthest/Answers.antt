@@ -1,4 +1,5 @@
 use Rattle.std.proofs.Common.{◌<◌, arith}
+use Rattle.std.proofs.lemmas.Grind.{common_steps}
 use Rattle.charge_curve.specs.Points.{time_on}
 use Rattle.piece_fn.proofs.LastingOrders.{covered_further, last_further, straight_to_less}
 use Rattle.piece_fn.proofs.Walks.{walked}
@@ -73,3 +74,6 @@ loop-low-preserved c =
           covered_further (time_on c.args.own.now) (time_on c.args.other.now) (time_on c.piece_at-mine.result.now) (time_on c.piece_at-its.result.now) c.args.extra c.args.from c.loop-low.low c.min-high.result c.lasts_to-last.result
           mine.times its.times c.loop-low.invariant.covered c.lasts_to-last.ensures level le (omega (arith, top, c.if-last-high.false));
     }
+
+pub loop-low-init : goal.loop-low-init
+loop-low-init = grind (arith, common_steps)

@@ -1,4 +1,5 @@
 use Rattle.std.proofs.Common.{◌≡◌, ◌+◌, ◌-◌, ◌/◌, ◌<◌, arith, refl, subst, sym}
+use Rattle.std.proofs.lemmas.Grind.{common_steps, rows}
 use Rattle.std.proofs.lemmas.Bool.{leb-false, leb-true}
 use Rattle.charge_curve.specs.Points.{time_on}
 use Rattle.piece_fn.specs.Reach.{LastsTo}
@@ -39,3 +40,6 @@ overflow_add-result c = let is = lasts_here c in omega (arith, last_is c, is.wit
 
 pub returns : goal.returns
 returns c = subst (λ last. LastsTo (time_on c.args.own.now) (time_on c.args.other.now) c.args.extra c.args.low c.args.high last) (sym (last_is c)) (lasts_here c)
+
+pub overflow_sub-levels-3 : goal.overflow_sub-levels-3
+overflow_sub-levels-3 = grind (arith, common_steps, rows)

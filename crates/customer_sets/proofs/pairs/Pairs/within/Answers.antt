@@ -1,4 +1,5 @@
 use Rattle.std.proofs.Common.{◌≡◌, ◌∙◌, ℕ, true, sym, ap, subst, arith}
+use Rattle.std.proofs.lemmas.Grind.{common_steps}
 use Rattle.std.proofs.lemmas.Bool.{false≢true}
 use Rattle.customer_sets.specs.CustSet.{IsWithin}
 use Rattle.customer_sets.specs.Pairs.{allows_of, ForbiddenPairs, IsPairs}
@@ -29,3 +30,6 @@ returns c =
           let ends = home_within c.args.self.now c.args.other.now less in
           c.is_subset-2.ensures.1 (subst (λ set. IsWithin set c.other.inside.home) (sym own) (subst (λ set. IsWithin c.args.self.now.home set) (sym theirs) ends)),
     )
+
+pub loop-place-preserved : goal.loop-place-preserved
+loop-place-preserved = grind (arith, common_steps)

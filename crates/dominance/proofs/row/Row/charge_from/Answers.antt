@@ -1,4 +1,5 @@
 use Rattle.std.proofs.Common.{◌≡◌, ℕ, ◌+◌, ◌<◌, ap, arith, subst, length}
+use Rattle.std.proofs.lemmas.Grind.{common_steps}
 use Rattle.charge_curve.specs.Points.{last_level}
 use Rattle.dominance.specs.LevelTimes.{IsLevel, LevelTimes}
 use Rattle.dominance.specs.Steps.{charged, IsChargeFrom}
@@ -43,3 +44,6 @@ returns-clause-charge c =
     subst (λ first. IsChargeFrom c.args.self.now c.args.curve.now c.args.limit (first + c.args.index) (row (c.self.inside.first + c.args.index) c.loop-level.times.items)) (ap (λ (v : LevelTimes). v.first) c.self.view_is)
     (charged_is_charge c.args.self.now c.args.curve.now c.args.limit from c.loop-level.times.items
     (charged_whole c.args.self.now c.args.curve.now c.args.limit from c.loop-level.level c.loop-level.times.items c.loop-level.invariant end))
+
+pub loop-level-preserved : goal.loop-level-preserved
+loop-level-preserved = grind (arith, common_steps)

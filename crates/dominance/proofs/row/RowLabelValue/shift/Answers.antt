@@ -1,4 +1,5 @@
 use Rattle.std.proofs.Common.{◌∙◌, ◌-◌, ap, arith, sym}
+use Rattle.std.proofs.lemmas.Grind.{common_steps}
 use Rattle.std.proofs.lemmas.Bool.{eqb-false, eqb-true}
 use Rattle.dominance.specs.Laws.{shift_keeps, shift_keeps_some}
 use Rattle.dominance.specs.LevelTimes.{LevelTimes}
@@ -25,3 +26,6 @@ returns-clause-keeps c other left extra covers its =
     let begins = c.saturating_sub-first.ensures ∙ ap (λ (v : LevelTimes). v.first - c.args.energy) c.self.view_is in
     let is = later_is_shift c.args.self.now c.args.energy c.args.time c.args.limit c.saturating_sub-skipped.result c.saturating_sub-first.result c.in_ok-times.times.items skips begins c.in_ok-times.ensures.times in
     shift_keeps c.args.energy c.args.time c.args.limit extra c.args.self.now other left (row c.saturating_sub-first.result c.in_ok-times.times.items) covers its is
+
+pub returns-then-is_empty-clause-none : goal.returns-then-is_empty-clause-none
+returns-then-is_empty-clause-none = grind (arith, common_steps)

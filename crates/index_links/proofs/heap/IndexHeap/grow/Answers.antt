@@ -1,4 +1,5 @@
 use Rattle.std.proofs.Common.{◌≡◌, ℕ, ◌-◌, ◌++◌, List, length, replicate, take, sym, ◌∙◌, ap, subst, arith, Option, None, vec_len}
+use Rattle.std.proofs.lemmas.Grind.{common_steps}
 use Rattle.std.proofs.lemmas.List.{take_all}
 use Rattle.index_links.specs.Lists.{Lists}
 use Rattle.index_links.specs.Forest.{IsHeap}
@@ -17,3 +18,15 @@ invariant_of-self-2 c =
     ∙ ap (λ (l : List (Option ℕ)). l ++ replicate (c.max-items.result - length c.self.inside.keys.items) None) (take_all c.max-items.result c.self.inside.keys.items (omega arith)) in
     subst (λ (o : Lists). IsHeap c.resize.new.self.items o c.self.inside.root) (sym c.in_ok-grow.ensures.ok)
     (grow_heap c.self.inside.keys.items c.resize.new.self.items c.self.inside.children c.self.inside.root c.max-items.result c.self.invariant e)
+
+pub invariant_of-self-in_err-grow : goal.invariant_of-self-in_err-grow
+invariant_of-self-in_err-grow = grind (arith, common_steps)
+
+pub returns-clause-ok : goal.returns-clause-ok
+returns-clause-ok = grind (arith, common_steps)
+
+pub invariant_of-self : goal.invariant_of-self
+invariant_of-self = grind (arith, common_steps)
+
+pub invariant_of-self-in_err-resize : goal.invariant_of-self-in_err-resize
+invariant_of-self-in_err-resize = grind (arith, common_steps)

@@ -1,4 +1,5 @@
 use Rattle.std.proofs.Common.{◌≡◌, ◌<◌, ℕ, List, length, set, sym, ◌∙◌, ap, subst, arith, Option, Some, None}
+use Rattle.std.proofs.lemmas.Grind.{common_steps}
 use Rattle.index_links.specs.Lists.{Lists}
 use Rattle.index_links.specs.Queue.{key_at}
 use Rattle.index_links.specs.Forest.{IsAbove, IsHeap}
@@ -38,3 +39,9 @@ invariant_of-self-in_default c =
     let within : c.args.i < length keys = omega (arith, c.requires.item) in
     let free : key_at keys c.args.i ≡ None = ap (λ (l : List (Option ℕ)). key_at l c.args.i) c.self.view_is ∙ none_of (key_at c.args.self.now c.args.i) c.requires.free in
     put_first keys c.self.inside.children c.self.inside.root c.self.invariant c.args.i c.args.key within free c.in_default.is
+
+pub link_last-requires-clause-list : goal.link_last-requires-clause-list
+link_last-requires-clause-list = grind (arith, common_steps)
+
+pub link_last-requires-clause-item : goal.link_last-requires-clause-item
+link_last-requires-clause-item = grind (arith, common_steps)

@@ -1,4 +1,5 @@
-use Rattle.std.proofs.Common.{◌<◌, ℕ, List, set, sym, ◌∙◌, ap, subst, Option, Some, None}
+use Rattle.std.proofs.Common.{◌<◌, ℕ, List, set, sym, ◌∙◌, ap, subst, Option, Some, None, arith}
+use Rattle.std.proofs.lemmas.Grind.{common_steps}
 use Rattle.std.proofs.lemmas.Option.{none-some}
 use Rattle.index_links.specs.Lists.{Lists, IsLinked, lists_with_last}
 use Rattle.index_links.specs.Queue.{key_at, HasPair}
@@ -79,3 +80,6 @@ invariant_of-self-in_default c =
     let h = some_of (key_at c.args.self.now c.args.i) c.requires in
     let held : HasPair keys h.0 c.args.i = ap (λ (l : List (Option ℕ)). key_at l c.args.i) c.self.view_is ∙ h.1 in
     absurd (none-some h.0 (sym (none_held keys c.self.inside.children c.self.inside.root c.self.invariant c.in_default.is c.args.i) ∙ held))
+
+pub cut-child-requires-clause-parent : goal.cut-child-requires-clause-parent
+cut-child-requires-clause-parent = grind (arith, common_steps)

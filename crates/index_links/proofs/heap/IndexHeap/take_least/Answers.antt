@@ -1,4 +1,5 @@
-use Rattle.std.proofs.Common.{ℕ, List, subst, Option, refl}
+use Rattle.std.proofs.Common.{ℕ, List, subst, Option, refl, arith}
+use Rattle.std.proofs.lemmas.Grind.{common_steps}
 use Rattle.index_links.specs.Queue.{IsEmpty, IsLeast}
 use Rattle.index_links.specs.Forest.{IsForest, IsCut}
 use Rattle.index_links.proofs.Queue.{none_held, root_least, take_root}
@@ -21,3 +22,9 @@ pub returns-clause-least : goal.returns-clause-least
 returns-clause-least c =
     let r = root_least c.self.inside.keys.items c.self.inside.children c.self.inside.root c.self.invariant c.in-Some.root c.in-Some.is in
     (r.0, subst (λ (l : List (Option ℕ)). IsLeast l r.0 c.in-Some.root) c.self.view_is r.1)
+
+pub index_mut-requires : goal.index_mut-requires
+index_mut-requires = grind (arith, common_steps)
+
+pub cut-next-requires-clause-parent : goal.cut-next-requires-clause-parent
+cut-next-requires-clause-parent = grind (arith, common_steps)

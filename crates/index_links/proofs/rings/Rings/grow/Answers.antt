@@ -1,4 +1,5 @@
 use Rattle.std.proofs.Common.{◌≡◌, ◌-◌, ◌++◌, List, max, length, take, replicate, ◌∙◌, ap, arith, vec_len}
+use Rattle.std.proofs.lemmas.Grind.{common_steps}
 use Rattle.index_links.specs.declared.rings.Ends.{Ends}
 use Rattle.index_links.specs.Links.{no_ends, unlinked}
 use Rattle.index_links.proofs.MoreItems.{grown}
@@ -33,3 +34,12 @@ returns-clause-ok c =
     (c.in_ok-resize-2.ensures.items ∙ ap (λ (r : List Ends). take c.max-lists.result r ++ replicate (c.max-lists.result - vec_len c.reserve.new.self) no_ends) same
     ∙ ap (λ k. take c.max-lists.result es ++ replicate (c.max-lists.result - k) no_ends) r_len)
     (c.in_ok-resize.ensures.items ∙ ap (λ k. take c.max-items.result s ++ replicate (c.max-items.result - k) unlinked) v_len)).1
+
+pub invariant_of-self : goal.invariant_of-self
+invariant_of-self = grind (arith, common_steps)
+
+pub invariant_of-self-in_err-resize-2 : goal.invariant_of-self-in_err-resize-2
+invariant_of-self-in_err-resize-2 = grind (arith, common_steps)
+
+pub invariant_of-self-in_err-resize : goal.invariant_of-self-in_err-resize
+invariant_of-self-in_err-resize = grind (arith, common_steps)

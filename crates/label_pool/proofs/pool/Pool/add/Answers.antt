@@ -1,4 +1,5 @@
 use Rattle.std.proofs.Common.{◌≡◌, ℕ, ◌+◌, ◌-◌, ◌<◌, List, [], ◌∷◌, ◌++◌, length, map, max, replicate, sym, ◌∙◌, ap, subst, refl, arith, Option, None, true, false}
+use Rattle.std.proofs.lemmas.Grind.{common_steps}
 use Rattle.std.specs.Prelude.{IfSome, IsNone}
 use Rattle.std.proofs.lemmas.List.{length-append, length-map}
 use Rattle.index_links.specs.Lists.{Lists, lists_padded}
@@ -68,3 +69,42 @@ returns-clause-keeps g c b x is =
     c.in_ok-push.ensures.items ∙ ap (λ (l : List (Label g.row.V.Denot)). l ++ new ∷ []) (c.retire_covered.ensures.labels ∙ ap (map (beside g.V.Covers.dominates c.args.bucket c.args.value)) c.reserve.ensures.items) in
     let was : IsCovered g.V.Covers.dominates c.self.inside.labels.items b x = subst (λ (p : Labels g.row.V.Denot). IsCovered g.V.Covers.dominates p.labels b x) (sym c.self.view_is) is in
     subst (λ (l : List (Label g.row.V.Denot)). IsCovered g.V.Covers.dominates l b x) (sym all) (covered_stays g.V.Covers.dominates g.met.V.Covers.transitive c.self.inside.labels.items new b x refl was)
+
+pub invariant_of-self-in_err-grow : goal.invariant_of-self-in_err-grow
+invariant_of-self-in_err-grow = grind (arith, common_steps)
+
+pub retire_covered-requires-clause-bucket : goal.retire_covered-requires-clause-bucket
+retire_covered-requires-clause-bucket = grind (arith, common_steps)
+
+pub returns-clause-some : goal.returns-clause-some
+returns-clause-some = grind (arith, common_steps)
+
+pub invariant_of-self : goal.invariant_of-self
+invariant_of-self = grind (arith, common_steps)
+
+pub invariant_of-self-in_err-push : goal.invariant_of-self-in_err-push
+invariant_of-self-in_err-push = grind (arith, common_steps)
+
+pub returns-clause-unchanged : goal.returns-clause-unchanged
+returns-clause-unchanged = grind (arith, common_steps)
+
+pub returns-clause-none : goal.returns-clause-none
+returns-clause-none = grind (arith, common_steps)
+
+pub returns-clause-added : goal.returns-clause-added
+returns-clause-added = grind (arith, common_steps)
+
+pub returns-in_err-push-clause-err : goal.returns-in_err-push-clause-err
+returns-in_err-push-clause-err = grind (arith, common_steps)
+
+pub link_last-requires-clause-list : goal.link_last-requires-clause-list
+link_last-requires-clause-list = grind (arith, common_steps)
+
+pub is_covered-requires-clause-bucket : goal.is_covered-requires-clause-bucket
+is_covered-requires-clause-bucket = grind (arith, common_steps)
+
+pub link_last-requires-clause-item : goal.link_last-requires-clause-item
+link_last-requires-clause-item = grind (arith, common_steps)
+
+pub put-requires-clause-item : goal.put-requires-clause-item
+put-requires-clause-item = grind (arith, common_steps)

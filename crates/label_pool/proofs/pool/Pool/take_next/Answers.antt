@@ -1,4 +1,5 @@
-use Rattle.std.proofs.Common.{◌≡◌, ℕ, List, length, set, sym, ◌∙◌, subst, refl, true, Option}
+use Rattle.std.proofs.Common.{◌≡◌, ℕ, List, length, set, sym, ◌∙◌, subst, refl, true, Option, arith}
+use Rattle.std.proofs.lemmas.Grind.{common_steps, elements}
 use Rattle.std.proofs.lemmas.Bool.{false≢true}
 use Rattle.std.proofs.lemmas.Option.{same_Some}
 use Rattle.label_pool.specs.declared.label.Label.{Label}
@@ -35,3 +36,15 @@ returns-clause-next g c =
     subst
     (λ (p : Labels g.row.V.Denot). (x : Label g.row.V.Denot) × IsNext p.labels i x × ((record { labels = set labels i (record label { settled = true }); buckets = length c.self.inside.live.lists }) ≡ (record p { labels = set p.labels i (record x { settled = true }) })))
     c.self.view_is (label, is, refl)
+
+pub returns-clause-small : goal.returns-clause-small
+returns-clause-small = grind (arith, common_steps)
+
+pub invariant_of-self : goal.invariant_of-self
+invariant_of-self = grind (arith, common_steps)
+
+pub returns-in_default-clause-none : goal.returns-in_default-clause-none
+returns-in_default-clause-none = grind (arith, common_steps)
+
+pub index_mut-requires : goal.index_mut-requires
+index_mut-requires = grind (arith, elements)

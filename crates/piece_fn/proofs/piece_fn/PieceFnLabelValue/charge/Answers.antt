@@ -1,4 +1,5 @@
-use Rattle.std.proofs.Common.{◌≡◌, ℕ, ◌<◌, ◌∙◌, List, ap, get_or, length, subst, sym}
+use Rattle.std.proofs.Common.{◌≡◌, ℕ, ◌<◌, ◌∙◌, List, ap, get_or, length, subst, sym, arith}
+use Rattle.std.proofs.lemmas.Grind.{common_steps}
 use Rattle.std.proofs.lemmas.List.{take_all}
 use Rattle.std.proofs.lemmas.List.Elements.{All-get_or, All-push, All-weaker}
 use Rattle.charge_curve.specs.Points.{ArePoints}
@@ -62,3 +63,6 @@ pub returns-clause-keeps : goal.returns-clause-keeps
 returns-clause-keeps c other extra level time covers is =
     charges_keep level_times (level_times c.args.self.now) c.args.curve.now c.args.limit c.loop-start.values.items (never_falls c.args.curve.now c.breaks-breaks.ensures.curve.points) c.requires.levels
     (returns-clause-every c) other extra level time covers is
+
+pub loop-start-init : goal.loop-start-init
+loop-start-init = grind (arith, common_steps)

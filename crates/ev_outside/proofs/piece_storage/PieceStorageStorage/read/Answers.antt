@@ -1,0 +1,15 @@
+use Rattle.std.proofs.Common.{arith}
+use Rattle.std.proofs.lemmas.Grind.{common_steps}
+use Rattle.ev_outside.proofs.piece_storage.PieceStorageStorage.read.Goals as goal
+
+pub copy_from_slice-requires : goal.copy_from_slice-requires
+copy_from_slice-requires = grind (arith, common_steps)
+
+pub slice_bounds-copy_from_slice-end-2 : goal.slice_bounds-copy_from_slice-end-2
+slice_bounds-copy_from_slice-end-2 = grind (arith, common_steps)
+
+pub slice_bounds-copy_from_slice-end-3 : goal.slice_bounds-copy_from_slice-end-3
+slice_bounds-copy_from_slice-end-3 = grind (arith, common_steps)
+
+pub returns-clause-bytes : goal.returns-clause-bytes
+returns-clause-bytes = grind (arith, common_steps)

@@ -1,0 +1,9 @@
+use Rattle.std.proofs.Common.{arith}
+use Rattle.std.proofs.lemmas.Grind.{common_steps}
+use Rattle.instance_maker.proofs.instance.push_times.Goals as goal
+
+pub returns : goal.returns
+returns = grind (arith, common_steps)
+
+pub loop-preserved : goal.loop-preserved
+loop-preserved = grind (arith, common_steps)
