@@ -1,4 +1,5 @@
-use Rattle.std.proofs.Common.{◌≡◌, ◌∙◌, length, map, refl, rules}
+use Rattle.std.proofs.Common.{◌≡◌, ◌∙◌, length, map, refl, rules, arith}
+use Rattle.std.proofs.lemmas.Grind.{elements}
 use Rattle.instance_reader.proofs.PartsLemmas.{parts_make_an_instance, parts_make_the_network}
 use Rattle.instance_reader.specs.Contents.{nodes_of}
 use Rattle.instance_reader.specs.Customers.{AreCustomers}
@@ -40,3 +41,6 @@ returns c =
       limit = c.args.limit;
     } in
     parts_make_the_network made contents refl refl refl plugs refl refl (rw (← count) c.in_ok-process_times.ensures) c.requires
+
+pub plug_times-requires : goal.plug_times-requires
+plug_times-requires = grind (arith, elements)

@@ -1,4 +1,5 @@
-use Rattle.std.proofs.Common.{◌≡◌, ◌||◌, ◌∙◌, true, false, Some, None, length, get_or, is_some, not, nat_lt, sym, ap}
+use Rattle.std.proofs.Common.{◌≡◌, ◌||◌, ◌∙◌, true, false, Some, None, length, get_or, is_some, not, nat_lt, sym, ap, arith}
+use Rattle.std.proofs.lemmas.Grind.{common_steps}
 use Rattle.instance_reader.proofs.NodesLemmas.{AreStationNumbers-next, right_node_here, wrong_node_here}
 use Rattle.instance_reader.proofs.nodes.station_numbers.Goals as goal
 
@@ -22,3 +23,12 @@ returns-then-is_wrong-clause-err c =
     let here = wrong_node_here c.args.stations.now c.args.nodes numbers c.loop-index.index c.index-stations-index.result
     c.loop-index-test.true c.index-stations-index.is c.loop-index.invariant.value wrong in
     sym c.loop-index.invariant.node ∙ here ∙ ap Some (sym c.node_place.ensures)
+
+pub loop-index-init : goal.loop-index-init
+loop-index-init = grind (arith, common_steps)
+
+pub returns-clause-value : goal.returns-clause-value
+returns-clause-value = grind (arith, common_steps)
+
+pub returns-clause-node : goal.returns-clause-node
+returns-clause-node = grind (arith, common_steps)

@@ -1,4 +1,5 @@
-use Rattle.std.proofs.Common.{◌≡◌, ◌∙◌, ◌∷◌, ◌++◌, [], true, false, Some, map, take, sym, ap}
+use Rattle.std.proofs.Common.{◌≡◌, ◌∙◌, ◌∷◌, ◌++◌, [], true, false, Some, map, take, sym, ap, arith}
+use Rattle.std.proofs.lemmas.Grind.{common_steps}
 use Rattle.instance_reader.proofs.TypesLemmas.{fresh_here, fresh_key, known_key, next_name, repeated_here}
 use Rattle.instance_reader.specs.Types.{is_among, names_of}
 use Rattle.instance_reader.specs.Views.{curve_view, name_view}
@@ -25,3 +26,6 @@ returns-in-Ok-false-clause-err c =
     rw (← c.loop-index.invariant.names) (known_key c.loop-index.names.keys x.type_name _ c.in-Ok-false.field-0-test c.in-Ok-false.ensures.added) in
     sym c.loop-index.invariant.once ∙ repeated_here c.args.curves.now i x c.loop-index-test.true c.index-curves-index.is known
     ∙ ap Some (sym c.type_place.ensures)
+
+pub returns-clause-once : goal.returns-clause-once
+returns-clause-once = grind (arith, common_steps)

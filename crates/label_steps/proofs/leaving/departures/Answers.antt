@@ -1,4 +1,5 @@
-use Rattle.std.proofs.Common.{◌∙◌, ℕ, List, [], None, Option, subst, sym}
+use Rattle.std.proofs.Common.{◌∙◌, ℕ, List, [], None, Option, subst, sym, arith}
+use Rattle.std.proofs.lemmas.Grind.{common_steps}
 use Rattle.std.specs.Prelude.{IfSome}
 use Rattle.std.proofs.lemmas.Result.{IfOk-weaker}
 use Rattle.std.proofs.lemmas.List.Elements.{All-nil}
@@ -40,3 +41,9 @@ returns-clause-covers c =
     c.in-Some.ensures c.requires.levels (paying c.in-Some.curve.now None c.in-Some-2.plugged) c.in_ok-values.ensures.starts
     c.in_ok-values.values.items (subst (λ l. AreCharged c.in-Some-2.plugged c.in-Some.curve.now l (paying c.in-Some.curve.now None c.in-Some-2.plugged) c.in_ok-values.values.items) (c.scaled_limit-2.ensures.value ∙ sym c.scaled_limit.ensures.value) c.in_ok-values.ensures.answers)
     (subst (λ l. (other : LevelTimes) (extra level time : ℕ) → CoversEach (level_times c.in-Some-2.plugged) other extra → IsCharge other c.in-Some.curve.now l level time → SomeReaches level_times c.in_ok-values.values.items extra level time) (c.scaled_limit-2.ensures.value ∙ sym c.scaled_limit.ensures.value) c.in_ok-values.ensures.keeps)
+
+pub charged_where_it_pays-requires-clause-times : goal.charged_where_it_pays-requires-clause-times
+charged_where_it_pays-requires-clause-times = grind (arith, common_steps)
+
+pub returns-clause-some : goal.returns-clause-some
+returns-clause-some = grind (arith, common_steps)

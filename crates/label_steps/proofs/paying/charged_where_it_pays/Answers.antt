@@ -1,4 +1,5 @@
 use Rattle.std.proofs.Common.{◌≡◌, ◌∙◌, ◌<◌, ℕ, List, None, ap, arith, get_or, length, subst, sym}
+use Rattle.std.proofs.lemmas.Grind.{common_steps}
 use Rattle.std.proofs.lemmas.List.{take_all}
 use Rattle.std.proofs.lemmas.List.Elements.{All-get_or, All-weaker}
 use Rattle.charge_curve.specs.Points.{ArePoints, last_level}
@@ -63,3 +64,6 @@ returns-clause-keeps c other extra level time covers is =
     let curve = c.full_level-full.ensures.curve in
     charges_keep level_times (level_times c.args.value) c.args.curve.now c.args.limit c.loop-start.values.items (never_falls c.args.curve.now curve.points) c.requires.levels
     (every_charge c.args.value c.args.curve.now c.args.limit c.loop-start.values.items c.points.ensures.valid curve.points curve.slowing (the_list c)) other extra level time covers is
+
+pub loop-start-init : goal.loop-start-init
+loop-start-init = grind (arith, common_steps)

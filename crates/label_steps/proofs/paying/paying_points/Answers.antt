@@ -1,4 +1,5 @@
 use Rattle.std.proofs.Common.{◌∙◌, ◌≤◌, ℕ, Global, None, Option, Vec, ap, arith, get_or, subst, sym}
+use Rattle.std.proofs.lemmas.Grind.{common_steps}
 use Rattle.label_steps.specs.Paying.{paying}
 use Rattle.std.specs.Prelude.{IfSome}
 use Rattle.piece_fn.proofs.Walks.{points_from}
@@ -35,3 +36,6 @@ loop-index-preserved c =
         fits = subst (λ (o : Option (ℕ × ℕ)). IfSome o (λ b. b.0 ≤ c.args.full)) (sym w.before-is) c.loop-index.invariant.fits;
       }
     ]
+
+pub returns : goal.returns
+returns = grind (arith, common_steps)

@@ -1,4 +1,5 @@
-use Rattle.std.proofs.Common.{◌∙◌, refl, sym}
+use Rattle.std.proofs.Common.{◌∙◌, refl, sym, arith}
+use Rattle.std.proofs.lemmas.Grind.{common_steps}
 use Rattle.plan_check.proofs.VisitCounts.{twice_by, unserved_by}
 use Rattle.plan_check.proofs.later.later_fault.Goals as goal
 
@@ -26,3 +27,9 @@ returns g c =
     let all = unserved_by c.args.inst.now c.count_visits.new.visits g.R.HasStops.stops_of c.args.routes.now c.count_visits.ensures c.first_missed.result c.first_missed.ensures ∙ c.in_default-first_missed.is in
     let some = sym c.empty_route.ensures ∙ c.in_default-empty_route.is in
     rw (none, all, some) c.stray.ensures
+
+pub empty_route-requires : goal.empty_route-requires
+empty_route-requires = grind (arith, common_steps)
+
+pub stray-requires : goal.stray-requires
+stray-requires = grind (arith, common_steps)

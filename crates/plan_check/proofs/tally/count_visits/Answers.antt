@@ -1,4 +1,5 @@
-use Rattle.std.proofs.Common.{List, subst, ◌++◌, map, take}
+use Rattle.std.proofs.Common.{List, subst, ◌++◌, map, take, arith}
+use Rattle.std.proofs.lemmas.Grind.{common_steps}
 use Rattle.ev_model.specs.Fleet.{all_customers, customers_of}
 use Rattle.ev_model.specs.declared.Stop.{Stop}
 use Rattle.plan_check.specs.Tallies.{Tallies}
@@ -16,3 +17,9 @@ loop-plan-preserved g c =
 pub count_route-requires-clause-known : goal.count_route-requires-clause-known
 count_route-requires-clause-known g c =
     known_at c.args.inst.now g.R.HasStops.stops_of c.args.routes.now c.loop-plan.plan-index c.plan-item.result c.stops.result.now c.loop-plan-test.true c.plan-item.is c.stops.ensures c.requires.known
+
+pub loop-plan-init : goal.loop-plan-init
+loop-plan-init = grind (arith, common_steps)
+
+pub returns : goal.returns
+returns = grind (arith, common_steps)

@@ -1,4 +1,5 @@
 use Rattle.std.proofs.Common.{◌≡◌, ◌∙◌, ◌∷◌, [], ◌++◌, List, ap, arith, false, get_or, subst, sym}
+use Rattle.std.proofs.lemmas.Grind.{common_steps}
 use Rattle.ev_model.specs.Feasible.{IsFeasible}
 use Rattle.ev_model.specs.declared.Stop.{Stop}
 use Rattle.rounding_law.proofs.Begin.{begins}
@@ -20,3 +21,15 @@ loop-at-init c =
       kept = b.kept;
       told = rw first b.told;
     }
+
+pub returns : goal.returns
+returns = grind (arith, common_steps)
+
+pub energy-requires-clause-reached : goal.energy-requires-clause-reached
+energy-requires-clause-reached = grind (arith, common_steps)
+
+pub loop-at-preserved : goal.loop-at-preserved
+loop-at-preserved = grind (arith, common_steps)
+
+pub prove-unreachable-requires : goal.prove-unreachable-requires
+prove-unreachable-requires = grind (arith, common_steps)

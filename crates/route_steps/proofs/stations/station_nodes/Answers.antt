@@ -1,4 +1,5 @@
 use Rattle.std.proofs.Common.{◌≡◌, ◌∙◌, ◌∷◌, [], ◌++◌, ℕ, List, Bor, Vec, Global, is_some, ap, sym, arith}
+use Rattle.std.proofs.lemmas.Grind.{common_steps}
 use Rattle.ev_model.specs.Network.{curve_at}
 use Rattle.route_steps.proofs.StationList.{has_curve, stations_below-all, stations_below-other, stations_below-station}
 use Rattle.route_steps.proofs.stations.station_nodes.Goals as goal
@@ -19,3 +20,6 @@ loop-node-preserved c =
 
 pub returns-clause-nodes : goal.returns-clause-nodes
 returns-clause-nodes c = c.loop-node.invariant ∙ stations_below-all c.args.inst.now c.loop-node.node (omega arith)
+
+pub returns-clause-network : goal.returns-clause-network
+returns-clause-network = grind (arith, common_steps)

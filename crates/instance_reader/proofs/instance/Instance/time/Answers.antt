@@ -1,4 +1,5 @@
 use Rattle.std.proofs.Common.{◌≡◌, ◌<◌, ◌∙◌, length, arith, sym}
+use Rattle.std.proofs.lemmas.Grind.{common_steps}
 use Rattle.std.proofs.lemmas.List.{length-map}
 use Rattle.ev_model.specs.Network.{node_count}
 use Rattle.instance_reader.proofs.InstanceLemmas.{scaled_small, small_at}
@@ -19,3 +20,6 @@ returns-clause-small c =
 pub returns-clause-scaled : goal.returns-clause-scaled
 returns-clause-scaled c =
     rw (← c.self.view_is) (scaled_small c.self.inside.denominator c.index-2.result.now c.self.invariant.network.small_denominator (returns-clause-small c))
+
+pub returns-clause-value : goal.returns-clause-value
+returns-clause-value = grind (arith, common_steps)
