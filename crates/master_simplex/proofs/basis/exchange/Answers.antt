@@ -1,4 +1,5 @@
-use Rattle.std.proofs.Common.{◌≡◌, rules, sym, subst, set}
+use Rattle.std.proofs.Common.{◌≡◌, rules, sym, subst, set, arith}
+use Rattle.std.proofs.lemmas.Grind.{common_steps, elements}
 use Rattle.master_table.specs.Tableau.{IsBasisPast}
 use Rattle.master_table.specs.Pivoting.{pivoted}
 use Rattle.master_simplex.specs.Phase.{IsReached, IsRefused}
@@ -18,3 +19,36 @@ returns-in-Ok-basis_with-clause-wide c basis e =
     let same : c.in-Ok-basis_with.basis ≡ basis = cc in
     let items : basis.items ≡ set c.args.t.now.basis c.args.row c.args.col = cc in
     subst (λ t. IsRefused basis.items t) (sym is) (refused_is c.args.t.now c.args.row c.args.col basis.items c.requires.row items past)
+
+pub returns-in-Err-Memory-clause-tableau : goal.returns-in-Err-Memory-clause-tableau
+returns-in-Err-Memory-clause-tableau = grind (arith, common_steps)
+
+pub prove-unreachable-requires-in-Ok : goal.prove-unreachable-requires-in-Ok
+prove-unreachable-requires-in-Ok = grind (arith, common_steps)
+
+pub basis_with-requires : goal.basis_with-requires
+basis_with-requires = grind (arith, common_steps)
+
+pub returns-in-Ok-clause-within : goal.returns-in-Ok-clause-within
+returns-in-Ok-clause-within = grind (arith, common_steps)
+
+pub returns-in-Err-clause-tableau : goal.returns-in-Err-clause-tableau
+returns-in-Err-clause-tableau = grind (arith, common_steps)
+
+pub returns-in-Ok-basis_with-clause-tableau : goal.returns-in-Ok-basis_with-clause-tableau
+returns-in-Ok-basis_with-clause-tableau = grind (arith, common_steps)
+
+pub returns-in-Err-clause-wide : goal.returns-in-Err-clause-wide
+returns-in-Err-clause-wide = grind (arith, common_steps)
+
+pub returns-in-Ok-clause-ok : goal.returns-in-Ok-clause-ok
+returns-in-Ok-clause-ok = grind (arith, common_steps)
+
+pub returns-in-Err-Memory-clause-within : goal.returns-in-Err-Memory-clause-within
+returns-in-Err-Memory-clause-within = grind (arith, elements)
+
+pub returns-in-Err-clause-within : goal.returns-in-Err-clause-within
+returns-in-Err-clause-within = grind (arith, elements)
+
+pub returns-in-Ok-basis_with-clause-within : goal.returns-in-Ok-basis_with-clause-within
+returns-in-Ok-basis_with-clause-within = grind (arith, elements)

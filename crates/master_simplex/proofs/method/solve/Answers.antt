@@ -1,4 +1,5 @@
-use Rattle.std.proofs.Common.{◌+◌, pos, ◌≤ℤ◌, rules}
+use Rattle.std.proofs.Common.{◌+◌, pos, ◌≤ℤ◌, rules, arith}
+use Rattle.std.proofs.lemmas.Grind.{common_steps}
 use Rattle.master_table.specs.Tableau.{row_at, size}
 use Rattle.master_simplex.proofs.Starts.{driven}
 use Rattle.master_simplex.proofs.Tables.{then_reached}
@@ -17,3 +18,9 @@ returns-in_err-bring_cost_down-clause-reached c =
 pub returns-clause-reached : goal.returns-clause-reached
 returns-clause-reached c =
     then_reached c.args.t.now c.bring_helpers_down.new.t c.bring_cost_down.new.t c.bring_helpers_down.ensures.reached c.bring_cost_down.ensures.reached
+
+pub ray-requires-clause-shares : goal.ray-requires-clause-shares
+ray-requires-clause-shares = grind (arith, common_steps)
+
+pub returns-then-has_helper_shares-clause-wide : goal.returns-then-has_helper_shares-clause-wide
+returns-then-has_helper_shares-clause-wide = grind (arith, common_steps)

@@ -1,4 +1,5 @@
-use Rattle.std.proofs.Common.{◌≡◌, rules, subst, Some, None, length}
+use Rattle.std.proofs.Common.{◌≡◌, rules, subst, Some, None, length, arith}
+use Rattle.std.proofs.lemmas.Grind.{common_steps}
 use Rattle.master_table.specs.Tableau.{size}
 use Rattle.master_table.specs.Pivoting.{IsPivotOf}
 use Rattle.master_simplex.specs.Phase.{IsGaining, IsLeast}
@@ -32,3 +33,12 @@ returns-clause-falls c e =
     let found : IsLeast c.args.t.now c.args.places.now c.in-Some.col (size c.args.t.now) (Some c.in-Some-leaving.row) = subst (λ best. IsLeast c.args.t.now c.args.places.now c.in-Some.col (size c.args.t.now) best) c.in-Some-leaving.is c.leaving.ensures in
     let pivot : IsPivotOf c.in-Some-leaving.row c.in-Some.col c.args.t.now c.exchange.new.t = search rules in
     height_after c.args.t.now c.exchange.new.t c.rows-n.ensures.tableau c.exchange.ensures.tableau c.rows-n.ensures.within c.exchange.ensures.within c.args.places.now c.requires c.in-Some-leaving.row c.in-Some.col found.0 pivot found.1 c.args.goal gains.2
+
+pub leaving-requires-clause-placed : goal.leaving-requires-clause-placed
+leaving-requires-clause-placed = grind (arith, common_steps)
+
+pub returns-clause-wide : goal.returns-clause-wide
+returns-clause-wide = grind (arith, common_steps)
+
+pub returns-clause-end : goal.returns-clause-end
+returns-clause-end = grind (arith, common_steps)

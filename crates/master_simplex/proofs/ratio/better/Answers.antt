@@ -1,4 +1,5 @@
 use Rattle.std.proofs.Common.{◌≡◌, arith, rules, FitsSigned, pos, ◌<ℤ◌, ◌≤ℤ◌, Some, subst}
+use Rattle.std.proofs.lemmas.Grind.{common_steps}
 use Rattle.std.specs.Int.{w128}
 use Rattle.std.proofs.lemmas.Int.{ints}
 use Rattle.master_table.specs.Tableau.{entry_at}
@@ -28,3 +29,9 @@ returns c =
     let above : pos 0 <ℤ entry_at c.args.t.now c.args.i c.args.col = omega (arith, ints) in
     let least : IsLeast c.args.t.now c.args.places.now c.args.col c.args.i (Some c.in-Some.r) = subst (λ best. IsLeast c.args.t.now c.args.places.now c.args.col c.args.i best) c.in-Some.is c.requires.least in
     least_old c.args.t.now c.args.places.now c.args.col c.args.i c.rows-n.ensures.tableau c.rows-n.ensures.within c.requires.i above c.in-Some.r least (search rules)
+
+pub precedes-requires-clause-placed : goal.precedes-requires-clause-placed
+precedes-requires-clause-placed = grind (arith, common_steps)
+
+pub precedes-requires-clause-r : goal.precedes-requires-clause-r
+precedes-requires-clause-r = grind (arith, common_steps)

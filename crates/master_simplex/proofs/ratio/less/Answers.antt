@@ -1,4 +1,5 @@
 use Rattle.std.proofs.Common.{◌≡◌, ◌≢◌, arith, rules, ap₂, FitsSigned, to_z, of_z, ◌*ℤ◌, ◌-ℤ◌, sym, ◌∙◌, Some}
+use Rattle.std.proofs.lemmas.Grind.{common_steps}
 use Rattle.std.specs.Int.{w128}
 use Rattle.std.specs.Int.Signed.{lt_z}
 use Rattle.std.proofs.lemmas.Int.{ints, to_z-of_z}
@@ -20,3 +21,9 @@ returns c =
     let apart : c.times-left.result ≢ c.times-right.result = search rules in
     ap₂ (λ x y. Some (lt_z x y)) left right
     ∙ less_of c.times-left.result c.times-right.result (c.args.other *ℤ c.args.x -ℤ c.args.own *ℤ c.args.y) (sym (ap₂ (λ x y. x -ℤ y) first second)) apart
+
+pub times-left-requires : goal.times-left-requires
+times-left-requires = grind (arith, common_steps)
+
+pub times-right-requires : goal.times-right-requires
+times-right-requires = grind (arith, common_steps)

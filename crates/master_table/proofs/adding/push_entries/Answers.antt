@@ -1,4 +1,5 @@
 use Rattle.std.proofs.Common.{◌≡◌, ◌∙◌, ◌<◌, ℕ, add-one, arith, rules, ap, sym, subst, map, take, drop, ◌++◌, pos, get_or, set, get_or-set_other, length-set, vec_len, vec_capacity, FitsSigned}
+use Rattle.std.proofs.lemmas.Grind.{common_steps}
 use Rattle.std.specs.Int.{w128}
 use Rattle.std.proofs.lemmas.Int.{to_z-of_z}
 use Rattle.master_table.specs.declared.rows.Row.{Row}
@@ -22,3 +23,6 @@ loop-i-preserved c =
       rows = ap (λ (k : ℕ). map equation_of (take k (set rows i c.push_entry.new.row)) ++ extended_rows (map equation_of (drop k (set rows i c.push_entry.new.row))) (drop k entries)) (add-one i) ∙ more ∙ c.loop-i.invariant.rows;
       room = λ k d le lt. subst (λ (row : Row). vec_len row.entries < vec_capacity row.entries) (sym (get_or-set_other rows i k c.push_entry.new.row d (λ e. absurd (omega arith)))) (c.loop-i.invariant.room k d (omega arith) (omega (arith, length-set rows i c.push_entry.new.row)));
     }
+
+pub returns : goal.returns
+returns = grind (arith, common_steps)

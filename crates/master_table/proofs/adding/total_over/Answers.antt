@@ -1,4 +1,5 @@
 use Rattle.std.proofs.Common.{◌≡◌, ◌∙◌, ◌+◌, ◌*◌, ◌<◌, ◌≤◌, ◌^◌, pos, ◌+ℤ◌, cond, get_or, length, drop, arith, rules, ap, sym, subst, unsigned_abs, FitsSigned, to_z, of_z}
+use Rattle.std.proofs.lemmas.Grind.{common_steps}
 use Rattle.std.specs.Int.{w128}
 use Rattle.std.proofs.lemmas.Int.{ints, to_z-of_z}
 use Rattle.fleet_model.specs.Equations.{serves, route, total_from}
@@ -24,3 +25,6 @@ loop-c-preserved c =
       sum = ap (λ z. z +ℤ total_from s (at + 1) (drop (at + 1) xs)) same ∙ total_step s at xs (to_z w128 c.loop-c.sum-bits) c.number_if_in-sum.result (total_from s 0 xs) below part c.loop-c.invariant.sum;
       small = subst (λ z. unsigned_abs z ≤ (at + 1) * 2 ^ 84) (sym same) (omega (arith, ints));
     }
+
+pub overflow_add-sum : goal.overflow_add-sum
+overflow_add-sum = grind (arith, common_steps)

@@ -1,4 +1,5 @@
 use Rattle.std.proofs.Common.{◌≡◌, ◌≤◌, ◌^◌, ◌*ℤ◌, ◌-ℤ◌, ◌*◌, arith, rules, FitsSigned, to_z, of_z, refl}
+use Rattle.std.proofs.lemmas.Grind.{common_steps}
 use Rattle.std.specs.Int.{w128}
 use Rattle.std.specs.Prelude.{unsigned_abs}
 use Rattle.std.proofs.lemmas.Int.{ints, to_z-of_z}
@@ -33,3 +34,9 @@ returns c =
     let right : unsigned_abs c.times-right.result ≤ 2 ^ 125 = small_product c.args.by c.args.y _ (2 ^ 85) (2 ^ 40) second (omega arith) (omega arith) in
     let difference : to_z w128 (of_z w128 (to_z w128 (of_z w128 c.times-left.result) -ℤ to_z w128 (of_z w128 c.times-right.result))) ≡ c.times-left.result -ℤ c.times-right.result = omega (arith, ints) in
     rw (difference, first, second) refl
+
+pub times-right-requires : goal.times-right-requires
+times-right-requires = grind (arith, common_steps)
+
+pub times-left-requires : goal.times-left-requires
+times-left-requires = grind (arith, common_steps)

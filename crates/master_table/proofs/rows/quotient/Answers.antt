@@ -1,4 +1,5 @@
 use Rattle.std.proofs.Common.{◌≡◌, ◌∙◌, sym, arith, rules, FitsSigned, int_div, ◌*ℤ◌, to_z, of_z}
+use Rattle.std.proofs.lemmas.Grind.{common_steps}
 use Rattle.std.specs.Int.{w128}
 use Rattle.std.proofs.lemmas.Int.{ints, quot_is, quot_fits, to_z-of_z}
 use Rattle.master_table.proofs.Quotients.{exact_quotient}
@@ -21,3 +22,9 @@ returns c =
     let d : FitsSigned w128 c.args.d = c.ranges.d in
     let fits : FitsSigned w128 (int_div c.args.x c.args.d) = quot_fits w128 c.args.x c.args.d x c.requires in
     quot_is w128 c.args.x c.args.d x d fits
+
+pub nonzero_div-result : goal.nonzero_div-result
+nonzero_div-result = grind (arith, common_steps)
+
+pub times-requires : goal.times-requires
+times-requires = grind (arith, common_steps)

@@ -1,4 +1,5 @@
 use Rattle.std.proofs.Common.{◌≡◌, ◌≢◌, ◌∙◌, arith, rules, sym, ap, ap₂, pos, get_or, vec_len, FitsSigned, of_z}
+use Rattle.std.proofs.lemmas.Grind.{common_steps, elements}
 use Rattle.std.specs.Int.{w128}
 use Rattle.std.proofs.lemmas.Int.{to_z-of_z}
 use Rattle.std.proofs.lemmas.List.{get_or_read_under}
@@ -20,3 +21,18 @@ returns c =
     let found = simp to_z-of_z at c.next_row.ensures in
     let same = ap₂ (λ f g. reduced_row c.args.n (combined_row f g row turned)) own_is by_is ∙ sym (row_after-other c.args.n c.args.r c.args.col c.args.i turned row c.if-i-r.false some) in
     IfOk-weaker c.next_row.result _ _ (λ v e. e ∙ same) found
+
+pub next_row-requires-clause-own : goal.next_row-requires-clause-own
+next_row-requires-clause-own = grind (arith, common_steps)
+
+pub next_row-requires-clause-row : goal.next_row-requires-clause-row
+next_row-requires-clause-row = grind (arith, common_steps)
+
+pub next_row-requires-clause-turned : goal.next_row-requires-clause-turned
+next_row-requires-clause-turned = grind (arith, common_steps)
+
+pub returns-then-by-eq0 : goal.returns-then-by-eq0
+returns-then-by-eq0 = grind (arith, common_steps)
+
+pub next_row-requires-clause-some : goal.next_row-requires-clause-some
+next_row-requires-clause-some = grind (arith, elements)

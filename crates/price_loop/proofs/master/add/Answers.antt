@@ -1,4 +1,5 @@
-use Rattle.std.proofs.Common.{◌≡◌, ◌∙◌, ◌++◌, ◌∷◌, [], ap, Err, List, rules, subst, sym}
+use Rattle.std.proofs.Common.{◌≡◌, ◌∙◌, ◌++◌, ◌∷◌, [], ap, Err, List, rules, subst, sym, arith}
+use Rattle.std.proofs.lemmas.Grind.{common_steps}
 use Rattle.fleet_model.specs.Equations.{route}
 use Rattle.master_table.specs.Tableau.{Tableau}
 use Rattle.master_table.specs.declared.caps.TableFault.{TableFault}
@@ -27,3 +28,6 @@ returns-in_ok-basis-in-Err-Wide-clause-fault g c =
     let past = refused_column q caps m c.requires.master (route c.set-set.result c.cost-cost.result) c.args.route c.in-Err-Wide.field-0-0 c.requires.route same c.add_column.ensures.tableau wide.0 in
     subst (λ (rs : List g.row.E-Route.Denot). IsWide q caps rs c.in_ok-basis-in-Err-Wide.basis.items) (sym pushed)
     (subst (λ bs. IsWide q caps (m.routes.items ++ c.args.route ∷ []) bs) (sym basis) past)
+
+pub returns-in-Ok-clause-more : goal.returns-in-Ok-clause-more
+returns-in-Ok-clause-more = grind (arith, common_steps)

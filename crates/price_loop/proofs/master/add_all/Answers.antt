@@ -1,4 +1,5 @@
 use Rattle.std.proofs.Common.{◌≡◌, ◌++◌, ◌∷◌, [], List, ap, arith, length, refl, subst}
+use Rattle.std.proofs.lemmas.Grind.{common_steps}
 use Rattle.std.specs.List.{All}
 use Rattle.std.proofs.lemmas.List.{length-append}
 use Rattle.std.proofs.lemmas.List.Elements.{All-tail}
@@ -22,3 +23,6 @@ loop-route-preserved g c =
       more = (let was = at.invariant.more in omega (arith, was, short, longer, one_more));
       count = (let was = at.invariant.count in omega (arith, was, gone, short));
     }
+
+pub add-requires-clause-master : goal.add-requires-clause-master
+add-requires-clause-master = grind (arith, common_steps)

@@ -1,4 +1,5 @@
 use Rattle.std.proofs.Common.{◌∙◌, List, arith, subst, sym}
+use Rattle.std.proofs.lemmas.Grind.{common_steps}
 use Rattle.std.specs.List.{All}
 use Rattle.price_loop.specs.Problems.{IsEarned, IsEarning}
 use Rattle.price_loop.specs.declared.earners.Earned.{Earned}
@@ -32,3 +33,9 @@ excess-other-requires-clause-earns g c =
     let better = holds_at (IsEarning q 1 ps) c.deref-route-items.result.now c.loop-route.route-index c.route-item.result c.loop-route-test.true c.route-item.is all in
     let more = worth_more q 1 c.args.of.now ps same c.route-item.result better in
     omega (arith, more)
+
+pub loop-route-init : goal.loop-route-init
+loop-route-init = grind (arith, common_steps)
+
+pub excess-other-requires-clause-route : goal.excess-other-requires-clause-route
+excess-other-requires-clause-route = grind (arith, common_steps)

@@ -1,4 +1,5 @@
 use Rattle.std.proofs.Common.{◌≡◌, ◌∙◌, ◌+◌, ◌<◌, ◌^◌, suc, arith, rules, sym, ap, subst, take, length, get_or, [], ◌∷◌, ◌++◌, Some}
+use Rattle.std.proofs.lemmas.Grind.{common_steps}
 use Rattle.std.proofs.lemmas.Option.{none-some}
 use Rattle.master_table.specs.Adding.{first_past_row, with_column}
 use Rattle.master_table.specs.Fresh.{fresh}
@@ -35,3 +36,6 @@ loop-route-preserved c =
     let more : take (i + 1) routes ≡ take i routes ++ c.route-item.result ∷ [] = ap (λ k. take k routes) (sym one) ∙ take_last routes i c.route-item.result inside ∙ ap (λ x. take i routes ++ x ∷ []) item in
     subst (λ t. IsHelperTable c.args.n (limits_of c.args.caps) (take (i + 1) routes) t) (sym is)
     (subst (λ xs. IsHelperTable c.args.n (limits_of c.args.caps) xs (with_column (column_of c.route-item.result) c.loop-route.table)) (sym more) made)
+
+pub returns : goal.returns
+returns = grind (arith, common_steps)

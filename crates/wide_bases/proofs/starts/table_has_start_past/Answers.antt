@@ -1,4 +1,5 @@
 use Rattle.std.proofs.Common.{◌≡◌, ◌+◌, ◌<◌, ◌≤◌, suc, arith, rules, refl, sym, subst, length, get_or, ◌∷◌, None, Some}
+use Rattle.std.proofs.lemmas.Grind.{elements}
 use Rattle.std.proofs.lemmas.Bool.{both_ways}
 use Rattle.master_table.specs.Tableau.{IsBasisPast, size}
 use Rattle.wide_bases.specs.Leaving.{IsLastToGo, brought}
@@ -57,3 +58,6 @@ pub returns-clause-within : goal.returns-clause-within
 returns-clause-within c e p =
     let end : length c.args.entries.now ≤ c.loop-col.col-index = search (rules, arith) in
     going_end c.args.t.now c.loop-col.t c.args.entries.now c.loop-col.col-index c.loop-col.taken c.loop-col.invariant end (λ q. both_ways c.is_past-2.result e (c.is_past-2.ensures.1 q)) p
+
+pub bring_in-requires-clause-col : goal.bring_in-requires-clause-col
+bring_in-requires-clause-col = grind (arith, elements)

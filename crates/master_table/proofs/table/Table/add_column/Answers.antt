@@ -1,4 +1,5 @@
 use Rattle.std.proofs.Common.{None, [], ◌∷◌, ◌++◌, ◌≡◌, ◌∙◌, ◌<◌, ◌≤◌, arith, ap, subst, sym, length, get_or, map, rules, unsigned_abs, ℕ, ◌^◌}
+use Rattle.std.proofs.lemmas.Grind.{common_steps}
 use Rattle.fleet_model.specs.Equations.{route}
 use Rattle.master_table.specs.Adding.{new_entries, past_row}
 use Rattle.master_table.specs.RowView.{IsSmallRow, equation_of, limits_of}
@@ -59,3 +60,12 @@ invariant_of-self-2 c =
 
 pub returns-clause-tableau : goal.returns-clause-tableau
 returns-clause-tableau c = column_tableau c.self.inside c.args.self.now c.self.view_is c.self.invariant c.args.set c.args.cost
+
+pub prove-unreachable-requires : goal.prove-unreachable-requires
+prove-unreachable-requires = grind (arith, common_steps)
+
+pub returns-clause-ok : goal.returns-clause-ok
+returns-clause-ok = grind (arith, common_steps)
+
+pub push_entries-requires-clause-room : goal.push_entries-requires-clause-room
+push_entries-requires-clause-room = grind (arith, common_steps)

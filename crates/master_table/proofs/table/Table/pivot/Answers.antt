@@ -1,4 +1,5 @@
 use Rattle.std.proofs.Common.{◌≡◌, ◌∙◌, arith, sym, refl, length, rules, IsErrOf}
+use Rattle.std.proofs.lemmas.Grind.{common_steps}
 use Rattle.master_table.specs.declared.caps.TableFault.TheVariants.{Wide}
 use Rattle.master_table.proofs.TableFacts.{all_small, all_some, first_same, index_small, new_table, pivot_rows, pivot_same, pivot_solutions, pivot_tableau, turned_length, turned_small}
 use Rattle.master_table.specs.Pivoting.{pivoted}
@@ -77,3 +78,30 @@ returns-clause-rows c = pivot_rows c.self.inside c.args.self.now c.self.view_is 
 
 pub returns-clause-solutions : goal.returns-clause-solutions
 returns-clause-solutions c = pivot_solutions c.self.inside c.args.self.now c.self.view_is c.self.invariant c.args.row c.args.col c.requires.row c.requires.col c.requires.entry
+
+pub rows_after-requires-clause-col : goal.rows_after-requires-clause-col
+rows_after-requires-clause-col = grind (arith, common_steps)
+
+pub returns-clause-ok : goal.returns-clause-ok
+returns-clause-ok = grind (arith, common_steps)
+
+pub rows_after-requires-clause-helpers : goal.rows_after-requires-clause-helpers
+rows_after-requires-clause-helpers = grind (arith, common_steps)
+
+pub returns-clause-past : goal.returns-clause-past
+returns-clause-past = grind (arith, common_steps)
+
+pub turn_row-requires-clause-col : goal.turn_row-requires-clause-col
+turn_row-requires-clause-col = grind (arith, common_steps)
+
+pub index_mut-requires : goal.index_mut-requires
+index_mut-requires = grind (arith, common_steps)
+
+pub index-requires : goal.index-requires
+index-requires = grind (arith, common_steps)
+
+pub returns-in_default-clause-past : goal.returns-in_default-clause-past
+returns-in_default-clause-past = grind (arith, common_steps)
+
+pub returns-clause-within : goal.returns-clause-within
+returns-clause-within = grind (arith, common_steps)

@@ -1,0 +1,9 @@
+use Rattle.std.proofs.Common.{arith}
+use Rattle.std.proofs.lemmas.Grind.{common_steps}
+use Rattle.master_table.proofs.rows.negate_all.Goals as goal
+
+pub loop-x-preserved : goal.loop-x-preserved
+loop-x-preserved = grind (arith, common_steps)
+
+pub returns : goal.returns
+returns = grind (arith, common_steps)
