@@ -1,3 +1,5 @@
+use Rattle.std.proofs.Common.{arith}
+use Rattle.std.proofs.lemmas.Grind.{common_steps}
 use Rattle.bound_certificate.specs.Ranges.{SectionFits}
 use Rattle.certificate_parts.proofs.EachItem.{all_hold, item_holds}
 use Rattle.bound_certificate.proofs.ranges.sections_fit.Goals as goal
@@ -8,3 +10,6 @@ loop-section-preserved c =
 
 pub returns : goal.returns
 returns c = all_hold (SectionFits c.args.inst.now) c.args.sections.now c.loop-section.section-index c.loop-section.auto.section-index-end c.loop-section-test.false c.loop-section.invariant
+
+pub returns-then-not-section_fits : goal.returns-then-not-section_fits
+returns-then-not-section_fits = grind (arith, common_steps)

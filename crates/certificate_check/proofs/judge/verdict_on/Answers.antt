@@ -1,4 +1,5 @@
-use Rattle.std.proofs.Common.{◌≡◌, ◌∷◌, [], List, None, Some, get_or, subst}
+use Rattle.std.proofs.Common.{◌≡◌, ◌∷◌, [], List, None, Some, get_or, subst, arith}
+use Rattle.std.proofs.lemmas.Grind.{common_steps}
 use Rattle.customer_sets.specs.Pairs.{any_pair}
 use Rattle.fleet_model.specs.ClosedList.{IsClosed}
 use Rattle.bound_certificate.specs.Meaning.{priced_section, priced_sections}
@@ -46,3 +47,6 @@ returns-else-branch c =
     let leaves = subst (TellsFirst (LeafHolds (priced_sections cert.sections) cert.bound) (IsLeafFault (priced_sections cert.sections) cert.bound) (leaves_along (any_pair ∷ []) cert.tree)) c.in_default-2.is c.in_ok-fault-2.ensures in
     let at = there priced_section cert.sections 0 s c.requires.fits.some (subst (λ (ss : List Section). s ≡ get_or ss 0 s) c.as_slice-sections.ensures c.index-sections-0.is) in
     root_broken g cert (priced_section s) closed leaves at (subst (TellsRoot g (priced_section s) cert.root) c.if-branch.false c.in_ok-root_holds.ensures)
+
+pub root_holds-requires-clause-fits : goal.root_holds-requires-clause-fits
+root_holds-requires-clause-fits = grind (arith, common_steps)

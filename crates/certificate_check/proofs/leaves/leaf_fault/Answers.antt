@@ -1,4 +1,5 @@
 use Rattle.std.proofs.Common.{◌≡◌, ◌∙◌, ◌+◌, ◌<◌, ◌∷◌, ◌++◌, [], get_or, Global, length, List, arith, ap, sym, subst, Vec}
+use Rattle.std.proofs.lemmas.Grind.{common_steps}
 use Rattle.customer_sets.specs.Pairs.{allows_of, any_pair, ForbiddenPairs}
 use Rattle.bound_certificate.specs.Meaning.{priced_section, priced_sections}
 use Rattle.bound_certificate.specs.Ranges.{customer_count}
@@ -76,3 +77,15 @@ loop-line-preserved c =
             few = let same = w.leaf-is in omega (arith, few, same);
           }
     ]
+
+pub open_children-requires-clause-first : goal.open_children-requires-clause-first
+open_children-requires-clause-first = grind (arith, common_steps)
+
+pub returns : goal.returns
+returns = grind (arith, common_steps)
+
+pub open_children-requires-clause-second : goal.open_children-requires-clause-second
+open_children-requires-clause-second = grind (arith, common_steps)
+
+pub open_children-requires-clause-apart : goal.open_children-requires-clause-apart
+open_children-requires-clause-apart = grind (arith, common_steps)

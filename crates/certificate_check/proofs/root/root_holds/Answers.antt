@@ -1,4 +1,5 @@
-use Rattle.std.proofs.Common.{List, refl, subst, sym}
+use Rattle.std.proofs.Common.{List, refl, subst, sym, arith}
+use Rattle.std.proofs.lemmas.Grind.{common_steps}
 use Rattle.std.specs.Prelude.{IfOk}
 use Rattle.route_plan.specs.declared.plan.RoutePlan.{RoutePlan}
 use Rattle.bound_certificate.specs.Meaning.{priced_section, route_shares}
@@ -35,3 +36,9 @@ returns-in-Exact c =
     let exact = subst (λ (xs : List Share). IfOk c.is_exact.result (TellsExact g s c.in-Exact.over (route_shares xs))) c.as_slice-in-Exact.ensures c.is_exact.ensures in
     subst (λ (r : Root). IfOk c.is_exact.result (TellsRoot g s r)) (sym c.in-Exact.is)
     (exact_told g s c.in-Exact.over c.in-Exact.shares c.is_exact.result (λ a b. c.within.ensures.0 c.if-not-within.false a b (c.new.ensures.pairs a b)) exact)
+
+pub is_wide-requires-clause-basis : goal.is_wide-requires-clause-basis
+is_wide-requires-clause-basis = grind (arith, common_steps)
+
+pub returns-then-not-within : goal.returns-then-not-within
+returns-then-not-within = grind (arith, common_steps)

@@ -1,4 +1,5 @@
-use Rattle.std.proofs.Common.{◌+◌, refl, subst, sym, take}
+use Rattle.std.proofs.Common.{◌+◌, refl, subst, sym, take, arith}
+use Rattle.std.proofs.lemmas.Grind.{common_steps}
 use Rattle.bound_certificate.specs.declared.certificate.Share.{Share}
 use Rattle.certificate_check.specs.Routes.{IsListedRoute}
 use Rattle.certificate_check.specs.Shares.{AreShared, IsSharedRoute}
@@ -27,3 +28,6 @@ returns-in_default c =
       there route_share c.args.shares.now c.loop-share.share-index x c.loop-share-test.true c.share-item.is,
       subst (λ stops. IsFleetRoute c.args.inst.now 1 stops → ⊥) c.as_slice.ensures c.in_default.ensures.none,
     )
+
+pub returns : goal.returns
+returns = grind (arith, common_steps)

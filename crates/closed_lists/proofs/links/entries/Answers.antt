@@ -1,4 +1,5 @@
-use Rattle.std.proofs.Common.{rules}
+use Rattle.std.proofs.Common.{rules, arith}
+use Rattle.std.proofs.lemmas.Grind.{common_steps}
 use Rattle.std.proofs.lemmas.List.Sorted.{All-permutation, answers_always, Contains-permutation, IsNonDecreasingBy-from_sort_by_key, IsPermutation-trans, ties_still_rise}
 use Rattle.ev_model.specs.Network.{node_count}
 use Rattle.closed_lists.specs.Links.{IsEntry}
@@ -16,3 +17,6 @@ returns-clause-entries c =
       every = λ i less. let has = c.in_ok-entries.ensures.every i less in (has.0, Contains-permutation _ _ has.0 moved has.1, has.2);
       order = in_order _ keys ties;
     }
+
+pub returns-clause-network : goal.returns-clause-network
+returns-clause-network = grind (arith, common_steps)

@@ -1,4 +1,5 @@
 use Rattle.std.proofs.Common.{◌≡◌, ◌∙◌, ◌+◌, ◌*◌, ◌≤◌, ap, refl, sym, subst, arith, rules, FitsSigned, to_z, of_z, unsigned_abs, ◌^◌, List, [], ◌∷◌}
+use Rattle.std.proofs.lemmas.Grind.{common_steps}
 use Rattle.std.specs.List.{All}
 use Rattle.std.proofs.lemmas.List.Elements.{All-append, All-cons, All-nil}
 use Rattle.std.specs.Int.{w128}
@@ -32,3 +33,21 @@ loop-number-preserved c =
       each = subst (λ (es : List Entry). All (IsEntry (node_count c.args.inst.now) c.args.prices.now c.args.labels.now) es) (sym c.in_ok-push.ensures.items) (All-append (IsEntry (node_count c.args.inst.now) c.args.prices.now c.args.labels.now) old (e ∷ []) c.loop-number.invariant.each (All-cons (IsEntry (node_count c.args.inst.now) c.args.prices.now c.args.labels.now) e [] is (All-nil (IsEntry (node_count c.args.inst.now) c.args.prices.now c.args.labels.now))));
       every = subst (λ (es : List Entry). HasEntries (c.loop-number.number + 1) es) (sym c.in_ok-push.ensures.items) (every_more c.loop-number.number old e c.loop-number.invariant.every refl);
     }
+
+pub returns-clause-network : goal.returns-clause-network
+returns-clause-network = grind (arith, common_steps)
+
+pub overflow_mul-label : goal.overflow_mul-label
+overflow_mul-label = grind (arith, common_steps)
+
+pub returns-clause-every : goal.returns-clause-every
+returns-clause-every = grind (arith, common_steps)
+
+pub loop-number-init : goal.loop-number-init
+loop-number-init = grind (arith, common_steps)
+
+pub price_sum-requires-clause-small : goal.price_sum-requires-clause-small
+price_sum-requires-clause-small = grind (arith, common_steps)
+
+pub overflow_add-label : goal.overflow_add-label
+overflow_add-label = grind (arith, common_steps)

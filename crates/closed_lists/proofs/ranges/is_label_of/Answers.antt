@@ -1,4 +1,5 @@
 use Rattle.std.proofs.Common.{◌≡◌, ◌∙◌, ℕ, ◌-◌, List, length, ap, arith}
+use Rattle.std.proofs.lemmas.Grind.{common_steps}
 use Rattle.std.specs.Prelude.{slice_index_or}
 use Rattle.std.proofs.lemmas.Bool.{le-leb, leb-true}
 use Rattle.charge_curve.specs.Points.{ArePoints, last_level}
@@ -26,3 +27,9 @@ returns c =
           },
       λ l. le-leb _ _ (let top = l.levels (last_level value) (is_level value (last_level value) are (first_is_least value are) (omega arith)) in omega (arith, top, last, full)),
     )
+
+pub bounds-points-points : goal.bounds-points-points
+bounds-points-points = grind (arith, common_steps)
+
+pub overflow_sub-result : goal.overflow_sub-result
+overflow_sub-result = grind (arith, common_steps)

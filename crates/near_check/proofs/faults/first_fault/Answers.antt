@@ -1,4 +1,5 @@
-use Rattle.std.proofs.Common.{subst}
+use Rattle.std.proofs.Common.{subst, arith}
+use Rattle.std.proofs.lemmas.Grind.{common_steps}
 use Rattle.near_check.specs.Faults.{Judged, terms_in}
 use Rattle.near_check.specs.Judging.{TellsBadEnd, TellsBadStep}
 use Rattle.near_check.proofs.Verdicts.{closed, end_first, start_first, step_first}
@@ -28,3 +29,12 @@ returns c =
     let begins = c.covers_start.ensures.covered c.if-not-covers_start.false in
     let steps = subst (TellsBadStep c.args.inst.now (record { terms = terms_in c.args.terms; labels = c.args.labels.now })) c.in_default.is c.in_ok-label.ensures in
     closed c.args.inst.now j begins steps (subst (TellsBadEnd c.args.inst.now (record { terms = terms_in c.args.terms; labels = c.args.labels.now })) c.in-None.is c.in_ok-label-2.ensures)
+
+pub covers_start-requires : goal.covers_start-requires
+covers_start-requires = grind (arith, common_steps)
+
+pub bad_step-requires : goal.bad_step-requires
+bad_step-requires = grind (arith, common_steps)
+
+pub bad_end-requires : goal.bad_end-requires
+bad_end-requires = grind (arith, common_steps)

@@ -1,4 +1,5 @@
-use Rattle.std.proofs.Common.{◌∙◌, ◌+◌, ap, refl, sym, subst, List, [], ◌∷◌}
+use Rattle.std.proofs.Common.{◌∙◌, ◌+◌, ap, refl, sym, subst, List, [], ◌∷◌, arith}
+use Rattle.std.proofs.lemmas.Grind.{common_steps}
 use Rattle.std.specs.List.{All}
 use Rattle.std.proofs.lemmas.List.Elements.{All-append, All-cons, All-nil}
 use Rattle.dominance.specs.LevelTimes.{time_at}
@@ -23,3 +24,9 @@ loop-number-preserved c =
       each = subst (λ (es : List Entry). All (IsEntry c.args.labels.now) es) (sym c.in_ok-push.ensures.items) (All-append (IsEntry c.args.labels.now) old (e ∷ []) c.loop-number.invariant.each (All-cons (IsEntry c.args.labels.now) e [] is (All-nil (IsEntry c.args.labels.now))));
       every = subst (λ (es : List Entry). HasEntries (c.loop-number.number + 1) es) (sym c.in_ok-push.ensures.items) (every_more c.loop-number.number old e c.loop-number.invariant.every refl);
     }
+
+pub returns-clause-every : goal.returns-clause-every
+returns-clause-every = grind (arith, common_steps)
+
+pub loop-number-init : goal.loop-number-init
+loop-number-init = grind (arith, common_steps)

@@ -1,4 +1,5 @@
 use Rattle.std.proofs.Common.{◌≡◌, ◌∙◌, ℕ, List, length, ap, sym, subst, arith, ◌+◌, [], ltb-true}
+use Rattle.std.proofs.lemmas.Grind.{common_steps}
 use Rattle.std.specs.Prelude.{is_some}
 use Rattle.std.proofs.lemmas.Bool.{false≢true, lt-ltb}
 use Rattle.ev_model.specs.Fleet.{ServesOnly, times_in}
@@ -56,3 +57,12 @@ returns c =
       λ less. tight_route g (terms_of c.args.proof.now) c.args.customer stops feasible only (omega (arith, few, c.len.ensures, listed, count)) keeps (omega (arith, some, visits)) (let low = ltb-true c.from.result (c.earned_by-earned.result + c.times_in-visits.result) less in omega (arith, low, time, earned, visits)),
       λ tight. lt-ltb c.from.result (c.earned_by-earned.result + c.times_in-visits.result) (let low = tight.time in omega (arith, low, time, earned, visits)),
     )
+
+pub keeps_memory-requires-clause-few : goal.keeps_memory-requires-clause-few
+keeps_memory-requires-clause-few = grind (arith, common_steps)
+
+pub keeps_memory-requires-clause-known : goal.keeps_memory-requires-clause-known
+keeps_memory-requires-clause-known = grind (arith, common_steps)
+
+pub returns-then-not-keeps_memory : goal.returns-then-not-keeps_memory
+returns-then-not-keeps_memory = grind (arith, common_steps)

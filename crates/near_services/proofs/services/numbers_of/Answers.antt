@@ -1,4 +1,5 @@
-use Rattle.std.proofs.Common.{◌≡◌, ◌<◌, ℕ, ◌++◌, ◌+◌, List, [], ◌∷◌, drop, length, sym, subst, false}
+use Rattle.std.proofs.Common.{◌≡◌, ◌<◌, ℕ, ◌++◌, ◌+◌, List, [], ◌∷◌, drop, length, sym, subst, false, arith}
+use Rattle.std.proofs.lemmas.Grind.{common_steps}
 use Rattle.std.specs.List.{All}
 use Rattle.std.proofs.lemmas.List.Elements.{All-append, All-cons, All-nil}
 use Rattle.fleet_model.specs.Places.{numbers_of}
@@ -18,3 +19,6 @@ loop-stop-preserved c =
       within = subst (λ (ns : List ℕ). All (λ m. m < length (customer_nodes c.args.inst.now)) ns) (sym c.in_ok-push.ensures.items)
           (All-append P old (n ∷ []) c.loop-stop.invariant.within (All-cons P n [] c.in-Some.ensures.within (All-nil P)));
     }
+
+pub returns-clause-value : goal.returns-clause-value
+returns-clause-value = grind (arith, common_steps)

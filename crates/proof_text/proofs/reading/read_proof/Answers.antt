@@ -1,4 +1,5 @@
 use Rattle.std.proofs.Common.{arith, rules, ◌≡◌, ◌≢◌, Err, false}
+use Rattle.std.proofs.lemmas.Grind.{common_steps}
 use Rattle.certificate_parts.specs.declared.cert_text.CertText.TheVariants.{Memory}
 use Rattle.proof_text.specs.ProofIn.{has_other_version, proof_in}
 use Rattle.proof_text.proofs.ProofLaws.{proof_is_spelled}
@@ -27,3 +28,6 @@ returns-clause-ok c =
 pub returns-clause-spelled : goal.returns-clause-spelled
 returns-clause-spelled c =
     (proof_is_spelled c.args.inst.now c.args.route.now c.nodes-nodes.ensures.network c.requires (omega arith) c.args.bytes.now c.in_ok-proof.proof).0 (returns-clause-ok c)
+
+pub take_proof-requires : goal.take_proof-requires
+take_proof-requires = grind (arith, common_steps)

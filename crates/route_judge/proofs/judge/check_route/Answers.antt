@@ -1,4 +1,5 @@
-use Rattle.std.proofs.Common.{List, Option, subst}
+use Rattle.std.proofs.Common.{List, Option, subst, arith}
+use Rattle.std.proofs.lemmas.Grind.{common_steps}
 use Rattle.route_proof.specs.Closed.{AreClosed, IsAccepted}
 use Rattle.route_proof.specs.Verdicts.{IsVerdict}
 use Rattle.route_proof.specs.declared.proof.RouteLabel.{RouteLabel}
@@ -23,3 +24,12 @@ returns-in-None-clause-shows c is =
     let closed = subst (λ b. AreClosed (record { network = c.args.inst.now; route = c.args.route.now; start = c.args.start }) b c.args.proof.now.labels) c.in-Ok.ensures.bar listed in
     let accepted : IsAccepted t c.args.proof.now = record { plan = c.in-Ok.ensures.good; closed = closed } in
     accepted_is_true t c.args.proof.now c.nodes.ensures.network c.requires.route c.requires.fits.labels accepted
+
+pub returns-in-None-clause-verdict : goal.returns-in-None-clause-verdict
+returns-in-None-clause-verdict = grind (arith, common_steps)
+
+pub returns-in-Some-End-clause-verdict : goal.returns-in-Some-End-clause-verdict
+returns-in-Some-End-clause-verdict = grind (arith, common_steps)
+
+pub returns-in-Some-Step-clause-verdict : goal.returns-in-Some-Step-clause-verdict
+returns-in-Some-Step-clause-verdict = grind (arith, common_steps)

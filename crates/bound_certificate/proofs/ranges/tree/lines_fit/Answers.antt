@@ -1,3 +1,5 @@
+use Rattle.std.proofs.Common.{arith}
+use Rattle.std.proofs.lemmas.Grind.{common_steps}
 use Rattle.std.proofs.lemmas.List.Elements.{All-more}
 use Rattle.bound_certificate.specs.Ranges.{LineFits}
 use Rattle.certificate_parts.proofs.EachItem.{all_hold}
@@ -9,3 +11,6 @@ loop-line-preserved c =
 
 pub returns : goal.returns
 returns c = all_hold (LineFits c.args.customers c.args.sections) c.args.lines.now c.loop-line.line-index c.loop-line.auto.line-index-end c.loop-line-test.false c.loop-line.invariant
+
+pub returns-then-not-line_fits : goal.returns-then-not-line_fits
+returns-then-not-line_fits = grind (arith, common_steps)

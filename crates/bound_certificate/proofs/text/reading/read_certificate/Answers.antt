@@ -1,4 +1,5 @@
 use Rattle.std.proofs.Common.{arith, rules, ◌≡◌, ◌≢◌, Err, false}
+use Rattle.std.proofs.lemmas.Grind.{common_steps}
 use Rattle.bound_certificate.specs.CertificateIn.{certificate_in, has_other_version}
 use Rattle.bound_certificate.specs.Written.{written}
 use Rattle.certificate_parts.specs.declared.cert_text.CertText.TheVariants.{Memory}
@@ -31,3 +32,6 @@ returns-clause-spelled c =
 
 pub returns-clause-one : goal.returns-clause-one
 returns-clause-one c = λ d is. one_certificate c.args.inst.now c.nodes-nodes.ensures.network c.requires c.args.bytes.now c.in_ok-certificate.certificate d (returns-clause-spelled c) is
+
+pub returns-then-len-gt-MOST_BYTES-clause-fault : goal.returns-then-len-gt-MOST_BYTES-clause-fault
+returns-then-len-gt-MOST_BYTES-clause-fault = grind (arith, common_steps)

@@ -1,3 +1,5 @@
+use Rattle.std.proofs.Common.{arith}
+use Rattle.std.proofs.lemmas.Grind.{common_steps}
 use Rattle.std.proofs.lemmas.List.Elements.{All-more}
 use Rattle.certificate_parts.specs.Ranges.{EntryFits}
 use Rattle.certificate_parts.proofs.EachItem.{all_hold}
@@ -9,3 +11,6 @@ loop-entry-preserved c =
 
 pub returns : goal.returns
 returns c = all_hold (EntryFits c.args.customers c.args.columns) c.args.basis.now c.loop-entry.entry-index c.loop-entry.auto.entry-index-end c.loop-entry-test.false c.loop-entry.invariant
+
+pub returns-then-not-entry_fits : goal.returns-then-not-entry_fits
+returns-then-not-entry_fits = grind (arith, common_steps)

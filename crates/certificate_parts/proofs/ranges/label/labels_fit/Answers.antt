@@ -1,3 +1,5 @@
+use Rattle.std.proofs.Common.{arith}
+use Rattle.std.proofs.lemmas.Grind.{common_steps}
 use Rattle.certificate_parts.specs.Ranges.{LabelFits}
 use Rattle.certificate_parts.proofs.EachItem.{all_hold, item_holds}
 use Rattle.certificate_parts.proofs.ranges.label.labels_fit.Goals as goal
@@ -8,3 +10,6 @@ loop-label-preserved c =
 
 pub returns : goal.returns
 returns c = all_hold (LabelFits c.args.inst.now) c.args.labels.now c.loop-label.label-index c.loop-label.auto.label-index-end c.loop-label-test.false c.loop-label.invariant
+
+pub returns-then-not-label_fits : goal.returns-then-not-label_fits
+returns-then-not-label_fits = grind (arith, common_steps)

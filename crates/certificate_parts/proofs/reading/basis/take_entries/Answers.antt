@@ -1,4 +1,5 @@
 use Rattle.std.proofs.Common.{arith, rules, ◌∙◌, ◌+◌, ◌-◌, ◌∷◌, ◌++◌, [], List, ap, subst, sym}
+use Rattle.std.proofs.lemmas.Grind.{common_steps}
 use Rattle.certificate_parts.specs.declared.entry.BasisEntry.{BasisEntry}
 use Rattle.certificate_parts.proofs.RowReading.{Breaks, Reads, entries-begin, entries-break, entries-go_on, entries-no_mark, no_first_entry}
 use Rattle.certificate_parts.proofs.reading.basis.take_entries.Goals as goal
@@ -29,3 +30,6 @@ loop-preserved c =
     let found = subst (λ (xs : List BasisEntry). Reads c.args.inst.now c.args.columns xs c.word.new.self c.take_entry-in-loop.new.scan c.in_ok-entry.entry) c.deref-in-loop.ensures.value c.in_ok-entry.ensures.ok in
     entries-go_on c.args.inst.now c.args.columns c.args.scan.now c.args.count c.loop.scan c.word.new.self c.take_entry-in-loop.new.scan (c.args.count - c.loop.counter) (c.args.count - (c.loop.counter + 1)) c.loop.basis.items c.push-in-loop.new.self.items c.in_ok-entry.entry
     (omega arith) c.loop.invariant c.in_ok-word.ensures.ok found c.in_ok-entry.ensures.fits c.in_ok-push-2.ensures.items
+
+pub take_entry-requires-in-loop : goal.take_entry-requires-in-loop
+take_entry-requires-in-loop = grind (arith, common_steps)

@@ -1,4 +1,5 @@
-use Rattle.std.proofs.Common.{rules}
+use Rattle.std.proofs.Common.{rules, arith}
+use Rattle.std.proofs.lemmas.Grind.{common_steps}
 use Rattle.certificate_parts.proofs.SetReading.{members-begin, members-break, members-break_off, members-end, members-go_on, members-shorter}
 use Rattle.certificate_parts.proofs.reading.label.take_members.Goals as goal
 
@@ -29,3 +30,6 @@ returns-in_err-word-clause-fault c =
 pub returns-clause-ok : goal.returns-clause-ok
 returns-clause-ok c =
     members-end c.args.inst.now c.args.mark c.args.scan.now c.loop-last.scan c.take_if.new.self c.word.new.self c.loop-last.set c.loop-last.last c.loop-last.invariant c.loop-last-test.ensures c.in_ok-word.ensures.ok
+
+pub returns-clause-within : goal.returns-clause-within
+returns-clause-within = grind (arith, common_steps)

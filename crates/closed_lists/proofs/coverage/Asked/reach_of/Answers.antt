@@ -1,4 +1,5 @@
 use Rattle.std.proofs.Common.{◌≡◌, ◌∙◌, ◌-◌, ◌*◌, ◌<◌, ◌≤◌, ◌^◌, Fits, w64, ℕ, List, ap, arith, sym, subst, rules, pos, ◌+ℤ◌, ◌-ℤ◌, ◌<ℤ◌, ◌≤ℤ◌, FitsSigned, to_z, of_z}
+use Rattle.std.proofs.lemmas.Grind.{common_steps}
 use Rattle.std.specs.Int.{w128}
 use Rattle.std.specs.List.{Contains}
 use Rattle.std.specs.Prelude.{slice_index_or}
@@ -82,3 +83,15 @@ returns-in-None-clause-none c d covers =
     let fits : Fits w64 c.args.time = c.ranges.time in
     let early : time_at (level_times c.args.value.now) c.args.level < 2 ^ 64 = omega (arith, fits, c.requires.time) in
     pays_not c.args.self.now.question c.args.self.now.target c.args.value.now (slice_index_or c.args.self.now.question.labels c.args.entry.now.number d) c.args.level weighed early covers
+
+pub margin-requires-clause-theirs : goal.margin-requires-clause-theirs
+margin-requires-clause-theirs = grind (arith, common_steps)
+
+pub margin-requires-clause-own : goal.margin-requires-clause-own
+margin-requires-clause-own = grind (arith, common_steps)
+
+pub is_too_dear-requires-clause-own : goal.is_too_dear-requires-clause-own
+is_too_dear-requires-clause-own = grind (arith, common_steps)
+
+pub is_too_dear-requires-clause-theirs : goal.is_too_dear-requires-clause-theirs
+is_too_dear-requires-clause-theirs = grind (arith, common_steps)

@@ -1,4 +1,5 @@
 use Rattle.std.proofs.Common.{◌≡◌, ◌∙◌, ◌*◌, ◌<◌, ℕ, List, Option, Some, max, ap, sym, subst, arith, pos, ◌<ℤ◌, ◌↔◌, FitsSigned}
+use Rattle.std.proofs.lemmas.Grind.{common_steps}
 use Rattle.std.specs.Int.{w128}
 use Rattle.std.specs.Prelude.{IsTrue}
 use Rattle.std.proofs.lemmas.Int.{to_z-of_z}
@@ -28,3 +29,6 @@ returns-in-Some c =
     let paid = subst (λ p. IsTrue c.earns.result ↔ (pos (c.args.self.now.weight * c.least.result.1) <ℤ p)) c.requires.paid weighed in
     let time : c.least.result.1 ≡ time_at (level_times c.in-Some.value) (level_times c.in-Some.value).first = c.least.ensures.time ∙ ap (λ y. time_at (level_times c.in-Some.value) y) c.least.ensures.level in
     home_told q l c.in-Some.value c.least.result.1 arrival c.least.ensures.valid time c.earns.result known (λ e. c.if-label-eq0-2.false (sym e)) c.if-label-eq0.false (sym c.allows.ensures ∙ c.if-not-allows.false) paid
+
+pub returns-in-None : goal.returns-in-None
+returns-in-None = grind (arith, common_steps)

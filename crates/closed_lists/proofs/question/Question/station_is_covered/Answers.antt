@@ -1,4 +1,5 @@
 use Rattle.std.proofs.Common.{◌≡◌, ◌∙◌, ◌≤◌, ℕ, List, Option, None, Some, sym, subst, arith, refl, FitsSigned, to_z, of_z}
+use Rattle.std.proofs.lemmas.Grind.{common_steps}
 use Rattle.std.specs.Int.{w128}
 use Rattle.std.specs.Prelude.{IfSome}
 use Rattle.std.proofs.lemmas.Int.{ints}
@@ -40,3 +41,6 @@ returns c =
     let t : Target = record { last = c.args.label.now.last; node = c.args.node; set = c.args.label.now.set; paid = to_z w128 (of_z w128 c.args.paid) } in
     let target : IsStationTarget q l x t = record { last = refl; node = refl; set = refl; paid = whole ∙ c.requires.paid } in
     station_told q l x t target c.requires.station c.in-Some.arrived arrival c.in_ok-values.values.items c.requires.known c.requires.moves left covers within c.covers_each.result (subst (λ (vs : List (List (ℕ × ℕ))). TellsEach (section c.args.self.now) t vs c.covers_each.result) c.deref.ensures.value (subst (λ (a : Asking). TellsEach (section a.question) a.target c.deref.result.now c.covers_each.result) c.asked.ensures c.covers_each.ensures))
+
+pub departures-requires-clause-node : goal.departures-requires-clause-node
+departures-requires-clause-node = grind (arith, common_steps)

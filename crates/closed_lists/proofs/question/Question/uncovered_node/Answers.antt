@@ -1,4 +1,5 @@
 use Rattle.std.proofs.Common.{◌∙◌, ap, sym, subst, arith, inl, inr}
+use Rattle.std.proofs.lemmas.Grind.{common_steps}
 use Rattle.std.proofs.lemmas.Bool.{cases_eq}
 use Rattle.ev_model.specs.Network.{node_count}
 use Rattle.closed_lists.specs.Questions.{Question}
@@ -19,3 +20,9 @@ returns c x missed =
     let known = is_known c.args.self.now c.args.label.now x missed in
     let nodes = c.nodes-node-end.ensures.value ∙ ap (λ (q : Question). node_count q.network) c.self.view_is in
     c.loop-node.invariant x (omega (arith, known, nodes, c.loop-node-test.false)) missed
+
+pub returns-then-not-branch : goal.returns-then-not-branch
+returns-then-not-branch = grind (arith, common_steps)
+
+pub step_is_covered-requires-clause-known : goal.step_is_covered-requires-clause-known
+step_is_covered-requires-clause-known = grind (arith, common_steps)

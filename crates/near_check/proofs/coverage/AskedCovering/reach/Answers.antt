@@ -1,4 +1,5 @@
-use Rattle.std.proofs.Common.{sym, subst}
+use Rattle.std.proofs.Common.{sym, subst, arith}
+use Rattle.std.proofs.lemmas.Grind.{common_steps}
 use Rattle.dominance.specs.LevelTimes.{time_at}
 use Rattle.piece_fn.specs.PieceFn.{level_times}
 use Rattle.label_steps.specs.Covering.{IsCoveredTo}
@@ -36,3 +37,9 @@ returns-clause-none c =
     let none = left_nothing c.self.inside.weight c.self.inside.labels.now b c.self.inside.entries.now c.self.invariant.entries c.first-begin.result c.loop-entries.at c.first-begin.ensures.behind tells c.loop-entries.invariant in
     let timed = subst (λ t. IsNearCovered c.self.inside.weight c.self.inside.labels.now (state_at c.self.inside.target c.args.level t) → ⊥) c.in-Some.ensures.some.1 none in
     subst (λ (q : Asking). covers q c.args.level (time_at (level_times c.args.value.now) c.args.level) → ⊥) c.self.view_is timed
+
+pub bounds-labels-entries : goal.bounds-labels-entries
+bounds-labels-entries = grind (arith, common_steps)
+
+pub offset_bounds-labels-entries : goal.offset_bounds-labels-entries
+offset_bounds-labels-entries = grind (arith, common_steps)

@@ -1,4 +1,5 @@
 use Rattle.std.proofs.Common.{◌≡◌, Some, length, refl, subst, arith}
+use Rattle.std.proofs.lemmas.Grind.{common_steps}
 use Rattle.std.specs.Prelude.{slice_get}
 use Rattle.std.proofs.lemmas.Option.{slice_get_read}
 use Rattle.near_check.specs.Judging.{TellsFirst, judged}
@@ -19,3 +20,6 @@ loop-number-preserved c =
 
 pub returns : goal.returns
 returns c = no_bad_step c.args.self.now.inst.now (judged c.args.self.now) c.loop-number.number (omega (arith, c.loop-number-test.false)) c.loop-number.invariant
+
+pub uncovered_node-requires-clause-label : goal.uncovered_node-requires-clause-label
+uncovered_node-requires-clause-label = grind (arith, common_steps)

@@ -1,4 +1,5 @@
-use Rattle.std.proofs.Common.{rules}
+use Rattle.std.proofs.Common.{rules, arith}
+use Rattle.std.proofs.lemmas.Grind.{common_steps}
 use Rattle.near_text.proofs.MemberLoops.{no_first, own-among, own-begin, own-break, own-ends, own-go_on, own-no_end, own-shorter}
 use Rattle.near_text.proofs.reading.sets.take_own_members.Goals as goal
 
@@ -37,3 +38,6 @@ returns-clause-ok c =
 
 pub returns-clause-among : goal.returns-clause-among
 returns-clause-among c = own-among c.args.inst.now c.args.number c.requires.number c.args.scan.now c.loop-at.scan c.loop-at.set c.loop-at.at c.loop-at.last (c.loop-at.invariant c.requires.number)
+
+pub returns-clause-kept : goal.returns-clause-kept
+returns-clause-kept = grind (arith, common_steps)

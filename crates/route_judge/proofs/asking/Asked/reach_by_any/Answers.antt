@@ -1,4 +1,5 @@
-use Rattle.std.proofs.Common.{◌∙◌, ap, subst}
+use Rattle.std.proofs.Common.{◌∙◌, ap, subst, arith}
+use Rattle.std.proofs.lemmas.Grind.{common_steps}
 use Rattle.ev_model.specs.Network.{Network, node_count}
 use Rattle.route_judge.specs.Asking.{vehicle}
 use Rattle.route_judge.specs.Links.{TellsTime, key_of}
@@ -14,3 +15,12 @@ returns-clause-none c =
     let tells = subst (λ b. TellsTime c.entries-entries.result.now c.loop-entries.at c.key_of-key.result c.args.time b) c.loop-entries-test.false c.is_in_time.ensures in
     left_nothing (node_count q.journey.network) q.labels (vehicle p c.args.level c.args.time) c.entries-entries.result.now c.entries-entries.ensures c.key_of-key.result key
     c.first-begin.result c.loop-entries.at c.first-begin.ensures.behind tells c.loop-entries.invariant
+
+pub first-begin-requires : goal.first-begin-requires
+first-begin-requires = grind (arith, common_steps)
+
+pub reach_by-requires-clause-known : goal.reach_by-requires-clause-known
+reach_by-requires-clause-known = grind (arith, common_steps)
+
+pub loop-entries-init : goal.loop-entries-init
+loop-entries-init = grind (arith, common_steps)

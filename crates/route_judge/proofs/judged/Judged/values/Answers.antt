@@ -1,4 +1,5 @@
-use Rattle.std.proofs.Common.{ℕ, List, ◌≤◌, subst, sym}
+use Rattle.std.proofs.Common.{ℕ, List, ◌≤◌, subst, sym, arith}
+use Rattle.std.proofs.lemmas.Grind.{common_steps}
 use Rattle.std.specs.Prelude.{IfOk}
 use Rattle.std.proofs.lemmas.Result.{IfOk-weaker}
 use Rattle.ev_model.specs.Network.{Network}
@@ -25,3 +26,6 @@ returns-clause-covers c =
     subst (λ (g : Network). IfOk c.values_at.result (λ values. CoverStops g c.args.self.now.journey.route (state_of c.args.label.now) c.args.to.passed c.args.to.node values.items)) c.instance.ensures.value
     (subst (λ (r : List ℕ). IfOk c.values_at.result (λ values. CoverStops c.instance.result.now r (state_of c.args.label.now) c.args.to.passed c.args.to.node values.items)) c.route.ensures
     (IfOk-weaker c.values_at.result _ _ (λ values cover. cover (state_of l) (stands l)) c.values_at.ensures.covers))
+
+pub values_at-requires-clause-next : goal.values_at-requires-clause-next
+values_at-requires-clause-next = grind (arith, common_steps)

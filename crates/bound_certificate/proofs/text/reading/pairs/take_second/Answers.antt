@@ -1,4 +1,5 @@
-use Rattle.std.proofs.Common.{◌∙◌, ◌&&◌, Err, ap, nat_eq, not, sym}
+use Rattle.std.proofs.Common.{◌∙◌, ◌&&◌, Err, ap, nat_eq, not, sym, arith}
+use Rattle.std.proofs.lemmas.Grind.{elements}
 use Rattle.std.proofs.lemmas.Bool.{eq-eqb, false≢true}
 use Rattle.ev_text.specs.declared.TextFault.TheVariants.{TooLarge}
 use Rattle.route_plan.specs.Limits.{greatest_number}
@@ -21,3 +22,6 @@ pub returns-else-may_stand-clause-fault : goal.returns-else-may_stand-clause-fau
 returns-else-may_stand-clause-fault c =
     kept_less greatest_number (is_place c.args.inst.now) (λ m. not (nat_eq c.args.i m) && rises_from c.args.last (c.args.i, m)) c.args.scan.now c.take_place.new.scan c.in_ok-j.j.node c.in_ok-j.ensures.ok (sym c.if-may_stand.ensures)
     ∙ ap (λ n. Err (TooLarge n)) (sym c.place-at.ensures.place)
+
+pub returns-in_err-j-clause-fault : goal.returns-in_err-j-clause-fault
+returns-in_err-j-clause-fault = grind (arith, elements)

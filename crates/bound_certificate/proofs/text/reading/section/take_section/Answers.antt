@@ -1,4 +1,5 @@
 use Rattle.std.proofs.Common.{arith, rules, ◌≡◌, ◌≢◌, ◌∙◌, Err, ap, length, subst, sym}
+use Rattle.std.proofs.lemmas.Grind.{common_steps}
 use Rattle.std.specs.List.{All}
 use Rattle.certificate_parts.specs.Refusals.{or_refused}
 use Rattle.certificate_parts.specs.Ranges.{HasSet}
@@ -39,3 +40,6 @@ returns-clause-kept c = record {
   pairs_are = c.customers-customers.ensures.pairs;
   sets = subst (All HasSet) (sym c.from_vec-2.ensures) c.in_ok-labels.ensures.kept;
 }
+
+pub returns-in_err-labels-clause-fault : goal.returns-in_err-labels-clause-fault
+returns-in_err-labels-clause-fault = grind (arith, common_steps)
