@@ -1,4 +1,5 @@
-use Rattle.std.proofs.Common.{List, ℕ, Vec, subst, sym}
+use Rattle.std.proofs.Common.{List, ℕ, Vec, subst, sym, arith}
+use Rattle.std.proofs.lemmas.Grind.{common_steps}
 use Rattle.std.specs.Global.{Global}
 use Rattle.master_table.specs.RowView.{limits_of}
 use Rattle.piece_fn.specs.declared.label.Label.{Label}
@@ -60,3 +61,9 @@ returns-in_ok-plans-in-Wide-clause-bound c =
     let listed = subst (λ (ps : List RoutePlan). IsPastBasis g caps ps c.in-Wide.basis.items) (sym c.in_ok-plans-in-Wide.ensures) past in
     let numbered = subst (λ (js : List ℕ). IsPastBasis g caps c.in_ok-plans-in-Wide.plans.items js) (sym c.deref-in-Wide-2.ensures.value) listed in
     c.wide_bound.ensures caps numbered
+
+pub take_all-requires-clause-routes : goal.take_all-requires-clause-routes
+take_all-requires-clause-routes = grind (arith, common_steps)
+
+pub take_all-requires-in-Wide-clause-routes : goal.take_all-requires-in-Wide-clause-routes
+take_all-requires-in-Wide-clause-routes = grind (arith, common_steps)

@@ -1,4 +1,5 @@
 use Rattle.std.proofs.Common.{◌≡◌, ◌∙◌, ◌<◌, ◌<ℤ◌, ℕ, ℤ, pos, List, [], ◌∷◌, ◌++◌, Option, arith, ap, length, subst, sym}
+use Rattle.std.proofs.lemmas.Grind.{common_steps}
 use Rattle.std.specs.Prelude.{MatchOption}
 use Rattle.std.specs.List.{All}
 use Rattle.std.proofs.lemmas.Int.{ints}
@@ -78,3 +79,9 @@ returns-in-Some c =
     let chain = chain_of g p stops is order priced.0.serves route made c.in-Some.plan.stops fastest in
     let lone = subst (λ (ps : List ℤ). IsBetter (record { network = g; pairs = p; weight = 0; prices = ps; labels = [] }) stops order) c.in_ok-lone_price.ensures priced.0 in
     (chain.0, chain.1, serves_lone g p n c.args.number c.args.node stops order c.requires.number c.requires.customer lone)
+
+pub price-requires-clause-small_prices : goal.price-requires-clause-small_prices
+price-requires-clause-small_prices = grind (arith, common_steps)
+
+pub price-requires-clause-one_price : goal.price-requires-clause-one_price
+price-requires-clause-one_price = grind (arith, common_steps)

@@ -1,4 +1,5 @@
 use Rattle.std.proofs.Common.{◌≡◌, ◌∙◌, ◌++◌, ◌∷◌, [], List, ap, append_assoc, arith, length, map, subst, sym}
+use Rattle.std.proofs.lemmas.Grind.{common_steps}
 use Rattle.std.proofs.lemmas.List.Elements.{All-tail}
 use Rattle.std.specs.Vec.Iter.{into_iter_items}
 use Rattle.pricing.specs.declared.priced.PricedRoute.{PricedRoute}
@@ -25,3 +26,6 @@ loop-route-preserved c =
       left = All-tail (λ (r : PricedRoute). IsColumn g r.order.items r.plan.stops) c.in-Some.route rest (subst (λ (rs : List PricedRoute). IsPool g rs) steps c.loop-route.invariant.left);
       count = (let was = c.loop-route.invariant.count in omega (arith, was, gone, short));
     }
+
+pub returns : goal.returns
+returns = grind (arith, common_steps)

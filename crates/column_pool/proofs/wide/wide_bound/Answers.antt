@@ -1,4 +1,5 @@
 use Rattle.std.proofs.Common.{◌≡◌, ◌∙◌, ◌≤◌, List, ℕ, Vec, ap, arith, length, map, subst, sym}
+use Rattle.std.proofs.lemmas.Grind.{common_steps}
 use Rattle.std.specs.Global.{Global}
 use Rattle.instance_reader.specs.Instance.{customer_nodes}
 use Rattle.piece_fn.specs.declared.label.Label.{Label}
@@ -40,3 +41,6 @@ returns-in-Priced c caps past =
     let entries : c.from_vec-in-Priced.result ≡ map (entry_of (length (customer_nodes g))) c.args.basis.now = c.from_vec-in-Priced.ensures ∙ c.in_ok-entries.ensures ∙ ap (λ (xs : List ℕ). map (entry_of (length xs)) c.args.basis.now) c.customers.ensures.value in
     let listed = subst (λ (es : List BasisEntry). IsWideAt caps.body caps.cost g p c.args.plans.items es s) (sym entries) at in
     subst (λ (ps : List RoutePlan). IsWideAt caps.body caps.cost g p ps c.from_vec-in-Priced.result s) (sym c.from_vec.ensures) listed
+
+pub rise-requires : goal.rise-requires
+rise-requires = grind (arith, common_steps)

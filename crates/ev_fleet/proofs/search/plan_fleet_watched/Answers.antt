@@ -1,3 +1,5 @@
+use Rattle.std.proofs.Common.{arith}
+use Rattle.std.proofs.lemmas.Grind.{common_steps}
 use Rattle.std.proofs.lemmas.Result.{IfOk-weaker}
 use Rattle.ev_fleet.specs.Held.{cost_at}
 use Rattle.ev_fleet.specs.Outcome.{IsOutcome}
@@ -22,3 +24,9 @@ pub returns : goal.returns
 returns g c =
     IfOk-weaker c.outcome_of.result (IsOutcomeOf c.args.inst.now c.loop-budget.search) (IsOutcome c.args.inst.now c.args.budget)
     (λ o is. is c.args.budget c.loop-budget.invariant.within (c.goes_on.ensures.ended c.loop-budget-test.false)) c.outcome_of.ensures
+
+pub step-requires-clause-promising : goal.step-requires-clause-promising
+step-requires-clause-promising = grind (arith, common_steps)
+
+pub loop-budget-init : goal.loop-budget-init
+loop-budget-init = grind (arith, common_steps)

@@ -1,4 +1,5 @@
-use Rattle.std.proofs.Common.{subst}
+use Rattle.std.proofs.Common.{subst, arith}
+use Rattle.std.proofs.lemmas.Grind.{common_steps}
 use Rattle.column_pool.specs.Bounds.{IsBoundOfDecided, IsNodeBound}
 use Rattle.ev_fleet.specs.Answers.{answer_of, shares_in}
 use Rattle.ev_fleet.specs.Held.{cost_at}
@@ -23,3 +24,6 @@ returns-clause-decided c = λ decided.
     let bound : IsBoundOfDecided g p (answer_of s r) = subst (λ a. IsBoundOfDecided g p a) parts (c.in_ok-bound_node.ensures.decided decided) in
     let takes : TakesShares g (shares_in r) cost = subst (λ x. TakesShares g x cost) c.shares_in.ensures c.in_ok-offer_shares.ensures.taken in
     reaches_cost g p s r cost found bound takes
+
+pub returns-clause-bound : goal.returns-clause-bound
+returns-clause-bound = grind (arith, common_steps)

@@ -1,4 +1,5 @@
-use Rattle.std.proofs.Common.{MatchOption, subst}
+use Rattle.std.proofs.Common.{MatchOption, subst, arith}
+use Rattle.std.proofs.lemmas.Grind.{common_steps}
 use Rattle.ev_model.specs.Fleet.{IsFleetPlan}
 use Rattle.column_pool.specs.Bounds.{plans_of}
 use Rattle.ev_fleet.specs.SameRoutes.{IsPlanOf}
@@ -12,3 +13,6 @@ returns-in-Some-clause-greedy c = λ none.
     let is : IsPlanOf g plans c.in-Some.plan =
     subst (λ answer. MatchOption answer (IsFleetPlan g 1 plans → ⊥) (IsPlanOf g plans)) c.in-Some.is c.in_ok-plan.ensures in
     absurd (none (made_fleet g plans c.in-Some.plan is))
+
+pub returns-in-Some-plan_of_routes-clause-taken : goal.returns-in-Some-plan_of_routes-clause-taken
+returns-in-Some-plan_of_routes-clause-taken = grind (arith, common_steps)

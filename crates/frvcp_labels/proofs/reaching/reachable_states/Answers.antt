@@ -1,4 +1,5 @@
-use Rattle.std.proofs.Common.{List, ℕ}
+use Rattle.std.proofs.Common.{List, ℕ, arith}
+use Rattle.std.proofs.lemmas.Grind.{common_steps}
 use Rattle.ev_model.specs.Network.{Network}
 use Rattle.std.proofs.lemmas.Result.{IfOk-weaker}
 use Rattle.frvcp_labels.proofs.SearchLoops.{all_held, on_way_only}
@@ -19,3 +20,18 @@ returns-clause-all c =
     IfOk-weaker c.live_states.result _ _
     (λ states both. all_held (of c.args.inst.now c.args.route.now c.args.start) c.settle_all.new.pool.labels states.items (is_trip c.args.inst.now c.args.route.now c.station_nodes.ensures.network c.requires.route) c.in_ok-settle_all.ensures.pool.labels c.in_ok-settle_all.ensures.spread c.in_ok-settle_all.ensures.none both.0 both.1)
     (IfOk-both c.live_states.result _ _ c.live_states.ensures.held c.live_states.ensures.labels)
+
+pub invariant_of-trip : goal.invariant_of-trip
+invariant_of-trip = grind (arith, common_steps)
+
+pub returns-clause-on_way : goal.returns-clause-on_way
+returns-clause-on_way = grind (arith, common_steps)
+
+pub returns-clause-network : goal.returns-clause-network
+returns-clause-network = grind (arith, common_steps)
+
+pub settle_all-requires-clause-full : goal.settle_all-requires-clause-full
+settle_all-requires-clause-full = grind (arith, common_steps)
+
+pub live_states-requires : goal.live_states-requires
+live_states-requires = grind (arith, common_steps)

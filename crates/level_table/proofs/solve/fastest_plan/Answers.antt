@@ -1,4 +1,5 @@
-use Rattle.std.proofs.Common.{Global, MatchOption, Option, Vec, subst, sym}
+use Rattle.std.proofs.Common.{Global, MatchOption, Option, Vec, subst, sym, arith}
+use Rattle.std.proofs.lemmas.Grind.{common_steps}
 use Rattle.ev_model.specs.Fastest.{IsFastest}
 use Rattle.ev_model.specs.declared.Stop.{Stop}
 use Rattle.level_table.specs.Answer.{HasNoWholePlan, IsFastestWhole}
@@ -17,3 +18,6 @@ returns c =
     subst (λ (o : Option (Vec Stop Global)). MatchOption o (HasNoWholePlan c.args.inst.now c.args.route.now c.args.start) (λ v. IsFastestWhole c.args.inst.now c.args.route.now c.args.start v.items)) c.in-Some.is c.in_ok-stops.ensures in
     subst (λ stops. IsFastest c.args.inst.now c.args.route.now c.args.start stops) (sym c.from_vec.ensures)
     (fastest-in_any_fraction c.args.inst.now c.args.route.now c.args.start c.in-Some.stops.items c.stations_of.ensures.network whole)
+
+pub invariant_of-trip : goal.invariant_of-trip
+invariant_of-trip = grind (arith, common_steps)

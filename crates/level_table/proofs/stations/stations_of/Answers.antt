@@ -1,4 +1,5 @@
 use Rattle.std.proofs.Common.{◌≡◌, ◌∙◌, ◌∷◌, [], ◌++◌, ℕ, List, Bor, Vec, Global, is_some, ap, sym, arith}
+use Rattle.std.proofs.lemmas.Grind.{common_steps}
 use Rattle.ev_model.specs.Network.{curve_at}
 use Rattle.level_table.proofs.StationNodes.{told_curve, with_next, without_next}
 use Rattle.level_table.specs.Stations.{stations, stations_below}
@@ -21,3 +22,6 @@ loop-node-preserved c =
 pub returns-clause-nodes : goal.returns-clause-nodes
 unfolding stations
 returns-clause-nodes c = c.loop-node.invariant ∙ ap (stations_below c.args.inst.now) (omega arith)
+
+pub returns-clause-network : goal.returns-clause-network
+returns-clause-network = grind (arith, common_steps)

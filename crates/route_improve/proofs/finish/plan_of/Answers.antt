@@ -1,4 +1,5 @@
 use Rattle.std.proofs.Common.{◌≡◌, ◌≢◌, ◌∙◌, ◌+◌, [], ap, arith, length, subst, sym, take}
+use Rattle.std.proofs.lemmas.Grind.{common_steps}
 use Rattle.std.specs.Prelude.{nat_eq}
 use Rattle.route_improve.specs.Arranged.{are_served}
 use Rattle.route_improve.specs.Finished.{ArePlansOf}
@@ -20,3 +21,6 @@ loop-route-preserved c = elim c.if-not-is_empty.branch [
       let same = plans_same c.args.inst.now c.args.routes.now c.loop-route.route-index c.route-item.result c.loop-route.plans.items c.loop-route-test.true c.route-item.is nobody c.loop-route.invariant in
       subst (ArePlansOf c.args.inst.now (are_served (take (c.loop-route.route-index + 1) c.args.routes.now))) (sym (ap (λ v. v.items) w.plans-is)) same
 ]
+
+pub plan_of_route-requires-clause-order : goal.plan_of_route-requires-clause-order
+plan_of_route-requires-clause-order = grind (arith, common_steps)

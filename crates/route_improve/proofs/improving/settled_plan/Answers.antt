@@ -1,4 +1,5 @@
-use Rattle.std.proofs.Common.{◌∙◌, List, subst, sym}
+use Rattle.std.proofs.Common.{◌∙◌, List, subst, sym, arith}
+use Rattle.std.proofs.lemmas.Grind.{common_steps}
 use Rattle.ev_model.specs.Network.{Network}
 use Rattle.route_plan.specs.declared.plan.FleetPlan.{FleetPlan}
 use Rattle.route_improve.specs.Arranged.{AreSettled, are_served}
@@ -38,3 +39,6 @@ returns-clause-no_more g c =
     plan_costs c.args.inst.now c.args.routes.items (settled_are g (goal.at.returns-clause-no_more g c).In_ok-settled).arranged.0 c.in_ok-settled.settled.items plan.routes (settled_are g (goal.at.returns-clause-no_more g c).In_ok-settled)
     (settled_are g (goal.at.returns-clause-no_more g c).In_ok-settled).arranged.1 (subst (λ (rs : List Route). ArePlansOf c.args.inst.now (are_served rs) plan.routes) c.deref.ensures.value plans))
     c.plan_of.ensures
+
+pub plan_of-requires : goal.plan_of-requires
+plan_of-requires = grind (arith, common_steps)

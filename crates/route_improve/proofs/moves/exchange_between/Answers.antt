@@ -1,4 +1,5 @@
-use Rattle.std.proofs.Common.{◌≡◌, ◌∙◌, ap, subst, sym, set}
+use Rattle.std.proofs.Common.{◌≡◌, ◌∙◌, ap, subst, sym, set, arith}
+use Rattle.std.proofs.lemmas.Grind.{common_steps}
 use Rattle.std.specs.Prelude.{slice_index}
 use Rattle.index_links.specs.Lists.{list_at}
 use Rattle.route_improve.specs.Routes.{AreNoCheaper, lists_of}
@@ -37,3 +38,21 @@ returns-clause-tried c =
     ∙ ap (λ l. set (set (lists_of c.args.routes.now.items) c.args.a (set (list_at (lists_of c.args.routes.now.items) c.args.a) c.args.i (slice_index (list_at (lists_of c.args.routes.now.items) c.args.b) c.args.j))) c.args.b l) (second_is (goal.at.returns-clause-tried c).After-index_mut-2)
     ∙ sym (exchanged_between (lists_of c.args.routes.now.items) c.args.a c.args.i c.args.b c.args.j c.requires.apart)) (none)))
     c.take_pair.ensures.tried
+
+pub index_mut-requires : goal.index_mut-requires
+index_mut-requires = grind (arith, common_steps)
+
+pub index-requires-3 : goal.index-requires-3
+index-requires-3 = grind (arith, common_steps)
+
+pub index_mut-requires-2 : goal.index_mut-requires-2
+index_mut-requires-2 = grind (arith, common_steps)
+
+pub take_pair-requires-clause-one : goal.take_pair-requires-clause-one
+take_pair-requires-clause-one = grind (arith, common_steps)
+
+pub index-requires-2 : goal.index-requires-2
+index-requires-2 = grind (arith, common_steps)
+
+pub take_pair-requires-clause-other : goal.take_pair-requires-clause-other
+take_pair-requires-clause-other = grind (arith, common_steps)

@@ -1,4 +1,5 @@
-use Rattle.std.proofs.Common.{◌≡◌, ◌∙◌, ap, subst, sym, set}
+use Rattle.std.proofs.Common.{◌≡◌, ◌∙◌, ap, subst, sym, set, arith}
+use Rattle.std.proofs.lemmas.Grind.{common_steps}
 use Rattle.std.specs.Prelude.{slice_index}
 use Rattle.index_links.specs.Lists.{list_at}
 use Rattle.route_improve.specs.Routes.{AreNoCheaper, lists_of}
@@ -28,3 +29,18 @@ returns-clause-tried c =
     kept_by c.take_one.result _ _ (λ made. shows _ _ _ _ _ made (λ none.
     subst (AreNoCheaper c.args.pricer.now c.args.routes.now.items) (ap (λ l. set (lists_of c.args.routes.now.items) c.args.a l) (made_is (goal.at.returns-clause-tried c).After-index_mut-2) ∙ sym (exchanged_within (lists_of c.args.routes.now.items) c.args.a c.args.i c.args.j c.requires.one.list)) none))
     c.take_one.ensures.tried
+
+pub index_mut-requires-2 : goal.index_mut-requires-2
+index_mut-requires-2 = grind (arith, common_steps)
+
+pub index-requires-2 : goal.index-requires-2
+index-requires-2 = grind (arith, common_steps)
+
+pub take_one-requires-clause-list : goal.take_one-requires-clause-list
+take_one-requires-clause-list = grind (arith, common_steps)
+
+pub index-customer-requires : goal.index-customer-requires
+index-customer-requires = grind (arith, common_steps)
+
+pub index_mut-requires : goal.index_mut-requires
+index_mut-requires = grind (arith, common_steps)

@@ -1,4 +1,5 @@
-use Rattle.std.proofs.Common.{◌≡◌, ◌∙◌, ap, ◌<◌, subst, sym, set}
+use Rattle.std.proofs.Common.{◌≡◌, ◌∙◌, ap, ◌<◌, subst, sym, set, arith}
+use Rattle.std.proofs.lemmas.Grind.{common_steps}
 use Rattle.std.specs.Prelude.{insert, remove, slice_index}
 use Rattle.std.proofs.lemmas.List.{length-map}
 use Rattle.route_improve.specs.declared.route.Route.{Route}
@@ -38,3 +39,15 @@ returns-clause-tried c =
     ∙ ap (λ l. set (set (lists_of c.args.routes.now.items) c.args.a (remove (list_at (lists_of c.args.routes.now.items) c.args.a) c.args.i)) c.args.b l) (second_is (goal.at.returns-clause-tried c).In_ok-insert)
     ∙ sym (relocated_between (lists_of c.args.routes.now.items) c.args.a c.args.i c.args.b c.args.j c.requires.apart)) (none)))
     c.take_pair.ensures.tried
+
+pub take_pair-requires-clause-one : goal.take_pair-requires-clause-one
+take_pair-requires-clause-one = grind (arith, common_steps)
+
+pub remove-customer-requires : goal.remove-customer-requires
+remove-customer-requires = grind (arith, common_steps)
+
+pub insert-requires : goal.insert-requires
+insert-requires = grind (arith, common_steps)
+
+pub returns-then-j-len-clause-tried : goal.returns-then-j-len-clause-tried
+returns-then-j-len-clause-tried = grind (arith, common_steps)

@@ -1,4 +1,5 @@
-use Rattle.std.proofs.Common.{◌≡◌, ◌∙◌, ap, subst, sym, set}
+use Rattle.std.proofs.Common.{◌≡◌, ◌∙◌, ap, subst, sym, set, arith}
+use Rattle.std.proofs.lemmas.Grind.{common_steps}
 use Rattle.std.specs.Prelude.{insert, remove, slice_index}
 use Rattle.index_links.specs.Lists.{list_at}
 use Rattle.route_improve.specs.Routes.{AreNoCheaper, lists_of}
@@ -26,3 +27,15 @@ returns-clause-tried c =
     kept_by c.take_one.result _ _ (λ made. shows _ _ _ _ _ made (λ none room.
     subst (AreNoCheaper c.args.pricer.now c.args.routes.now.items) (ap (λ l. set (lists_of c.args.routes.now.items) c.args.a l) (made_is (goal.at.returns-clause-tried c).In_ok-insert) ∙ sym (relocated_within (lists_of c.args.routes.now.items) c.args.a c.args.i c.args.j c.requires.from.list)) none))
     c.take_one.ensures.tried
+
+pub returns-then-j-len-clause-tried : goal.returns-then-j-len-clause-tried
+returns-then-j-len-clause-tried = grind (arith, common_steps)
+
+pub insert-requires : goal.insert-requires
+insert-requires = grind (arith, common_steps)
+
+pub remove-customer-requires : goal.remove-customer-requires
+remove-customer-requires = grind (arith, common_steps)
+
+pub take_one-requires-clause-list : goal.take_one-requires-clause-list
+take_one-requires-clause-list = grind (arith, common_steps)

@@ -1,4 +1,5 @@
 use Rattle.std.proofs.Common.{◌+◌, arith, refl, subst, sym}
+use Rattle.std.proofs.lemmas.Grind.{common_steps}
 use Rattle.route_improve.specs.Routes.{IsOrder}
 use Rattle.route_improve.proofs.Changed.{pair_orders, take_pair_kept, take_pair_made}
 use Rattle.route_improve.proofs.TriedMoves.{tried_made, tried_not}
@@ -26,3 +27,6 @@ returns-in-None-clause-tried c = tried_not _ _ _
     (take_pair_kept c.args.pricer.now c.args.routes.now.items c.args.a c.args.b (record { order = c.args.first; time = 0 }) (record { order = c.args.second; time = 0 })
     c.index.result.now c.index-2.result.now c.deref.result.now c.deref-2.result.now (c.from.result + c.from-2.result) c.in_ok-first_time.field-0
     c.requires.routes c.requires.one c.requires.other c.requires.apart c.index.ensures c.index-2.ensures (omega arith) c.deref.ensures.value c.deref-2.ensures.value c.in-None.is c.in_ok-first_time.ensures.times)
+
+pub index_mut-requires-in-Some : goal.index_mut-requires-in-Some
+index_mut-requires-in-Some = grind (arith, common_steps)

@@ -1,4 +1,5 @@
-use Rattle.std.proofs.Common.{◌+◌, subst, sym, take}
+use Rattle.std.proofs.Common.{◌+◌, subst, sym, take, arith}
+use Rattle.std.proofs.lemmas.Grind.{common_steps}
 use Rattle.std.specs.Prelude.{slice_index}
 use Rattle.route_improve.specs.Own.{AreOwn, IsOwnOrAlone}
 use Rattle.route_improve.proofs.OwnRoutes.{first_alone, own_more}
@@ -14,3 +15,6 @@ loop-node-preserved c =
     subst (AreOwn c.args.inst.now (take (c.loop-node.node-index + 1) c.customers-customers.result.now)) (sym c.in-Ok.ensures.items)
     (own_more c.args.inst.now c.customers-customers.result.now c.loop-node.routes.items c.loop-node.node-index c.in-Ok-Some.route c.loop-node-test.true c.loop-node.invariant
     (subst (IsOwnOrAlone c.args.inst.now (slice_index c.customers-customers.result.now c.loop-node.node-index)) c.in-Ok-Some.field-0-is c.in-Ok-Some.ensures))
+
+pub returns-clause-own : goal.returns-clause-own
+returns-clause-own = grind (arith, common_steps)

@@ -1,4 +1,5 @@
 use Rattle.std.proofs.Common.{◌≡◌, ◌∙◌, ℕ, List, ap, arith, below_more, get_or, length, subst}
+use Rattle.std.proofs.lemmas.Grind.{common_steps}
 use Rattle.ev_model.specs.Network.{Network}
 use Rattle.route_improve.specs.Routes.{IsSettledAt, count_at}
 use Rattle.route_improve.specs.declared.route.Route.{Route}
@@ -26,3 +27,9 @@ returns-clause-tried c =
     (subst (IsSettledAt c.args.pricer.now c.args.routes.now.items c.args.a c.args.i c.args.b) last
     (at_same (λ (g : Network) (rs : List Route). IsSettledAt g rs c.args.a c.args.i c.args.b c.len-last.result) c.args.pricer.now c.loop-j.pricer c.args.routes.now.items c.loop-j.routes.items c.loop-j.invariant.network c.loop-j.invariant.same none))))
     c.try_moves-2.ensures.tried
+
+pub try_moves-requires : goal.try_moves-requires
+try_moves-requires = grind (arith, common_steps)
+
+pub try_moves-requires-2 : goal.try_moves-requires-2
+try_moves-requires-2 = grind (arith, common_steps)

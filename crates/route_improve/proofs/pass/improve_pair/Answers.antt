@@ -1,4 +1,5 @@
 use Rattle.std.proofs.Common.{◌≡◌, ◌∙◌, ℕ, List, ap, arith, below_more, length}
+use Rattle.std.proofs.lemmas.Grind.{common_steps}
 use Rattle.ev_model.specs.Network.{Network}
 use Rattle.route_improve.specs.Routes.{IsSettledTo, count_at}
 use Rattle.route_improve.specs.declared.route.Route.{Route}
@@ -18,3 +19,9 @@ pub returns-clause-settled : goal.returns-clause-settled
 returns-clause-settled c = λ none i within.
     let count : c.len-i-end.result ≡ count_at c.args.routes.now.items c.args.a = omega (arith, c.len-i-end.ensures, ap (λ (r : Route). length r.order.items) c.index.ensures, ap length (list_is c.args.routes.now.items c.args.a c.index.result.now c.requires.list)) in
     c.loop-i.invariant.settled i (omega (arith, within, count, c.loop-i-test.false))
+
+pub returns-then-branch-clause-made : goal.returns-then-branch-clause-made
+returns-then-branch-clause-made = grind (arith, common_steps)
+
+pub improve_customer-requires : goal.improve_customer-requires
+improve_customer-requires = grind (arith, common_steps)

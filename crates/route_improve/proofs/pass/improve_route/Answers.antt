@@ -1,4 +1,5 @@
-use Rattle.std.proofs.Common.{◌∙◌, ℕ, List, below_more, subst, sym}
+use Rattle.std.proofs.Common.{◌∙◌, ℕ, List, below_more, subst, sym, arith}
+use Rattle.std.proofs.lemmas.Grind.{common_steps}
 use Rattle.std.proofs.lemmas.Bool.{false≢true}
 use Rattle.ev_model.specs.Network.{Network}
 use Rattle.route_improve.specs.Routes.{AreCheaper, IsSettledPair, count_at}
@@ -26,3 +27,9 @@ loop-b-preserved g c = record {
         (at_same (λ (g : Network) (rs : List Route). IsSettledPair g rs (count_at rs c.args.a) c.args.a c.loop-b.b) c.args.pricer.now c.loop-b.pricer c.args.routes.now.items c.loop-b.routes.items c.loop-b.invariant.network (c.loop-b.invariant.going.same none) (c.in_ok-improve_pair.ensures.settled w.if-branch.false))
   ];
 }
+
+pub returns-clause-made : goal.returns-clause-made
+returns-clause-made = grind (arith, common_steps)
+
+pub improve_pair-requires-clause-routes : goal.improve_pair-requires-clause-routes
+improve_pair-requires-clause-routes = grind (arith, common_steps)

@@ -1,4 +1,5 @@
-use Rattle.std.proofs.Common.{◌∙◌, ℕ, List, length, below_more, subst, sym}
+use Rattle.std.proofs.Common.{◌∙◌, ℕ, List, length, below_more, subst, sym, arith}
+use Rattle.std.proofs.lemmas.Grind.{common_steps}
 use Rattle.std.proofs.lemmas.Bool.{false≢true}
 use Rattle.ev_model.specs.Network.{Network}
 use Rattle.route_improve.specs.Routes.{AreCheaper, IsSettledList}
@@ -26,3 +27,6 @@ loop-a-preserved g c = record {
         (at_same (λ (g : Network) (rs : List Route). IsSettledList g rs (length rs) c.loop-a.a) c.args.pricer.now c.loop-a.pricer c.args.routes.now.items c.loop-a.routes.items c.loop-a.invariant.network (c.loop-a.invariant.going.same none) (c.in_ok-improve_route.ensures.settled w.if-branch.false))
   ];
 }
+
+pub improve_route-requires-clause-routes : goal.improve_route-requires-clause-routes
+improve_route-requires-clause-routes = grind (arith, common_steps)

@@ -1,4 +1,5 @@
-use Rattle.std.proofs.Common.{◌≡◌, ◌∙◌, ◌++◌, ◌<◌, ap, length, refl, subst, sym, List}
+use Rattle.std.proofs.Common.{◌≡◌, ◌∙◌, ◌++◌, ◌<◌, ap, length, refl, subst, sym, List, arith}
+use Rattle.std.proofs.lemmas.Grind.{common_steps}
 use Rattle.std.proofs.lemmas.List.{length-map}
 use Rattle.index_links.specs.Lists.{list_at}
 use Rattle.route_improve.specs.Routes.{lists_of}
@@ -26,3 +27,21 @@ take_pair-requires-clause-same c =
     subst (λ l. AreOfPair c.args.pricer.now c.args.routes.now.items c.in-Some.a c.in-Some-beginning_with.b l c.new.result.items) (sym (order_is c))
     (subst (AreOfPair c.args.pricer.now c.args.routes.now.items c.in-Some.a c.in-Some-beginning_with.b (list_at (lists_of c.args.routes.now.items) c.in-Some.a ++ list_at (lists_of c.args.routes.now.items) c.in-Some-beginning_with.b)) (sym c.new.ensures.items)
     (two_joined c.args.pricer.now c.args.routes.now.items c.requires c.in-Some.a c.in-Some-beginning_with.b (one c) (other c)))
+
+pub returns-clause-same : goal.returns-clause-same
+returns-clause-same = grind (arith, common_steps)
+
+pub take_pair-requires-clause-other : goal.take_pair-requires-clause-other
+take_pair-requires-clause-other = grind (arith, common_steps)
+
+pub take_pair-requires-clause-one : goal.take_pair-requires-clause-one
+take_pair-requires-clause-one = grind (arith, common_steps)
+
+pub returns-in_default-beginning_with-clause-made : goal.returns-in_default-beginning_with-clause-made
+returns-in_default-beginning_with-clause-made = grind (arith, common_steps)
+
+pub returns-in_default-clause-made : goal.returns-in_default-clause-made
+returns-in_default-clause-made = grind (arith, common_steps)
+
+pub returns-then-a-b-clause-made : goal.returns-then-a-b-clause-made
+returns-then-a-b-clause-made = grind (arith, common_steps)

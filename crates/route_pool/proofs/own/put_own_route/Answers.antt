@@ -1,4 +1,5 @@
-use Rattle.std.proofs.Common.{[], ◌∷◌}
+use Rattle.std.proofs.Common.{[], ◌∷◌, arith}
+use Rattle.std.proofs.lemmas.Grind.{common_steps}
 use Rattle.route_pool.proofs.Alone.{own_route}
 use Rattle.route_pool.proofs.GrownPools.{grown_result}
 use Rattle.route_pool.proofs.own.put_own_route.Goals as goal
@@ -8,3 +9,6 @@ solve_route-requires-clause-route c = own_route c.args.inst.now c.args.node c.re
 
 pub returns-clause-grown : goal.returns-clause-grown
 returns-clause-grown c = grown_result c.put.result c.args.inst.now (c.args.node ∷ []) c.in-Some.plan.stops c.args.pool.now c.put.new.self c.put.ensures.put c.put.ensures.unchanged
+
+pub put-requires-clause-column : goal.put-requires-clause-column
+put-requires-clause-column = grind (arith, common_steps)

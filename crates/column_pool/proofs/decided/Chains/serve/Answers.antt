@@ -1,4 +1,5 @@
 use Rattle.std.proofs.Common.{◌≡◌, ◌∙◌, ◌+◌, ◌≤◌, ℕ, ℤ, pos, List, [], ◌∷◌, ◌++◌, Fits, FitsSigned, of_z, to_z, w64, arith, ap, refl, rules, subst, sym, true, false}
+use Rattle.std.proofs.lemmas.Grind.{common_steps}
 use Rattle.std.specs.Int.{w128}
 use Rattle.std.proofs.lemmas.Int.{ints}
 use Rattle.ev_model.specs.Fleet.{customers_of, times_in}
@@ -57,3 +58,15 @@ returns-in_ok-push-in-Route-2-clause-chains c =
     let whole : to_z w128 (of_z w128 c.from.result) ≡ c.from.result = omega (arith, ints) in
     let priced : c.push-in-Route.new.self.items ≡ prices ++ pos c.full_time.result ∷ [] = c.in_ok-push-in-Route.ensures.items ∙ ap (λ (z : ℤ). prices ++ z ∷ []) (whole ∙ from) in
     subst (λ (ps : List ℤ). AreChains g p (c.args.number + 1) c.push-in-Route-2.new.self.items ps) (sym priced) pushed
+
+pub returns-in-None-clause-chains : goal.returns-in-None-clause-chains
+returns-in-None-clause-chains = grind (arith, common_steps)
+
+pub full_time-requires : goal.full_time-requires
+full_time-requires = grind (arith, common_steps)
+
+pub returns-then-is_served-clause-grown : goal.returns-then-is_served-clause-grown
+returns-then-is_served-clause-grown = grind (arith, common_steps)
+
+pub returns-in-None-clause-grown : goal.returns-in-None-clause-grown
+returns-in-None-clause-grown = grind (arith, common_steps)

@@ -1,4 +1,5 @@
 use Rattle.std.proofs.Common.{◌≡◌, ◌∙◌, ◌*◌, ◌<◌, ◌≤◌, ap, arith, subst, sym}
+use Rattle.std.proofs.lemmas.Grind.{common_steps}
 use Rattle.std.specs.List.{All}
 use Rattle.ev_model.specs.Feasible.{IsFeasible}
 use Rattle.ev_model.specs.Network.{Network, node_count}
@@ -41,3 +42,9 @@ returns c stops feasible follows =
     ap (λ x. x * c.from-2.result) rate ∙ ap (λ x. c.self.inside.by_charge.rate * x) full in
     subst (λ (h : Network). c.max.result ≤ time_of h 1 h.capacity stops) c.self.view_is
     (omega (arith, time, charge, at_home, at_start, c.sum-time.ensures.value, c.sum.ensures.value))
+
+pub sum-time-requires-clause-known : goal.sum-time-requires-clause-known
+sum-time-requires-clause-known = grind (arith, common_steps)
+
+pub sum-requires-clause-known : goal.sum-requires-clause-known
+sum-requires-clause-known = grind (arith, common_steps)

@@ -1,4 +1,5 @@
 use Rattle.std.proofs.Common.{◌≡◌, ◌∙◌, ◌+◌, ◌-◌, ◌*◌, ap, arith, subst}
+use Rattle.std.proofs.lemmas.Grind.{common_steps, elements}
 use Rattle.ev_model.specs.Network.{node_count}
 use Rattle.frvcp_labels.specs.Rest.{AreLayers}
 use Rattle.frvcp_labels.proofs.RestTable.{filled}
@@ -16,3 +17,36 @@ loop-passed-preserved c =
       layers = filled g c.args.route.now c.args.self.now.rate c.loop-passed.least c.fill_layer.new.least c.nodes-nodes.result (c.loop-passed.passed - 1) c.nodes-nodes.ensures.value (omega arith)
           (subst (λ p. AreLayers g c.args.route.now c.args.self.now.rate c.loop-passed.least p) more c.loop-passed.invariant.layers) c.fill_layer.ensures.stays c.fill_layer.ensures.steady c.fill_layer.ensures.direct;
     }
+
+pub overflow_mul-passed : goal.overflow_mul-passed
+overflow_mul-passed = grind (arith, common_steps)
+
+pub overflow_mul-least : goal.overflow_mul-least
+overflow_mul-least = grind (arith, common_steps)
+
+pub returns-clause-count : goal.returns-clause-count
+returns-clause-count = grind (arith, common_steps)
+
+pub bounds-least-end : goal.bounds-least-end
+bounds-least-end = grind (arith, elements)
+
+pub fill_layer-requires-clause-inside : goal.fill_layer-requires-clause-inside
+fill_layer-requires-clause-inside = grind (arith, elements)
+
+pub fill_layer-requires-clause-next : goal.fill_layer-requires-clause-next
+fill_layer-requires-clause-next = grind (arith, elements)
+
+pub fill_layer-requires-clause-own : goal.fill_layer-requires-clause-own
+fill_layer-requires-clause-own = grind (arith, elements)
+
+pub fill_layer-requires-clause-zero : goal.fill_layer-requires-clause-zero
+fill_layer-requires-clause-zero = grind (arith, elements)
+
+pub offset_bounds-least-end : goal.offset_bounds-least-end
+offset_bounds-least-end = grind (arith, elements)
+
+pub overflow_add-least : goal.overflow_add-least
+overflow_add-least = grind (arith, elements)
+
+pub returns-clause-layers : goal.returns-clause-layers
+returns-clause-layers = grind (arith, elements)

@@ -1,4 +1,5 @@
-use Rattle.std.proofs.Common.{false, refl, true}
+use Rattle.std.proofs.Common.{false, refl, true, arith}
+use Rattle.std.proofs.lemmas.Grind.{elements}
 use Rattle.label_pool.specs.declared.label.Label.{Label}
 use Rattle.route_steps.specs.declared.state.State.{State}
 use Rattle.frvcp_labels.proofs.MoreLabels.{IsAdded, added_is, new_sound}
@@ -23,3 +24,6 @@ returns-clause-grown c = (whole c).grown
 
 pub returns-clause-reached : goal.returns-clause-reached
 returns-clause-reached c = (whole c).reached
+
+pub add-requires-clause-parent : goal.add-requires-clause-parent
+add-requires-clause-parent = grind (arith, elements)

@@ -1,4 +1,5 @@
-use Rattle.std.proofs.Common.{◌≡◌, ◌∙◌, ℕ, length, ap, Vec, Global, List}
+use Rattle.std.proofs.Common.{◌≡◌, ◌∙◌, ℕ, length, ap, Vec, Global, List, arith}
+use Rattle.std.proofs.lemmas.Grind.{elements}
 use Rattle.std.specs.Prelude.{Bool, nat_eq, not}
 use Rattle.label_pool.proofs.Elements.{element_at}
 use Rattle.frvcp_labels.proofs.MoreLabels.{grown_on}
@@ -28,3 +29,6 @@ loop-value-preserved c = record {
   reached = left_reached c.args.self.now c.args.passed c.args.to c.args.values.items c.loop-value.values.items c.pop.new.self.items c.in-Some.value c.pop.result c.is_empty.result c.loop-value.invariant.same c.in-Some.is c.pop.ensures.items (told c.pop.new.self c.is_empty.result c.is_empty.ensures)
       c.loop-value.pool.labels c.add_noted.new.pool.labels c.in_ok-add_noted.ensures.grown c.loop-value.invariant.reached c.in_ok-add_noted.ensures.reached;
 }
+
+pub loop-value-init : goal.loop-value-init
+loop-value-init = grind (arith, elements)

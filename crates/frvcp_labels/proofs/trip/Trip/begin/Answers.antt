@@ -1,4 +1,5 @@
-use Rattle.std.proofs.Common.{◌∙◌, ◌∷◌, [], ◌≤◌, ap, subst}
+use Rattle.std.proofs.Common.{◌∙◌, ◌∷◌, [], ◌≤◌, ap, subst, arith}
+use Rattle.std.proofs.lemmas.Grind.{common_steps}
 use Rattle.label_pool.specs.Labels.{Labels}
 use Rattle.route_steps.specs.Trips.{IsTrip, Journey}
 use Rattle.route_steps.specs.declared.state.State.{State}
@@ -19,3 +20,9 @@ pub returns-clause-spread : goal.returns-clause-spread
 returns-clause-spread c =
     begun c.args.self.now c.in_ok-pool.pool.labels c.add_noted.new.pool.labels c.point.result (ap (λ (p : Labels State). p.labels) c.in_ok-pool.ensures) c.in_ok-add_noted.ensures.grown
     (c.point.ensures ∙ ap (λ (j : Journey). (j.start, 0) ∷ []) c.self.view_is) c.in_ok-add_noted.ensures.reached
+
+pub add_noted-requires-clause-pool : goal.add_noted-requires-clause-pool
+add_noted-requires-clause-pool = grind (arith, common_steps)
+
+pub returns-clause-full : goal.returns-clause-full
+returns-clause-full = grind (arith, common_steps)

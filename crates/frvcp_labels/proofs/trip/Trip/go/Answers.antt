@@ -1,4 +1,5 @@
-use Rattle.std.proofs.Common.{◌<◌, ◌≤◌, ℕ, refl, subst, sym}
+use Rattle.std.proofs.Common.{◌<◌, ◌≤◌, ℕ, refl, subst, sym, arith}
+use Rattle.std.proofs.lemmas.Grind.{common_steps}
 use Rattle.std.proofs.lemmas.Result.{IfOk-weaker}
 use Rattle.label_pool.proofs.Elements.{element_at}
 use Rattle.route_steps.specs.Trips.{Journey}
@@ -65,3 +66,6 @@ pub returns-then-is_full_by-clause-spreads : goal.returns-then-is_full_by-clause
 returns-then-is_full_by-clause-spreads c label here =
     label_spreads c.args.self.now c.args.pool.now.labels c.args.full.now label c.value-from.result.now c.args.passed c.args.to (c.requires.next label here) c.requires.full (c.requires.pool.labels c.args.i label here)
     (c.value-from.ensures label here) (c.is_full_by.ensures c.if-is_full_by.true)
+
+pub returns-then-from-to-clause-spreads : goal.returns-then-from-to-clause-spreads
+returns-then-from-to-clause-spreads = grind (arith, common_steps)

@@ -1,4 +1,5 @@
 use Rattle.std.proofs.Common.{◌≡◌, ◌∙◌, ◌+◌, ◌*◌, ◌<◌, ℕ, List, ap, arith, length, subst}
+use Rattle.std.proofs.lemmas.Grind.{common_steps}
 use Rattle.std.specs.Prelude.{slice_index}
 use Rattle.std.proofs.lemmas.List.{get_or_default}
 use Rattle.ev_model.specs.Network.{node_count}
@@ -25,3 +26,12 @@ returns-clause-below c v stops holds rest =
     let own = home_below t s c.least-least.result.0 c.least-least.result.1 c.least-least.ensures.valid c.least-least.ensures.level c.least-least.ensures.time v stops holds rest in
     let other = total_below t rate least s c.least_total.result bound c.requires.state.node c.points.ensures.valid below v stops holds rest in
     omega (arith, own, other)
+
+pub returns-clause-valid : goal.returns-clause-valid
+returns-clause-valid = grind (arith, common_steps)
+
+pub returns-then-state-end-clause-home : goal.returns-then-state-end-clause-home
+returns-then-state-end-clause-home = grind (arith, common_steps)
+
+pub index-rest-requires : goal.index-rest-requires
+index-rest-requires = grind (arith, common_steps)

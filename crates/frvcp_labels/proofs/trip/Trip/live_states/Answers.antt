@@ -1,4 +1,5 @@
 use Rattle.std.proofs.Common.{◌≡◌, ◌∙◌, ◌++◌, ◌∷◌, [], ◌+◌, List, ap, arith, subst, sym}
+use Rattle.std.proofs.lemmas.Grind.{common_steps}
 use Rattle.charge_curve.specs.Points.{ArePoints}
 use Rattle.label_pool.proofs.Elements.{element_at}
 use Rattle.route_steps.specs.declared.state.State.{State}
@@ -28,3 +29,6 @@ returns-clause-held c =
     let count = c.len-i-end.ensures in
     let past = c.loop-i-test.false in
     all_listed c.args.self.now c.args.pool.now.labels c.loop-i.i c.loop-i.states.items (omega (arith, past, count)) c.loop-i.invariant
+
+pub loop-i-init : goal.loop-i-init
+loop-i-init = grind (arith, common_steps)

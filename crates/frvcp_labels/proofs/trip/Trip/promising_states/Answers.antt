@@ -1,4 +1,5 @@
 use Rattle.std.proofs.Common.{◌≡◌, ◌∙◌, ◌++◌, ◌∷◌, [], List, ap, arith, subst, sym}
+use Rattle.std.proofs.lemmas.Grind.{common_steps}
 use Rattle.std.specs.List.{All}
 use Rattle.std.proofs.lemmas.List.Elements.{All-push}
 use Rattle.charge_curve.specs.Points.{ArePoints}
@@ -22,3 +23,6 @@ loop-i-preserved c =
       valid = subst (λ (s : State). ArePoints s.value) value c.in_ok-copied.ensures.valid;
     } in
     subst (λ (ss : List State). All (IsStateOnWay c.args.self.now) ss) (sym all) (All-push (IsStateOnWay c.args.self.now) c.loop-i.states.items label.0.value c.loop-i.invariant fits)
+
+pub loop-i-init : goal.loop-i-init
+loop-i-init = grind (arith, common_steps)

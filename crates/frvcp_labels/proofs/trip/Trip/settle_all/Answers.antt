@@ -1,3 +1,5 @@
+use Rattle.std.proofs.Common.{arith}
+use Rattle.std.proofs.lemmas.Grind.{common_steps}
 use Rattle.frvcp_labels.proofs.SearchLoops.{next_taken, taken_turn_on_way}
 use Rattle.frvcp_labels.proofs.TakenLabels.{taken_falls, taken_full, taken_inside, taken_sound}
 use Rattle.frvcp_labels.proofs.trip.Trip.settle_all.Goals as goal
@@ -20,3 +22,9 @@ loop-i-preserved c = record {
 
 pub loop-i-smaller : goal.loop-i-smaller
 loop-i-smaller c = taken_falls c.args.self.now c.loop-i.pool c.take_next.new.self c.in-Some.i (next_taken c.loop-i.pool c.take_next.new.self c.take_next.result c.in-Some.i c.in-Some.is c.take_next.ensures.next) c.spread_on_way.new.pool c.in_ok-spread_on_way.ensures.grown c.take_next.ensures.small
+
+pub returns-clause-spread : goal.returns-clause-spread
+returns-clause-spread = grind (arith, common_steps)
+
+pub returns-clause-pool : goal.returns-clause-pool
+returns-clause-pool = grind (arith, common_steps)

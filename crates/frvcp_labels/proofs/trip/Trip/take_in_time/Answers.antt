@@ -1,4 +1,5 @@
-use Rattle.std.proofs.Common.{Option, refl, subst, sym, ℕ}
+use Rattle.std.proofs.Common.{Option, refl, subst, sym, ℕ, arith}
+use Rattle.std.proofs.lemmas.Grind.{common_steps}
 use Rattle.std.specs.Prelude.{IsNone}
 use Rattle.frvcp_labels.proofs.SearchTurns.{late_home, none_home}
 use Rattle.frvcp_labels.proofs.trip.Trip.take_in_time.Goals as goal
@@ -10,3 +11,6 @@ pub returns-then-scaled_limit-key-clause-none : goal.returns-then-scaled_limit-k
 returns-then-scaled_limit-key-clause-none c none =
     let next = c.in-Some.ensures.key in
     late_home c.args.self.now c.args.pool.now.labels c.requires.spread c.scaled_limit.result next.0 c.in-Some.key next.1 c.requires.pool.labels next.2 next.3 c.scaled_limit.ensures.value c.if-scaled_limit-key.true
+
+pub returns-clause-none : goal.returns-clause-none
+returns-clause-none = grind (arith, common_steps)

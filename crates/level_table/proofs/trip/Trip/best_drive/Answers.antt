@@ -1,4 +1,5 @@
 use Rattle.std.proofs.Common.{◌≡◌, ◌≤◌, ◌⊎◌, ℕ, List, Option, None, Some, sym, subst, inl, inr, arith}
+use Rattle.std.proofs.lemmas.Grind.{common_steps}
 use Rattle.std.specs.Prelude.{IfSome}
 use Rattle.std.proofs.lemmas.Bool.{cases_lt}
 use Rattle.ev_model.specs.Network.{Network, scaled_limit}
@@ -44,3 +45,6 @@ loop-slot-preserved c =
 
 pub returns-clause-drives : goal.returns-clause-drives
 returns-clause-drives c = λ slot can. c.loop-slot.invariant.drives slot (omega (arith, can.1.known, c.slots-slot-end.ensures.value, c.loop-slot-test.false)) can
+
+pub loop-slot-init : goal.loop-slot-init
+loop-slot-init = grind (arith, common_steps)

@@ -1,4 +1,5 @@
 use Rattle.std.proofs.Common.{◌≡◌, ◌∙◌, ◌+◌, ◌-◌, ◌*◌, ◌<◌, ◌≤◌, ℕ, false, true, inl, inr, refl, ap, subst, arith}
+use Rattle.std.proofs.lemmas.Grind.{common_steps}
 use Rattle.std.proofs.lemmas.Bool.{cases_lt}
 use Rattle.charge_curve.specs.Points.{time_on}
 use Rattle.ev_model.specs.Network.{IsNetwork, Network, curve_at}
@@ -56,3 +57,15 @@ returns-clause-value c =
       time = ap (λ x. x + (c.time_to.result - c.time_to-2.result)) c.plug_time-plug.ensures.value ∙ ap (λ x. g.denominator * plug_before g route from + x) unit;
       leads = refl;
     }
+
+pub time_to-requires : goal.time_to-requires
+time_to-requires = grind (arith, common_steps)
+
+pub time_to-requires-2 : goal.time_to-requires-2
+time_to-requires-2 = grind (arith, common_steps)
+
+pub overflow_add-level : goal.overflow_add-level
+overflow_add-level = grind (arith, common_steps)
+
+pub returns-clause-place : goal.returns-clause-place
+returns-clause-place = grind (arith, common_steps)

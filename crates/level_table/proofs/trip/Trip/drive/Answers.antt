@@ -1,4 +1,5 @@
 use Rattle.std.proofs.Common.{◌≡◌, ◌≢◌, ◌∙◌, ◌+◌, ◌-◌, ◌*◌, ◌≤◌, ℕ, List, length, false, refl, sym, ap, subst, arith}
+use Rattle.std.proofs.lemmas.Grind.{common_steps}
 use Rattle.std.proofs.lemmas.Bool.Decides.{nat_tests}
 use Rattle.ev_model.specs.Network.{Network, energy, process_time, travel_time}
 use Rattle.level_table.specs.Stations.{stations}
@@ -67,3 +68,27 @@ returns-clause-value c =
     drive_leg g c.self.inside.inst.now c.args.self.now.route from slot passed c.node_at-node.result c.node_at-next.result c.energy-energy.result c.time.result c.service.result
     c.denominator.result same c.if-from.false known passed_is c.node_at-node.ensures.value c.node_at-next.ensures.value (λ eq. c.if-next-node.false eq)
     c.energy-energy.ensures.value (omega (arith, c.if-energy-from.false)) (c.if-not-is_enough.ensures.0 refl) c.denominator.ensures.value c.time.ensures.value c.service.ensures.value
+
+pub time-requires-clause-reached : goal.time-requires-clause-reached
+time-requires-clause-reached = grind (arith, common_steps)
+
+pub service-requires : goal.service-requires
+service-requires = grind (arith, common_steps)
+
+pub returns-clause-small : goal.returns-clause-small
+returns-clause-small = grind (arith, common_steps)
+
+pub time-requires-clause-left : goal.time-requires-clause-left
+time-requires-clause-left = grind (arith, common_steps)
+
+pub energy-energy-requires-clause-reached : goal.energy-energy-requires-clause-reached
+energy-energy-requires-clause-reached = grind (arith, common_steps)
+
+pub node_at-next-requires-clause-passed : goal.node_at-next-requires-clause-passed
+node_at-next-requires-clause-passed = grind (arith, common_steps)
+
+pub energy-energy-requires-clause-left : goal.energy-energy-requires-clause-left
+energy-energy-requires-clause-left = grind (arith, common_steps)
+
+pub returns-then-not-is_enough-clause-value : goal.returns-then-not-is_enough-clause-value
+returns-then-not-is_enough-clause-value = grind (arith, common_steps)

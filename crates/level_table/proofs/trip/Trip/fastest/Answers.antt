@@ -1,4 +1,5 @@
 use Rattle.std.proofs.Common.{◌≡◌, ◌∙◌, ◌+◌, ◌≤◌, ℕ, List, Option, None, Some, true, false, is_some, sym, subst, refl, ap, arith}
+use Rattle.std.proofs.lemmas.Grind.{common_steps}
 use Rattle.std.specs.Option.{IfSome}
 use Rattle.std.proofs.lemmas.List.{get_or_read}
 use Rattle.ev_model.specs.Feasible.{IsFeasible}
@@ -63,3 +64,6 @@ returns c =
     c.in_ok-stops.ensures.feasible c.in_ok-stops.ensures.follows
     (subst (λ (xs : List (Option Reach)). IfSome (entry_at xs (index_of g (start_place c.args.start))) (λ r. time_of g 1 c.args.start c.in_ok-stops.stops.items ≤ r.time))
     c.deref.ensures.value c.in_ok-stops.ensures.time)
+
+pub walk-requires-clause-table : goal.walk-requires-clause-table
+walk-requires-clause-table = grind (arith, common_steps)

@@ -1,4 +1,5 @@
 use Rattle.std.proofs.Common.{◌<◌, ◌+◌, ◌^◌, ◌*◌, subst, arith}
+use Rattle.std.proofs.lemmas.Grind.{common_steps}
 use Rattle.ev_model.specs.Network.{scaled_limit}
 use Rattle.level_table.specs.Table.{IsNoFarther, IsOffer, entry_at, rank_at}
 use Rattle.level_table.specs.Places.{index_of, place_of}
@@ -29,3 +30,9 @@ returns-clause-table c =
     let nearer : rank offer.reach < rank_at g entries index =
     nearer-rank (scaled_limit g) offer.reach (entry_at entries index) is_offer.in_time (omega (arith, steps, is_offer.rest.3)) c.if-not-is_nearer.ensures in
     better-table g route entries index offer c.requires.table.trip c.requires.table c.requires.cell is_offer nearer
+
+pub returns-clause-changed : goal.returns-clause-changed
+returns-clause-changed = grind (arith, common_steps)
+
+pub returns-clause-closed : goal.returns-clause-closed
+returns-clause-closed = grind (arith, common_steps)

@@ -1,4 +1,5 @@
 use Rattle.std.proofs.Common.{◌≡◌, ◌-◌, ◌<◌, ◌≤◌, ℕ, List, Option, inl, inr, sym, subst, arith}
+use Rattle.std.proofs.lemmas.Grind.{common_steps}
 use Rattle.std.proofs.lemmas.Bool.{cases_lt}
 use Rattle.ev_model.specs.Network.{scaled_limit}
 use Rattle.level_table.specs.Table.{IsClosedAt, total_rank}
@@ -26,3 +27,12 @@ loop-index-preserved c =
       total = subst (λ (es : List (Option Reach)). total_rank limit es ≤ total_rank limit c.args.entries.now) (sym same) c.loop-index.invariant.total;
       falls = λ some. subst (λ (es : List (Option Reach)). total_rank limit es < total_rank limit c.args.entries.now) (sym same) (c.loop-index.invariant.falls some);
     }
+
+pub returns-clause-closed : goal.returns-clause-closed
+returns-clause-closed = grind (arith, common_steps)
+
+pub loop-index-init : goal.loop-index-init
+loop-index-init = grind (arith, common_steps)
+
+pub loop-index-preserved-then-improve : goal.loop-index-preserved-then-improve
+loop-index-preserved-then-improve = grind (arith, common_steps)

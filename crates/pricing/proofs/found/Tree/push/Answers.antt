@@ -1,4 +1,5 @@
 use Rattle.std.proofs.Common.{◌≡◌, ◌≤◌, ◌^◌, List, sym, subst, arith, unsigned_abs, FitsSigned, to_z, of_z}
+use Rattle.std.proofs.lemmas.Grind.{common_steps}
 use Rattle.std.specs.Prelude.{slice_set}
 use Rattle.std.specs.Int.{w128}
 use Rattle.std.proofs.lemmas.Int.{ints}
@@ -25,3 +26,9 @@ pub returns-clause-grown : goal.returns-clause-grown
 returns-clause-grown c =
     let new : Found = record { label = c.args.label; paid = to_z w128 (of_z w128 c.args.paid); parent = c.args.parent; gap = c.args.gap } in
     subst (λ (found : List Found). IsGrown c.args.self.now.found.items found) (sym c.in_ok-push-2.ensures.items) (grown_by c.args.self.now.found.items new)
+
+pub returns-clause-number : goal.returns-clause-number
+returns-clause-number = grind (arith, common_steps)
+
+pub returns-clause-count : goal.returns-clause-count
+returns-clause-count = grind (arith, common_steps)

@@ -1,3 +1,5 @@
+use Rattle.std.proofs.Common.{arith}
+use Rattle.std.proofs.lemmas.Grind.{elements}
 use Rattle.pricing.proofs.GrownTrees.{read}
 use Rattle.pricing.proofs.SearchState.{label_in_range}
 use Rattle.pricing.proofs.search.Search.force.Goals as goal
@@ -19,3 +21,6 @@ force_all-requires-clause-steps c = record {
   leads = c.in-Some.ensures.leads;
   left = c.in_ok-values.ensures.left;
 }
+
+pub force_all-requires-clause-some : goal.force_all-requires-clause-some
+force_all-requires-clause-some = grind (arith, elements)

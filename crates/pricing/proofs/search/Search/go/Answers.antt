@@ -1,4 +1,5 @@
-use Rattle.std.proofs.Common.{◌≡◌, ◌∙◌, sym, subst}
+use Rattle.std.proofs.Common.{◌≡◌, ◌∙◌, sym, subst, arith}
+use Rattle.std.proofs.lemmas.Grind.{common_steps}
 use Rattle.std.proofs.lemmas.Option.{same_Some}
 use Rattle.pricing.specs.Steps.{label_of, Leads}
 use Rattle.pricing.specs.declared.found.Found.{Found}
@@ -29,3 +30,9 @@ serve-requires-clause-leads c f at value =
     let here = read c.args.self.now.tree.found.items c.args.from c.index-found.result.now c.requires.known c.index-found.ensures in
     let same : c.index-found.result.now ≡ f = same_Some c.index-found.result.now f (sym here ∙ at) in
     subst (λ (k : Found). Leads c.args.question.now k.label (label_of c.in-Some.target c.args.node value)) same (c.in-Some.ensures.leads value)
+
+pub curve_at-requires : goal.curve_at-requires
+curve_at-requires = grind (arith, common_steps)
+
+pub serve-requires-clause-small : goal.serve-requires-clause-small
+serve-requires-clause-small = grind (arith, common_steps)

@@ -1,4 +1,5 @@
-use Rattle.std.proofs.Common.{◌∙◌, [], ◌∷◌, refl, ap}
+use Rattle.std.proofs.Common.{◌∙◌, [], ◌∷◌, refl, ap, arith}
+use Rattle.std.proofs.lemmas.Grind.{common_steps}
 use Rattle.ev_model.specs.Network.{Network}
 use Rattle.pricing.specs.Steps.{IsStart}
 use Rattle.pricing.proofs.StartLabels.{start_range}
@@ -14,3 +15,6 @@ put-requires-clause-range c =
       value = c.point.ensures ∙ ap (λ q. (q, 0) ∷ []) full;
     } in
     start_range c.args.question.now (record { last = 0; node = 0; set = c.empty.result; value = c.point.result }) c.in_ok-tree.ensures.network start
+
+pub returns : goal.returns
+returns = grind (arith, common_steps)

@@ -1,4 +1,5 @@
-use Rattle.std.proofs.Common.{List, subst, sym}
+use Rattle.std.proofs.Common.{List, subst, sym, arith}
+use Rattle.std.proofs.lemmas.Grind.{common_steps}
 use Rattle.pricing.specs.declared.priced.PricedRoute.{PricedRoute}
 use Rattle.route_pool.specs.Pool.{IsPool}
 use Rattle.std.specs.Prelude.{IfSome}
@@ -16,3 +17,6 @@ pub returns-clause-placed : goal.returns-clause-placed
 returns-clause-placed c =
     let here = placed c.self.inside.routes.entries c.args.at c.get_index.result c.get_index.ensures.entry in
     subst (λ (rs : List PricedRoute). IfSome c.get_index.result (λ r. IsRouteAt rs c.args.at r.0.now.items r.1.now.plan)) c.self.view_is here
+
+pub returns-clause-found : goal.returns-clause-found
+returns-clause-found = grind (arith, common_steps)

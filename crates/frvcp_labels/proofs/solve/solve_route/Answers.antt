@@ -1,0 +1,15 @@
+use Rattle.std.proofs.Common.{arith}
+use Rattle.std.proofs.lemmas.Grind.{common_steps}
+use Rattle.frvcp_labels.proofs.solve.solve_route.Goals as goal
+
+pub returns : goal.returns
+returns = grind (arith, common_steps)
+
+pub first_home-requires-clause-full : goal.first_home-requires-clause-full
+first_home-requires-clause-full = grind (arith, common_steps)
+
+pub invariant_of-trip : goal.invariant_of-trip
+invariant_of-trip = grind (arith, common_steps)
+
+pub plan_to-requires-clause-pool : goal.plan_to-requires-clause-pool
+plan_to-requires-clause-pool = grind (arith, common_steps)

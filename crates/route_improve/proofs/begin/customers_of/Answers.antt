@@ -1,0 +1,9 @@
+use Rattle.std.proofs.Common.{arith}
+use Rattle.std.proofs.lemmas.Grind.{common_steps}
+use Rattle.route_improve.proofs.begin.customers_of.Goals as goal
+
+pub loop-stop-preserved : goal.loop-stop-preserved
+loop-stop-preserved = grind (arith, common_steps)
+
+pub returns : goal.returns
+returns = grind (arith, common_steps)
