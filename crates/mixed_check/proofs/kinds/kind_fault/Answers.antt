@@ -1,4 +1,5 @@
 use Rattle.std.proofs.Common.{◌≤◌, length, subst, arith}
+use Rattle.std.proofs.lemmas.Grind.{common_steps}
 use Rattle.std.proofs.lemmas.List.Elements.{All-from_get_or}
 use Rattle.ev_model.specs.Network.{IsNetwork}
 use Rattle.fleet_model.specs.ClosedList.{IsClosed}
@@ -31,3 +32,6 @@ returns c =
       All-from_get_or IsNetwork kinds no_network (λ i within. c.loop-kind.invariant.networks i (omega (arith, within, past))),
       λ kind known. c.loop-kind.invariant.closed kind (omega (arith, known, past)),
     )
+
+pub loop-kind-init : goal.loop-kind-init
+loop-kind-init = grind (arith, common_steps)

@@ -1,4 +1,5 @@
-use Rattle.std.proofs.Common.{List, refl, subst, sym}
+use Rattle.std.proofs.Common.{List, refl, subst, sym, arith}
+use Rattle.std.proofs.lemmas.Grind.{common_steps}
 use Rattle.std.specs.Prelude.{IfOk}
 use Rattle.certificate_parts.specs.declared.entry.BasisEntry.{BasisEntry}
 use Rattle.mixed_model.specs.Meaning.{section_of}
@@ -30,3 +31,6 @@ returns-in-Wide c =
     let columns = subst (λ (rs : List MixedRoute). IfOk c.is_wide.result (TellsWide kinds rs c.as_slice-in-Wide-2.result.now)) c.as_slice-in-Wide.ensures c.is_wide.ensures in
     let both = subst (λ (es : List BasisEntry). IfOk c.is_wide.result (TellsWide kinds c.in-Wide.columns es)) c.as_slice-in-Wide-2.ensures columns in
     subst (λ (r : MixedRoot). IfOk c.is_wide.result (TellsRoot kinds p r)) (sym c.in-Wide.is) (wide_told kinds p c.in-Wide.columns c.in-Wide.basis c.is_wide.result both)
+
+pub is_wide-requires-clause-basis : goal.is_wide-requires-clause-basis
+is_wide-requires-clause-basis = grind (arith, common_steps)

@@ -1,4 +1,5 @@
-use Rattle.std.proofs.Common.{◌+◌, subst, sym, take}
+use Rattle.std.proofs.Common.{◌+◌, subst, sym, take, arith}
+use Rattle.std.proofs.lemmas.Grind.{common_steps}
 use Rattle.std.specs.List.{AllZip}
 use Rattle.std.proofs.lemmas.List.Elements.{All-get_or}
 use Rattle.certificate_check.proofs.Zips.{zip_more}
@@ -19,3 +20,6 @@ pub returns-in_default : goal.returns-in_default
 returns-in_default c = λ all.
     let P = λ (r : MixedRoute). IsKindRoute c.args.kinds.now 1 (kind_plan r) in
     c.in_default.ensures.none (subst P (sym c.column-item.is) (All-get_or P c.args.columns.now c.loop-column.column-index c.column-item.result c.loop-column-test.true all))
+
+pub returns : goal.returns
+returns = grind (arith, common_steps)

@@ -1,4 +1,5 @@
-use Rattle.std.proofs.Common.{◌+◌, refl, subst, sym, take}
+use Rattle.std.proofs.Common.{◌+◌, refl, subst, sym, take, arith}
+use Rattle.std.proofs.lemmas.Grind.{common_steps}
 use Rattle.std.specs.List.{AllZip}
 use Rattle.std.proofs.lemmas.List.Elements.{All-get_or}
 use Rattle.certificate_check.specs.declared.cover.SharedRoute.{SharedRoute}
@@ -23,3 +24,6 @@ pub returns-in_default : goal.returns-in_default
 returns-in_default c = λ all.
     let P = λ (x : MixedShare). IsKindRoute c.args.kinds.now 1 (kind_plan x.route) in
     c.in_default.ensures.none (subst P (sym c.share-item.is) (All-get_or P c.args.shares.now c.loop-share.share-index c.share-item.result c.loop-share-test.true all))
+
+pub returns : goal.returns
+returns = grind (arith, common_steps)

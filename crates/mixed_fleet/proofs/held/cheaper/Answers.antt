@@ -1,4 +1,5 @@
-use Rattle.std.proofs.Common.{◌<◌, List, length, subst, sym}
+use Rattle.std.proofs.Common.{◌<◌, List, length, subst, sym, arith}
+use Rattle.std.proofs.lemmas.Grind.{common_steps}
 use Rattle.std.specs.List.{All}
 use Rattle.std.proofs.lemmas.List.Sorted.{All-permutation}
 use Rattle.mixed_model.specs.Meaning.{kind_plans}
@@ -25,3 +26,6 @@ returns-in-Ok-check_mixed_plan-clause-held c =
     let kinds = c.args.kinds.now in
     let plan = subst (λ (rs : List MixedRoute). IsMixedPlan kinds 1 (kind_plans rs)) c.deref.ensures.value c.in-Ok.ensures.valid in
     subst (IsHeld kinds) (sym c.from_vec-in-Ok-check_mixed_plan.ensures) (may_hold kinds c.requires.fleet c.sort_by_first.new.routes.items plan c.sort_by_first.ensures.order)
+
+pub check_mixed_plan-requires-2-clause-known : goal.check_mixed_plan-requires-2-clause-known
+check_mixed_plan-requires-2-clause-known = grind (arith, common_steps)

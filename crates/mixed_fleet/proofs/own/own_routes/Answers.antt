@@ -1,4 +1,5 @@
 use Rattle.std.proofs.Common.{◌≡◌, ◌∙◌, ◌<◌, ◌+◌, List, Option, ℕ, ap, arith, length, subst, sym, take}
+use Rattle.std.proofs.lemmas.Grind.{common_steps}
 use Rattle.std.specs.Prelude.{slice_index}
 use Rattle.std.specs.List.{All}
 use Rattle.std.proofs.lemmas.List.Elements.{All-push}
@@ -47,3 +48,9 @@ loop-node-preserved c =
             own = back (found_none kinds nodes i within at.own new before none lacks);
           }
     ]
+
+pub returns-clause-own : goal.returns-clause-own
+returns-clause-own = grind (arith, common_steps)
+
+pub loop-node-init : goal.loop-node-init
+loop-node-init = grind (arith, common_steps)

@@ -1,4 +1,5 @@
-use Rattle.std.proofs.Common.{◌∙◌, ◌<◌, List, ap, length, subst, sym}
+use Rattle.std.proofs.Common.{◌∙◌, ◌<◌, List, ap, length, subst, sym, arith}
+use Rattle.std.proofs.lemmas.Grind.{common_steps}
 use Rattle.std.specs.List.{All}
 use Rattle.std.proofs.lemmas.List.Elements.{All-map, All-weaker}
 use Rattle.mixed_model.specs.declared.proof.MixedRoute.{MixedRoute}
@@ -16,3 +17,15 @@ greedy_routes-requires-clause-alone g c =
     let all = All-map P (λ (r : Searched). r.route) rs each in
     let made = c.deref-2.ensures.value ∙ c.in_ok-alone.ensures ∙ ap (λ (xs : List Searched). routes_of xs) c.deref.ensures.value in
     subst (λ (xs : List MixedRoute). All P xs) (sym made) all
+
+pub cheaper-held-requires-clause-own : goal.cheaper-held-requires-clause-own
+cheaper-held-requires-clause-own = grind (arith, common_steps)
+
+pub with_met-requires-clause-met : goal.with_met-requires-clause-met
+with_met-requires-clause-met = grind (arith, common_steps)
+
+pub outcome_of-requires-clause-proof : goal.outcome_of-requires-clause-proof
+outcome_of-requires-clause-proof = grind (arith, common_steps)
+
+pub cheaper-held-requires-clause-held : goal.cheaper-held-requires-clause-held
+cheaper-held-requires-clause-held = grind (arith, common_steps)

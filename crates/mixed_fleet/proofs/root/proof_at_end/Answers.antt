@@ -1,4 +1,5 @@
 use Rattle.std.proofs.Common.{◌≡◌, ◌∙◌, ◌≤◌, List, ℕ, ap, arith, length, map, subst, sym}
+use Rattle.std.proofs.lemmas.Grind.{common_steps}
 use Rattle.std.proofs.lemmas.Int.{ints}
 use Rattle.std.specs.List.{All}
 use Rattle.ev_model.specs.Network.{Network}
@@ -53,3 +54,6 @@ proof_with-requires-2-clause-root c =
     let made = c.in_ok-found.ensures ∙ ap (λ (xs : List (ℕ × ℕ)). map (share_at n routes) xs) c.deref.ensures.value in
     subst (λ (xs : List MixedShare). IsRightRoot kinds lp.weight lp.prices.items (Exact lp.over xs)) (sym c.from_vec.ensures)
     (exact_root kinds lp routes c.args.closing c.requires.closed c.requires.fleet n count c.if-weight-eq0.false found.items few made)
+
+pub proof_with-requires-2-clause-above : goal.proof_with-requires-2-clause-above
+proof_with-requires-2-clause-above = grind (arith, common_steps)

@@ -1,4 +1,5 @@
 use Rattle.std.proofs.Common.{◌≡◌, ◌∙◌, ◌≤◌, List, ℕ, ap, arith, length, refl, subst, sym}
+use Rattle.std.proofs.lemmas.Grind.{common_steps}
 use Rattle.std.proofs.lemmas.Int.{ints}
 use Rattle.std.proofs.lemmas.List.{length-map}
 use Rattle.ev_model.specs.Network.{Network}
@@ -58,3 +59,18 @@ proof_with-requires-in-Priced-clause-root g c =
     let few : length c.args.routes.now ≤ most_items = omega (arith, few_columns, long) in
     rising_root kinds c.requires.fleet prices c.in-Priced.closing is c.args.routes.now c.args.basis.now c.requires.wide few n count
     c.from_vec.result (c.from_vec.ensures ∙ c.in_ok-columns-in-Priced.ensures) c.from_vec-in-Priced.result (c.from_vec-in-Priced.ensures ∙ c.in_ok-entries-in-Priced.ensures)
+
+pub proof_with-requires-in-Priced-clause-asked : goal.proof_with-requires-in-Priced-clause-asked
+proof_with-requires-in-Priced-clause-asked = grind (arith, common_steps)
+
+pub proof_with-requires-in-Priced-clause-above : goal.proof_with-requires-in-Priced-clause-above
+proof_with-requires-in-Priced-clause-above = grind (arith, common_steps)
+
+pub proof_with-requires-clause-asked : goal.proof_with-requires-clause-asked
+proof_with-requires-clause-asked = grind (arith, common_steps)
+
+pub proof_with-requires-clause-closed : goal.proof_with-requires-clause-closed
+proof_with-requires-clause-closed = grind (arith, common_steps)
+
+pub proof_with-requires-in-Priced-clause-closed : goal.proof_with-requires-in-Priced-clause-closed
+proof_with-requires-in-Priced-clause-closed = grind (arith, common_steps)

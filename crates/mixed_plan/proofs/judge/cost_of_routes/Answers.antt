@@ -1,4 +1,5 @@
 use Rattle.std.proofs.Common.{arith}
+use Rattle.std.proofs.lemmas.Grind.{elements}
 use Rattle.mixed_plan.proofs.Walks.{cost_more, walked_more}
 use Rattle.mixed_plan.proofs.judge.cost_of_routes.Goals as goal
 
@@ -17,3 +18,6 @@ loop-route-preserved c =
       walked = walked_more kinds plan i r c.loop-route-test.true c.index-plan-route.is c.loop-route.invariant.walked c.in-Ok.ensures.feasible;
       sum = omega (arith, more, sum, time);
     }
+
+pub returns-in-Err-clause-fault : goal.returns-in-Err-clause-fault
+returns-in-Err-clause-fault = grind (arith, elements)

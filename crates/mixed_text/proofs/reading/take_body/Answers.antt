@@ -1,4 +1,5 @@
-use Rattle.std.proofs.Common.{rules, ◌≡◌, ◌≢◌, Err, length, refl}
+use Rattle.std.proofs.Common.{rules, ◌≡◌, ◌≢◌, Err, length, refl, arith}
+use Rattle.std.proofs.lemmas.Grind.{common_steps}
 use Rattle.certificate_parts.specs.Refusals.{or_refused}
 use Rattle.certificate_parts.specs.declared.cert_text.CertText.TheVariants.{Memory}
 use Rattle.mixed_text.specs.Reading.{mixed_body_at}
@@ -12,3 +13,6 @@ returns-in_err-root-clause-fault c =
     λ known. no_root_part c.args.kinds.now c.args.scan.now c.take_bound.new.scan c.in_ok-bound.bound (length c.args.kinds.now) c.first_kind.result.now fault
     c.in_ok-bound.ensures.ok refl c.first_kind.ensures (c.in_err-root.ensures.fault known) in
     search rules
+
+pub take_lines-requires-clause-root : goal.take_lines-requires-clause-root
+take_lines-requires-clause-root = grind (arith, common_steps)

@@ -1,4 +1,5 @@
 use Rattle.std.proofs.Common.{ap, sym, subst, arith}
+use Rattle.std.proofs.lemmas.Grind.{common_steps}
 use Rattle.ev_model.specs.Network.{Network, node_count}
 use Rattle.near_proof.specs.Ranges.{NearLabelFits}
 use Rattle.near_proof.specs.declared.proof.NearLabel.{NearLabel}
@@ -21,3 +22,12 @@ list_values-requires-clause-memory c =
 pub list_values-requires-clause-values : goal.list_values-requires-clause-values
 list_values-requires-clause-values c =
     left_within c.args.pricing.now.network c.index-from.result.now c.args.node c.in_ok-values.values.items c.in_ok-values.ensures.left
+
+pub values_at-requires-clause-node : goal.values_at-requires-clause-node
+values_at-requires-clause-node = grind (arith, common_steps)
+
+pub list_values-requires-clause-node : goal.list_values-requires-clause-node
+list_values-requires-clause-node = grind (arith, common_steps)
+
+pub target_at-requires-clause-node : goal.target_at-requires-clause-node
+target_at-requires-clause-node = grind (arith, common_steps)

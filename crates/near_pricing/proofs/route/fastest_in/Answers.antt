@@ -1,4 +1,5 @@
-use Rattle.std.proofs.Common.{◌≡◌, ◌∙◌, [], ◌∷◌, ◌++◌, ap, subst, Option}
+use Rattle.std.proofs.Common.{◌≡◌, ◌∙◌, [], ◌∷◌, ◌++◌, ap, subst, Option, arith}
+use Rattle.std.proofs.lemmas.Grind.{common_steps}
 use Rattle.std.specs.Prelude.{MatchOption}
 use Rattle.ev_model.specs.Fastest.{HasNoPlan, IsFastest}
 use Rattle.ev_model.specs.Network.{Network}
@@ -22,3 +23,6 @@ returns c =
       earns = better.earns;
       fits = feasible_fits q.network q.network.capacity c.in-Some.plan.stops c.instance-inst.ensures.question.network by_network.feasible;
     }
+
+pub unreachable-requires : goal.unreachable-requires
+unreachable-requires = grind (arith, common_steps)

@@ -1,4 +1,5 @@
 use Rattle.std.proofs.Common.{◌≡◌, ◌∙◌, length, ap, sym, subst, arith, inl, false, Some}
+use Rattle.std.proofs.lemmas.Grind.{common_steps}
 use Rattle.customer_sets.specs.CustSet.{has}
 use Rattle.ev_model.specs.Network.{Network}
 use Rattle.fleet_model.specs.Places.{customer_count, customer_number}
@@ -40,3 +41,21 @@ returns-then-from-customers-clause-none c can =
     let count : length c.customers.result.now ≡ customer_count c.args.pricing.now.network = ap length c.customers.ensures.value ∙ ap (λ (h : Network). length (customer_nodes h)) c.instance-inst.ensures.same ∙ counted c.args.pricing.now.network in
     let enough = c.if-from-customers.true in
     served_enough c.args.pricing.now.network c.args.from.now c.args.node told.0 (omega (arith, enough, count)) can
+
+pub after_service-requires-clause-label : goal.after_service-requires-clause-label
+after_service-requires-clause-label = grind (arith, common_steps)
+
+pub returns-in_default-clause-none : goal.returns-in_default-clause-none
+returns-in_default-clause-none = grind (arith, common_steps)
+
+pub has-requires : goal.has-requires
+has-requires = grind (arith, common_steps)
+
+pub after_service-requires-clause-known : goal.after_service-requires-clause-known
+after_service-requires-clause-known = grind (arith, common_steps)
+
+pub after_service-requires-clause-fewer : goal.after_service-requires-clause-fewer
+after_service-requires-clause-fewer = grind (arith, common_steps)
+
+pub customer_number-requires : goal.customer_number-requires
+customer_number-requires = grind (arith, common_steps)

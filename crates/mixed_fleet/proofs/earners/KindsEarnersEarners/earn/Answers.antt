@@ -1,4 +1,5 @@
 use Rattle.std.proofs.Common.{◌≡◌, ◌∙◌, [], ℕ, List, arith, length, rules, subst, sym}
+use Rattle.std.proofs.lemmas.Grind.{common_steps}
 use Rattle.ev_model.specs.Network.{Network}
 use Rattle.piece_fn.specs.declared.label.Label.{Label}
 use Rattle.price_loop.specs.Problems.{IsClosing}
@@ -29,3 +30,6 @@ returns c =
     let here = subst (λ (ks : List Network). AreClosedLists ks weight prices at.lists.items) c.self.view_is lists in
     subst (λ (ls : List (List Label)). IsClosing (problem_of kinds) weight prices ls) (sym c.from_vec.ensures)
     (closing_is kinds fleet weight prices (record { weight_small = c.requires.weight; one_price = c.requires.one_price; small = c.requires.small }) at.lists.items here)
+
+pub loop-kind-init : goal.loop-kind-init
+loop-kind-init = grind (arith, common_steps)

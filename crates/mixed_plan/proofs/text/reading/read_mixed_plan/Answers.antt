@@ -1,4 +1,5 @@
 use Rattle.std.proofs.Common.{rules, arith, ◌≡◌, ◌≢◌, Err, option_map}
+use Rattle.std.proofs.lemmas.Grind.{common_steps}
 use Rattle.route_plan.specs.declared.text.plan_text.PlanText.TheVariants.{Memory}
 use Rattle.route_plan.proofs.PlanLoops.{fault_behind, fault_within, whole_is_read}
 use Rattle.mixed_plan.specs.MixedReading.{mixed_file_at, mixed_plan_in}
@@ -23,3 +24,6 @@ returns-clause-ok c =
 
 pub returns-clause-spelled : goal.returns-clause-spelled
 returns-clause-spelled c = (plan_is_spelled c.args.kinds c.requires.some c.requires.few c.args.bytes.now (option_map (λ v. v.items) c.in_ok-plan.plan)).0 (returns-clause-ok c)
+
+pub returns-then-len-gt-MOST_BYTES-clause-fault : goal.returns-then-len-gt-MOST_BYTES-clause-fault
+returns-then-len-gt-MOST_BYTES-clause-fault = grind (arith, common_steps)

@@ -1,4 +1,5 @@
 use Rattle.std.proofs.Common.{arith, rules, ◌≡◌, ◌≢◌, Err, subst, sym}
+use Rattle.std.proofs.lemmas.Grind.{common_steps}
 use Rattle.ev_model.specs.Network.{Network}
 use Rattle.certificate_parts.specs.Refusals.{or_refused}
 use Rattle.certificate_parts.specs.declared.cert_text.CertText.TheVariants.{Memory}
@@ -33,3 +34,6 @@ returns-in_err-labels-clause-fault c =
 
 pub returns-clause-networks : goal.returns-clause-networks
 returns-clause-networks c = kinds-networks c.args.kinds.now c.args.scan.now c.loop-kind.scan c.loop-kind.lists.items c.loop-kind.kind (omega arith) c.loop-kind.invariant
+
+pub returns-clause-ok : goal.returns-clause-ok
+returns-clause-ok = grind (arith, common_steps)

@@ -1,4 +1,5 @@
-use Rattle.std.proofs.Common.{◌∙◌, List, ℕ, [], ◌∷◌, ◌++◌, sym, subst}
+use Rattle.std.proofs.Common.{◌∙◌, List, ℕ, [], ◌∷◌, ◌++◌, sym, subst, arith}
+use Rattle.std.proofs.lemmas.Grind.{common_steps}
 use Rattle.std.specs.List.{All}
 use Rattle.std.proofs.lemmas.Option.{slice_get_within}
 use Rattle.near_proof.specs.declared.proof.NearLabel.{NearLabel}
@@ -47,3 +48,6 @@ loop-value-preserved c =
         left = all_but_last (IsLeft c.args.pricing.now.network steps.from.label c.args.node) c.pop.new.self.items c.in-Some.value all;
       };
     }
+
+pub loop-value-smaller : goal.loop-value-smaller
+loop-value-smaller = grind (arith, common_steps)

@@ -1,4 +1,5 @@
 use Rattle.std.proofs.Common.{◌∙◌, List, ℕ, [], ◌∷◌, ◌++◌, length, sym, subst, ap, arith}
+use Rattle.std.proofs.lemmas.Grind.{common_steps}
 use Rattle.std.proofs.lemmas.List.{length-append}
 use Rattle.std.specs.List.{All}
 use Rattle.std.proofs.lemmas.Option.{slice_get_within}
@@ -46,3 +47,6 @@ loop-value-preserved c =
         left = all_but_last (IsLeft c.args.pricing.now.network steps.from.label c.args.node) c.pop.new.self.items c.in-Some.value all;
       };
     }
+
+pub loop-value-smaller : goal.loop-value-smaller
+loop-value-smaller = grind (arith, common_steps)

@@ -1,4 +1,5 @@
 use Rattle.std.proofs.Common.{◌≡◌, ◌∙◌, ◌+◌, ◌<◌, List, ℕ, [], ◌∷◌, length, get_or, sym, subst, ap, arith, Some}
+use Rattle.std.proofs.lemmas.Grind.{common_steps}
 use Rattle.std.specs.List.{All}
 use Rattle.std.specs.Prelude.{slice_get}
 use Rattle.std.proofs.lemmas.List.{get_or_default, length-append}
@@ -34,3 +35,6 @@ returns-clause-copies c = record {
   count = (let all = ap length c.deref-number-items.ensures.value in omega (arith, all, c.loop-number.invariant.count, c.loop-number-test.false, c.loop-number.auto.number-index-end));
   same = c.loop-number.invariant.same;
 }
+
+pub loop-number-init : goal.loop-number-init
+loop-number-init = grind (arith, common_steps)

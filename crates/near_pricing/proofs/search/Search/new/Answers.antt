@@ -1,4 +1,5 @@
-use Rattle.std.proofs.Common.{◌∙◌, [], ◌∷◌, refl, ap}
+use Rattle.std.proofs.Common.{◌∙◌, [], ◌∷◌, refl, ap, arith}
+use Rattle.std.proofs.lemmas.Grind.{common_steps}
 use Rattle.ev_model.specs.Network.{Network}
 use Rattle.near_pricing.specs.Steps.{IsStart}
 use Rattle.near_pricing.proofs.StartLabels.{start_range}
@@ -15,3 +16,9 @@ put-requires-clause-range c =
       value = c.point.ensures ∙ ap (λ q. (q, 0) ∷ []) full;
     } in
     start_range c.args.pricing.now (record { node = 0; memory = c.empty.result; count = 0; earned = 0; value = c.point.result }) c.instance.ensures.question.network start
+
+pub returns : goal.returns
+returns = grind (arith, common_steps)
+
+pub put-requires-clause-room : goal.put-requires-clause-room
+put-requires-clause-room = grind (arith, common_steps)

@@ -1,4 +1,5 @@
 use Rattle.std.proofs.Common.{◌≡◌, ◌∙◌, ◌+◌, ◌<◌, ◌^◌, length, ap, arith, inl, inr}
+use Rattle.std.proofs.lemmas.Grind.{common_steps}
 use Rattle.near_pricing.proofs.SearchEnds.{fewer_wait, held_count, held_fewer, held_most, listed_more}
 use Rattle.near_pricing.proofs.search.Search.run.Goals as goal
 
@@ -13,3 +14,15 @@ loop-self-smaller c = elim (c.in_ok-take.ensures.listed) [
       ap (λ keys. held_count keys + 1) (same.1 ∙ c.in-Some.ensures.taken) ∙ held_fewer c.loop-self.self.queue c.in-Some.ensures.least.0 c.in-Some.number c.in-Some.ensures.least.1.held in
       fewer_wait (length c.loop-self.self.listed.items) (length c.take.new.self.listed.items) (held_count c.loop-self.self.queue) (held_count c.take.new.self.queue) (ap length same.0) fewer
 ]
+
+pub loop-self-preserved : goal.loop-self-preserved
+loop-self-preserved = grind (arith, common_steps)
+
+pub take-requires-clause-known : goal.take-requires-clause-known
+take-requires-clause-known = grind (arith, common_steps)
+
+pub take-requires-clause-search : goal.take-requires-clause-search
+take-requires-clause-search = grind (arith, common_steps)
+
+pub returns-in_default-clause-search : goal.returns-in_default-clause-search
+returns-in_default-clause-search = grind (arith, common_steps)

@@ -1,4 +1,5 @@
-use Rattle.std.proofs.Common.{◌∙◌, List, ℕ, ap, length, subst}
+use Rattle.std.proofs.Common.{◌∙◌, List, ℕ, ap, length, subst, arith}
+use Rattle.std.proofs.lemmas.Grind.{common_steps}
 use Rattle.ev_model.specs.Time.{time_of}
 use Rattle.fleet_model.specs.Places.{numbers_of}
 use Rattle.near_pricing.specs.Answers.{IsNearPriced}
@@ -18,3 +19,12 @@ unreachable-requires c =
     let prices = c.from_vec.ensures ∙ c.in_ok-no_prices.ensures in
     let nothing = ap (λ (ps : List ℕ). earned_by ps numbers) prices ∙ earned_nothing (length c.customers.result.now) numbers in
     no_less (time_of g 1 g.capacity stops) (earned_by c.from_vec.result numbers) better.earns nothing
+
+pub near_price-requires-clause-one_price : goal.near_price-requires-clause-one_price
+near_price-requires-clause-one_price = grind (arith, common_steps)
+
+pub near_price-requires-clause-small : goal.near_price-requires-clause-small
+near_price-requires-clause-small = grind (arith, common_steps)
+
+pub returns : goal.returns
+returns = grind (arith, common_steps)

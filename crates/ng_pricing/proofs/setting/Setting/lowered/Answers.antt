@@ -1,4 +1,5 @@
 use Rattle.std.proofs.Common.{◌≡◌, ◌∙◌, ◌*◌, ◌+◌, ◌<◌, ◌≤◌, ◌^◌, List, ℕ, ap, arith, length, set, subst, sym}
+use Rattle.std.proofs.lemmas.Grind.{common_steps}
 use Rattle.std.specs.List.{All}
 use Rattle.std.proofs.lemmas.Option.{get_or_from_slice_get, slice_get_within}
 use Rattle.certificate_parts.specs.Ranges.{ColumnFits}
@@ -85,3 +86,9 @@ returns-in-Closed-clause-fixed c =
       tight = subst (λ (p : RoutePlan). IsTight c.args.self.now.inst.now (terms_at c.args.self.now.sets.now (set c.args.prices.now c.args.customer c.lower.limit.price)) c.args.customer p.stops) (sym same) tight;
       fits = subst ColumnFits (sym same) (limit_fits g sets prices c.args.customer met l c.lower.invariant.met limit);
     }
+
+pub meet-requires-clause-route : goal.meet-requires-clause-route
+meet-requires-clause-route = grind (arith, common_steps)
+
+pub meet-requires-clause-open : goal.meet-requires-clause-open
+meet-requires-clause-open = grind (arith, common_steps)

@@ -1,4 +1,5 @@
 use Rattle.std.proofs.Common.{◌∙◌, List, arith, length, ◌≤◌, subst, sym}
+use Rattle.std.proofs.lemmas.Grind.{common_steps}
 use Rattle.ng_pricing.specs.Met.{AreMet, IsLimit}
 use Rattle.ng_pricing.specs.declared.met.MetRoute.{MetRoute}
 use Rattle.ng_pricing.proofs.PriceLimits.{few_numbers, limit_last, met_more, met_route}
@@ -26,3 +27,6 @@ pub returns-clause-limit : goal.returns-clause-limit
 returns-clause-limit c =
     subst (λ (ms : List MetRoute). IsLimit c.args.prices.now c.args.customer ms (record { price = c.in-Some.price; route = c.len.result })) (sym c.in_ok-push.ensures.items)
     (limit_last c.args.prices.now c.args.customer c.args.met.now.items c.in_ok-route.route (record { price = c.in-Some.price; route = c.len.result }) (c.len.ensures ∙ c.args.met.now.ok.0) c.in-Some.ensures.some)
+
+pub returns-clause-pays : goal.returns-clause-pays
+returns-clause-pays = grind (arith, common_steps)

@@ -1,4 +1,5 @@
-use Rattle.std.proofs.Common.{List, [], ◌∷◌, ℕ, Option, subst, sym}
+use Rattle.std.proofs.Common.{List, [], ◌∷◌, ℕ, Option, subst, sym, arith}
+use Rattle.std.proofs.lemmas.Grind.{common_steps}
 use Rattle.std.specs.Prelude.{MatchOption}
 use Rattle.ev_model.specs.Fastest.{HasNoPlan, IsFastest}
 use Rattle.feasible_texts.proofs.PlanRanges.{feasible_fits}
@@ -25,3 +26,6 @@ returns c =
     let fits = feasible_fits g g.capacity plan.stops c.requires.setting.network fastest.feasible in
     let is = met_route g sets plan r route fits c.in_ok-new.ensures in
     subst (λ (ms : List MetRoute). AreMet c.args.self.now.inst.now c.args.self.now.sets.now ms) (sym c.in_ok-push.ensures.items) (met_more g sets c.args.met.now.items r c.requires.met is)
+
+pub new-requires : goal.new-requires
+new-requires = grind (arith, common_steps)

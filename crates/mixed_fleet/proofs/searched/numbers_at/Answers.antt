@@ -1,0 +1,9 @@
+use Rattle.std.proofs.Common.{arith}
+use Rattle.std.proofs.lemmas.Grind.{common_steps}
+use Rattle.mixed_fleet.proofs.searched.numbers_at.Goals as goal
+
+pub returns : goal.returns
+returns = grind (arith, common_steps)
+
+pub loop-node-preserved : goal.loop-node-preserved
+loop-node-preserved = grind (arith, common_steps)

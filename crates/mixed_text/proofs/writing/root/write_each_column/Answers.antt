@@ -1,0 +1,9 @@
+use Rattle.std.proofs.Common.{arith}
+use Rattle.std.proofs.lemmas.Grind.{common_steps}
+use Rattle.mixed_text.proofs.writing.root.write_each_column.Goals as goal
+
+pub returns : goal.returns
+returns = grind (arith, common_steps)
+
+pub loop-column-preserved : goal.loop-column-preserved
+loop-column-preserved = grind (arith, common_steps)
