@@ -1,4 +1,5 @@
-use Rattle.std.proofs.Common.{◌∙◌, ap, map, string_bytes}
+use Rattle.std.proofs.Common.{◌∙◌, ap, map, string_bytes, arith}
+use Rattle.std.proofs.lemmas.Grind.{common_steps}
 use Rattle.clap.specs.Walk.{texts}
 use Rattle.command_line.proofs.Jobs.{no_job}
 use Rattle.command_line.proofs.PlainFaults.{empty_words}
@@ -16,3 +17,6 @@ returns-in-Ok-Some-clause-is c = are_jobs (rows_in c.in-Ok-Some.matches) c.job_i
 
 pub returns-then-is_empty-clause-job : goal.returns-then-is_empty-clause-job
 returns-then-is_empty-clause-job c = empty_words c.args.words.now c.is_empty.result c.if-is_empty.true c.is_empty.ensures
+
+pub returns-in-Ok-Some-clause-job : goal.returns-in-Ok-Some-clause-job
+returns-in-Ok-Some-clause-job = grind (arith, common_steps)

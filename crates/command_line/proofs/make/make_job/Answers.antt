@@ -1,7 +1,23 @@
-use Rattle.std.proofs.Common.{rules}
+use Rattle.std.proofs.Common.{rules, arith}
+use Rattle.std.proofs.lemmas.Grind.{common_steps}
 use Rattle.command_line.proofs.Counts.{no_make}
 use Rattle.command_line.specs.Matches.{rows_in}
 use Rattle.command_line.proofs.make.make_job.Goals as goal
 
 pub returns-in_default : goal.returns-in_default
 returns-in_default c = no_make c.args.rest.now (rows_in c.args.matches.now) (search rules)
+
+pub returns-in_default-count_of : goal.returns-in_default-count_of
+returns-in_default-count_of = grind (arith, common_steps)
+
+pub returns-in_default-number_of : goal.returns-in_default-number_of
+returns-in_default-number_of = grind (arith, common_steps)
+
+pub returns-in_default-count_of-2 : goal.returns-in_default-count_of-2
+returns-in_default-count_of-2 = grind (arith, common_steps)
+
+pub returns-then-not-gives_only : goal.returns-then-not-gives_only
+returns-then-not-gives_only = grind (arith, common_steps)
+
+pub returns : goal.returns
+returns = grind (arith, common_steps)

@@ -1,7 +1,14 @@
-use Rattle.std.proofs.Common.{rules}
+use Rattle.std.proofs.Common.{rules, arith}
+use Rattle.std.proofs.lemmas.Grind.{common_steps}
 use Rattle.command_line.proofs.Counts.{no_proof}
 use Rattle.command_line.specs.Matches.{rows_in}
 use Rattle.command_line.proofs.proof.proof_words.Goals as goal
 
 pub returns-in_default : goal.returns-in_default
 returns-in_default c = no_proof c.args.rest.now (rows_in c.args.matches.now) (search rules)
+
+pub returns-then-not-gives_only : goal.returns-then-not-gives_only
+returns-then-not-gives_only = grind (arith, common_steps)
+
+pub returns : goal.returns
+returns = grind (arith, common_steps)

@@ -1,4 +1,5 @@
-use Rattle.std.proofs.Common.{map, take, drop, length, ◌-◌}
+use Rattle.std.proofs.Common.{map, take, drop, length, ◌-◌, arith}
+use Rattle.std.proofs.lemmas.Grind.{common_steps}
 use Rattle.job_frame.proofs.FileReads.{ok_is_no_error}
 use Rattle.job_frame.proofs.FileWrites.{at_once_fails, at_once_stops, is_written, then_fails, then_stops, written_in}
 use Rattle.job_frame.specs.Finds.{written_by}
@@ -35,3 +36,9 @@ returns-in-Err-clause-memory g t c = λ is.
     at_once_stops (map written_by c.args.files.now) (written_by c.file-item.result) (map written_by (take (length c.args.files.now - 1) (drop 1 c.args.files.now)))
     (g.S.Shelf.state c.args.shelf.now) (g.S.Shelf.state c.write.new.self)
     (written_in c.args.files.now c.file-item.result c.in-len1-up.len_at_least c.file-item.is) (c.in-Err.ensures.memory is)
+
+pub write_all-requires : goal.write_all-requires
+write_all-requires = grind (arith, common_steps)
+
+pub returns-in-Ok-clause-ok : goal.returns-in-Ok-clause-ok
+returns-in-Ok-clause-ok = grind (arith, common_steps)

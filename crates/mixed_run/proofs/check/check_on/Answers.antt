@@ -1,4 +1,5 @@
-use Rattle.std.proofs.Common.{length, refl}
+use Rattle.std.proofs.Common.{length, refl, arith}
+use Rattle.std.proofs.lemmas.Grind.{common_steps}
 use Rattle.job_frame.proofs.BehindReads.{finds_refused, read_fails}
 use Rattle.job_frame.proofs.FileReads.{named_read}
 use Rattle.mixed_run.proofs.AcceptedAnswers.{plan_refused, rule_of}
@@ -28,3 +29,6 @@ returns-in-Err-Refused g c = λ files read has.
     (plan_refused job.limit files c.args.kinds.now (length c.args.kinds.now) plan_bytes c.as_slice.result.now why r has refl c.as_slice.ensures.value c.in-Err-Refused.field-0-is c.in-Err-Refused.ensures.ended) in
     finds_refused line c.refuse_job.ensures.status c.refuse_job.ensures.text c.refuse_job.ensures.files c.refuse_job.ensures.memory
     c.in-Ok.ensures.stays c.in-Ok.ensures.falls c.in-Ok.ensures.files
+
+pub returns : goal.returns
+returns = grind (arith, common_steps)

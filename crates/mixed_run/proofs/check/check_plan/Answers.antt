@@ -1,3 +1,5 @@
+use Rattle.std.proofs.Common.{arith}
+use Rattle.std.proofs.lemmas.Grind.{common_steps}
 use Rattle.std.specs.Option.{option_map}
 use Rattle.job_frame.proofs.BehindReads.{finds_told, read_fails}
 use Rattle.job_frame.proofs.FileReads.{named_read}
@@ -25,3 +27,6 @@ returns-in-Ok-judge_text g c = λ files plan_bytes read read_plan has.
     (c.in-Ok-judge_text.ensures.answers job.limit files plan_bytes has) in
     finds_told found c.in-Ok-judge_text.ensures.answered c.alone.ensures.answer c.alone.ensures.files
     c.in-Ok.ensures.stays c.in-Ok.ensures.falls c.in-Ok.ensures.files
+
+pub returns : goal.returns
+returns = grind (arith, common_steps)
