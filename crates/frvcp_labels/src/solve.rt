@@ -44,9 +44,7 @@ pub fn solve_route(
         start,
         rest: &rest,
     };
-    let (mut pool, mut full) = trip.begin(alloc)?;
-    let home = trip.first_home(alloc, &mut pool, full.as_mut_slice())?;
-    trip.plan_to(alloc, &pool, home)
+    trip.fastest(alloc)
 }
 
 /// A fastest plan of a route, or none, and states by which a judge may see that none is faster.
@@ -86,16 +84,58 @@ pub fn solve_with_labels(
         start,
         rest: &rest,
     };
-    let (mut pool, mut full) = trip.begin(alloc)?;
-    let home = trip.first_home(alloc, &mut pool, full.as_mut_slice())?;
-    let plan = trip.plan_to(alloc, &pool, home)?;
-    let bar = trip.bar(&pool, home);
-    let mut states = trip.promising_states(alloc, &pool, bar)?;
-    trip.add_hopeless(alloc, bar, &mut states)?;
-    Ok(Solved { plan, states })
+    trip.solved(alloc)
 }
 
 impl<'a> Trip<'a> {
+    /// What `solve_route` answers.
+    fn fastest(&self, alloc: Global) -> Result<Option<RoutePlan>, AllocError>
+        ensures { IfOk result (λ answer. MatchOption answer
+            (HasNoPlan self.now.network self.now.route self.now.start)
+            (λ plan. IsFastest self.now.network self.now.route self.now.start plan.stops)) }
+    {
+        let (pool, home) = self.searched(alloc)?;
+        self.plan_to(alloc, &pool, home)
+    }
+
+    /// What `solve_with_labels` answers.
+    fn solved(&self, alloc: Global) -> Result<Solved, AllocError>
+        ensures plan { IfOk result (λ s. MatchOption s.plan
+            (HasNoPlan self.now.network self.now.route self.now.start)
+            (λ plan. IsFastest self.now.network self.now.route self.now.start plan.stops)) }
+        ensures states { IfOk result (λ s. All (IsStateOnWay self.now) s.states.items) }
+    {
+        let (pool, home) = self.searched(alloc)?;
+        let plan = self.plan_to(alloc, &pool, home)?;
+        let states = self.states_before(alloc, &pool, self.bar(&pool, home))?;
+        Ok(Solved { plan, states })
+    }
+
+    /// The labels of a whole search, and the one at the route's end that it has taken.
+    fn searched(&self, alloc: Global) -> Result<(Pool<State>, Option<usize>), AllocError>
+        ensures pool { IfOk result (λ found. IsSoundPool self.now found.0) }
+        ensures home { IfOk result (λ found. IsHomeOrNone self.now found.0.labels found.1) }
+    {
+        let (mut pool, mut full) = self.begin(alloc)?;
+        let home = self.first_home(alloc, &mut pool, full.as_mut_slice())?;
+        Ok((pool, home))
+    }
+
+    /// The states that may come home before the bar, and for each place one with all that may not.
+    fn states_before(
+        &self,
+        alloc: Global,
+        pool: &Pool<State>,
+        bar: u64,
+    ) -> Result<Vec<State>, AllocError>
+        requires { IsSoundPool self.now pool.now }
+        ensures { IfOk result (λ states. All (IsStateOnWay self.now) states.items) }
+    {
+        let mut states = self.promising_states(alloc, pool, bar)?;
+        self.add_hopeless(alloc, bar, &mut states)?;
+        Ok(states)
+    }
+
     /// The plan of a label at the route's end that a search has taken, none where there is none.
     fn plan_to(
         &self,

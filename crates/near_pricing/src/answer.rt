@@ -66,19 +66,43 @@ pub fn near_price(
     };
     let pricing = Pricing::new(inst, terms);
     let table = completion_of(alloc, &pricing)?;
-    let quick = found_with(alloc, &pricing, &table, Care::Quick)?;
+    priced_by(alloc, &pricing, &table)
+}
+
+/// The answer with what a table leaves out.
+fn priced_by(
+    alloc: Global,
+    pricing: &Pricing<'_>,
+    table: &Completion,
+) -> Result<NearPriced, AllocError>
+    ensures { IfOk result (IsNearPriced pricing.now.network pricing.now.terms) }
+{
+    let quick = found_with(alloc, pricing, table, Care::Quick)?;
     if !quick.routes.is_empty() {
-        return Ok(better_of(&pricing, quick));
+        return Ok(better_of(pricing, quick));
     }
-    let exact = found_with(alloc, &pricing, &table, Care::Exact)?;
+    let exact = found_with(alloc, pricing, table, Care::Exact)?;
     if !exact.routes.is_empty() {
-        return Ok(better_of(&pricing, exact));
+        return Ok(better_of(pricing, exact));
     }
-    let mut labels = pricing.hopeless(alloc, &table)?;
-    list_all(&pricing, &mut labels, exact.labels(alloc, &pricing)?)?;
-    match closed_with(alloc, &pricing, labels, most_mends(&table))? {
-        Some(labels) => Ok(closed_by(&pricing, labels)),
-        None => certain(alloc, &pricing),
+    closed_after(alloc, pricing, table, &exact)
+}
+
+/// The answer once an exact search has found no route.
+fn closed_after(
+    alloc: Global,
+    pricing: &Pricing<'_>,
+    table: &Completion,
+    exact: &Search<'_>,
+) -> Result<NearPriced, AllocError>
+    requires { IsSearch pricing.now exact.now }
+    ensures { IfOk result (IsNearPriced pricing.now.network pricing.now.terms) }
+{
+    let mut labels = pricing.hopeless(alloc, table)?;
+    list_all(pricing, &mut labels, exact.labels(alloc, pricing)?)?;
+    match closed_with(alloc, pricing, labels, most_mends(table))? {
+        Some(labels) => Ok(closed_by(pricing, labels)),
+        None => certain(alloc, pricing),
     }
 }
 

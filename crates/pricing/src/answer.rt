@@ -88,7 +88,7 @@ pub fn seek(
     sought(alloc, &question, &arcs)
 }
 
-/// Routes that earn: those of a quick search, or where it finds none those of an exact one. Both
+/// Routes that earn: those of a quick search, or of an exact one where it finds none. Both
 /// leave out what can't earn, by a table.
 fn sought(
     alloc: Global,
@@ -98,14 +98,26 @@ fn sought(
     ensures { IfOk result (λ routes. All (IsBetterRoute question.now) routes.items) }
 {
     let table = table_of(alloc, question)?;
-    let mut quick = Search::new(alloc, question, &table, arcs, Care::Quick)?;
-    quick.run(alloc, question)?;
-    if !quick.routes.is_empty() {
-        return Ok(routes_of(question, quick));
+    let quick = routes_with(alloc, question, arcs, &table, Care::Quick)?;
+    if !quick.is_empty() {
+        return Ok(quick);
     }
-    let mut exact = Search::new(alloc, question, &table, arcs, Care::Exact)?;
-    exact.run(alloc, question)?;
-    Ok(routes_of(question, exact))
+    routes_with(alloc, question, arcs, &table, Care::Exact)
+}
+
+/// The routes that one search finds.
+fn routes_with(
+    alloc: Global,
+    question: &Question<'_>,
+    arcs: &Arcs,
+    table: &Completion,
+    care: Care,
+) -> Result<Vec<PricedRoute>, AllocError>
+    ensures { IfOk result (λ routes. All (IsBetterRoute question.now) routes.items) }
+{
+    let mut search = Search::new(alloc, question, table, arcs, care)?;
+    search.run(alloc, question)?;
+    Ok(routes_of(question, search))
 }
 
 /// The answer of the exact search that leaves nothing out.
