@@ -1,4 +1,5 @@
-use Rattle.std.proofs.Common.{refl}
+use Rattle.std.proofs.Common.{refl, arith}
+use Rattle.std.proofs.lemmas.Grind.{common_steps}
 use Rattle.std.specs.Prelude.{string_bytes}
 use Rattle.command_line.specs.Words.{BoundJob, bound_job_of}
 use Rattle.evroute_run.proofs.BoundFinds.{bound_found, bound_refused, found_is_answered, found_writes_one}
@@ -39,3 +40,9 @@ returns-in-Err-Refused g c =
     read c.as_slice.ensures.value c.in-Err-Refused.field-0-is c.in-Err-Refused.ensures.ended)
     c.refuse_job.ensures.status c.refuse_job.ensures.text c.refuse_job.ensures.files c.refuse_job.ensures.memory
     c.in-Ok.ensures.stays c.in-Ok.ensures.falls c.in-Ok.ensures.files
+
+pub returns-in-Ok-fleet_instance : goal.returns-in-Ok-fleet_instance
+returns-in-Ok-fleet_instance = grind (arith, common_steps)
+
+pub returns : goal.returns
+returns = grind (arith, common_steps)

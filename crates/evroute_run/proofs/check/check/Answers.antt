@@ -1,4 +1,5 @@
-use Rattle.std.proofs.Common.{List, ℕ, refl, subst}
+use Rattle.std.proofs.Common.{List, ℕ, refl, subst, arith}
+use Rattle.std.proofs.lemmas.Grind.{common_steps}
 use Rattle.std.specs.Prelude.{string_bytes}
 use Rattle.command_line.specs.Words.{CheckJob, check_job_of}
 use Rattle.evroute_run.proofs.CheckFinds.{refused_early}
@@ -30,3 +31,6 @@ returns-in-Err-Refused g c =
     read c.as_slice.ensures.value c.in-Err-Refused.field-0-is c.in-Err-Refused.ensures.check in
     finds_refused line c.refuse_job.ensures.status c.refuse_job.ensures.text c.refuse_job.ensures.files c.refuse_job.ensures.memory
     c.in-Ok.ensures.stays c.in-Ok.ensures.falls c.in-Ok.ensures.files
+
+pub returns : goal.returns
+returns = grind (arith, common_steps)

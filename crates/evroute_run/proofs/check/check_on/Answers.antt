@@ -1,4 +1,5 @@
-use Rattle.std.proofs.Common.{List, Option, ℕ, subst, sym}
+use Rattle.std.proofs.Common.{List, Option, ℕ, subst, sym, arith}
+use Rattle.std.proofs.lemmas.Grind.{common_steps}
 use Rattle.std.specs.Option.{option_map}
 use Rattle.std.specs.Prelude.{string_bytes}
 use Rattle.command_line.specs.Words.{CheckJob, check_job_of}
@@ -39,3 +40,6 @@ returns-in-Err-Refused g c = λ bytes read fleet.
     read read_plan c.as_slice.ensures.value c.in-Err-Refused.field-0-is (λ cert_bytes. c.in-Err-Refused.ensures.ended w.limit bytes cert_bytes c.args.inst.now fleet) in
     finds_refused line c.refuse_job.ensures.status c.refuse_job.ensures.text c.refuse_job.ensures.files c.refuse_job.ensures.memory
     c.in-Ok.ensures.stays c.in-Ok.ensures.falls c.in-Ok.ensures.files
+
+pub returns : goal.returns
+returns = grind (arith, common_steps)

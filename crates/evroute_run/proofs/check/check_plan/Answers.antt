@@ -1,3 +1,5 @@
+use Rattle.std.proofs.Common.{arith}
+use Rattle.std.proofs.lemmas.Grind.{common_steps}
 use Rattle.std.specs.Option.{option_map}
 use Rattle.std.specs.Prelude.{string_bytes}
 use Rattle.command_line.specs.Words.{CheckJob, check_job_of}
@@ -27,3 +29,6 @@ returns-in-Ok-judge_text g c = λ bytes plan_bytes read read_plan fleet.
     (c.in-Ok-judge_text.ensures.answers w.limit bytes plan_bytes fleet) in
     finds_told found c.in-Ok-judge_text.ensures.answered c.alone.ensures.answer c.alone.ensures.files
     c.in-Ok.ensures.stays c.in-Ok.ensures.falls c.in-Ok.ensures.files
+
+pub returns : goal.returns
+returns = grind (arith, common_steps)

@@ -1,4 +1,5 @@
-use Rattle.std.proofs.Common.{List, ℕ, subst, sym}
+use Rattle.std.proofs.Common.{List, ℕ, subst, sym, arith}
+use Rattle.std.proofs.lemmas.Grind.{common_steps}
 use Rattle.std.specs.Prelude.{string_bytes}
 use Rattle.command_line.specs.Words.{ProofJob, proof_job_of}
 use Rattle.evroute_run.proofs.CheckRouteFinds.{check_route_found, proof_fails}
@@ -29,3 +30,6 @@ returns-in-Ok-judged g c = λ bytes read task start.
     (c.in-Ok-judged.ensures.answers w.options job.route bytes here start) in
     finds_told found c.in-Ok-judged.ensures.answered c.alone.ensures.answer c.alone.ensures.files
     c.in-Ok.ensures.stays c.in-Ok.ensures.falls c.in-Ok.ensures.files
+
+pub returns : goal.returns
+returns = grind (arith, common_steps)

@@ -1,4 +1,5 @@
-use Rattle.std.proofs.Common.{◌≡◌, ◌≢◌, List, [], ◌∷◌, ℕ, map, refl, rules, subst}
+use Rattle.std.proofs.Common.{◌≡◌, ◌≢◌, List, [], ◌∷◌, ℕ, map, refl, rules, subst, arith}
+use Rattle.std.proofs.lemmas.Grind.{common_steps}
 use Rattle.std.specs.Prelude.{string_bytes}
 use Rattle.command_line.specs.Words.{ConvertJob, convert_job_of}
 use Rattle.decimal_import.specs.declared.fault.ImportFault.TheVariants as faults
@@ -42,3 +43,12 @@ returns g c =
     (convert_refused job before.files bytes c.as_slice.result.now c.in-Err-whole.fault read c.as_slice.ensures.value rule c.in-Err-whole.ensures.fault)
     c.refuse_job.ensures.status c.refuse_job.ensures.text c.refuse_job.ensures.files c.refuse_job.ensures.memory
     c.in-Ok.ensures.stays c.in-Ok.ensures.falls c.in-Ok.ensures.files
+
+pub returns-in-Ok-whole : goal.returns-in-Ok-whole
+returns-in-Ok-whole = grind (arith, common_steps)
+
+pub returns-in-Err-Memory : goal.returns-in-Err-Memory
+returns-in-Err-Memory = grind (arith, common_steps)
+
+pub refuse_job-requires : goal.refuse_job-requires
+refuse_job-requires = grind (arith, common_steps)

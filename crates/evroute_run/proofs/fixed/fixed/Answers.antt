@@ -1,4 +1,5 @@
-use Rattle.std.proofs.Common.{List, ℕ, refl, subst}
+use Rattle.std.proofs.Common.{List, ℕ, refl, subst, arith}
+use Rattle.std.proofs.lemmas.Grind.{common_steps}
 use Rattle.std.specs.Prelude.{string_bytes}
 use Rattle.command_line.specs.Words.{FixedJob, job_with}
 use Rattle.evroute_run.proofs.FixedFinds.{fixed_found}
@@ -23,3 +24,6 @@ returns-in-Ok-answer_to g c =
     (fixed_found job before.files bytes c.as_slice.result.now answer.status answer.text.items read c.as_slice.ensures.value worded)
     c.in-Ok-answer_to.ensures.answered c.alone.ensures.answer c.alone.ensures.files
     c.in-Ok.ensures.stays c.in-Ok.ensures.falls c.in-Ok.ensures.files
+
+pub returns : goal.returns
+returns = grind (arith, common_steps)

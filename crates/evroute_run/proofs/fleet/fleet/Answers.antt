@@ -1,4 +1,5 @@
-use Rattle.std.proofs.Common.{◌≡◌, IfOk, refl, rules}
+use Rattle.std.proofs.Common.{◌≡◌, IfOk, refl, rules, arith}
+use Rattle.std.proofs.lemmas.Grind.{common_steps}
 use Rattle.std.specs.Prelude.{string_bytes}
 use Rattle.command_line.specs.Words.{FleetJob, fleet_job_of}
 use Rattle.evroute_run.proofs.FleetFinds.{both_differ, fleet_found, fleet_refused, found_is_answered}
@@ -41,3 +42,9 @@ returns-in-Err-Refused g c =
     read c.as_slice.ensures.value c.in-Err-Refused.field-0-is c.in-Err-Refused.ensures.ended)
     c.refuse_job.ensures.status text c.refuse_job.ensures.files c.refuse_job.ensures.memory
     c.in-Ok.ensures.stays c.in-Ok.ensures.falls c.in-Ok.ensures.files
+
+pub returns-in-Ok-fleet_instance : goal.returns-in-Ok-fleet_instance
+returns-in-Ok-fleet_instance = grind (arith, common_steps)
+
+pub returns : goal.returns
+returns = grind (arith, common_steps)

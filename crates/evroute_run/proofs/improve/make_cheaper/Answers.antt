@@ -1,4 +1,5 @@
-use Rattle.std.proofs.Common.{List, Option, subst}
+use Rattle.std.proofs.Common.{List, Option, subst, arith}
+use Rattle.std.proofs.lemmas.Grind.{common_steps}
 use Rattle.std.specs.Option.{option_map}
 use Rattle.ev_model.specs.Fleet.{cost_of}
 use Rattle.evroute_run.proofs.ImproveFinds.{no_plan_of, puts_alone, puts_improved, same_routes}
@@ -23,3 +24,6 @@ returns-in-Ok-Alone t c = λ limit file plan_bytes has.
     let answer = subst (λ (found : Improved). IsAnswer g (option_map (λ p. p.now.routes) c.args.plan) found) c.in-Ok-Alone.field-0-is c.in-Ok-Alone.ensures in
     puts_alone limit c.args.outfile.now file plan_bytes g (option_map (λ p. p.now) c.args.plan) c.in-Ok-Alone.node c.put_alone.result
     has (no_plan_of c.args.plan answer.0) answer.1 c.put_alone.ensures.status c.put_alone.ensures.files c.put_alone.ensures.text
+
+pub write_better-requires : goal.write_better-requires
+write_better-requires = grind (arith, common_steps)

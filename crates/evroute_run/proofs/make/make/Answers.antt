@@ -1,4 +1,5 @@
-use Rattle.std.proofs.Common.{◌∙◌, [], ◌∷◌, refl, rules}
+use Rattle.std.proofs.Common.{◌∙◌, [], ◌∷◌, refl, rules, arith}
+use Rattle.std.proofs.lemmas.Grind.{common_steps}
 use Rattle.std.specs.Prelude.{string_bytes}
 use Rattle.command_line.specs.Words.{MakeInstance, MakeJob, make_job_of}
 use Rattle.evroute_run.proofs.MakeFinds.{make_refused, makes_network}
@@ -44,3 +45,21 @@ returns-in-Err-Range-clause-job g c =
     (finds_alone (make_task job) shelf shelf status.Refused (refusal_text refusal.Maker) c.refuse_job.result
     (make_refused job shelf.files (c.in-Err-Range.ensures.range.0 (search rules))) tt
     c.refuse_job.ensures.status c.refuse_job.ensures.text c.refuse_job.ensures.files c.refuse_job.ensures.memory (nothing_fails shelf) (nothing_falls shelf) refl)
+
+pub returns-in-Err-Failed-clause-stays : goal.returns-in-Err-Failed-clause-stays
+returns-in-Err-Failed-clause-stays = grind (arith, common_steps)
+
+pub returns-in-Ok-clause-words : goal.returns-in-Ok-clause-words
+returns-in-Ok-clause-words = grind (arith, common_steps)
+
+pub returns-in-Err-Failed-clause-words : goal.returns-in-Err-Failed-clause-words
+returns-in-Err-Failed-clause-words = grind (arith, common_steps)
+
+pub returns-in-Err-Failed-clause-falls : goal.returns-in-Err-Failed-clause-falls
+returns-in-Err-Failed-clause-falls = grind (arith, common_steps)
+
+pub returns-clause-job : goal.returns-clause-job
+returns-clause-job = grind (arith, common_steps)
+
+pub returns-in-Ok-clause-falls : goal.returns-in-Ok-clause-falls
+returns-in-Ok-clause-falls = grind (arith, common_steps)

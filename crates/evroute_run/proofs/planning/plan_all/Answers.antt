@@ -1,4 +1,5 @@
-use Rattle.std.proofs.Common.{◌∙◌, Option, ap}
+use Rattle.std.proofs.Common.{◌∙◌, Option, ap, arith}
+use Rattle.std.proofs.lemmas.Grind.{common_steps}
 use Rattle.std.specs.Option.{option_map}
 use Rattle.bound_certificate.specs.CertificateTexts.{certificate_text}
 use Rattle.bound_certificate.specs.Written.{written}
@@ -17,3 +18,12 @@ returns t c =
     let cert = appended c.new-cert.result.items c.push_certificate.new.out.items (certificate_text g (written g o.certificate)) c.in_ok-push_certificate.ensures.ok c.new-cert.ensures.items in
     is_found g c.args.nodes o c.push_fleet_plan.new.out.items c.push_certificate.new.out.items c.in_ok-answer.answer.text.items c.in_ok-answer.answer.status
     c.nodes-nodes.ensures.network c.in_ok-outcome.ensures plan cert c.in_ok-answer.ensures.status c.in_ok-answer.ensures.text
+
+pub report-requires-clause-network : goal.report-requires-clause-network
+report-requires-clause-network = grind (arith, common_steps)
+
+pub push_fleet_plan-requires : goal.push_fleet_plan-requires
+push_fleet_plan-requires = grind (arith, common_steps)
+
+pub report-requires-clause-outcome : goal.report-requires-clause-outcome
+report-requires-clause-outcome = grind (arith, common_steps)

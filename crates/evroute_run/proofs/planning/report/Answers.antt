@@ -1,4 +1,5 @@
-use Rattle.std.proofs.Common.{Option, subst}
+use Rattle.std.proofs.Common.{Option, subst, arith}
+use Rattle.std.proofs.lemmas.Grind.{common_steps}
 use Rattle.evroute_run.proofs.SearchReports.{are_outcomes, held_breaks_none}
 use Rattle.evroute_run.specs.CheckAnswer.{BreaksFirst, IsValid}
 use Rattle.route_plan.specs.declared.plan.FleetPlan.{FleetPlan}
@@ -14,3 +15,6 @@ pub unreachable-requires : goal.unreachable-requires
 unreachable-requires c =
     let broken = subst (λ (plan : Option FleetPlan). BreaksFirst c.args.inst.now plan c.in_default.field-0) c.as_ref.ensures.value c.in_default.ensures.fault in
     held_breaks_none c.args.inst.now c.args.outcome.now.plan c.in_default.field-0 c.requires.outcome.1.plan broken
+
+pub root_line-requires-clause-network : goal.root_line-requires-clause-network
+root_line-requires-clause-network = grind (arith, common_steps)

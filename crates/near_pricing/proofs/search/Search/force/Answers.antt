@@ -1,3 +1,5 @@
+use Rattle.std.proofs.Common.{arith}
+use Rattle.std.proofs.lemmas.Grind.{elements}
 use Rattle.near_pricing.proofs.GrownTrees.{read}
 use Rattle.near_pricing.proofs.SearchState.{label_placed}
 use Rattle.near_pricing.proofs.search.Search.force.Goals as goal
@@ -15,3 +17,9 @@ force_all-requires-clause-steps c = record {
   leads = c.in-Some.ensures.leads;
   left = c.in_ok-values.ensures.left;
 }
+
+pub force_all-requires-clause-some : goal.force_all-requires-clause-some
+force_all-requires-clause-some = grind (arith, elements)
+
+pub unreachable-requires : goal.unreachable-requires
+unreachable-requires = grind (arith, elements)
