@@ -277,7 +277,6 @@ fn curves(alloc: Global, value: Option<&Value>, place: Place) -> Result<Vec<Curv
 }
 
 /// All fields of the top value, each of its kind.
-#[tactic(auto, using(crate::proofs::SearchLemmas::several), unfolding(crate::specs::Contents::contents_of, crate::specs::Kinds::first_wrong_kind))]
 pub(crate) fn fields(alloc: Global, top: &Value) -> Result<Fields, PlaceFault>
     ensures kind { IfOk result (λ _. first_wrong_kind (view top.now) ≡ None) }
     ensures value { IfOk result (λ f. contents_view f ≡ contents_of (view top.now)) }

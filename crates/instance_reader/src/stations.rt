@@ -62,7 +62,6 @@ pub(crate) fn plug_times(
 }
 
 /// The number of the curve at each node, or the first broken rule on stations.
-#[tactic(auto, unfolding(crate::specs::Nodes::first_wrong_node, crate::specs::Types::first_wrong_type))]
 pub(crate) fn curve_numbers(alloc: Global, fields: &Fields) -> Result<Vec<Option<usize>>, ReadFault>
     ensures good { IfOk result (λ _. station_fault (contents_view fields.now) ≡ None) }
     ensures value { IfOk result (λ v. AreCurveNumbers (contents_view fields.now) v.items) }
