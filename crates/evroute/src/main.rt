@@ -4,9 +4,9 @@
 use ev_outside::{FileShelf, OutSink};
 use evroute_run::{LastFailure, run_to_end};
 pub use evroute_run::{Status, exit_code, run};
+use job_listeners::{HeardSink, PlainDiagnostics, ToldProgress, wants_progress};
 use plain_words::{
-    Failed, HeardSink, PlainDiagnostics, ToldProgress, broken_json, in_words, left_behind,
-    long_certificate, out_of_reach, unwritable, wants_progress,
+    Failed, broken_json, in_words, left_behind, long_certificate, out_of_reach, unwritable,
 };
 use std::alloc::{AllocError, Global};
 use std::process::ExitCode;

@@ -1,35 +1,27 @@
-//! What the program prints, in words for people, and how far a long job is.
+//! What the program prints, in words for people, and what stands in the files of a job.
 //!
 //! A line that is refused or rejected names a rule by its number, and the usage text doesn't say
-//! which word is wrong. What stands here says it in words, for standard error; standard output
-//! stays as it is. Nothing is proved of the wording but that no other line has any.
+//! which word is wrong. What stands here says it in words, for standard error. It promises nothing
+//! of them: that it is safe and ends is proved, and the words are tested.
 #![tactic(auto)]
 
 mod commands;
-mod heard;
 mod json;
 mod left;
 mod length;
 mod names;
-mod pace;
-mod progress;
 mod reach;
 mod refused;
 mod rejected;
 mod sentences;
-mod taken;
-mod told;
 mod writing;
 mod wrong_words;
 
-pub use heard::HeardSink;
 pub use json::broken_json;
 pub use left::{Failed, left_behind};
 pub use length::long_certificate;
 pub use reach::out_of_reach;
 use std::alloc::{AllocError, Global};
-pub use taken::{OutOfMemory, PlainDiagnostics, most_memory};
-pub use told::{ToldProgress, wants_progress};
 pub use writing::unwritable;
 
 /// What the first line that was printed means, in words with the names of the files: of a line that

@@ -48,16 +48,16 @@ pub(crate) fn instances_of<'a, 'b>(names: &'b [&'a str]) -> &'b [&'a str] {
 
 /// The name of the plan of a job that reads one.
 pub(crate) fn plan_of<'a>(names: &[&'a str]) -> &'a str {
-    match names.first() {
-        Some(command) if *command == "check-mixed" => name_at(names, 1),
+    match name_at(names, 0) {
+        "check-mixed" => name_at(names, 1),
         _ => name_at(names, 2),
     }
 }
 
 /// The name of the certificate, or the proof, of a job that reads one.
 pub(crate) fn certificate_of<'a>(names: &[&'a str]) -> &'a str {
-    match names.first() {
-        Some(command) if matches!(*command, "check-bound" | "check-mixed") => name_at(names, 2),
+    match name_at(names, 0) {
+        "check-bound" | "check-mixed" => name_at(names, 2),
         _ => name_at(names, 3),
     }
 }
@@ -72,7 +72,7 @@ pub(crate) fn kind_file<'a>(names: &[&'a str], kind: &str) -> &'a str {
 
 /// The files that a job writes, in order.
 pub(crate) fn written_of<'a, 'b>(names: &'b [&'a str]) -> Option<&'b [&'a str]> {
-    match names.first().copied()? {
+    match name_at(names, 0) {
         "mixed" => names.get(1..3),
         "fleet" | "bound" | "convert" => names.get(2..),
         "improve" | "prove" => names.get(3..),
@@ -83,7 +83,7 @@ pub(crate) fn written_of<'a, 'b>(names: &'b [&'a str]) -> Option<&'b [&'a str]> 
 
 /// Those that a job writes behind a search; `None` where it has too few names or too many.
 pub(crate) fn search_files<'a, 'b>(names: &'b [&'a str]) -> Option<&'b [&'a str]> {
-    let count = match names.first().copied()? {
+    let count = match name_at(names, 0) {
         "fleet" | "improve" | "prove" => 4,
         "bound" => 3,
         "mixed" => names.len(),
@@ -98,17 +98,10 @@ pub(crate) fn search_files<'a, 'b>(names: &'b [&'a str]) -> Option<&'b [&'a str]
 
 /// One of these files, in words.
 pub(crate) fn one_of(alloc: Global, files: &[&str]) -> Result<String, AllocError> {
-    let mut told = String::new(alloc);
-    for (at, file) in files.iter().enumerate() {
-        if at > 0 {
-            told.push_str(" or ")?;
-        }
-        told.push_str(file)?;
+    if files.is_empty() {
+        return String::from_str(alloc, "the file");
     }
-    if told.is_empty() {
-        told.push_str("the file")?;
-    }
-    Ok(told)
+    files.join(alloc, " or ")
 }
 
 /// The value of an option, which is the next word or follows a `=`.

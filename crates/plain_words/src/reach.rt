@@ -30,12 +30,15 @@ pub fn out_of_reach<S: Shelf>(
         return Ok(None);
     };
     match unreached(alloc, kinds.as_slice())? {
-        Some(node) => Ok(Some(format!(in alloc;
-            "{}: no route of its own serves customer {node} within the limit",
-            one_of(alloc, files)?
-        )?)),
+        Some(node) => Ok(Some(told_of(alloc, files, node)?)),
         None => Ok(None),
     }
+}
+
+/// What is said of the customer at a node, and of the instances of these files.
+fn told_of(alloc: Global, files: &[&str], node: usize) -> Result<String, AllocError> {
+    let files = one_of(alloc, files)?;
+    format!(in alloc; "{files}: no route of its own serves customer {node} within the limit")
 }
 
 /// The instances of files, where all of them can be read.

@@ -39,11 +39,20 @@ pub(crate) fn in_words(
 
 /// The first row of the tables that fits a line.
 fn sentence_of(line: &str) -> Option<Sentence> {
-    REFUSED
-        .iter()
-        .chain(REJECTED)
-        .copied()
-        .find(|sentence| fits(sentence.line, line))
+    match row_of(REFUSED, line) {
+        Some(sentence) => Some(sentence),
+        None => row_of(REJECTED, line),
+    }
+}
+
+/// The first row of a table that fits a line.
+fn row_of(table: &[Sentence], line: &str) -> Option<Sentence> {
+    for sentence in table {
+        if fits(sentence.line, line) {
+            return Some(*sentence);
+        }
+    }
+    None
 }
 
 /// Whether a line has a form.
@@ -122,10 +131,10 @@ impl<'a> Meant<'a> {
 /// What the file of a certificate holds for a command: the proof of a route for `check-route`, that
 /// of a bound for `check-bound`, one for kinds of vehicles for `check-mixed`.
 fn certificate(names: &[&str]) -> &'static str {
-    match names.first() {
-        Some(command) if *command == "check-route" => "a proof",
-        Some(command) if *command == "check-bound" => "a proof of a bound",
-        Some(command) if *command == "check-mixed" => "a proof for kinds of vehicles",
+    match name_at(names, 0) {
+        "check-route" => "a proof",
+        "check-bound" => "a proof of a bound",
+        "check-mixed" => "a proof for kinds of vehicles",
         _ => "a certificate",
     }
 }

@@ -6,7 +6,7 @@ use evroute_run::{
     MoveProgress, MoveWatcher, Progress, RisingProgress, RoundProgress, RoundWatcher, ScaleWatcher,
     Status, Watcher, run_watched,
 };
-use plain_words::{ToldProgress, wants_progress};
+use job_listeners::{ToldProgress, wants_progress};
 use std::alloc::{AllocError, Global};
 use std::cell::Cell;
 use std::env::FillError;

@@ -1,7 +1,8 @@
 //! What people are told beside the output.
 
 use ev_outside::MemoryShelf;
-use plain_words::{Failed, OutOfMemory, broken_json, in_words, left_behind, most_memory};
+use job_listeners::{OutOfMemory, most_memory};
+use plain_words::{Failed, broken_json, in_words, left_behind};
 use std::alloc::{AllocError, Global};
 use std::process::Abort;
 

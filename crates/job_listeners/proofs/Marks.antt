@@ -2,7 +2,7 @@
 use Rattle.std.proofs.Common.{◌≡◌, ◌∙◌, ℕ, List, [], ◌∷◌, Bool, false, ap, drop, length, nat_eq, subst, sym}
 use Rattle.std.specs.List.{starts_with}
 use Rattle.std.specs.Prelude.{if◌then◌else◌}
-use Rattle.plain_words.specs.MostMemory.{mark, most_memory, number_behind}
+use Rattle.job_listeners.specs.MostMemory.{mark, most_memory, number_behind}
 
 pub behind : (text : List ℕ) (b : ℕ) (rest : List ℕ) → text ≡ b ∷ rest → starts_with nat_eq text mark ≡ false → most_memory rest ≡ most_memory text
 behind text b rest is other =

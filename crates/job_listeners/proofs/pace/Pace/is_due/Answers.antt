@@ -1,6 +1,6 @@
 use Rattle.std.proofs.Common.{arith}
 use Rattle.std.proofs.lemmas.Grind.{common_steps}
-use Rattle.plain_words.proofs.pace.Pace.is_due.Goals as goal
+use Rattle.job_listeners.proofs.pace.Pace.is_due.Goals as goal
 
 pub returns-in_default-clause-due : goal.returns-in_default-clause-due
 returns-in_default-clause-due = grind (arith, common_steps)

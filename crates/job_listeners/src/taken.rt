@@ -3,7 +3,7 @@
 ghost use Rattle.std.specs.List.{take_while};
 ghost use Rattle.std.specs.Prelude.{◌≡◌, None, length};
 ghost use Rattle.ev_text.specs.Scans.{whole_at};
-ghost use Rattle.plain_words.specs.MostMemory.{is_blank, most_memory, number_behind, number_taken};
+ghost use Rattle.job_listeners.specs.MostMemory.{is_blank, most_memory, number_behind, number_taken};
 
 use ev_outside::{FileShelf, Shelf};
 use ev_text::Scan;

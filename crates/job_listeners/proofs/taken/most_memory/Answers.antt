@@ -1,9 +1,9 @@
 use Rattle.std.proofs.Common.{◌≡◌, ◌∙◌, ℕ, ◌+◌, ◌<◌, List, ◌∷◌, suc, false, ap, arith, drop, drop-cons, get_or, length, nat_eq, subst, sym}
 use Rattle.std.proofs.lemmas.List.{take_rest}
 use Rattle.std.specs.List.{starts_with}
-use Rattle.plain_words.proofs.Marks.{behind}
-use Rattle.plain_words.specs.MostMemory.{mark}
-use Rattle.plain_words.proofs.taken.most_memory.Goals as goal
+use Rattle.job_listeners.proofs.Marks.{behind}
+use Rattle.job_listeners.specs.MostMemory.{mark}
+use Rattle.job_listeners.proofs.taken.most_memory.Goals as goal
 
 pub loop-at-preserved : goal.loop-at-preserved
 loop-at-preserved c =
