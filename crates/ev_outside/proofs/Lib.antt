@@ -1,3 +1,4 @@
 pub mod StreamLemmas
 pub mod MemoryShelfLemmas
 pub mod PieceSteps
+mod InterruptedCalls

@@ -1,12 +1,34 @@
 //! The system's answers to calls that give or take bytes.
-ghost use Rattle.std.specs.Prelude.{◌≡◌, ◌<◌, ◌≤◌, length, IfOk};
+//!
+//! A call that a signal interrupted is made again, up to a bound, past which it has failed.
+ghost use Rattle.std.specs.Prelude.{◌≡◌, ◌<◌, ◌≤◌, ◌↔◌, length, IfOk, IsTrue};
+ghost use Rattle.std.specs.IoError.{error_kind};
 ghost use Rattle.std.specs.Io.KnownBytes.{ReadConsumes, WriteAppends};
 ghost use Rattle.ev_outside.specs.Answers.{IsTold};
 
 use std::io::{self, Error, ErrorKind, Read, Write};
 
-/// Reads the next bytes. The answer is the reader's own.
+/// How often an interrupted call is made again.
+const MOST_REPEATS: u32 = 1000;
+
+/// Reads the next bytes. The answer is the reader's own, to the last of its calls where the first
+/// ones were interrupted.
+#[tactic(auto, using(crate::proofs::InterruptedCalls::kept_read, crate::proofs::InterruptedCalls::keeps_twice, crate::proofs::InterruptedCalls::keeps_same))]
 pub(crate) fn read_piece<F: Read>(from: &mut F, into: &mut [u8]) -> io::Result<usize>
+    ensures within { IfOk result (λ n. n ≤ length into.new) }
+    ensures bytes { ReadConsumes (F.remaining from.old) (F.remaining from.new) result into.new }
+{
+    for _ in 0..MOST_REPEATS {
+        match read_once(from, into) {
+            Err(cause) if is_interrupted(cause) => {}
+            answer => return answer,
+        }
+    }
+    read_once(from, into)
+}
+
+/// Reads the next bytes by one call.
+fn read_once<F: Read>(from: &mut F, into: &mut [u8]) -> io::Result<usize>
     ensures within { IfOk result (λ n. n ≤ length into.new) }
     ensures bytes { ReadConsumes (F.remaining from.old) (F.remaining from.new) result into.new }
 {
@@ -15,13 +37,37 @@ pub(crate) fn read_piece<F: Read>(from: &mut F, into: &mut [u8]) -> io::Result<u
 }
 
 /// Writes the first of the bytes, one at least where there is one. The answer is the writer's own,
-/// but that a writer that takes none of a piece that isn't empty has failed.
+/// to the last of its calls where the first ones were interrupted, but that a writer that takes
+/// none of a piece that isn't empty has failed.
+#[tactic(auto, using(crate::proofs::InterruptedCalls::kept_write, crate::proofs::InterruptedCalls::keeps_twice, crate::proofs::InterruptedCalls::keeps_same))]
 pub(crate) fn write_piece<W: Write>(to: &mut W, bytes: &[u8]) -> io::Result<usize>
     ensures some { IfOk result
         (λ n. (n ≤ length bytes.now) × (0 < length bytes.now → 0 < n)) }
     ensures bytes { WriteAppends (W.contents to.old) (W.contents to.new) result bytes.now }
 {
+    for _ in 0..MOST_REPEATS {
+        match write_once(to, bytes) {
+            Err(cause) if is_interrupted(cause) => {}
+            answer => return answer,
+        }
+    }
+    write_once(to, bytes)
+}
+
+/// Writes the first of the bytes by one call.
+fn write_once<W: Write>(to: &mut W, bytes: &[u8]) -> io::Result<usize>
+    ensures some { IfOk result
+        (λ n. (n ≤ length bytes.now) × (0 < length bytes.now → 0 < n)) }
+    ensures bytes { WriteAppends (W.contents to.old) (W.contents to.new) result bytes.now }
+{
     counted(to.write(bytes), bytes.len().min(1), bytes.len())
+}
+
+/// Whether a signal interrupted the call, which took or gave nothing then.
+fn is_interrupted(cause: Error) -> bool
+    ensures { IsTrue result ↔ (error_kind cause ≡ ErrorKind.Interrupted) }
+{
+    cause.kind() == ErrorKind::Interrupted
 }
 
 /// The system's answer where it is a failure, or a count from `least` to `most`. Any other count is

@@ -3,7 +3,7 @@
 use ev_outside::{MemorySink, OutSink, Sink, SinkFault, SureSink};
 use std::cell::Cell;
 use std::fmt::Display;
-use std::io::{self, Error, Print};
+use std::io::{self, Error, ErrorKind, Print};
 use std::process::Abort;
 
 /// Puts by the trait alone.
@@ -11,10 +11,12 @@ fn put_into<K: Sink>(sink: &mut K, bytes: &[u8]) -> Result<(), SinkFault> {
     sink.put(bytes)
 }
 
-/// An output that takes at most `most` bytes at a time, and fails at one of its calls.
+/// An output that takes at most `most` bytes at a time, whose first calls are interrupted, and that
+/// fails at one of its calls.
 #[derive(Drop)]
 struct NarrowOutput {
     most: usize,
+    interrupts: u64,
     fails: u64,
     calls: Cell<u64>,
     taken: Cell<usize>,
@@ -36,6 +38,9 @@ impl Print for NarrowOutput {
     fn write_some(&self, bytes: &[u8]) -> io::Result<usize> {
         let call = self.calls.get();
         self.calls.set(call.saturating_add(1));
+        if call < self.interrupts {
+            return Err(Error::from(ErrorKind::Interrupted));
+        }
         if call == self.fails {
             return Err(Error::other("the call fails"));
         }
@@ -45,17 +50,19 @@ impl Print for NarrowOutput {
     }
 }
 
-/// Five bytes are put so into an output that takes at most `most` at a time and fails at one of its
-/// calls, and it took this many, or the test fails.
+/// Five bytes are put so into an output that takes at most `most` at a time, is interrupted at its
+/// first calls and fails at one, and it took this many, or the test fails.
 fn assert_put(
     rt: &impl Abort,
     most: usize,
+    interrupts: u64,
     fails: u64,
     wanted: Result<(), SinkFault>,
     taken: usize,
 ) {
     let output = NarrowOutput {
         most,
+        interrupts,
         fails,
         calls: Cell::new(0),
         taken: Cell::new(0),
@@ -66,16 +73,20 @@ fn assert_put(
     assert_eq!(rt; out.stream().last_failure().is_some(), wanted.is_err());
 }
 
-/// The output counts what was taken, and not what was asked.
+/// The output counts what was taken, and not what was asked. A call that is interrupted is made
+/// again, but not without end.
 #[test]
 fn a_narrow_output_takes_all_bytes_or_has_failed(rt: HostRuntime) {
-    for &(most, fails, wanted, taken) in &[
-        (2, 9, Ok(()), 5),
-        (9, 9, Ok(()), 5),
-        (2, 1, Err(SinkFault::Failed), 2),
-        (0, 9, Err(SinkFault::Failed), 0),
+    for &(most, interrupts, fails, wanted, taken) in &[
+        (2, 0, 9, Ok(()), 5),
+        (9, 0, 9, Ok(()), 5),
+        (2, 0, 1, Err(SinkFault::Failed), 2),
+        (0, 0, 9, Err(SinkFault::Failed), 0),
+        (2, 3, 9, Ok(()), 5),
+        (2, 3, 4, Err(SinkFault::Failed), 2),
+        (2, 5000, 9999, Err(SinkFault::Failed), 0),
     ] {
-        assert_put(&rt, most, fails, wanted, taken);
+        assert_put(&rt, most, interrupts, fails, wanted, taken);
     }
 }
 
