@@ -10,6 +10,7 @@
 mod answers;
 mod failure;
 mod files;
+mod known_files;
 mod memory_shelf;
 mod memory_sink;
 mod output;

@@ -172,6 +172,13 @@ impl Storage for PieceStorage {
         }
     }
 
+    fn keep(&mut self) -> Result<(), CallFailed> {
+        if self.is_to_fail() {
+            return Err(self.fail());
+        }
+        Ok(())
+    }
+
     fn close(&mut self) {
         self.opened = false;
     }

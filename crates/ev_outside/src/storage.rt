@@ -75,6 +75,12 @@ pub trait Storage: Stream {
             (files_of (told self.old)) (files_of (told self.new)) }
         ensures counts { IsCounted result (Self.failed self.old) (Self.failed self.new) };
 
+    /// Sees that what was written into the file that is open is kept, behind its last write. No
+    /// bytes of any file change.
+    fn keep(&mut self) -> Result<(), CallFailed>
+        ensures files { files_of (told self.new) ≡ files_of (told self.old) }
+        ensures counts { IsCounted result (Self.failed self.old) (Self.failed self.new) };
+
     /// Closes the file that is open, if one is. No bytes of any file change.
     fn close(&mut self)
         ensures closed { is_open self.new ≡ false }

@@ -31,7 +31,7 @@ pub(crate) fn read_named<S: Storage>(
     read_up_to(storage, most, into)
 }
 
-/// Makes the file, and writes all the bytes into it, in order.
+/// Makes the file, writes all the bytes into it, in order, and sees that they are kept.
 pub(crate) fn write_named<S: Storage>(
     storage: &mut S,
     name: &str,
@@ -43,7 +43,8 @@ pub(crate) fn write_named<S: Storage>(
     ensures counts { IsCounted result (S.failed storage.old) (S.failed storage.new) }
 {
     storage.create(name)?;
-    write_whole(storage, bytes)
+    write_whole(storage, bytes)?;
+    storage.keep()
 }
 
 /// Appends what the open file still gives, or its first `most` bytes.

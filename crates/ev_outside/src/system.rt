@@ -9,19 +9,31 @@ ghost use Rattle.ev_outside.specs.Storage.{Creates, Opens, files_of, rest_of};
 
 use super::answers::{read_piece, write_piece};
 use super::failure::Failure;
+use super::known_files::{FileId, KnownFiles};
 use super::storage::{CallFailed, Storage, Stream};
 use std::alloc::Global;
-use std::fs::{self, OpenFile};
-use std::io::{self, Error, Print};
+use std::fs::{self, Metadata, OpenFile, OpenOptions};
+use std::io::{self, Error, ErrorKind, Print};
 use std::rt::Files;
 
+/// Where Linux has the file that standard output goes to.
+const STANDARD_OUTPUT: &str = "/proc/self/fd/1";
+
 /// The files of the system, which don't tell their bytes.
+///
+/// A regular file that was read or written isn't written under another name, nor is the one that
+/// standard output goes to: such a write fails before the file is changed.
 #[derive(Drop)]
 pub struct SystemFiles<'a, R: Files> {
     rt: &'a R,
     alloc: Global,
     /// The file that is open. Its descriptor is above 2.
     file: Option<R::File>,
+    /// The regular files that were opened.
+    known: KnownFiles,
+    /// Whether the file that was asked for last was opened to be written, so that it may hold a
+    /// part.
+    is_changed: bool,
     /// The name that was asked for last, where there was memory for it.
     name: Option<String>,
     /// Why the last call on this file that failed did.
@@ -41,6 +53,8 @@ impl<'a, R: Files> SystemFiles<'a, R> {
             rt,
             alloc,
             file: None,
+            known: KnownFiles::new(alloc),
+            is_changed: false,
             name: None,
             cause: None,
             failed: 0,
@@ -64,6 +78,13 @@ impl<'a, R: Files> SystemFiles<'a, R> {
         Some(Failure { name, cause })
     }
 
+    /// Whether the file that was asked for last was opened to be written, and not left as it was.
+    pub fn is_changed(&self) -> bool
+        ensures { result ≡ self.now.is_changed }
+    {
+        self.is_changed
+    }
+
     /// Begins with another file: keeps its name, where there is memory for it, and forgets why
     /// calls on the one before failed.
     fn begin(&mut self, name: &str)
@@ -73,6 +94,7 @@ impl<'a, R: Files> SystemFiles<'a, R> {
     {
         self.name = String::from_str(self.alloc, name).ok();
         self.cause = None;
+        self.is_changed = false;
     }
 
     /// Keeps the file that the system opened, or counts that it opened none.
@@ -93,6 +115,63 @@ impl<'a, R: Files> SystemFiles<'a, R> {
         }
     }
 
+    /// Keeps which regular file it is that is open under this name.
+    fn note(&mut self, name: &str) -> io::Result<()>
+        ensures failed { self.new.failed ≡ self.old.failed }
+        ensures cause { self.new.cause ≡ self.old.cause }
+        ensures name { self.new.name ≡ self.old.name }
+        ensures file { self.new.file ≡ self.old.file }
+    {
+        let found = metadata_of(&self.file)?;
+        if found.is_file() {
+            self.known.add(name, FileId::of(&found))?;
+        }
+        Ok(())
+    }
+
+    /// Takes all bytes from the regular file that is open under this name. It fails, and the file
+    /// stays as it is, where it has bytes and was opened under another name before, and where
+    /// standard output goes to it. A device or a pipe is left as it is.
+    fn cut(&mut self, name: &str) -> io::Result<()>
+        ensures failed { self.new.failed ≡ self.old.failed }
+        ensures cause { self.new.cause ≡ self.old.cause }
+        ensures name { self.new.name ≡ self.old.name }
+        ensures file { self.new.file ≡ self.old.file }
+    {
+        let found = metadata_of(&self.file)?;
+        if !found.is_file() {
+            return Ok(());
+        }
+        let id = FileId::of(&found);
+
+        // An empty file has nothing to lose. One that was just made may have the number of a
+        // file that was read and then deleted.
+        if found.len() > 0 && !self.known.is_only_here(name, id) {
+            return self.leave("this job read or wrote the same file under another name");
+        }
+        if is_standard_output(self.rt, id) {
+            return self.leave("standard output goes to this file");
+        }
+        self.known.add(name, id)?;
+        match &self.file {
+            Some(file) => file.set_len(0),
+            None => Err(no_file()),
+        }
+    }
+
+    /// The file that is open isn't written, for this reason.
+    fn leave(&mut self, why: &'static str) -> io::Result<()>
+        ensures refused { IsErr result }
+        ensures told { self.new.is_changed ≡ false }
+        ensures failed { self.new.failed ≡ self.old.failed }
+        ensures cause { self.new.cause ≡ self.old.cause }
+        ensures name { self.new.name ≡ self.old.name }
+        ensures file { self.new.file ≡ self.old.file }
+    {
+        self.is_changed = false;
+        Err(Error::new(ErrorKind::InvalidInput, why))
+    }
+
     /// Counts a call that failed, up to the last value of the count.
     fn fail(&mut self, cause: Error) -> CallFailed
         ensures failed { CountsOne self.old.failed self.new.failed }
@@ -110,6 +189,35 @@ impl<'a, R: Files> SystemFiles<'a, R> {
 /// the system opens a file under it, and what is put or told would be written into the file.
 fn above_standard<F: OpenFile + Drop>(file: F) -> io::Result<F> {
     file.try_clone()
+}
+
+/// Opens a file to be written, and makes it where it isn't there. Its bytes stay.
+fn open_uncut<R: Files>(rt: &R, name: &str) -> io::Result<R::File> {
+    OpenOptions::new().write(true).create(true).open(rt, name)
+}
+
+/// What the system says of the file that is open.
+fn metadata_of<F: OpenFile>(file: &Option<F>) -> io::Result<Metadata> {
+    match file {
+        Some(file) => file.metadata(),
+        None => Err(no_file()),
+    }
+}
+
+/// Whether standard output goes to this file, as far as Linux tells it.
+fn is_standard_output<R: Files>(rt: &R, id: FileId) -> bool {
+    match fs::metadata(rt, STANDARD_OUTPUT) {
+        Ok(found) => FileId::of(&found) == id,
+        Err(_) => false,
+    }
+}
+
+/// Sees that what was written into a regular file is kept. A device or a pipe keeps nothing.
+fn sync<F: OpenFile>(file: &F) -> io::Result<()> {
+    if file.metadata()?.is_file() {
+        file.sync_all()?;
+    }
+    Ok(())
 }
 
 impl<'a, R: Files> Stream for SystemFiles<'a, R> {
@@ -168,7 +276,11 @@ impl<'a, R: Files> Storage for SystemFiles<'a, R> {
     {
         self.begin(name);
         let opened = fs::open(self.rt, name);
-        self.hold(opened)
+        self.hold(opened)?;
+        match self.note(name) {
+            Ok(()) => Ok(()),
+            Err(cause) => Err(self.fail(cause)),
+        }
     }
 
     fn read(&mut self, into: &mut [u8]) -> Result<usize, CallFailed>
@@ -203,8 +315,31 @@ impl<'a, R: Files> Storage for SystemFiles<'a, R> {
         ensures name { IfSome self.new.name (λ kept. string_bytes kept ≡ name.now) }
     {
         self.begin(name);
-        let created = fs::create(self.rt, name);
-        self.hold(created)
+        let opened = open_uncut(self.rt, name);
+        self.is_changed = opened.is_ok();
+        self.hold(opened)?;
+        match self.cut(name) {
+            Ok(()) => Ok(()),
+            Err(cause) => Err(self.fail(cause)),
+        }
+    }
+
+    fn keep(&mut self) -> Result<(), CallFailed>
+        ensures files { files_of None ≡ files_of None }
+        ensures counts { IsCounted result self.old.failed self.new.failed }
+        ensures closed { MatchOption self.old.file (IsErr result) (λ _. IsSome self.new.file) }
+        ensures cause { MatchResult result (λ _. self.new.cause ≡ self.old.cause)
+            (λ _. IsSome self.new.cause) }
+        ensures name { self.new.name ≡ self.old.name }
+    {
+        let kept = match &self.file {
+            Some(file) => sync(file),
+            None => Err(no_file()),
+        };
+        match kept {
+            Ok(()) => Ok(()),
+            Err(cause) => Err(self.fail(cause)),
+        }
     }
 
     fn close(&mut self)

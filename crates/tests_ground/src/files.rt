@@ -103,6 +103,39 @@ fn a_shorter_text_takes_the_place_of_a_longer_one(rt: HostRuntime) {
     fs::remove_file(&rt, name).expect(&rt, "a file that is removed");
 }
 
+/// A file that was read or written isn't written under another name, and its own still is.
+#[test]
+fn a_file_isnt_written_under_another_name(rt: HostRuntime) {
+    let alloc = rt.alloc();
+    let name = "ev_outside_one_file";
+    let mut shelf = FileShelf::new(alloc, &rt);
+    write_to(&mut shelf, name, b"text").expect(&rt, "a write");
+    let fault = write_to(&mut shelf, "./ev_outside_one_file", b"other").err();
+    assert_eq!(rt; fault, Some(ShelfFault::Failed));
+    assert!(rt; !shelf.storage().is_changed());
+    let told = last_failure(alloc, shelf.storage()).expect(&rt, "memory");
+    assert_eq!(rt;
+        told.as_str(),
+        "./ev_outside_one_file: this job read or wrote the same file under another name"
+    );
+    let mut shelf = FileShelf::new(alloc, &rt);
+    assert_read(
+        &rt,
+        alloc,
+        &mut shelf,
+        "./ev_outside_one_file",
+        100,
+        b"text",
+    );
+    assert_eq!(rt;
+        write_to(&mut shelf, name, b"other").err(),
+        Some(ShelfFault::Failed)
+    );
+    write_to(&mut shelf, "./ev_outside_one_file", b"").expect(&rt, "a write");
+    write_to(&mut shelf, name, b"").expect(&rt, "a write of what is empty");
+    fs::remove_file(&rt, name).expect(&rt, "a file that is removed");
+}
+
 /// What the system answers to a read of the name, or to a text that is written under it.
 fn fault_of<S: Shelf>(alloc: Global, shelf: &mut S, name: &str, reads: bool) -> Option<ShelfFault> {
     if reads {
@@ -167,7 +200,7 @@ fn a_shelf_in_memory_fails_where_it_is_told_to(rt: HostRuntime) {
 /// at one of its calls, and this is the first fault, or the test fails.
 ///
 /// The calls are an open, up to five reads of pieces, and one more that gives nothing; then a
-/// create and up to five writes.
+/// create, up to five writes, and one that keeps them.
 fn assert_in_pieces(
     rt: &impl Abort,
     alloc: Global,
@@ -210,6 +243,7 @@ fn files_are_read_and_written_whole_in_pieces_of_any_length(rt: HostRuntime) {
         (2, 0, Some(ShelfFault::Failed)),
         (2, 2, Some(ShelfFault::Failed)),
         (2, 6, Some(ShelfFault::Failed)),
+        (1000, 5, Some(ShelfFault::Failed)),
     ] {
         assert_in_pieces(&rt, rt.alloc(), piece, fails, wanted);
     }
