@@ -5,34 +5,13 @@ use ev_outside::{FileShelf, OutSink};
 use evroute_run::{LastFailure, run_to_end};
 pub use evroute_run::{Status, exit_code, run};
 use job_listeners::{HeardSink, PlainDiagnostics, ToldProgress, wants_progress};
-use plain_words::{
-    Failed, broken_json, in_words, left_behind, long_certificate, out_of_reach, unwritable,
-};
-use std::alloc::{AllocError, Global};
+use plain_words::{Failed, left_behind, told_behind, unwritable};
+use std::alloc::AllocError;
 use std::process::ExitCode;
 use std::{env, io};
 
 fn main(rt: HostRuntime) -> ExitCode {
-    let alloc = rt.alloc();
-    let mut shelf = FileShelf::new(alloc, &rt);
-    let mut out = HeardSink::over(OutSink::new(&rt));
-    let mut people = PlainDiagnostics::new(alloc, &rt);
-    let mut progress = ToldProgress::new(&rt, wants_progress(&rt));
-    tell_unwritable(&rt);
-    let words = words_of(&rt);
-    let code = run_to_end(
-        alloc,
-        words,
-        &mut shelf,
-        &mut out,
-        &mut people,
-        &mut progress,
-    );
-    if let Some(failed) = what_failed(&shelf, &out, out.first_line()) {
-        tell_left(&rt, failed);
-    }
-    tell_in_words(&rt, out.first_line());
-    code
+    run_on(&rt, words_of(&rt))
 }
 
 /// The words behind the program's name.
@@ -44,58 +23,62 @@ fn words_of(rt: &HostRuntime) -> io::Result<Vec<String>> {
     }
 }
 
-/// Tells people on standard error what the line means that was printed first, where it is a refused
-/// or a rejected one or the usage text, else which customer is out of reach, or that a certificate
-/// is too long to be read again. Nothing is done where memory is refused or standard error fails.
-fn tell_in_words(rt: &HostRuntime, line: &str) {
-    let Ok(words) = words_of(rt) else { return };
-    if let Ok(Some(told)) = meaning(rt, words.as_slice(), line) {
-        let _ = eprintln!(rt; "evroute: {told}");
-    }
-}
-
-/// What people are told of the line that was printed first.
-fn meaning(rt: &HostRuntime, words: &[String], line: &str) -> Result<Option<String>, AllocError> {
+/// The program with these words over the files and the outputs of the system: its exit status is
+/// that of a run. Beside it people are told on standard error what a long search couldn't write,
+/// and what the end means; nothing of that where memory is refused or standard error fails.
+fn run_on(rt: &HostRuntime, words: io::Result<Vec<String>>) -> ExitCode {
     let alloc = rt.alloc();
-    if let Some(told) = broken_json(alloc, &mut FileShelf::new(alloc, rt), words, line)? {
-        return Ok(Some(told));
-    }
-    if let Some(told) = in_words(alloc, words, line)? {
-        return Ok(Some(told));
-    }
-    if let Some(told) = out_of_reach(alloc, &mut FileShelf::new(alloc, rt), words, line)? {
-        return Ok(Some(told));
-    }
-    long_certificate(alloc, rt, words)
-}
-
-/// What failed last, where anything did: the output, to which a text with this first line was to
-/// go, or a file.
-fn what_failed<'a, S: LastFailure, K: LastFailure>(
-    shelf: &'a S,
-    out: &K,
-    line: &'a str,
-) -> Option<Failed<'a>> {
-    if out.last_failure().is_some() {
-        return Some(Failed::Output(line));
-    }
-    let failure = shelf.last_failure()?;
-    Some(Failed::File(failure.name))
-}
-
-/// Tells people what stands in the files of the job once a file or the output failed.
-fn tell_left(rt: &HostRuntime, failed: Failed<'_>) {
-    let Ok(words) = words_of(rt) else { return };
-    if let Ok(Some(told)) = left_behind(rt.alloc(), words.as_slice(), failed) {
-        let _ = eprintln!(rt; "evroute: {told}");
-    }
+    let mut shelf = FileShelf::new(alloc, rt);
+    let mut out = HeardSink::over(OutSink::new(rt));
+    let mut people = PlainDiagnostics::new(alloc, rt);
+    let mut progress = ToldProgress::new(rt, wants_progress(rt));
+    tell_in_front(rt);
+    let code = run_to_end(
+        alloc,
+        words,
+        &mut shelf,
+        &mut out,
+        &mut people,
+        &mut progress,
+    );
+    tell_behind(rt, &shelf, &out);
+    code
 }
 
 /// Tells people before a long search which of its files can't be written. The search goes on: what
 /// becomes of it is for the files to say.
-fn tell_unwritable(rt: &HostRuntime) {
+fn tell_in_front(rt: &HostRuntime) {
+    if let Ok(words) = words_of(rt) {
+        tell(rt, unwritable(rt.alloc(), rt, words.as_slice()));
+    }
+}
+
+/// Tells people what stands in the files of the job once a file or the output failed, and what its
+/// first line means.
+fn tell_behind(
+    rt: &HostRuntime,
+    shelf: &FileShelf<'_, HostRuntime>,
+    out: &HeardSink<OutSink<'_, HostRuntime>>,
+) {
+    let alloc = rt.alloc();
     let Ok(words) = words_of(rt) else { return };
-    if let Ok(Some(told)) = unwritable(rt.alloc(), rt, words.as_slice()) {
+    let line = out.first_line();
+    if out.last_failure().is_some() {
+        let failed = Failed::Output(line);
+        tell(rt, left_behind(alloc, words.as_slice(), failed));
+    } else if let Some(failure) = shelf.last_failure() {
+        let failed = match shelf.storage().is_changed() {
+            true => Failed::File(failure.name),
+            false => Failed::Unchanged(failure.name),
+        };
+        tell(rt, left_behind(alloc, words.as_slice(), failed));
+    }
+    tell(rt, told_behind(alloc, rt, words.as_slice(), line));
+}
+
+/// Tells people on standard error what there is to tell.
+fn tell(rt: &HostRuntime, told: Result<Option<String>, AllocError>) {
+    if let Ok(Some(told)) = told {
         let _ = eprintln!(rt; "evroute: {told}");
     }
 }

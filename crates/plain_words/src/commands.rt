@@ -10,46 +10,53 @@ pub(crate) struct Command {
     pub(crate) options: &'static [NumberOption],
 }
 
-/// An option, whose value is a whole number of at most `most`.
+/// An option, whose value is a whole number from `least` to `most`.
 #[derive(Clone, Copy)]
 pub(crate) struct NumberOption {
     pub(crate) word: &'static str,
+    pub(crate) least: u64,
     pub(crate) most: u64,
     pub(crate) is_required: bool,
 }
 
 const LIMIT: NumberOption = NumberOption {
     word: "--limit",
+    least: 0,
     most: 1_000_000_000_000_000_000,
     is_required: false,
 };
 
 const CHARGE: NumberOption = NumberOption {
     word: "--charge",
+    least: 0,
     most: 1_000_000_000_000_000_000,
     is_required: false,
 };
 
 const NODES: NumberOption = NumberOption {
     word: "--nodes",
+    least: 1,
     most: 1_000_000_000_000_000_000,
     is_required: false,
 };
 
 const TIME_DIGITS: NumberOption = NumberOption {
     word: "--time-digits",
+    least: 0,
     most: 1_000_000_000,
     is_required: true,
 };
 
 const ENERGY_DIGITS: NumberOption = NumberOption {
     word: "--energy-digits",
+    least: 0,
     most: 1_000_000_000,
     is_required: true,
 };
 
 const NEAR: NumberOption = NumberOption {
     word: "--near",
+    least: 0,
     most: 1_000_000_000,
     is_required: true,
 };

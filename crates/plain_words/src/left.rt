@@ -8,13 +8,15 @@ use std::alloc::{AllocError, Global};
 pub enum Failed<'a> {
     /// The output, to which a text with this first line was to go.
     Output(&'a str),
-    /// A file, by its name.
+    /// A file that was opened, by its name.
     File(&'a str),
+    /// A file that wasn't opened, or was left as it was, by its name.
+    Unchanged(&'a str),
 }
 
 /// What stands in the files that a job writes, once a file or the output failed: those before it
-/// are whole, nothing is known of itself, and those behind it are as they were. `None` where no
-/// file was to be written, as where one that is read failed.
+/// are whole, nothing is known of itself where it was opened, and those behind it are as they were.
+/// `None` where no file was to be written, as where one that is read failed.
 pub fn left_behind(
     alloc: Global,
     words: &[String],
@@ -25,7 +27,7 @@ pub fn left_behind(
         return Ok(None);
     };
     match place_of(files, failed) {
-        Some(at) => told_of(alloc, files, at),
+        Some(at) => told_of(alloc, files, at, left_of(failed)),
         None => Ok(None),
     }
 }
@@ -35,28 +37,46 @@ fn place_of(files: &[&str], failed: Failed<'_>) -> Option<usize> {
     match failed {
         Failed::Output(line) if is_behind_files(line) => Some(files.len()),
         Failed::Output(_) => None,
-        Failed::File(name) => files.iter().position(|file| *file == name),
+        Failed::File(name) | Failed::Unchanged(name) => {
+            files.iter().position(|file| *file == name)
+        }
+    }
+}
+
+/// What is known of the file that failed.
+fn left_of(failed: Failed<'_>) -> &'static str {
+    match failed {
+        Failed::Unchanged(_) => " wasn't written",
+        _ => " may hold a part, and is to be written again",
     }
 }
 
 /// Whether what begins with this line is printed behind the files of a job: the lines of a refusal,
-/// of a broken rule and of a customer out of reach and the usage text come where none is written.
-fn is_behind_files(line: &str) -> bool {
-    !line.starts_with("refused ")
+/// of a broken rule and of a customer out of reach and the usage text come where none is written,
+/// and nothing where one of them failed.
+pub(crate) fn is_behind_files(line: &str) -> bool {
+    !line.is_empty()
+        && !line.starts_with("refused ")
         && !line.starts_with("rejected ")
         && !line.starts_with("alone ")
         && !line.starts_with("evroute ")
 }
 
-/// What is said of files of which those before a place were written, and the one there failed.
-fn told_of(alloc: Global, files: &[&str], failed: usize) -> Result<Option<String>, AllocError> {
+/// What is said of files of which those before a place were written, and the one there failed, of
+/// which so much is known.
+fn told_of(
+    alloc: Global,
+    files: &[&str],
+    failed: usize,
+    left: &'static str,
+) -> Result<Option<String>, AllocError> {
     let mut told = String::new(alloc);
     for (at, file) in files.iter().enumerate() {
         if at > 0 {
             told.push_str(", ")?;
         }
         told.push_str(file)?;
-        told.push_str(state_of(at, failed))?;
+        told.push_str(state_of(at, failed, left))?;
     }
     if told.is_empty() {
         return Ok(None);
@@ -64,12 +84,12 @@ fn told_of(alloc: Global, files: &[&str], failed: usize) -> Result<Option<String
     Ok(Some(told))
 }
 
-/// What is known of the file at a place, where the one at another failed.
-fn state_of(at: usize, failed: usize) -> &'static str {
+/// What is known of the file at a place, where the one at another failed and is left so.
+fn state_of(at: usize, failed: usize, left: &'static str) -> &'static str {
     if at < failed {
         " is whole"
     } else if at == failed {
-        " may hold a part, and is to be written again"
+        left
     } else {
         " is as it was before"
     }

@@ -1,5 +1,6 @@
 //! A certificate or a proof that was written and that its judge can't read.
 
+use crate::left::is_behind_files;
 use crate::names::{names_of, search_files};
 use std::alloc::{AllocError, Global};
 use std::fs::metadata;
@@ -11,12 +12,17 @@ const MOST: u64 = 1 << 28;
 
 /// What is said of a certificate that `fleet` wrote and that is longer than `check` reads, or of a
 /// proof that `prove`, `bound` or `mixed` wrote and that is longer than its judge reads. `None` for
-/// other commands, and where the system tells no length.
-pub fn long_certificate<R: Files>(
+/// other commands, where the system tells no length, and where the job wrote none, as its first
+/// line tells.
+pub(crate) fn long_certificate<R: Files>(
     alloc: Global,
     files: &R,
     words: &[String],
+    line: &str,
 ) -> Result<Option<String>, AllocError> {
+    if !is_behind_files(line) {
+        return Ok(None);
+    }
     let names = names_of(alloc, words)?;
     let Some((cert, judge)) = judged(names.as_slice()) else {
         return Ok(None);

@@ -106,23 +106,31 @@ fn wrong_option(
     given: GivenOption<'_>,
 ) -> Result<Option<String>, AllocError> {
     match option_of(command, given.word) {
-        Some(known) => wrong_value(alloc, given, known.most),
+        Some(known) => wrong_value(alloc, given, known),
         None => Ok(Some(format!(in alloc; "{} is no option of {name}", given.word)?)),
     }
 }
 
-/// What is wrong with the value of an option, which is a number of at most `most`.
+/// What is wrong with the value of a known option.
 fn wrong_value(
     alloc: Global,
     given: GivenOption<'_>,
-    most: u64,
+    known: NumberOption,
 ) -> Result<Option<String>, AllocError> {
-    let option = given.word;
+    let NumberOption {
+        word,
+        least,
+        most,
+        ..
+    } = known;
     match given.value {
-        None => Ok(Some(format!(in alloc; "{option} needs a number behind it")?)),
+        None => Ok(Some(format!(in alloc; "{word} needs a number behind it")?)),
+        Some("0") if least > 0 => Ok(Some(format!(in alloc;
+            "{word} 0: the number is at least {least}"
+        )?)),
         Some(value) if is_number(value, most) => Ok(None),
         Some(value) => Ok(Some(format!(in alloc;
-            "{option} {value}: no whole number of at most {most}"
+            "{word} {value}: no whole number of at most {most}"
         )?)),
     }
 }

@@ -2,7 +2,7 @@
 
 use ev_outside::MemoryShelf;
 use job_listeners::{OutOfMemory, most_memory};
-use plain_words::{Failed, broken_json, in_words, left_behind};
+use plain_words::{Failed, broken_json, in_words, left_behind, told_behind};
 use std::alloc::{AllocError, Global};
 use std::process::Abort;
 
@@ -214,6 +214,14 @@ fn a_wrong_word_is_named(rt: HostRuntime) {
             "convert a b --time-digits 1",
             "convert needs --energy-digits N",
         ),
+        (
+            "fleet a b c --nodes 0",
+            "--nodes 0: the number is at least 1",
+        ),
+        (
+            "fleet a b c --nodes=x",
+            "--nodes x: no whole number of at most 1000000000000000000",
+        ),
         ("bound a b", "bound needs --near N"),
         (
             "bound a b --near 1.5",
@@ -283,6 +291,30 @@ fn a_text_that_is_no_json_is_told_by_its_byte(rt: HostRuntime) {
     assert!(rt; told.is_none());
 }
 
+/// An instance that is no regular file, as a device, isn't read once more.
+#[test]
+fn what_is_told_behind_a_job_reads_no_device(rt: HostRuntime) {
+    let alloc = rt.alloc();
+    for &(words, line, want) in &[
+        (
+            "fleet /dev/null b c",
+            "refused instance 2",
+            "/dev/null: no JSON text (in UTF-8, without a byte order mark)",
+        ),
+        (
+            "fleet /proc/self/status b c",
+            "refused instance 2",
+            "/proc/self/status: no JSON text from byte 0 on",
+        ),
+        ("fleet a b c", "cost 14/1", ""),
+    ] {
+        let list = parted(alloc, words).expect(&rt, "memory");
+        let told = told_behind(alloc, &rt, list.as_slice(), line).expect(&rt, "memory");
+        let told = told.unwrap_or(String::new(alloc));
+        assert_eq!(rt; told.as_str(), want, "{words}");
+    }
+}
+
 /// What a failure leaves is told so, or the test fails.
 fn assert_left(rt: &impl Abort, alloc: Global, words: &str, failed: Failed<'_>, want: &str) {
     let list = parted(alloc, words).expect(rt, "memory");
@@ -303,6 +335,16 @@ fn what_a_failure_leaves_is_told(rt: HostRuntime) {
             "fleet a b c",
             Failed::File("c"),
             "b is whole, c may hold a part, and is to be written again",
+        ),
+        (
+            "fleet a b c",
+            Failed::Unchanged("c"),
+            "b is whole, c wasn't written",
+        ),
+        (
+            "fleet a b c",
+            Failed::Unchanged("b"),
+            "b wasn't written, c is as it was before",
         ),
         (
             "fleet a b c",
