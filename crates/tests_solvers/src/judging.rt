@@ -141,18 +141,19 @@ fn changed_labels(
     Ok(list)
 }
 
-/// The proof of labels that is read of its text, where they are in their ranges.
-fn in_ranges(
+/// The proof of a plan and labels that is read of its text, where they are in their ranges.
+pub(crate) fn in_ranges(
     alloc: Global,
     inst: &Instance,
     route: &[usize],
+    plan: Option<RoutePlan>,
     labels: Vec<RouteLabel>,
 ) -> Result<Option<RouteProof>, AllocError>
     requires { IsRoute inst.now route.now }
     ensures { IfOk result (λ found. IfSome found (ProofFits inst.now route.now)) }
 {
     let proof = RouteProof {
-        plan: None,
+        plan,
         labels: Listed::from_vec(labels),
     };
     let mut bytes = Vec::new(alloc);
@@ -216,7 +217,7 @@ fn compare_change(
     let labels = changed_labels(alloc, inst, proof.labels.as_slice(), at, change).expect(
         rt, "memory",
     );
-    let Ok(Some(read)) = in_ranges(alloc, inst, route, labels) else {
+    let Ok(Some(read)) = in_ranges(alloc, inst, route, None, labels) else {
         return counts;
     };
     let bar = bar_of(inst, start, &proof.plan).expect(rt, "a walk");

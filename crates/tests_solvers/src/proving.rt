@@ -1,12 +1,17 @@
 //! Proofs of routes: each is accepted by the judge, and lists what the search for the plan found.
 
+ghost use Rattle.std.specs.Prelude.{◌≤◌};
+ghost use Rattle.ev_model.specs.Route.{IsRoute};
+
 use crate::both::instance_of;
 use crate::drawn::{below, text};
-use fixed_certificate::{RouteVerdict, check_route, prove_route};
-use frvcp_labels::{reachable_states, solve_with_labels};
+use crate::judging::in_ranges;
+use fixed_certificate::{RouteLabel, RouteVerdict, check_route, prove_route};
+use frvcp_labels::{Solved, reachable_states, solve_with_labels};
 use instance_reader::Instance;
 use rand_pcg::Pcg32;
-use route_plan::read_route;
+use route_plan::{RoutePlan, read_route};
+use route_steps::State;
 use std::alloc::Global;
 use std::process::Abort;
 use worked_instances::{
@@ -18,12 +23,46 @@ use worked_instances::{
 #[derive(Drop)]
 struct Judged {
     verdict: RouteVerdict,
+    /// On the proof that lists all that a vehicle may come to.
+    whole: RouteVerdict,
     has_plan: bool,
     listed: usize,
     /// Those that the search for the plan found.
     few: usize,
     /// All that a vehicle may come to.
     all: usize,
+}
+
+/// A state as a label.
+fn label_of(state: State) -> RouteLabel {
+    RouteLabel {
+        passed: state.passed,
+        node: state.node,
+        value: state.value,
+    }
+}
+
+/// The verdict on a proof with a plan, or none, that lists all that a vehicle may come to; `None`
+/// where memory is refused or a number of it is out of its range.
+fn whole_verdict(
+    alloc: Global,
+    inst: &Instance,
+    route: &[usize],
+    start: u64,
+    plan: Option<RoutePlan>,
+    states: Vec<State>,
+) -> Option<RouteVerdict>
+    requires route { IsRoute inst.now route.now }
+    requires start { start ≤ inst.now.capacity }
+{
+    let mut labels = Vec::new(alloc);
+    for state in states {
+        labels.push(label_of(state)).ok()?;
+    }
+    let Ok(Some(proof)) = in_ranges(alloc, inst, route, plan, labels) else {
+        return None;
+    };
+    check_route(alloc, inst, route, start, &proof).ok()
 }
 
 /// Proves a route and judges the proof; `None` where there is no such route or memory is refused.
@@ -37,14 +76,17 @@ fn prove_and_judge(alloc: Global, inst: &Instance, word: &str, start: u64) -> Op
     let route = route.as_slice();
     let proof = prove_route(alloc, inst, route, start).ok()?;
     let verdict = check_route(alloc, inst, route, start, &proof).ok()?;
-    let few = solve_with_labels(alloc, inst, route, start).ok()?;
-    let all = reachable_states(alloc, inst, route, start).ok()?;
+    let Solved { plan, states } = solve_with_labels(alloc, inst, route, start).ok()?;
+    let few = states.len();
+    let states = reachable_states(alloc, inst, route, start).ok()?;
+    let all = states.len();
     Some(Judged {
         verdict,
+        whole: whole_verdict(alloc, inst, route, start, plan, states)?,
         has_plan: proof.plan.is_some(),
         listed: proof.labels.len(),
-        few: few.states.len(),
-        all: all.len(),
+        few,
+        all,
     })
 }
 
@@ -75,6 +117,11 @@ fn proofs_of_worked_routes_are_accepted(rt: HostRuntime) {
         );
         assert_eq!(rt; found.has_plan, want, "{text} {word} from {start}");
         assert_eq!(rt; found.listed, found.few, "{text} {word} from {start}");
+        assert_eq!(rt;
+            found.whole,
+            RouteVerdict::Accepted,
+            "{text} {word} from {start}"
+        );
     }
 }
 
@@ -93,6 +140,11 @@ fn judge_drawn(rt: &impl Abort, alloc: Global, words: &mut Pcg32) -> (u64, u64) 
             "{text} {word} from {start}"
         );
         assert_eq!(rt; found.listed, found.few, "{text} {word} from {start}");
+        assert_eq!(rt;
+            found.whole,
+            RouteVerdict::Accepted,
+            "{text} {word} from {start}"
+        );
         few = few.saturating_add(found.listed as u64);
         all = all.saturating_add(found.all as u64);
     }
