@@ -5,7 +5,7 @@ use instance_reader::{Instance, read_instance};
 use mixed_fleet::{MixedOutcome, plan_mixed};
 use mixed_model::{MixedRoot, MixedRoute};
 use std::alloc::Global;
-use worked_instances::TWO_CUSTOMERS;
+use worked_instances::{THREE_CUSTOMERS, TWO_CUSTOMERS};
 
 /// Instances of these texts with a limit; fewer where memory was refused or a text is none of one.
 fn limited(alloc: Global, texts: &[&str], limit: u64) -> Vec<Instance> {
@@ -68,6 +68,19 @@ fn one_route_serves_both_customers_where_it_may_last_so_long(rt: HostRuntime) {
     assert_eq!(rt; routes.len(), 1);
     let alone = planned(alloc, &[TWO_CUSTOMERS], 12).expect(&rt, "an outcome");
     assert_eq!(rt; told(&alone).0, Some(16));
+}
+
+/// The root has half a route for each two of three customers. The greedy plan takes the one with the
+/// first share, of customers 1 and 3, and the customer who is left alone. Where it is left out,
+/// another plan of the same cost is found among the routes that were met.
+#[test]
+fn routes_with_shares_are_taken_greedily(rt: HostRuntime) {
+    let outcome = planned(rt.alloc(), &[THREE_CUSTOMERS], 11).expect(&rt, "an outcome");
+    let (bound, routes) = told(&outcome);
+    assert_eq!(rt; bound, Some(17));
+    assert_eq!(rt; routes.len(), 2);
+    assert_eq!(rt; way(routes.first()), Some((0, 1)));
+    assert_eq!(rt; way(routes.get(1)), Some((0, 2)));
 }
 
 #[test]
