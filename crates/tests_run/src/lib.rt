@@ -17,6 +17,8 @@ mod fleets;
 #[cfg(test)]
 mod improved;
 #[cfg(test)]
+mod instances;
+#[cfg(test)]
 mod jobs;
 #[cfg(test)]
 mod long_files;

@@ -15,7 +15,7 @@ use std::io::{self, Eprint, Error, ErrorKind};
 use std::process::Abort;
 use std::rt::{Clock, Env};
 use std::time::Duration;
-use worked_instances::THREE_CUSTOMERS;
+use worked_instances::{ONE_STATION, THREE_CUSTOMERS};
 
 /// A clock that goes on by some milliseconds each time it is read, or fails; and a standard error
 /// that keeps its lines, each behind the milliseconds that the clock showed.
@@ -153,17 +153,24 @@ struct Ended {
     told: String,
 }
 
-/// The program over the instance with three customers, and over a clock with this step.
+/// A job on an instance, which is the file `A`.
+#[derive(Clone, Copy)]
+struct OnInstance<'a> {
+    instance: &'a str,
+    line: &'a str,
+}
+
+/// The program over the job's instance and no plan, and over a clock with this step.
 fn watched(
     alloc: Global,
-    line: &str,
+    job: OnInstance<'_>,
     step: Option<u64>,
     is_wanted: bool,
 ) -> Result<Ended, AllocError> {
     let none = "evroute plan 1\nnone\n";
-    let mut shelf = shelf_with(alloc, THREE_CUSTOMERS, none, &[])?;
+    let mut shelf = shelf_with(alloc, job.instance, none, &[])?;
     let mut out = MemorySink::new(alloc, Vec::new(alloc));
-    let words = words_of(alloc, line)?;
+    let words = words_of(alloc, job.line)?;
     let desk = Desk::new(alloc, step);
     let mut progress = ToldProgress::new(&desk, is_wanted);
     let status = run_watched(alloc, words.as_slice(), &mut shelf, &mut out, &mut progress);
@@ -184,12 +191,13 @@ fn watched(
 fn told_beside(
     rt: &impl Abort,
     alloc: Global,
-    line: &str,
+    job: OnInstance<'_>,
     quick: &Ended,
     step: Option<u64>,
     is_wanted: bool,
 ) -> String {
-    let other = watched(alloc, line, step, is_wanted).expect(rt, "memory");
+    let line = job.line;
+    let other = watched(alloc, job, step, is_wanted).expect(rt, "memory");
     assert_eq!(rt; other.status, quick.status, "{line}");
     assert_eq!(rt; other.put.as_slice(), quick.put.as_slice(), "{line}");
     assert_eq!(rt; other.left.as_slice(), quick.left.as_slice(), "{line}");
@@ -197,14 +205,15 @@ fn told_beside(
 }
 
 /// A job is told so where it is slow, and else not, or the test fails.
-fn assert_watched(rt: &impl Abort, alloc: Global, line: &str, want: &str) {
-    let quick = watched(alloc, line, Some(0), true).expect(rt, "memory");
+fn assert_watched(rt: &impl Abort, alloc: Global, job: OnInstance<'_>, want: &str) {
+    let line = job.line;
+    let quick = watched(alloc, job, Some(0), true).expect(rt, "memory");
     assert_eq!(rt; quick.status, Status::Done, "{line}");
     assert_eq!(rt; quick.told.as_str(), "", "{line}");
-    let told = told_beside(rt, alloc, line, &quick, Some(4000), true);
+    let told = told_beside(rt, alloc, job, &quick, Some(4000), true);
     assert!(rt; told.as_str().starts_with(want), "{told}");
     for &(step, is_wanted) in &[(Some(4000), false), (None, true)] {
-        let told = told_beside(rt, alloc, line, &quick, step, is_wanted);
+        let told = told_beside(rt, alloc, job, &quick, step, is_wanted);
         assert_eq!(rt; told.as_str(), "", "{line}");
     }
 }
@@ -229,7 +238,30 @@ fn a_watched_job_ends_as_any(rt: HostRuntime) {
             "8000 ms: evroute: rounds 0, routes 3, fractional cost 24/1\n",
         ),
     ] {
-        assert_watched(&rt, rt.alloc(), line, want);
+        let instance = THREE_CUSTOMERS;
+        assert_watched(&rt, rt.alloc(), OnInstance { instance, line }, want);
+    }
+}
+
+#[test]
+fn costs_are_told_over_the_denominator_of_the_instance(rt: HostRuntime) {
+    for &(line, want) in &[
+        (
+            "fleet A P Q",
+            "8000 ms: evroute: nodes 1, open 0, bound 43/2, plan held 43/2, gap 0.00 %\n",
+        ),
+        (
+            "bound A O --near 1",
+            "8000 ms: evroute: prices 1 of 1, bound 43/2\n",
+        ),
+        ("improve A P O", "8000 ms: evroute: moves 0, cost 43/2\n"),
+        (
+            "mixed P Q A",
+            "8000 ms: evroute: rounds 0, routes 1, fractional cost 43/2\n",
+        ),
+    ] {
+        let instance = ONE_STATION;
+        assert_watched(&rt, rt.alloc(), OnInstance { instance, line }, want);
     }
 }
 
