@@ -1,8 +1,8 @@
 -- What is earned where the price of one customer is another one.
-use Rattle.std.proofs.Common.{◌≡◌, ◌∙◌, ℕ, zero, suc, ◌+◌, ◌-◌, ◌*◌, ◌<◌, ◌≤◌, refl, sym, ap, subst, List, [], ◌∷◌, ◌++◌, drop, get_or, length, length-drop, length-set, replicate, set, take, arith, inl, inr}
-use Rattle.std.specs.Prelude.{nat_eq, slice_index, if◌then◌else◌}
-use Rattle.std.proofs.lemmas.Bool.{cases_eq, cases_lt, eq-eqb, ne_eqb}
-use Rattle.std.proofs.lemmas.List.{drop-set, get_or-drop, get_or-replicate, get_or-set_other, set-get_or, take-append-drop, take-set, take-set-le}
+use Rattle.std.proofs.Common.{◌≡◌, ◌∙◌, ℕ, zero, suc, ◌+◌, ◌-◌, ◌*◌, ◌<◌, ◌≤◌, refl, sym, ap, List, [], ◌∷◌, ◌++◌, drop, get_or, length, length-drop, length-set, replicate, set, take, arith, inl, inr}
+use Rattle.std.specs.Prelude.{nat_eq, if◌then◌else◌}
+use Rattle.std.proofs.lemmas.Bool.{cases_eq, eq-eqb, ne_eqb}
+use Rattle.std.proofs.lemmas.List.{drop-set, get_or-drop, set-get_or, take-append-drop, take-set, take-set-le}
 use Rattle.std.proofs.lemmas.List.Sums.{sum_by-cons}
 use Rattle.ev_model.specs.Fleet.{times_in}
 use Rattle.near_proof.specs.Terms.{earned_by, price_of}

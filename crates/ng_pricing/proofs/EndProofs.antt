@@ -1,35 +1,32 @@
 -- The proof at the end.
-use Rattle.std.proofs.Common.{◌≡◌, ◌↔◌, ◌∙◌, ℕ, zero, suc, ◌+◌, ◌*◌, ◌<◌, ◌≤◌, ◌^◌, true, ◌||◌, refl, sym, ap, subst, List, [], ◌∷◌, get_or, length, replicate, set, Option, None, Some, arith, inl, inr}
+use Rattle.std.proofs.Common.{◌≡◌, ◌∙◌, ℕ, zero, suc, ◌+◌, ◌*◌, ◌<◌, ◌≤◌, ◌^◌, true, ◌||◌, refl, sym, ap, subst, List, [], ◌∷◌, get_or, length, set, Some, arith, inl, inr}
 use Rattle.std.specs.List.{All}
 use Rattle.std.specs.Prelude.{nat_eq, nat_lt, slice_get, slice_index_or}
 use Rattle.std.proofs.Math.Nat.{mul-le-mul_left}
 use Rattle.std.proofs.lemmas.Bool.{cases_lt, eq-eqb}
-use Rattle.std.proofs.lemmas.List.{get_or-set_same, length-set}
+use Rattle.std.proofs.lemmas.List.{get_or-set_same}
 use Rattle.std.proofs.lemmas.List.Elements.{All-nil, All-weaker}
 use Rattle.std.proofs.lemmas.List.Sums.{sum_by-cons}
-use Rattle.std.proofs.lemmas.Option.{get_or_from_slice_get, slice_get-get_or, slice_get_within}
+use Rattle.std.proofs.lemmas.Option.{slice_get-get_or, slice_get_within}
 use Rattle.certificate_parts.specs.Ranges.{ColumnFits}
 use Rattle.customer_sets.specs.CustSet.{has}
 use Rattle.ev_model.specs.Fleet.{times_in}
 use Rattle.ev_model.specs.Network.{IsNetwork, Network, node_count, scaled_limit}
-use Rattle.ev_model.specs.Time.{time_of}
-use Rattle.ev_model.specs.declared.Stop.{Stop}
-use Rattle.fleet_model.specs.Places.{customer_count, customer_number, numbers_of}
+use Rattle.fleet_model.specs.Places.{customer_number, numbers_of}
 use Rattle.fleet_model.proofs.Counts.{number_less}
 use Rattle.fleet_model.proofs.Numbers.{counted}
 use Rattle.instance_reader.specs.Instance.{customer_nodes, most_customers}
-use Rattle.near_check.specs.NearSets.{AreNearSets, belongs, sooner_count}
-use Rattle.near_proof.specs.Accepted.{HasTight, IsAccepted, IsTight, terms_of}
+use Rattle.near_check.specs.NearSets.{AreNearSets, sooner_count}
+use Rattle.near_proof.specs.Accepted.{IsAccepted, IsTight}
 use Rattle.near_proof.specs.Ranges.{AreAmong, NearFits, SetsFit}
-use Rattle.near_proof.specs.Routes.{IsNearRoute}
-use Rattle.near_proof.specs.Terms.{earned_by, price_total}
+use Rattle.near_proof.specs.Terms.{price_total}
 use Rattle.near_proof.specs.Truth.{NearRoutesPay}
-use Rattle.near_proof.specs.declared.proof.NearProof.{NearProof}
 use Rattle.near_proof.proofs.Truths.{is_true}
 use Rattle.route_plan.specs.declared.plan.RoutePlan.{RoutePlan}
 use Rattle.ng_pricing.specs.Fixing.{alone, IsRising, IsUnserved, proof_of, proof_of_none, TightRoute}
+use Rattle.near_text.specs.NearIn.{IsKept}
 use Rattle.ng_pricing.specs.NearBound.{IsNearBound}
-use Rattle.ng_pricing.specs.Rising.{AreGreatest, begun_with, IsGreatest, StandsOnNone, terms_at}
+use Rattle.ng_pricing.specs.Rising.{begun_with, IsGreatest, terms_at}
 use Rattle.ng_pricing.specs.declared.raising.Rising.{Rising}
 use Rattle.ng_pricing.specs.declared.setting.ClosedAt.{ClosedAt}
 use Rattle.ng_pricing.proofs.Earnings.{begun_earned, begun_earns_less, length_nothing, zeros}
@@ -156,10 +153,11 @@ module _ (g : Network) (near : ℕ) (sets : List (List ℕ)) (network : IsNetwor
       tight = λ x known customer. tight_at (customer_number g x) (omega (arith, number_less g x (node_count g) customer known, counted g));
     }
 
-    pub bounded : IsNearBound g near (proof_of sets r)
-    bounded = record {
+    pub bounded : IsKept (proof_of sets r) → IsNearBound g near (proof_of sets r)
+    bounded kept = record {
       sets = near_are;
       fits = fits;
+      kept = kept;
       accepted = accepted;
       shows = is_true g (proof_of sets r) network fits accepted;
       none = (
@@ -202,10 +200,11 @@ module _ (g : Network) (near : ℕ) (sets : List (List ℕ)) (network : IsNetwor
       tight = tt;
     }
 
-    pub unbounded : IsNearBound g near (proof_of_none sets at)
-    unbounded = record {
+    pub unbounded : IsKept (proof_of_none sets at) → IsNearBound g near (proof_of_none sets at)
+    unbounded kept = record {
       sets = near_are;
       fits = unserved_fits;
+      kept = kept;
       accepted = unserved_accepted;
       shows = is_true g (proof_of_none sets at) network unserved_fits unserved_accepted;
       none = (

@@ -3,3 +3,4 @@ pub mod Alone
 pub mod PriceLimits
 pub mod Risen
 pub mod EndProofs
+pub mod NearFleets

@@ -1,5 +1,5 @@
 -- What routes that were met allow the price of a customer to be.
-use Rattle.std.proofs.Common.{◌≡◌, ◌∙◌, ℕ, zero, suc, ◌+◌, ◌-◌, ◌*◌, ◌/◌, ◌%◌, ◌<◌, ◌≤◌, ◌^◌, refl, sym, ap, subst, List, [], ◌∷◌, ◌++◌, ◌⊎◌, get_or, length, map, set, Option, None, Some, IfNone, IfSome, arith, inl, inr}
+use Rattle.std.proofs.Common.{◌≡◌, ◌∙◌, ℕ, ◌+◌, ◌-◌, ◌*◌, ◌/◌, ◌<◌, ◌≤◌, ◌^◌, refl, sym, ap, subst, List, [], ◌∷◌, ◌++◌, ◌⊎◌, get_or, length, set, Option, None, Some, IfNone, IfSome, arith, inl, inr}
 use Rattle.std.specs.List.{All}
 use Rattle.std.specs.Prelude.{slice_get}
 use Rattle.std.proofs.Math.Nat.{div-add-mod, lt_of_mul-lt-mul_left, mod-lt, mul-le-mul_left}
@@ -9,19 +9,16 @@ use Rattle.std.proofs.lemmas.List.Elements.{All-append, All-cons, All-nil, All-s
 use Rattle.std.proofs.lemmas.Option.{get_or_from_slice_get, slice_get_read, slice_get_within}
 use Rattle.certificate_parts.specs.Ranges.{ColumnFits}
 use Rattle.ev_model.specs.Fleet.{customers_of, times_in}
-use Rattle.ev_model.specs.Network.{IsNetwork, Network, scaled_limit}
-use Rattle.ev_model.specs.Time.{time_of}
-use Rattle.ev_model.specs.declared.Stop.{Stop}
-use Rattle.fleet_model.specs.Places.{customer_count, customer_number, numbers_of}
+use Rattle.ev_model.specs.Network.{Network, scaled_limit}
+use Rattle.fleet_model.specs.Places.{customer_number, numbers_of}
 use Rattle.fleet_model.proofs.Numbers.{counted}
 use Rattle.instance_reader.specs.Instance.{customer_nodes, most_customers}
-use Rattle.instance_reader.proofs.ListLemmas.{slice_get-append, slice_get-seam}
+use Rattle.instance_reader.proofs.ListLemmas.{slice_get-seam}
 use Rattle.near_proof.specs.Accepted.{IsTight}
 use Rattle.near_proof.specs.Routes.{IsNearRoute}
-use Rattle.near_proof.specs.Terms.{earned_by, Terms}
+use Rattle.near_proof.specs.Terms.{earned_by}
 use Rattle.near_proof.specs.Truth.{NearRoutesPay}
 use Rattle.route_plan.specs.declared.plan.RoutePlan.{RoutePlan}
-use Rattle.ng_pricing.specs.Fixing.{IsOpen}
 use Rattle.ng_pricing.specs.Met.{AreMet, IsAllowed, IsLimit, IsMeasured, IsMet, Pays}
 use Rattle.ng_pricing.specs.Rising.{terms_at}
 use Rattle.ng_pricing.specs.declared.met.Limit.{Limit}

@@ -1,16 +1,14 @@
 -- How prices rise one by one.
-use Rattle.std.proofs.Common.{◌≡◌, ◌∙◌, ℕ, zero, suc, ◌+◌, ◌*◌, ◌<◌, ◌≤◌, ◌^◌, refl, sym, ap, subst, List, [], ◌∷◌, ◌++◌, get_or, length, length-set, replicate, set, Some, arith, inl, inr}
+use Rattle.std.proofs.Common.{◌≡◌, ◌∙◌, ℕ, zero, suc, ◌+◌, ◌<◌, ◌≤◌, refl, sym, ap, subst, List, [], ◌∷◌, ◌++◌, get_or, length, length-set, set, Some, arith, inl, inr}
 use Rattle.std.specs.List.{All}
 use Rattle.std.specs.Prelude.{slice_get}
-use Rattle.std.proofs.lemmas.Bool.{cases_eq, cases_lt}
+use Rattle.std.proofs.lemmas.Bool.{cases_lt}
 use Rattle.std.proofs.lemmas.List.{get_or-set_other, get_or-set_same, length-append}
-use Rattle.std.proofs.lemmas.List.Elements.{All-append, All-cons, All-contains, All-nil, All-set, All-weaker}
-use Rattle.std.proofs.lemmas.Option.{same_Some, slice_get_within}
+use Rattle.std.proofs.lemmas.List.Elements.{All-append, All-cons, All-contains, All-nil, All-set}
+use Rattle.std.proofs.lemmas.Option.{same_Some}
 use Rattle.certificate_parts.specs.Ranges.{ColumnFits}
 use Rattle.ev_model.specs.Fleet.{times_in}
 use Rattle.ev_model.specs.Network.{IsNetwork, Network, scaled_limit}
-use Rattle.ev_model.specs.Time.{time_of}
-use Rattle.ev_model.specs.declared.Stop.{Stop}
 use Rattle.fleet_model.specs.Places.{numbers_of}
 use Rattle.instance_reader.specs.Instance.{customer_nodes}
 use Rattle.instance_reader.proofs.ListLemmas.{slice_get-append, slice_get-seam}
@@ -26,7 +24,7 @@ use Rattle.near_proof.proofs.Sound.{routes_pay}
 use Rattle.route_plan.specs.declared.plan.RoutePlan.{RoutePlan}
 use Rattle.ng_pricing.specs.Fixing.{alone, AreTightBefore, IsFixed, IsOpen, IsRising, IsUnserved, terms_alone, TightRoute}
 use Rattle.ng_pricing.specs.Met.{AreMet, IsMet}
-use Rattle.ng_pricing.specs.Rising.{begun_with, StandsOnNone, terms_at}
+use Rattle.ng_pricing.specs.Rising.{begun_with, terms_at}
 use Rattle.ng_pricing.specs.declared.raising.Fixed.{Fixed}
 use Rattle.ng_pricing.specs.declared.raising.Rising.{Rising}
 use Rattle.ng_pricing.specs.declared.setting.ClosedAt.{ClosedAt}

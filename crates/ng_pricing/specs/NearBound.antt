@@ -7,13 +7,16 @@ use Rattle.near_proof.specs.Accepted.{IsAccepted}
 use Rattle.near_proof.specs.Ranges.{NearFits}
 use Rattle.near_proof.specs.Truth.{IsTrue}
 use Rattle.near_proof.specs.declared.proof.NearProof.{NearProof}
+use Rattle.near_text.specs.NearIn.{IsKept}
 use Rattle.ng_pricing.specs.Rising.{AreGreatest, StandsOnNone}
 
 -- a proof that is accepted and true, with the near sets of the instance: it has no bound exactly
--- where some customer stands on no near route, and else the prices that are the greatest one by one
+-- where some customer stands on no near route, and else the prices that are the greatest one by one;
+-- it fits and is kept, so that its text is read as it
 pub record IsNearBound (g : Network) (near : ℕ) (p : NearProof) : Type 0 where
   pub sets : AreNearSets g near p.sets
   pub fits : NearFits g p
+  pub kept : IsKept p
   pub accepted : IsAccepted g p
   pub shows : IsTrue g p
   pub none : (p.bound ≡ None)

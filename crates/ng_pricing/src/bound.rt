@@ -2,9 +2,11 @@
 
 ghost use Rattle.std.specs.Prelude.{◌≡◌, ◌≤◌, IfOk, length};
 ghost use Rattle.instance_reader.specs.Instance.{customer_nodes, most_customers};
+ghost use Rattle.near_text.specs.NearIn.{IsKept};
 ghost use Rattle.ng_pricing.specs.Fixing.{proof_of, proof_of_none};
 ghost use Rattle.ng_pricing.specs.NearBound.{IsNearBound};
 
+use crate::kept::{know_memories, know_sets};
 use crate::raising::{Raised, Rising};
 use crate::setting::{ClosedAt, Setting};
 use crate::watcher::{Nobody, PriceWatcher};
@@ -16,8 +18,9 @@ use near_proof::NearProof;
 use near_services::price_total;
 use std::alloc::{AllocError, Global};
 
-/// A proof of a lower bound on the cost of fleet plans, one that is accepted; its near sets are
-/// those of [`crate::near_sets`], with `near` other customers.
+/// A proof of a lower bound on the cost of fleet plans, one that is accepted, and whose text is read
+/// as it where it isn't too long; its near sets are those of [`crate::near_sets`], with `near` other
+/// customers.
 ///
 /// The bound is `None` exactly where some customer stands on no near route: then there is no fleet
 /// plan. Else it is the sum of the prices, which are fixed customer by customer, in rising order:
@@ -56,8 +59,11 @@ pub fn near_bound_watched<W: PriceWatcher>(
 /// The proof by prices that are all fixed.
 fn proof_of(sets: Vec<CustSet>, rising: Rising) -> NearProof
     requires few { length rising.prices.items ≤ 128 }
-    ensures { result ≡ proof_of sets.items rising }
+    ensures value { result ≡ proof_of sets.items rising }
+    ensures kept { IsKept result }
 {
+    know_sets(&sets);
+    know_memories(rising.labels.as_slice());
     NearProof {
         bound: Some(price_total(&rising.prices)),
         weight: 1,
@@ -70,8 +76,11 @@ fn proof_of(sets: Vec<CustSet>, rising: Rising) -> NearProof
 
 /// The proof by closed labels that some customer stands on no near route.
 fn proof_of_none(alloc: Global, sets: Vec<CustSet>, at: ClosedAt) -> NearProof
-    ensures { result ≡ proof_of_none sets.items at }
+    ensures value { result ≡ proof_of_none sets.items at }
+    ensures kept { IsKept result }
 {
+    know_sets(&sets);
+    know_memories(at.labels.as_slice());
     NearProof {
         bound: None,
         weight: 0,

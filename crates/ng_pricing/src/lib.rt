@@ -4,6 +4,8 @@
 #![tactic(auto)]
 
 mod bound;
+mod kept;
+mod laws;
 mod limits;
 mod met;
 mod raising;
@@ -11,6 +13,7 @@ mod setting;
 mod watcher;
 
 pub use bound::{near_bound, near_bound_watched};
+pub use laws::routes_of_fleet_plans_are_near_routes;
 pub use near_check::{check_near, near_sets};
 pub use near_pricing::{NearPriced, Prices, near_price};
 pub use near_proof::{NearLabel, NearProof, NearVerdict};

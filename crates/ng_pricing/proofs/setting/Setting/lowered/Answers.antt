@@ -1,4 +1,4 @@
-use Rattle.std.proofs.Common.{◌≡◌, ◌∙◌, ◌*◌, ◌+◌, ◌<◌, ◌≤◌, ◌^◌, List, ℕ, ap, arith, length, set, subst, sym}
+use Rattle.std.proofs.Common.{◌∙◌, ◌+◌, ◌<◌, ◌≤◌, ◌^◌, ap, arith, length, set, subst, sym}
 use Rattle.std.proofs.lemmas.Grind.{common_steps}
 use Rattle.std.specs.List.{All}
 use Rattle.std.proofs.lemmas.Option.{get_or_from_slice_get, slice_get_within}
@@ -10,7 +10,6 @@ use Rattle.near_pricing.specs.Answers.{AreClosedLabels, IsBetter, IsNearPriced}
 use Rattle.near_pricing.specs.declared.priced.NearPriced.{NearPriced}
 use Rattle.near_pricing.specs.declared.priced.Prices.{Prices}
 use Rattle.near_proof.specs.Accepted.{IsTight}
-use Rattle.near_proof.specs.Terms.{earned_by}
 use Rattle.route_plan.specs.declared.plan.RoutePlan.{RoutePlan}
 use Rattle.ng_pricing.specs.declared.met.MetRoute.{MetRoute}
 use Rattle.ng_pricing.specs.Rising.{terms_at}

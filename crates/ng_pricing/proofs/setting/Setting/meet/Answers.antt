@@ -1,4 +1,4 @@
-use Rattle.std.proofs.Common.{◌∙◌, List, arith, length, ◌≤◌, subst, sym}
+use Rattle.std.proofs.Common.{◌∙◌, List, arith, subst, sym}
 use Rattle.std.proofs.lemmas.Grind.{common_steps}
 use Rattle.ng_pricing.specs.Met.{AreMet, IsLimit}
 use Rattle.ng_pricing.specs.declared.met.MetRoute.{MetRoute}
