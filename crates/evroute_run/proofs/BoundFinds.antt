@@ -1,10 +1,12 @@
 -- What `bound` finds, once a bound was found or a rule is broken.
-use Rattle.std.proofs.Common.{◌≡◌, ◌∙◌, ℕ, List, [], ◌∷◌, Option, None, Some, Result, Ok, Err, IfOk, ap, map, subst, sym}
+use Rattle.std.proofs.Common.{◌≡◌, ◌∙◌, ℕ, List, [], ◌∷◌, Option, None, Some, Result, Ok, Err, IfOk, ap, map, refl, subst, sym}
+use Rattle.std.specs.List.{All}
+use Rattle.std.proofs.lemmas.List.Elements.{All-cons, All-nil}
 use Rattle.command_line.specs.Words.{BoundJob}
 use Rattle.ev_model.specs.Network.{Network}
 use Rattle.ev_outside.specs.Shelf.{Files}
 use Rattle.evroute_run.proofs.Refused.{puts_fleet_refusal}
-use Rattle.evroute_run.specs.BoundAnswer.{BoundAnswers, IsBoundFound, PutsBound, bound_status, bound_task}
+use Rattle.evroute_run.specs.BoundAnswer.{AcceptsBound, BoundAnswers, IsBoundFound, IsReadBack, PutsBound, bound_status, bound_task}
 use Rattle.job_steps.specs.Caps.{most_bytes}
 use Rattle.evroute_run.specs.Ended.{IsFleetEnded}
 use Rattle.evroute_run.specs.FleetNetwork.{HasFleetNetwork}
@@ -28,18 +30,34 @@ use Rattle.plan_writer.specs.declared.refusal.Refusal.{Refusal}
 -- a proof, with its bound and its file
 pub puts_bound : {E : Type 0} (g : Network) (near : ℕ) (cert name : List ℕ) (proof : NearProof) (answer : Answer) (file : Written) (made : Result Found E) →
     IsNearBound g near proof → answer.status ≡ bound_status proof.bound → answer.text.items ≡ near_bound_text g.denominator proof.bound
-    → name ≡ cert → file ≡ record { name = name; bytes = near_text (written_near g proof) }
+    → name ≡ cert → file ≡ record { name = name; bytes = near_text (written_near g proof) } → IsReadBack g proof
     → IfOk made (λ f. f.answer ≡ answer) → IfOk made (λ f. map written_by f.files.items ≡ file ∷ [])
     → IfOk made (λ f. IsBoundFound g near cert f.answer.status (map written_by f.files.items) f.answer.text.items)
-puts_bound {E} g near cert name proof answer file (Err e) is status text named spelled answered files = tt
-puts_bound {E} g near cert name proof answer file (Ok f) is status text named spelled answered files = record {
+puts_bound {E} g near cert name proof answer file (Err e) is status text named spelled reads answered files = tt
+puts_bound {E} g near cert name proof answer file (Ok f) is status text named spelled reads answered files = record {
   proof = proof;
   is = is;
   status_is = ap (λ (a : Answer). a.status) answered ∙ status;
   written = files ∙ ap (λ (w : Written). w ∷ []) spelled
       ∙ ap (λ (n : List ℕ). let w : Written = record { name = n; bytes = near_text (written_near g proof) } in w ∷ []) named;
+  read_back = reads;
   text_is = ap (λ (a : Answer). a.text.items) answered ∙ text;
 }
+
+-- `check-bound` accepts what is written
+accepts : (limit : Option ℕ) (bytes : List ℕ) (g : Network) (near : ℕ) (cert : List ℕ) (ended : Status) (ws : List Written) (text : List ℕ) → HasFleetNetwork limit bytes g
+    → (found : IsBoundFound g near cert ended ws text) → All (AcceptsBound limit bytes g found.proof.bound) ws
+accepts limit bytes g near cert ended ws text fleet found =
+    let file : Written = record { name = cert; bytes = near_text (written_near g found.proof) } in
+    let accepted : AcceptsBound limit bytes g found.proof.bound file =
+    λ short. record {
+      files = record { network = g; fleet = fleet; proof = found.proof; has = found.read_back short };
+      accepted = found.is.accepted;
+      shows = found.is.shows;
+      text_is = refl;
+    } in
+    subst (λ (xs : List Written). All (AcceptsBound limit bytes g found.proof.bound) xs) (sym found.written)
+    (All-cons (AcceptsBound limit bytes g found.proof.bound) file [] accepted (All-nil (AcceptsBound limit bytes g found.proof.bound)))
 
 -- the line of a refusal
 pub bound_refused : (job : BoundJob) (files : Option Files) (bytes given : List ℕ) (ended : Ended) (refusal : Refusal) → AreReadUpTo most_bytes files job.file bytes → given ≡ bytes
@@ -69,10 +87,11 @@ pub bound_found : (job : BoundJob) (files : Option Files) (bytes given : List �
 bound_found job files bytes given g ended ws text read same fleet found = record {
   bytes = bytes ∷ [];
   read = (read, tt);
-  answer = found_answers job bytes ended ws text (record {
+  answer = found_answers job bytes ended ws text (let it = subst (λ (bs : List ℕ). HasFleetNetwork job.limit bs g) same fleet in record {
     network = g;
-    fleet = subst (λ (bs : List ℕ). HasFleetNetwork job.limit bs g) same fleet;
+    fleet = it;
     found = found;
+    judged = accepts job.limit bytes g job.near job.cert ended ws text it found;
   });
 }
 

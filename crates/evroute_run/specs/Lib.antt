@@ -8,8 +8,8 @@ pub mod MakeAnswer
 pub mod ImproveAnswer
 pub mod ProveAnswer
 pub mod CheckRouteAnswer
-pub mod BoundAnswer
 pub mod CheckBoundAnswer
+pub mod BoundAnswer
 pub mod Ended
 pub mod Run
 pub mod Ending

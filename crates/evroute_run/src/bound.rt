@@ -5,10 +5,12 @@ ghost use Rattle.std.specs.Prelude.{◌≡◌, ◌≤◌, IfOk, map, string_byte
 ghost use Rattle.bound_certificate.specs.Ranges.{customer_count};
 ghost use Rattle.command_line.specs.JobValue.{job_value};
 ghost use Rattle.command_line.specs.declared.Job.TheVariants.{Bound};
-ghost use Rattle.evroute_run.specs.BoundAnswer.{IsBoundFound, bound_status};
+ghost use Rattle.evroute_run.specs.BoundAnswer.{IsBoundFound, IsReadBack, bound_status};
 ghost use Rattle.evroute_run.specs.Run.{task_of};
 ghost use Rattle.job_frame.specs.Finds.{Finds, written_by};
 ghost use Rattle.instance_reader.specs.Instance.{most_customers};
+ghost use Rattle.near_proof.specs.Ranges.{NearFits};
+ghost use Rattle.near_text.specs.NearIn.{IsKept};
 ghost use Rattle.near_text.specs.NearTexts.{near_text};
 ghost use Rattle.near_text.specs.VerdictText.{near_bound_text};
 ghost use Rattle.near_text.specs.Written.{written_near};
@@ -20,6 +22,7 @@ use ev_outside::{Shelf, ShelfFault};
 use instance_reader::Instance;
 use job_frame::{Answer, Found, NewFile, Status, read_file};
 use job_steps::{Ended, MOST_BYTES, refuse_job};
+use near_text::written_near_proofs_are_read;
 use ng_pricing::{NearProof, near_bound_watched, push_near, push_near_bound};
 use std::alloc::{AllocError, Global};
 
@@ -62,9 +65,22 @@ fn bound_on<W: JobWatcher>(
 {
     watcher.begin(inst.denominator());
     let proof = near_bound_watched(alloc, inst, job.near as usize, watcher)?;
+    know_read_back(inst, &proof);
     let answer = tell(alloc, inst, proof.bound)?;
     let file = proof_file(alloc, inst, job.cert.as_str(), &proof)?;
     Found::with_file(alloc, answer, file)
+}
+
+/// The text of a proof is read as this proof, where it isn't too long.
+fn know_read_back(inst: &Instance, proof: &NearProof)
+    requires few { customer_count inst.now ≤ most_customers }
+    requires fits { NearFits inst.now proof.now }
+    requires kept { IsKept proof.now }
+    ensures { IsReadBack inst.now proof.now }
+{
+    // That the instance's network is one is told by its calls.
+    let _nodes = inst.nodes();
+    written_near_proofs_are_read();
 }
 
 /// The line of a bound, or that there is no fleet plan.
