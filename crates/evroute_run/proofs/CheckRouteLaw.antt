@@ -27,9 +27,8 @@ use Rattle.route_proof.specs.declared.verdict.RouteVerdict.{RouteVerdict}
 use Rattle.route_proof.specs.declared.verdict.RouteVerdict.TheVariants as verdict
 use Rattle.route_steps.specs.Trips.{Journey}
 use Rattle.evroute_run.proofs.FixedLaw.{refused_is_no_task, same_network, same_route}
-use Rattle.evroute_run.specs.CheckRouteAnswer.{CheckRouteAnswers, HoldsProof, IsCheckRouteRefused, PutsAcceptedProof, PutsRejectedProof, check_route_answers, check_route_task}
+use Rattle.evroute_run.specs.CheckRouteAnswer.{CheckRouteAnswers, HoldsProof, IsCheckRouteRefused, PutsAcceptedProof, PutsRejectedProof, check_route_answers, check_route_task, journey_of}
 use Rattle.evroute_run.specs.FixedAnswer.{IsTask}
-use Rattle.evroute_run.specs.ProveAnswer.{journey_of}
 
 -- ---- an accepted proof breaks no rule
 

@@ -1,5 +1,8 @@
 -- What `prove` finds.
-use Rattle.std.proofs.Common.{◌≡◌, ℕ, List, [], ◌∷◌, Option, None, Some, Result, Ok, Err, IfOk, IfSome, ap, map, refl, subst, sym}
+use Rattle.std.proofs.Common.{◌≡◌, ◌∙◌, ℕ, ◌≤◌, List, [], ◌∷◌, Option, None, Some, Result, Ok, Err, IfOk, IfSome, ap, length, map, refl, subst, sym}
+use Rattle.std.specs.List.{All}
+use Rattle.std.proofs.lemmas.List.Elements.{All-cons, All-nil}
+use Rattle.certificate_parts.specs.Limits.{most_bytes as most_certificate_bytes}
 use Rattle.command_line.specs.Words.{ProofJob}
 use Rattle.command_line.specs.declared.Options.{Options}
 use Rattle.ev_model.specs.Feasible.{IsFeasible}
@@ -10,12 +13,14 @@ use Rattle.job_frame.proofs.FileReads.{finds}
 use Rattle.job_frame.specs.Finds.{written_by}
 use Rattle.job_frame.specs.Task.{AreReadUpTo, IsAnswered}
 use Rattle.job_frame.specs.Writes.{AreDifferent, Written}
+use Rattle.job_frame.specs.declared.found.Answer.{Answer}
 use Rattle.job_frame.specs.declared.found.Found.{Found}
 use Rattle.job_frame.specs.declared.status.Status.{Status}
 use Rattle.job_frame.specs.declared.status.Status.TheVariants as status
 use Rattle.plan_writer.specs.FixedText.{fixed_text}
 use Rattle.plan_writer.specs.RefusalText.{refusal_text}
 use Rattle.plan_writer.specs.declared.refusal.Refusal.{Refusal}
+use Rattle.proof_text.specs.ProofIn.{proof_in}
 use Rattle.proof_text.specs.ProofTexts.{proof_text}
 use Rattle.route_plan.specs.declared.plan.RoutePlan.{RoutePlan}
 use Rattle.route_proof.specs.Closed.{HasGoodPlan, IsAccepted, IsTrue}
@@ -23,9 +28,10 @@ use Rattle.route_proof.specs.Ranges.{ProofFits}
 use Rattle.route_proof.specs.declared.proof.RouteProof.{RouteProof}
 use Rattle.route_steps.specs.Trips.{Journey}
 use Rattle.job_steps.specs.Caps.{most_bytes}
+use Rattle.evroute_run.specs.CheckRouteAnswer.{journey_of}
 use Rattle.evroute_run.specs.Ended.{IsEnded}
 use Rattle.evroute_run.specs.FixedAnswer.{IsTask, start_of}
-use Rattle.evroute_run.specs.ProveAnswer.{ProveAnswers, PutsProved, fixed_status, prove_task, timed_plan}
+use Rattle.evroute_run.specs.ProveAnswer.{AcceptsProof, ProveAnswers, PutsProved, fixed_status, prove_task, timed_plan}
 use Rattle.job_steps.specs.declared.answer.Ended.{Ended}
 use Rattle.job_steps.specs.declared.answer.Ended.TheVariants.{Refused}
 
@@ -47,24 +53,53 @@ by_plan : (options : Options) (word cert bytes : List ℕ) (plan : Option RouteP
 by_plan options word cert bytes None ws text p = p
 by_plan options word cert bytes (Some plan) ws text p = p
 
-pub puts_proved : (options : Options) (word cert bytes : List ℕ) (g : Network) (route : List ℕ) (level : ℕ) (proof : RouteProof) (f : Found) → IsTask options word bytes g route → level ≡ start_of g options.charge
+-- a proof is read where its text isn't too long
+abbrev pub IsReadBack : Network → List ℕ → RouteProof → Type 0
+IsReadBack g route proof = length (proof_text proof) ≤ most_certificate_bytes → proof_in g route (proof_text proof) ≡ Ok proof
+
+-- `check-route` accepts what is written
+accepts : (options : Options) (word cert bytes : List ℕ) (g : Network) (route : List ℕ) (proof : RouteProof) (ws : List Written) → IsTask options word bytes g route → ProofFits g route proof
+    → IsAccepted (journey_of options g route) proof → IsTrue (journey_of options g route) proof.plan → IsReadBack g route proof → ws ≡ record { name = cert; bytes = proof_text proof } ∷ []
+    → All (AcceptsProof options word bytes g proof.plan) ws
+accepts options word cert bytes g route proof ws task fits accepted shows reads written =
+    let P : Written → Type 0 = AcceptsProof options word bytes g proof.plan in
+    let file : Written = record { name = cert; bytes = proof_text proof } in
+    let judged : P file =
+    λ short. record {
+      files = record { network = g; route = route; task = task; proof = proof; read = reads short; spelled = record { within = short; fits = fits; text = refl } };
+      accepted = accepted;
+      shows = shows;
+      text_is = refl;
+    } in
+    subst (All P) (sym written) (All-cons P file [] judged (All-nil P))
+
+-- a proof, with its plan and its file
+pub puts_proved : {E : Type 0} (options : Options) (word cert bytes : List ℕ) (g : Network) (route : List ℕ) (level : ℕ) (proof : RouteProof) (answer : Answer) (file : Written) (made : Result Found E) →
+    IsTask options word bytes g route → level ≡ start_of g options.charge
     → ProofFits g route proof → IsAccepted (record { network = g; route = route; start = level }) proof → IsTrue (record { network = g; route = route; start = level }) proof.plan
-    → f.answer.status ≡ fixed_status proof.plan → map written_by f.files.items ≡ record { name = cert; bytes = proof_text proof } ∷ []
-    → f.answer.text.items ≡ fixed_text g.denominator (timed_plan g level proof.plan)
-    → ProveAnswers options word cert bytes f.answer.status (map written_by f.files.items) f.answer.text.items
-puts_proved options word cert bytes g route level proof f task is fits accepted shows answered files text =
-    by_status options word cert bytes f (fixed_status proof.plan) answered
-    (by_plan options word cert bytes proof.plan (map written_by f.files.items) f.answer.text.items (record {
+    → IsReadBack g route proof → answer.status ≡ fixed_status proof.plan → answer.text.items ≡ fixed_text g.denominator (timed_plan g level proof.plan)
+    → file ≡ record { name = cert; bytes = proof_text proof } → IfOk made (λ f. f.answer ≡ answer) → IfOk made (λ f. map written_by f.files.items ≡ file ∷ [])
+    → IfOk made (λ f. ProveAnswers options word cert bytes f.answer.status (map written_by f.files.items) f.answer.text.items)
+puts_proved {E} options word cert bytes g route level proof answer file (Err e) task is fits accepted shows reads status_is text spelled answered files = tt
+puts_proved {E} options word cert bytes g route level proof answer file (Ok f) task is fits accepted shows reads status_is text spelled answered files =
+    let here : IsAccepted (journey_of options g route) proof = subst (λ (n : ℕ). IsAccepted (record { network = g; route = route; start = n }) proof) is accepted in
+    let truth : IsTrue (journey_of options g route) proof.plan = subst (λ (n : ℕ). IsTrue (record { network = g; route = route; start = n }) proof.plan) is shows in
+    let ws = map written_by f.files.items in
+    let written : ws ≡ record { name = cert; bytes = proof_text proof } ∷ [] = files ∙ ap (λ (w : Written). w ∷ []) spelled in
+    by_status options word cert bytes f (fixed_status proof.plan) (ap (λ (a : Answer). a.status) answered ∙ status_is)
+    (by_plan options word cert bytes proof.plan ws f.answer.text.items (record {
       network = g;
       route = route;
       task = task;
       proof = proof;
       fits = fits;
-      accepted = subst (λ (n : ℕ). IsAccepted (record { network = g; route = route; start = n }) proof) is accepted;
-      shows = subst (λ (n : ℕ). IsTrue (record { network = g; route = route; start = n }) proof.plan) is shows;
+      accepted = here;
+      shows = truth;
       status_is = refl;
-      written = files;
-      text_is = subst (λ (n : ℕ). f.answer.text.items ≡ fixed_text g.denominator (timed_plan g n proof.plan)) is text;
+      written = written;
+      judged = accepts options word cert bytes g route proof ws task fits here truth reads written;
+      text_is =
+          ap (λ (a : Answer). a.text.items) answered ∙ subst (λ (n : ℕ). answer.text.items ≡ fixed_text g.denominator (timed_plan g n proof.plan)) is text;
     }))
 
 -- the first broken rule

@@ -14,7 +14,8 @@ use Rattle.route_plan.specs.declared.plan.RoutePlan.{RoutePlan}
 use Rattle.route_proof.specs.Closed.{IsTrue}
 use Rattle.evroute_run.proofs.FixedLaw.{caused, fixed_cause, fixed_each}
 use Rattle.evroute_run.specs.FixedAnswer.{FixedAnswers, IsTask, PutsInfeasible, PutsPlan, start_of}
-use Rattle.evroute_run.specs.ProveAnswer.{ProveAnswers, fixed_job_of, fixed_status, journey_of, prove_answers, prove_task, timed_plan}
+use Rattle.evroute_run.specs.CheckRouteAnswer.{journey_of}
+use Rattle.evroute_run.specs.ProveAnswer.{ProveAnswers, fixed_job_of, fixed_status, prove_answers, prove_task, timed_plan}
 
 module _ (options : Options) (word bytes : List ℕ) (g : Network) (route : List ℕ) (task : IsTask options word bytes g route) where
   puts_plan : (text : List ℕ) (plan : Option RoutePlan) → IsTrue (journey_of options g route) plan → status.Done ≡ fixed_status plan

@@ -15,12 +15,17 @@ use Rattle.route_proof.specs.Verdicts.{IsVerdict}
 use Rattle.route_proof.specs.declared.proof.RouteProof.{RouteProof}
 use Rattle.route_proof.specs.declared.verdict.RouteVerdict.{RouteVerdict}
 use Rattle.route_proof.specs.declared.verdict.RouteVerdict.TheVariants as verdict
+use Rattle.route_steps.specs.Trips.{Journey}
 use Rattle.job_steps.specs.Caps.{certificate_read, file_read}
 use Rattle.evroute_run.specs.FixedAnswer.{IsRefused, IsTask, start_of}
-use Rattle.evroute_run.specs.ProveAnswer.{journey_of}
 use Rattle.job_frame.specs.Task.{Outcome, Task}
 use Rattle.job_frame.specs.declared.status.Status.{Status}
 use Rattle.job_frame.specs.declared.status.Status.TheVariants as status
+
+-- the journey of the words on a network
+abbrev pub journey_of : Options → Network → List ℕ → Journey
+journey_of options g route =
+    record { network = g; route = route; start = start_of g options.charge }
 
 -- the time of the plan that a proof lists, where it lists one
 abbrev pub listed_time : Network → ℕ → Option RoutePlan → Option ℕ

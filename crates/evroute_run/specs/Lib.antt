@@ -6,8 +6,8 @@ pub mod Judged
 pub mod ConvertAnswer
 pub mod MakeAnswer
 pub mod ImproveAnswer
-pub mod ProveAnswer
 pub mod CheckRouteAnswer
+pub mod ProveAnswer
 pub mod CheckBoundAnswer
 pub mod BoundAnswer
 pub mod Ended

@@ -1,5 +1,7 @@
 -- What `prove` answers to the bytes of its file.
-use Rattle.std.specs.Prelude.{◌≡◌, ℕ, List, [], ◌∷◌, Option, None, Some}
+use Rattle.std.specs.Prelude.{◌≡◌, ℕ, ◌≤◌, List, [], ◌∷◌, Option, None, Some, length}
+use Rattle.std.specs.List.{All}
+use Rattle.certificate_parts.specs.Limits.{most_bytes}
 use Rattle.command_line.specs.Words.{FixedJob, ProofJob, job_with}
 use Rattle.command_line.specs.declared.Options.{Options}
 use Rattle.ev_model.specs.Network.{Network}
@@ -9,22 +11,19 @@ use Rattle.plan_writer.specs.FixedText.{fixed_text}
 use Rattle.plan_writer.specs.RefusalText.{IsRule, refusal_text}
 use Rattle.plan_writer.specs.declared.refusal.Refusal.{Refusal}
 use Rattle.proof_text.specs.ProofTexts.{proof_text}
+use Rattle.proof_text.specs.VerdictText.{verdict_text}
 use Rattle.route_plan.specs.declared.plan.RoutePlan.{RoutePlan}
 use Rattle.route_proof.specs.Closed.{IsAccepted, IsTrue}
 use Rattle.route_proof.specs.Ranges.{ProofFits}
 use Rattle.route_proof.specs.declared.proof.RouteProof.{RouteProof}
-use Rattle.route_steps.specs.Trips.{Journey}
+use Rattle.route_proof.specs.declared.verdict.RouteVerdict.TheVariants as verdict
 use Rattle.job_steps.specs.Caps.{file_read}
+use Rattle.evroute_run.specs.CheckRouteAnswer.{PutsAcceptedProof, journey_of, listed_time}
 use Rattle.evroute_run.specs.FixedAnswer.{IsRefused, IsTask, start_of}
 use Rattle.job_frame.specs.Task.{Outcome, Task}
 use Rattle.job_frame.specs.Writes.{Written}
 use Rattle.job_frame.specs.declared.status.Status.{Status}
 use Rattle.job_frame.specs.declared.status.Status.TheVariants as status
-
--- the journey of the words on a network
-abbrev pub journey_of : Options → Network → List ℕ → Journey
-journey_of options g route =
-    record { network = g; route = route; start = start_of g options.charge }
 
 -- the stops of the plan that a proof lists, with their time; none where it lists none
 abbrev pub timed_plan : Network → ℕ → Option RoutePlan → Option (List Stop × ℕ)
@@ -36,8 +35,16 @@ abbrev pub fixed_status : Option RoutePlan → Status
 fixed_status None = status.Negative
 fixed_status (Some plan) = status.Done
 
+-- what is written, where it isn't more than is read, `check-route` accepts beside the same instance
+-- and route, with the time of this plan
+abbrev pub AcceptsProof : Options → List ℕ → List ℕ → Network → Option RoutePlan → Written → Type 0
+AcceptsProof options word bytes g plan w =
+    length w.bytes ≤ most_bytes → PutsAcceptedProof options word bytes w.bytes
+    (verdict_text g.denominator (listed_time g (start_of g options.charge) plan) verdict.Accepted)
+
 -- A proof is written that is accepted, so that its plan is a fastest one, or no plan is feasible, in
--- any fraction of a unit; and this plan is put as `fixed` puts it, or that there is none.
+-- any fraction of a unit; it is read back from what is written; and this plan is put as `fixed` puts
+-- it, or that there is none.
 pub record PutsProved (options : Options) (word cert bytes : List ℕ)
     (ended : Status) (ws : List Written) (text : List ℕ) : Type 0 where
   pub network : Network
@@ -49,6 +56,7 @@ pub record PutsProved (options : Options) (word cert bytes : List ℕ)
   pub shows : IsTrue (journey_of options network route) proof.plan
   pub status_is : ended ≡ fixed_status proof.plan
   pub written : ws ≡ record { name = cert; bytes = proof_text proof } ∷ []
+  pub judged : All (AcceptsProof options word bytes network proof.plan) ws
   pub text_is : text
       ≡ fixed_text network.denominator
       (timed_plan network (start_of network options.charge) proof.plan)

@@ -22,7 +22,7 @@ use fixed_certificate::prove_route;
 use instance_reader::Instance;
 use job_frame::{Answer, Found, NewFile, read_file};
 use job_steps::{Ended, MOST_BYTES, refuse_job};
-use proof_text::push_proof;
+use proof_text::{push_proof, written_proofs_are_read};
 use route_plan::RoutePlan;
 use route_proof::RouteProof;
 use std::alloc::{AllocError, Global};
@@ -84,6 +84,9 @@ fn prove_trip(
         → IfOk result (λ f. ProveAnswers options word cert.now bytes
         f.answer.status (map written_by f.files.items) f.answer.text.items) }
 {
+    // That the instance's network is one is told by its calls; on it rests that the proof is read.
+    let _nodes = inst.nodes();
+    written_proofs_are_read();
     let proof = prove_route(alloc, inst, route, start)?;
     let answer = tell(alloc, inst, start, &proof.plan)?;
     let file = proof_file(alloc, cert, &proof)?;
