@@ -13,6 +13,7 @@ use Rattle.fleet_model.specs.Strong.{column_of}
 use Rattle.fleet_model.specs.Wide.{IsTooWide}
 use Rattle.route_plan.specs.declared.plan.RoutePlan.{RoutePlan}
 use Rattle.plan_check.specs.FleetRules.{stops_of}
+use Rattle.bound_certificate.specs.Kept.{IsKept}
 use Rattle.bound_certificate.specs.Limits.{greatest_bound, most_items}
 use Rattle.bound_certificate.specs.Meaning.{IsTreeOf, basis_columns, priced_section, route_columns}
 use Rattle.bound_certificate.specs.Ranges.{Fits, RootFits, customer_count}
@@ -168,9 +169,10 @@ module _ (g : Network) (tree : SearchTree) (c : Certificate) (held : Option Held
     held_plan None m = tt
     held_plan (Some h) m = m.plan
 
-    pub is_outcome : IsOutcome g budget answered
-    is_outcome = record {
+    pub is_outcome : All IsKept c.sections → IsOutcome g budget answered
+    is_outcome kept = record {
       fits = fits;
+      kept = kept;
       accepted = accepted;
       nodes = refl;
       standing = (named tree.nodes is.standing, standing (customer_count g) tree c (cost_at held) is.floor is.standing sound is.customers is.is lines least);

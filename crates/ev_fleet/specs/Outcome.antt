@@ -4,6 +4,7 @@ use Rattle.std.specs.List.{All}
 use Rattle.customer_sets.specs.Pairs.{allows_of}
 use Rattle.ev_model.specs.Network.{Network}
 use Rattle.fleet_model.specs.Strong.{AreRisingPrices, IsStrong}
+use Rattle.bound_certificate.specs.Kept.{IsKept}
 use Rattle.bound_certificate.specs.Meaning.{priced_sections}
 use Rattle.bound_certificate.specs.Ranges.{Fits, customer_count}
 use Rattle.bound_certificate.specs.declared.certificate.Root.{Root}
@@ -41,6 +42,8 @@ pub record IsStoppedWell (budget cost bound : Option ℕ) (o : Outcome) : Type 0
 
 pub record IsOutcome (g : Network) (budget : Option ℕ) (o : Outcome) : Type 0 where
   pub fits : Fits g o.certificate
+  -- what its text tells is all of it, so that it is read as it
+  pub kept : All IsKept o.certificate.sections
   pub accepted : IsAccepted g o.certificate
   -- a section for each node whose bound was found
   pub nodes : length o.certificate.sections ≡ o.nodes

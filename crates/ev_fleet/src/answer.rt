@@ -11,6 +11,7 @@ ghost use Rattle.ev_fleet.specs.Searching.{IsOutcomeOf, IsSearching, ShowsRoot, 
 ghost use Rattle.ev_fleet.specs.Whole.{TakesShares};
 
 use crate::held::Held;
+use crate::kept::know_sections;
 use crate::outcome::Outcome;
 use crate::section_bound::bound_of;
 use crate::state::Search;
@@ -47,6 +48,7 @@ pub(crate) fn outcome_of(
     let bound = least_bound(sections.as_slice(), lines.as_slice());
     let nodes = sections.len() as u64;
     let stopped = differ(cost_of(&held), bound);
+    know_sections(sections.as_slice());
     Ok(Outcome {
         plan: plan_of(held),
         certificate: Certificate {

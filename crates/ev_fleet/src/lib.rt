@@ -6,6 +6,7 @@ mod answer;
 mod candidates;
 mod greedy;
 mod held;
+mod kept;
 mod outcome;
 mod own;
 mod pair;

@@ -1,13 +1,18 @@
 -- What `fleet` finds, once a search has found a plan or none and a certificate.
-use Rattle.std.proofs.Common.{◌≡◌, ◌≢◌, ℕ, Bool, true, false, List, [], ◌∷◌, Option, None, Some, refl, subst, sym}
+use Rattle.std.proofs.Common.{◌≡◌, ◌≢◌, ℕ, ◌≤◌, Bool, true, false, List, [], ◌∷◌, Option, None, Some, length, refl, subst, sym}
+use Rattle.certificate_check.proofs.Truths.{true_certificate}
+use Rattle.certificate_parts.specs.Limits.{most_bytes as most_certificate_bytes}
 use Rattle.command_line.specs.Words.{FleetJob}
 use Rattle.ev_model.specs.Network.{Network}
+use Rattle.ev_fleet.specs.Plans.{cost_held}
 use Rattle.ev_outside.specs.Shelf.{Files}
 use Rattle.evroute_run.proofs.Refused.{puts_fleet_refusal}
+use Rattle.evroute_run.proofs.SearchReports.{held_fits, held_is_valid}
+use Rattle.evroute_run.specs.CheckAnswer.{IsCertificateOf}
 use Rattle.job_steps.specs.Caps.{most_bytes}
 use Rattle.evroute_run.specs.FleetNetwork.{HasFleetNetwork}
 use Rattle.evroute_run.specs.Ended.{IsFleetEnded}
-use Rattle.evroute_run.specs.FleetAnswer.{FleetAnswers, IsFound, PutsFound, fleet_task, search_status}
+use Rattle.evroute_run.specs.FleetAnswer.{AcceptsFound, FleetAnswers, IsFound, PutsFound, fleet_task, search_status}
 use Rattle.job_steps.specs.declared.answer.Ended.{Ended}
 use Rattle.job_steps.specs.declared.answer.Ended.TheVariants.{Refused}
 use Rattle.job_frame.specs.Task.{Answers, AreReadUpTo, IsAnswered}
@@ -57,6 +62,28 @@ found_answers job bytes status.Memory ws text p = absurd (is_answered status.Mem
 pub found_is_answered : (g : Network) (budget : Option ℕ) (plan_bytes cert_bytes : List ℕ) (ended : Status) (text : List ℕ) → IsFound g budget plan_bytes cert_bytes ended text → IsAnswered ended
 found_is_answered g budget plan_bytes cert_bytes ended text found = is_answered ended found.outcome.certificate.bound found.outcome.stopped found.status_is
 
+-- `check` accepts what is written
+accepts : (limit : Option ℕ) (bytes : List ℕ) (g : Network) (budget : Option ℕ) (plan_bytes cert_bytes : List ℕ) (ended : Status) (text : List ℕ) → HasFleetNetwork limit bytes g
+    → (found : IsFound g budget plan_bytes cert_bytes ended text) → AcceptsFound limit bytes g found.outcome plan_bytes cert_bytes
+accepts limit bytes g budget plan_bytes cert_bytes ended text fleet found =
+    let o = found.outcome in
+    let read : length cert_bytes ≤ most_certificate_bytes → IsCertificateOf g cert_bytes o.certificate =
+    subst (λ (bs : List ℕ). length bs ≤ most_certificate_bytes → IsCertificateOf g bs o.certificate) (sym found.cert_is) found.read_back in
+    λ short_plan short. record {
+      files = record {
+        network = g;
+        plan = o.plan;
+        fleet = record { network = fleet; spelled = record { within = short_plan; fits = held_fits g o.plan found.is.plan; text = found.plan_is } };
+        certificate = o.certificate;
+        certificate_is = read short;
+      };
+      cost = cost_held g o.plan;
+      valid = held_is_valid g o.plan found.is.plan;
+      accepted = found.is.accepted;
+      shows = true_certificate g o.certificate found.is_network found.is.fits found.is.accepted;
+      text_is = refl;
+    }
+
 pub fleet_found : (job : FleetJob) (files : Option Files) (bytes given : List ℕ) (g : Network) (plan_bytes cert_bytes : List ℕ) (ended : Status) (ws : List Written) (text : List ℕ) →
     AreReadUpTo most_bytes files job.file bytes → given ≡ bytes → HasFleetNetwork job.limit given g → IsFound g job.nodes plan_bytes cert_bytes ended text
     → ws ≡ record { name = job.plan; bytes = plan_bytes } ∷ record { name = job.cert; bytes = cert_bytes } ∷ []
@@ -64,12 +91,13 @@ pub fleet_found : (job : FleetJob) (files : Option Files) (bytes given : List �
 fleet_found job files bytes given g plan_bytes cert_bytes ended ws text read same fleet found written = record {
   bytes = bytes ∷ [];
   read = (read, tt);
-  answer = found_answers job bytes ended ws text (record {
+  answer = found_answers job bytes ended ws text (let it = subst (λ (bs : List ℕ). HasFleetNetwork job.limit bs g) same fleet in record {
     network = g;
-    fleet = subst (λ (bs : List ℕ). HasFleetNetwork job.limit bs g) same fleet;
+    fleet = it;
     plan_bytes = plan_bytes;
     cert_bytes = cert_bytes;
     found = found;
+    judged = accepts job.limit bytes g job.nodes plan_bytes cert_bytes ended text it found;
     written = written;
   });
 }

@@ -1,5 +1,5 @@
 -- What is reported of a search.
-use Rattle.std.proofs.Common.{◌≡◌, ◌∙◌, ℕ, ◌*◌, ◌≤◌, ◌∷◌, ◌++◌, [], List, Option, None, Some, IfSome, ap, arith, inl, inr, length, subst, sym}
+use Rattle.std.proofs.Common.{◌≡◌, ◌∙◌, ℕ, ◌*◌, ◌≤◌, ◌∷◌, ◌++◌, [], List, Option, None, Some, IfSome, ap, arith, inl, inr, length, refl, subst, sym}
 use Rattle.std.specs.List.{All}
 use Rattle.std.specs.Prelude.{if◌then◌else◌, get_or, slice_get}
 use Rattle.std.proofs.lemmas.Int.{ints}
@@ -33,7 +33,7 @@ use Rattle.plan_writer.specs.declared.fleet.RootLine.TheVariants as line
 use Rattle.route_plan.specs.PlanTexts.{FitsFile, fleet_plan_text}
 use Rattle.route_plan.specs.declared.plan.FleetPlan.{FleetPlan}
 use Rattle.evroute_run.specs.CheckAnswer.{BreaksFirst, IsValid}
-use Rattle.evroute_run.specs.FleetAnswer.{IsFound, TellsKind, TellsRootOf, outcomes_of, search_status}
+use Rattle.evroute_run.specs.FleetAnswer.{IsFound, IsReadBack, TellsKind, TellsRootOf, outcomes_of, search_status}
 use Rattle.job_frame.specs.declared.status.Status.{Status}
 use Rattle.evroute_run.proofs.AcceptedCertificates.{is_bound_of_cost}
 use Rattle.evroute_run.proofs.SearchStatus.{status_tells}
@@ -43,6 +43,11 @@ use Rattle.evroute_run.proofs.SearchStatus.{status_tells}
 pub valid_cost : (g : Network) (plan : Option FleetPlan) (cost : Option ℕ) → IsValid g plan cost → cost ≡ cost_held g plan
 valid_cost g None cost valid = valid
 valid_cost g (Some p) cost valid = valid.1
+
+-- a plan that is held is valid
+pub held_is_valid : (g : Network) (plan : Option FleetPlan) → IfSome plan (IsHeld g) → IsValid g plan (cost_held g plan)
+held_is_valid g None held = refl
+held_is_valid g (Some p) held = (held.fleet, refl)
 
 -- a plan that is held breaks no rule
 pub held_breaks_none : (g : Network) (plan : Option FleetPlan) (fault : PlanFault) → IfSome plan (IsHeld g) → BreaksFirst g plan fault → ⊥
@@ -157,16 +162,17 @@ appended old new text is empty = is ∙ ap (λ (xs : List ℕ). xs ++ text) empt
 -- a search whose texts were written and whose report was made
 pub is_found : (g : Network) (budget : Option ℕ) (o : Outcome) (plan_bytes cert_bytes text : List ℕ) (ended : Status) → IsNetwork g → IsOutcome g budget o
     → plan_bytes ≡ fleet_plan_text o.plan → cert_bytes ≡ certificate_text g (written g o.certificate)
-    → ended ≡ search_status o.certificate.bound o.stopped
+    → IsReadBack g o.certificate → ended ≡ search_status o.certificate.bound o.stopped
     → ((told : RootLine) × TellsRootOf g o.certificate told × (text ≡ fleet_text g.denominator (outcomes_of g o told)))
     → IsFound g budget plan_bytes cert_bytes ended text
-is_found g budget o plan_bytes cert_bytes text ended network is plan cert status_is (told, tells, text_is) = record {
+is_found g budget o plan_bytes cert_bytes text ended network is plan cert reads status_is (told, tells, text_is) = record {
   is_network = network;
   outcome = o;
   is = is;
   true_bound = true_bound g o.certificate network is.fits is.accepted;
   plan_is = plan;
   cert_is = cert;
+  read_back = reads;
   root = told;
   root_is = tells;
   status_is = status_is;

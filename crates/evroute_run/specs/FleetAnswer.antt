@@ -1,10 +1,11 @@
 -- What `fleet` writes and puts on the bytes of its instance.
-use Rattle.std.specs.Prelude.{◌≡◌, ◌≢◌, ◌↔◌, ℕ, ◌*◌, Bool, true, false, List, [], ◌∷◌, Option, None, Some, length, if◌then◌else◌}
+use Rattle.std.specs.Prelude.{◌≡◌, ◌≢◌, ◌↔◌, ℕ, ◌*◌, ◌≤◌, Bool, true, false, List, [], ◌∷◌, Option, None, Some, length, if◌then◌else◌}
 use Rattle.bound_certificate.specs.CertificateTexts.{certificate_text}
 use Rattle.bound_certificate.specs.Written.{written}
 use Rattle.bound_certificate.specs.declared.certificate.Certificate.{Certificate}
 use Rattle.bound_certificate.specs.declared.certificate.Root.{Root}
 use Rattle.bound_certificate.specs.declared.certificate.Root.TheVariants as root
+use Rattle.certificate_parts.specs.Limits.{most_bytes}
 use Rattle.certificate_check.specs.Accepted.{IsSectionAt}
 use Rattle.certificate_check.specs.Truth.{IsLeastCost, IsTrueBound}
 use Rattle.command_line.specs.Words.{FleetJob}
@@ -14,12 +15,16 @@ use Rattle.ev_fleet.specs.declared.outcome.Outcome.{Outcome}
 use Rattle.ev_model.specs.Network.{IsNetwork, Network}
 use Rattle.fleet_model.specs.Prices.{sum_of}
 use Rattle.fleet_model.specs.Section.{Section}
+use Rattle.plan_writer.specs.CheckText.{check_text}
 use Rattle.plan_writer.specs.FleetText.{IsExactLine, fleet_text}
+use Rattle.plan_writer.specs.declared.check.Judgement.TheVariants as judgement
 use Rattle.plan_writer.specs.declared.fleet.Outcomes.{Outcomes}
 use Rattle.plan_writer.specs.declared.fleet.RootLine.{RootLine}
 use Rattle.plan_writer.specs.declared.fleet.RootLine.TheVariants as line
+use Rattle.route_plan.specs.Limits.{most_bytes as most_plan_bytes}
 use Rattle.route_plan.specs.PlanTexts.{fleet_plan_text}
 use Rattle.job_steps.specs.Caps.{file_read}
+use Rattle.evroute_run.specs.CheckAnswer.{IsCertificateOf, PutsAccepted}
 use Rattle.evroute_run.specs.FleetNetwork.{HasFleetNetwork, PutsFleetRefusal}
 use Rattle.job_frame.specs.Task.{Task}
 use Rattle.job_frame.specs.Task as task
@@ -76,9 +81,15 @@ outcomes_of g o told = record {
   stopped = if o.stopped then Some o.nodes else None;
 }
 
+-- the text of a certificate, where it isn't too long, is read as this certificate
+abbrev pub IsReadBack : Network → Certificate → Type 0
+IsReadBack g c =
+    length (certificate_text g (written g c)) ≤ most_bytes →
+    IsCertificateOf g (certificate_text g (written g c)) c
+
 -- A search with this budget found a plan, or holds none, and a certificate, and these are the text of the plan file, the text
--- of the certificate, the status and the report. The bound is true: no fleet plan costs less, in any fraction of a unit;
--- where there is none, there is no fleet plan, in any fraction.
+-- of the certificate, the status and the report. The certificate is read back from its text. The bound is true: no fleet plan
+-- costs less, in any fraction of a unit; where there is none, there is no fleet plan, in any fraction.
 pub record IsFound (g : Network) (budget : Option ℕ)
     (plan_bytes cert_bytes : List ℕ) (ended : Status) (text : List ℕ) : Type 0 where
   pub is_network : IsNetwork g
@@ -87,11 +98,19 @@ pub record IsFound (g : Network) (budget : Option ℕ)
   pub true_bound : IsTrueBound g outcome.certificate.bound
   pub plan_is : plan_bytes ≡ fleet_plan_text outcome.plan
   pub cert_is : cert_bytes ≡ certificate_text g (written g outcome.certificate)
+  pub read_back : IsReadBack g outcome.certificate
   pub root : RootLine
   pub root_is : TellsRootOf g outcome.certificate root
   pub status_is : ended ≡ search_status outcome.certificate.bound outcome.stopped
   pub tells : StatusTells g budget outcome ended
   pub text_is : text ≡ fleet_text g.denominator (outcomes_of g outcome root)
+
+-- plan and certificate, where neither is more than is read, `check` accepts beside the same instance, with this cost and bound
+abbrev pub AcceptsFound : Option ℕ → List ℕ → Network → Outcome → List ℕ → List ℕ → Type 0
+AcceptsFound limit bytes g o plan_bytes cert_bytes =
+    length plan_bytes ≤ most_plan_bytes → length cert_bytes ≤ most_bytes →
+    PutsAccepted limit bytes plan_bytes cert_bytes
+    (check_text g.denominator (judgement.Accepted (cost_held g o.plan) o.certificate.bound))
 
 -- what was found on the instance of the bytes is put, behind the two files
 pub record PutsFound (job : FleetJob) (bytes : List ℕ)
@@ -101,6 +120,7 @@ pub record PutsFound (job : FleetJob) (bytes : List ℕ)
   pub plan_bytes : List ℕ
   pub cert_bytes : List ℕ
   pub found : IsFound network job.nodes plan_bytes cert_bytes ended text
+  pub judged : AcceptsFound job.limit bytes network found.outcome plan_bytes cert_bytes
   pub written : ws
       ≡ record { name = job.plan; bytes = plan_bytes }
       ∷ record { name = job.cert; bytes = cert_bytes } ∷ []

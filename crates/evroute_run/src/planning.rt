@@ -1,18 +1,22 @@
 //! What `fleet` writes and puts of a search.
 
 ghost use Rattle.std.specs.Prelude.{◌≡◌, ◌*◌, ◌≤◌, IfOk, IfSome, None, Option, Some, if◌then◌else◌, ℕ};
+ghost use Rattle.std.specs.List.{All};
+ghost use Rattle.bound_certificate.specs.Kept.{IsKept};
 ghost use Rattle.bound_certificate.specs.Ranges.{Fits, SectionFits, customer_count};
 ghost use Rattle.certificate_check.specs.Accepted.{IsAccepted};
 ghost use Rattle.ev_fleet.specs.Outcome.{IsOutcome};
 ghost use Rattle.ev_model.specs.Network.{IsNetwork};
-ghost use Rattle.evroute_run.specs.FleetAnswer.{IsFound, TellsRootOf, outcomes_of, search_status};
+ghost use Rattle.evroute_run.specs.FleetAnswer.{IsFound, IsReadBack, TellsRootOf, outcomes_of, search_status};
 ghost use Rattle.fleet_model.specs.Prices.{sum_of};
 ghost use Rattle.instance_reader.specs.Instance.{most_customers};
 ghost use Rattle.plan_writer.specs.FleetText.{IsExactLine, IsLowestLine, fleet_text};
 
 use crate::judging::cost_of;
 use crate::watcher::JobWatcher;
-use bound_certificate::{Certificate, Root, Section, push_certificate};
+use bound_certificate::{
+    Certificate, Root, Section, push_certificate, written_certificates_are_read,
+};
 use certificate_check::price_total;
 use ev_fleet::{Outcome, plan_fleet_watched};
 use instance_reader::Instance;
@@ -40,12 +44,25 @@ pub fn plan_all<W: JobWatcher>(
     let _nodes = inst.nodes();
     watcher.begin(inst.denominator());
     let outcome = plan_fleet_watched(alloc, inst, nodes, watcher)?;
+    know_read_back(inst, &outcome.certificate);
     let mut plan = Vec::new(alloc);
     push_fleet_plan(alloc, &mut plan, outcome.plan.as_ref())?;
     let mut cert = Vec::new(alloc);
     push_certificate(alloc, &mut cert, inst, &outcome.certificate)?;
     let answer = report(alloc, inst, &outcome)?;
     Ok(Planned { plan, cert, answer })
+}
+
+/// The text of a certificate is read as this certificate, where it isn't too long.
+fn know_read_back(inst: &Instance, cert: &Certificate)
+    requires few { customer_count inst.now ≤ most_customers }
+    requires fits { Fits inst.now cert.now }
+    requires kept { All IsKept cert.now.sections }
+    ensures { IsReadBack inst.now cert.now }
+{
+    // That the instance's network is one is told by its calls.
+    let _nodes = inst.nodes();
+    written_certificates_are_read();
 }
 
 /// The report on a search, and its status.

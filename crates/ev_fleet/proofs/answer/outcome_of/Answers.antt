@@ -1,5 +1,6 @@
 use Rattle.std.proofs.Common.{◌≡◌, ◌∙◌, ◌≤◌, false, None, IsTrue, ◌≢◌, ◌⊎◌, length, sym, subst, arith}
 use Rattle.std.specs.List.{All}
+use Rattle.bound_certificate.specs.Kept.{IsKept}
 use Rattle.bound_certificate.specs.Limits.{most_items}
 use Rattle.bound_certificate.specs.Meaning.{IsTreeOf}
 use Rattle.bound_certificate.specs.declared.certificate.Certificate.{Certificate}
@@ -37,10 +38,11 @@ returns c = λ budget within ended.
     let equal : stopped ≡ false → cost ≡ bound = subst (λ x. stopped ≡ false → x ≡ bound) c.cost_of.ensures c.differ-stopped.ensures.same in
     let inside : IsWithin budget (length certificate.sections) = subst (λ xs. IsWithin budget (length xs)) same within in
     let at_end : IsUsedUp budget (length certificate.sections) ⊎ IsDone s.tree.nodes cost = subst (λ xs. IsUsedUp budget (length xs) ⊎ IsDone s.tree.nodes cost) same ended in
+    let kept : All IsKept certificate.sections = subst (λ xs. All IsKept xs) (c.as_slice-3.ensures.value ∙ same) c.know_sections.ensures in
     let outcome =
     is_outcome g s.tree certificate s.held c.requires.few c.nodes-nodes.ensures.network (c.accepted_bounds_are_true.ensures g certificate c.nodes-nodes.ensures.network)
     is c.requires.searching.held c.requires.searching.own c.in_ok-lines.ensures.tree shows lines walk c.least_bound-bound.ensures.small many whole c.requires.taken
-    budget stopped other equal inside at_end in
+    budget stopped other equal inside at_end kept in
     let counted : IsOutcome g budget (record { plan = plan_at s.held; certificate = certificate; nodes = c.len-nodes.result; stopped = stopped }) =
     subst (λ n. IsOutcome g budget (record { plan = plan_at s.held; certificate = certificate; nodes = n; stopped = stopped })) (sym nodes) outcome in
     subst (λ p. IsOutcome g budget (record { plan = p; certificate = certificate; nodes = c.len-nodes.result; stopped = stopped })) (sym c.plan_of.ensures) counted
