@@ -15,6 +15,7 @@ use Rattle.mixed_model.specs.declared.proof.MixedRoot.TheVariants as root
 use Rattle.mixed_model.proofs.Truths.{true_proof}
 use Rattle.mixed_fleet.specs.Fleets.{AreFleetKinds}
 use Rattle.mixed_fleet.specs.Problem.{AreClosedLists, MayBeAsked}
+use Rattle.mixed_text.specs.MixedIn.{HaveSets}
 use Rattle.mixed_fleet.specs.Proofs.{IsBestProof, IsBoundOf, IsRootOf}
 use Rattle.mixed_fleet.specs.Roots.{IsRightRoot}
 
@@ -47,8 +48,8 @@ module _ (kinds : List Network) (p : MixedProof) where
   root_is (root.Wide columns basis) bound is = (some_bound p.bound bound (let one = is.2 in omega (arith, one)), is.2, is.3)
 
   pub best : AreFleetKinds kinds → MayBeAsked kinds p.weight p.prices → AreClosedLists kinds p.weight p.prices p.labels → IsBoundOf p.weight p.prices p.bound → IfSome p.bound (λ b. b ≤ greatest_bound)
-      → IsRightRoot kinds p.weight p.prices p.root → IsBestProof kinds p
-  best fleet asked lists bound small right =
+      → IsRightRoot kinds p.weight p.prices p.root → HaveSets p.labels → IsBestProof kinds p
+  best fleet asked lists bound small right kept =
       let fits : MixedFits kinds p = record {
         bound = small;
         weight = asked.weight_small;
@@ -63,4 +64,4 @@ module _ (kinds : List Network) (p : MixedProof) where
         bound = bounded p.bound bound;
         root = root_holds p.root right;
       } in
-      record { fits = fits; accepted = accepted; bound_is = bound; root_is = root_is p.root bound right; truth = true_proof kinds p fleet.networks fleet.are fits accepted }
+      record { fits = fits; kept = kept; accepted = accepted; bound_is = bound; root_is = root_is p.root bound right; truth = true_proof kinds p fleet.networks fleet.are fits accepted }

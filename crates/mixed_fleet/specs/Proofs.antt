@@ -10,6 +10,7 @@ use Rattle.mixed_model.specs.Truth.{IsTrueProof}
 use Rattle.mixed_model.specs.declared.proof.MixedProof.{MixedProof}
 use Rattle.mixed_model.specs.declared.proof.MixedRoot.{MixedRoot}
 use Rattle.mixed_model.specs.declared.proof.MixedRoot.TheVariants as root
+use Rattle.mixed_text.specs.MixedIn.{HaveSets}
 use Rattle.mixed_fleet.specs.Rising.{AreRisingPrices}
 
 -- the bound is the price sum over the weight, rounded up; there is none, which says that there is
@@ -26,8 +27,10 @@ IsRootOf kinds p (root.Exact over shares) = IsSome p.bound
 IsRootOf kinds p (root.Wide columns basis) =
     IsSome p.bound × (p.weight ≡ 1) × AreRisingPrices kinds p.prices
 
+-- it fits and its labels have sets, so that its text is read as it
 pub record IsBestProof (kinds : List Network) (p : MixedProof) : Type 0 where
   pub fits : MixedFits kinds p
+  pub kept : HaveSets p.labels
   pub accepted : IsMixedAccepted kinds p
   pub bound_is : IsBoundOf p.weight p.prices p.bound
   pub root_is : IsRootOf kinds p p.root

@@ -13,6 +13,7 @@ ghost use Rattle.mixed_fleet.specs.Shares.{certificate_caps, IsClosedAt};
 
 use crate::bound::bound_of;
 use crate::earners::KindsEarners;
+use crate::kept::know_lists;
 use crate::listed::{columns_of, shares_of};
 use crate::searched::Searched;
 use ev_list::Listed;
@@ -139,6 +140,7 @@ fn proof_with(
     ensures { IsBestProof kinds.now result }
 {
     let _nodes = kinds[0].nodes();
+    know_lists(labels.as_slice());
     MixedProof {
         bound: bound_of(weight, &prices),
         weight,

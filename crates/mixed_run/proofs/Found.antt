@@ -21,11 +21,11 @@ use Rattle.mixed_model.specs.declared.proof.MixedRoot.TheVariants as root
 use Rattle.mixed_model.specs.declared.proof.MixedRoute.{MixedRoute}
 use Rattle.mixed_model.specs.declared.proof.MixedShare.{MixedShare}
 use Rattle.mixed_plan.specs.MixedRules.{IsBroken}
-use Rattle.mixed_plan.specs.MixedTexts.{FitsRoute, mixed_plan_text}
+use Rattle.mixed_plan.specs.MixedTexts.{FitsMixedPlan, FitsRoute, mixed_plan_text}
 use Rattle.mixed_run.specs.Judged.{AreKnown}
 use Rattle.mixed_run.proofs.AcceptedAnswers.{is_bound_of_cost}
 use Rattle.mixed_run.specs.CheckMixedAnswer.{BreaksFirst, IsValid}
-use Rattle.mixed_run.specs.MixedAnswer.{IsMixedFound, TellsRoot, mixed_status, outcomes_of}
+use Rattle.mixed_run.specs.MixedAnswer.{IsMixedFound, IsReadBack, TellsRoot, cost_held, mixed_status, outcomes_of}
 use Rattle.mixed_text.specs.MixedTexts.{mixed_text}
 use Rattle.mixed_text.specs.Written.{written_mixed}
 use Rattle.plan_check.specs.declared.fault.PlanFault.{PlanFault}
@@ -38,6 +38,15 @@ use Rattle.plan_writer.specs.declared.fleet.RootLine.TheVariants as line
 pub held_is_known : (kinds : List Network) (plan : Option (List MixedRoute)) → IfSome plan (IsHeld kinds) → AreKnown kinds plan
 held_is_known kinds None held = tt
 held_is_known kinds (Some routes) held = All-weaker (FitsRoute (length kinds)) (λ r. r.kind < length kinds) (λ r fits. fits.kind) routes held.text.1
+
+-- a plan that is held is valid, and its text spells it
+pub held_is_valid : (kinds : List Network) (plan : Option (List MixedRoute)) → IfSome plan (IsHeld kinds) → IsValid kinds plan (cost_held kinds plan)
+held_is_valid kinds None held = refl
+held_is_valid kinds (Some routes) held = (held.plan, refl)
+
+pub held_fits : (kinds : List Network) (plan : Option (List MixedRoute)) → IfSome plan (IsHeld kinds) → FitsMixedPlan (length kinds) plan
+held_fits kinds None held = tt
+held_fits kinds (Some routes) held = held.text
 
 -- a plan that is held breaks no rule
 abbrev pub BreakNone : Type 0
@@ -94,14 +103,15 @@ negative_tells None = (λ is. refl, λ is. refl)
 negative_tells (Some b) = (λ is. absurd (cc), λ is. absurd (cc))
 
 pub is_found : (kinds : List Network) (o : MixedOutcome) (plan_bytes cert_bytes text : List ℕ) (ended : Status) (told : RootLine) → IsOutcome kinds o →
-    plan_bytes ≡ mixed_plan_text o.plan → cert_bytes ≡ mixed_text (written_mixed kinds o.proof) → ended ≡ mixed_status o.proof.bound →
+    plan_bytes ≡ mixed_plan_text o.plan → cert_bytes ≡ mixed_text (written_mixed kinds o.proof) → IsReadBack kinds o.proof → ended ≡ mixed_status o.proof.bound →
     TellsRoot kinds o.proof o.proof.root told → text ≡ fleet_text (first_of kinds).denominator (outcomes_of kinds o told) → IsMixedFound kinds plan_bytes cert_bytes ended text
-is_found kinds o plan_bytes cert_bytes text ended told is plan cert ended_is tells text_is = record {
+is_found kinds o plan_bytes cert_bytes text ended told is plan cert reads ended_is tells text_is = record {
   outcome = o;
   is = is;
   true_bound = is.proof_is.truth.bound;
   plan_is = plan;
   cert_is = cert;
+  read_back = reads;
   root = told;
   root_is = tells;
   status_is = ended_is;

@@ -1,7 +1,8 @@
 -- What `mixed` finds, once a search has found a plan or none and a proof; and which of its reads
 -- failed.
-use Rattle.std.proofs.Common.{◌≡◌, ◌∙◌, ℕ, List, [], ◌∷◌, Option, None, Some, ap, refl, subst, sym}
+use Rattle.std.proofs.Common.{◌≡◌, ◌∙◌, ℕ, ◌≤◌, List, [], ◌∷◌, Option, None, Some, ap, length, refl, subst, sym}
 use Rattle.std.proofs.lemmas.List.{map-append}
+use Rattle.certificate_parts.specs.Limits.{most_bytes as most_certificate_bytes}
 use Rattle.command_line.specs.JobValue.{IsMixedJob, mixed_value}
 use Rattle.command_line.specs.Words.{MixedJob}
 use Rattle.command_line.specs.declared.MixedWords.{MixedWords}
@@ -14,9 +15,11 @@ use Rattle.job_frame.specs.declared.status.Status.{Status}
 use Rattle.job_frame.specs.declared.status.Status.TheVariants as status
 use Rattle.job_steps.specs.Caps.{file_read}
 use Rattle.mixed_run.proofs.Different.{first_differ}
+use Rattle.mixed_run.proofs.Found.{held_fits, held_is_valid}
+use Rattle.mixed_run.specs.CheckMixedAnswer.{HasProof}
 use Rattle.mixed_run.specs.KindFiles.{HasKinds, IsKindsRefused, kind_reads, mixed_refusal_text}
 use Rattle.mixed_run.specs.KindReading.{AreRefused, FailsFile}
-use Rattle.mixed_run.specs.MixedAnswer.{IsMixedFound, MixedAnswers, PutsMixedFound, mixed_status, mixed_task}
+use Rattle.mixed_run.specs.MixedAnswer.{AcceptsMixed, cost_held, IsMixedFound, MixedAnswers, PutsMixedFound, mixed_status, mixed_task}
 use Rattle.mixed_run.specs.declared.refusal.MixedRefusal.{MixedRefusal}
 
 pub file_fails : (job : MixedJob) (before after : ShelfState) → FailsFile job.limit job.files before after → FailsReading (mixed_task job) before after
@@ -82,6 +85,28 @@ found_is_answered kinds plan_bytes cert_bytes ended text found = answered ended 
 
 -- ---- the plan and the proof that were found
 
+-- `check-mixed` accepts what is written
+accepts : (limit : Option ℕ) (files : List (List ℕ)) (kinds : List Network) (plan_bytes cert_bytes : List ℕ) (ended : Status) (text : List ℕ) → HasKinds limit files kinds
+    → (found : IsMixedFound kinds plan_bytes cert_bytes ended text) → AcceptsMixed limit files kinds found.outcome plan_bytes cert_bytes
+accepts limit files kinds plan_bytes cert_bytes ended text has found =
+    let o = found.outcome in
+    let read : length cert_bytes ≤ most_certificate_bytes → HasProof kinds cert_bytes o.proof =
+    subst (λ (bs : List ℕ). length bs ≤ most_certificate_bytes → HasProof kinds bs o.proof) (sym found.cert_is) found.read_back in
+    λ short_plan short. record {
+      holds = record {
+        kinds = kinds;
+        plan = o.plan;
+        has = record { has = has; spelled = record { within = short_plan; fits = held_fits kinds o.plan found.is.held; text = found.plan_is } };
+        proof = o.proof;
+        proof_is = read short;
+      };
+      cost = cost_held kinds o.plan;
+      valid = held_is_valid kinds o.plan found.is.held;
+      accepted = found.is.proof_is.accepted;
+      shows = found.is.proof_is.truth;
+      text_is = refl;
+    }
+
 pub mixed_found : (job : MixedJob) (files : Option Files) (read : List (List ℕ)) (kinds : List Network) (plan_bytes cert_bytes : List ℕ) (ended : Status) (ws : List Written) (text : List ℕ) →
     AreRead files (kind_reads job.files) read → HasKinds job.limit read kinds → IsMixedFound kinds plan_bytes cert_bytes ended text
     → ws ≡ record { name = job.plan; bytes = plan_bytes } ∷ record { name = job.cert; bytes = cert_bytes } ∷ []
@@ -90,7 +115,7 @@ mixed_found job files read kinds plan_bytes cert_bytes ended ws text are has fou
   bytes = read;
   read = are;
   answer = found_answers job read ended ws text
-      (record { kinds = kinds; has = has; plan_bytes = plan_bytes; cert_bytes = cert_bytes; found = found; written = written });
+      (record { kinds = kinds; has = has; plan_bytes = plan_bytes; cert_bytes = cert_bytes; found = found; judged = accepts job.limit read kinds plan_bytes cert_bytes ended text has found; written = written });
 }
 
 pub both_differ : (w : MixedWords) (plan_bytes cert_bytes : List ℕ) (ws : List Written) → IsMixedJob w

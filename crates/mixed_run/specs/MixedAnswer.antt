@@ -1,5 +1,6 @@
 -- What `mixed` writes and puts on the bytes of its instances.
-use Rattle.std.specs.Prelude.{◌≡◌, ◌↔◌, ℕ, ◌*◌, List, [], ◌∷◌, Option, None, Some}
+use Rattle.std.specs.Prelude.{◌≡◌, ◌↔◌, ℕ, ◌*◌, ◌≤◌, List, [], ◌∷◌, Option, None, Some, length}
+use Rattle.certificate_parts.specs.Limits.{most_bytes}
 use Rattle.ev_model.specs.Network.{Network}
 use Rattle.fleet_model.specs.Prices.{sum_of}
 use Rattle.job_frame.specs.Task.{Task}
@@ -22,8 +23,11 @@ use Rattle.plan_writer.specs.FleetText.{IsExactLine, fleet_text}
 use Rattle.plan_writer.specs.declared.fleet.Outcomes.{Outcomes}
 use Rattle.plan_writer.specs.declared.fleet.RootLine.{RootLine}
 use Rattle.plan_writer.specs.declared.fleet.RootLine.TheVariants as line
+use Rattle.route_plan.specs.Limits.{most_bytes as most_plan_bytes}
 use Rattle.command_line.specs.Words.{MixedJob}
+use Rattle.mixed_run.specs.CheckMixedAnswer.{HasProof, PutsMixedAccepted, judgement_text}
 use Rattle.mixed_run.specs.KindFiles.{HasKinds, HaveNetworks, IsKindsRefused, IsMixedRule, kind_reads, mixed_refusal_text}
+use Rattle.mixed_run.specs.declared.judging.MixedJudgement.TheVariants as judgement
 use Rattle.mixed_run.specs.declared.refusal.MixedRefusal.{MixedRefusal}
 
 -- what the line of a root tells: nothing where there is no fractional cover; of an exact root the
@@ -54,9 +58,16 @@ outcomes_of kinds o told = record {
   stopped = None;
 }
 
+-- the text of a proof, where it isn't too long, is read as this proof
+abbrev pub IsReadBack : List Network → MixedProof → Type 0
+IsReadBack kinds p =
+    length (mixed_text (written_mixed kinds p)) ≤ most_bytes →
+    HasProof kinds (mixed_text (written_mixed kinds p)) p
+
 -- A search found a plan, or holds none, and a proof, and these are the text of the plan file, the
--- text of the proof, the status and the report. The bound is true: no plan costs less, in any
--- fraction of a unit; where there is none, there is no plan, in any fraction.
+-- text of the proof, the status and the report. The proof is read back from its text. The bound is
+-- true: no plan costs less, in any fraction of a unit; where there is none, there is no plan, in any
+-- fraction.
 pub record IsMixedFound (kinds : List Network)
     (plan_bytes cert_bytes : List ℕ) (ended : Status) (text : List ℕ) : Type 0 where
   pub outcome : MixedOutcome
@@ -64,12 +75,22 @@ pub record IsMixedFound (kinds : List Network)
   pub true_bound : IsTrueBound kinds outcome.proof.bound
   pub plan_is : plan_bytes ≡ mixed_plan_text outcome.plan
   pub cert_is : cert_bytes ≡ mixed_text (written_mixed kinds outcome.proof)
+  pub read_back : IsReadBack kinds outcome.proof
   pub root : RootLine
   pub root_is : TellsRoot kinds outcome.proof outcome.proof.root root
   pub status_is : ended ≡ mixed_status outcome.proof.bound
   -- the answer is negative exactly where the proof has no bound
   pub negative : (ended ≡ status.Negative) ↔ (outcome.proof.bound ≡ None)
   pub text_is : text ≡ fleet_text (first_of kinds).denominator (outcomes_of kinds outcome root)
+
+-- plan and proof, where neither is more than is read, `check-mixed` accepts beside the same
+-- instances, with this cost and bound
+abbrev pub AcceptsMixed : Option ℕ → List (List ℕ) → List Network → MixedOutcome → List ℕ →
+    List ℕ → Type 0
+AcceptsMixed limit files kinds o plan_bytes cert_bytes =
+    length plan_bytes ≤ most_plan_bytes → length cert_bytes ≤ most_bytes →
+    PutsMixedAccepted limit files plan_bytes cert_bytes (judgement_text (first_of kinds).denominator
+    (judgement.Accepted (cost_held kinds o.plan) o.proof.bound))
 
 -- what was found for the kinds of the files is put, behind the two files
 pub record PutsMixedFound (job : MixedJob) (files : List (List ℕ))
@@ -79,6 +100,7 @@ pub record PutsMixedFound (job : MixedJob) (files : List (List ℕ))
   pub plan_bytes : List ℕ
   pub cert_bytes : List ℕ
   pub found : IsMixedFound kinds plan_bytes cert_bytes ended text
+  pub judged : AcceptsMixed job.limit files kinds found.outcome plan_bytes cert_bytes
   pub written : ws
       ≡ record { name = job.plan; bytes = plan_bytes }
       ∷ record { name = job.cert; bytes = cert_bytes } ∷ []

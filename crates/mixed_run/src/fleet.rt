@@ -2,7 +2,9 @@
 //! are written.
 
 ghost use Rattle.std.specs.Prelude.{◌≡◌, ◌∷◌, ◌≤◌, [], IfOk, List, map, ℕ};
+ghost use Rattle.std.specs.List.{All};
 ghost use Rattle.certificate_parts.specs.Ranges.{customer_count};
+ghost use Rattle.ev_model.specs.Network.{IsNetwork};
 ghost use Rattle.job_frame.specs.Finds.{Finds, written_by};
 ghost use Rattle.instance_reader.specs.Instance.{most_customers};
 ghost use Rattle.mixed_model.specs.Kinds.{AreKinds, first_of};
@@ -50,6 +52,7 @@ fn plan_on<W: RoundWatcher + ScaleWatcher>(
     job: &MixedWords,
     watcher: &mut W,
 ) -> Result<Found, AllocError>
+    requires networks { All IsNetwork kinds.now }
     requires kinds { AreKinds kinds.now }
     requires few { customer_count (first_of kinds.now) ≤ most_customers }
     ensures { IfOk result (λ f. (plan_bytes cert_bytes : List ℕ)

@@ -1,12 +1,16 @@
 //! What `mixed` writes and puts of a search.
 
 ghost use Rattle.std.specs.Prelude.{◌≡◌, ◌≤◌, IfOk, option_map};
+ghost use Rattle.std.specs.List.{All};
 ghost use Rattle.certificate_parts.specs.Ranges.{customer_count};
+ghost use Rattle.ev_model.specs.Network.{IsNetwork};
 ghost use Rattle.instance_reader.specs.Instance.{most_customers};
 ghost use Rattle.mixed_fleet.specs.Outcome.{IsOutcome};
 ghost use Rattle.mixed_fleet.specs.Proofs.{IsBestProof};
 ghost use Rattle.mixed_model.specs.Kinds.{AreKinds, first_of};
-ghost use Rattle.mixed_run.specs.MixedAnswer.{IsMixedFound, TellsRoot, mixed_status, outcomes_of};
+ghost use Rattle.mixed_model.specs.Ranges.{MixedFits};
+ghost use Rattle.mixed_text.specs.MixedIn.{HaveSets};
+ghost use Rattle.mixed_run.specs.MixedAnswer.{IsMixedFound, IsReadBack, TellsRoot, mixed_status, outcomes_of};
 ghost use Rattle.plan_writer.specs.FleetText.{IsLowestLine, fleet_text};
 ghost use Rattle.plan_writer.specs.declared.fleet.RootLine.{RootLine};
 
@@ -19,7 +23,7 @@ use job_steps::{Planned, ScaleWatcher};
 use mixed_fleet::{MixedOutcome, RoundWatcher, plan_mixed_watched};
 use mixed_model::{MixedProof, MixedRoot, MixedRoute};
 use mixed_plan::{mixed_plans_break_no_rule, push_mixed_plan};
-use mixed_text::push_mixed;
+use mixed_text::{push_mixed, written_mixed_proofs_are_read};
 use plan_writer::{Outcomes, RootLine, push_fleet_report};
 use std::alloc::{AllocError, Global};
 
@@ -29,6 +33,7 @@ pub fn plan_all<W: RoundWatcher + ScaleWatcher>(
     kinds: &[Instance],
     watcher: &mut W,
 ) -> Result<Planned, AllocError>
+    requires networks { All IsNetwork kinds.now }
     requires kinds { AreKinds kinds.now }
     requires few { customer_count (first_of kinds.now) ≤ most_customers }
     ensures { IfOk result (λ p. IsMixedFound kinds.now p.plan.items p.cert.items
@@ -36,12 +41,24 @@ pub fn plan_all<W: RoundWatcher + ScaleWatcher>(
 {
     watcher.begin(kinds[0].denominator());
     let outcome = plan_mixed_watched(alloc, kinds, watcher)?;
+    know_read_back(kinds, &outcome.proof);
     let mut plan = Vec::new(alloc);
     push_mixed_plan(alloc, &mut plan, held_routes(&outcome.plan))?;
     let mut cert = Vec::new(alloc);
     push_mixed(alloc, &mut cert, kinds, &outcome.proof)?;
     let answer = report(alloc, kinds, &outcome)?;
     Ok(Planned { plan, cert, answer })
+}
+
+/// The text of a proof is read as this proof, where it isn't too long.
+fn know_read_back(kinds: &[Instance], proof: &MixedProof)
+    requires networks { All IsNetwork kinds.now }
+    requires kinds { AreKinds kinds.now }
+    requires fits { MixedFits kinds.now proof.now }
+    requires kept { HaveSets proof.now.labels }
+    ensures { IsReadBack kinds.now proof.now }
+{
+    written_mixed_proofs_are_read();
 }
 
 /// The routes of a plan that is held.

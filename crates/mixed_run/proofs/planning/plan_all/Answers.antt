@@ -7,6 +7,12 @@ use Rattle.mixed_text.specs.MixedTexts.{mixed_text}
 use Rattle.mixed_text.specs.Written.{written_mixed}
 use Rattle.mixed_run.proofs.planning.plan_all.Goals as goal
 
+pub know_read_back-requires-clause-fits : goal.know_read_back-requires-clause-fits
+know_read_back-requires-clause-fits g c = c.in_ok-outcome.ensures.proof_is.fits
+
+pub know_read_back-requires-clause-kept : goal.know_read_back-requires-clause-kept
+know_read_back-requires-clause-kept g c = c.in_ok-outcome.ensures.proof_is.kept
+
 pub returns : goal.returns
 returns g c =
     let kinds = c.args.kinds.now in
@@ -17,4 +23,4 @@ returns g c =
     let cert = appended c.new-cert.result.items c.push_mixed.new.out.items (mixed_text (written_mixed kinds o.proof)) c.in_ok-push_mixed.ensures.ok c.new-cert.ensures.items in
     let told = c.in_ok-answer.ensures.text in
     is_found kinds o c.push_mixed_plan.new.out.items c.push_mixed.new.out.items c.in_ok-answer.answer.text.items c.in_ok-answer.answer.status told.0
-    c.in_ok-outcome.ensures plan cert c.in_ok-answer.ensures.status told.1 told.2
+    c.in_ok-outcome.ensures plan cert c.know_read_back.ensures c.in_ok-answer.ensures.status told.1 told.2
