@@ -1597,7 +1597,9 @@ SPACE = re.compile(rb"[ \t\n\r]*")
 NUMBER = re.compile(
     rb"(-?)(0|[1-9][0-9]*)(?:\.([0-9]+))?(?:[eE]([+-]?)([0-9]+))?"
 )
-STRING = re.compile(rb'"((?:[^"\\\x00-\x1f]|\\[^\x00-\x1f])*)"')
+STRING = re.compile(
+    rb'"([^"\\\x00-\x1f]*(?:\\[^\x00-\x1f][^"\\\x00-\x1f]*)*)"'
+)
 ESCAPE = re.compile(r"\\(?:u([0-9a-fA-F]{4})|(.))", re.DOTALL)
 ESCAPED = {
     '"': '"',
@@ -1609,7 +1611,12 @@ ESCAPED = {
     "r": "\r",
     "t": "\t",
 }
-WORDS = {b"true": True, b"false": False, b"null": None}
+# By their first letters.
+WORDS = {
+    b"t": (b"true", True),
+    b"f": (b"false", False),
+    b"n": (b"null", None),
+}
 
 
 class Json:
@@ -1636,9 +1643,13 @@ class Json:
         self.at += 1 if found else 0
         return found
 
-    def expect(self, mark: bytes) -> None:
-        if not self.takes(mark):
+    def goes_on(self, end: bytes) -> bool:
+        """Takes a comma, or the end of an array or object."""
+        mark = self.next()
+        if mark not in (b",", end):
             raise NotJson
+        self.at += 1
+        return mark == b","
 
     def value(self, depth: int) -> Field:
         """A value inside so many arrays and objects."""
@@ -1651,35 +1662,39 @@ class Json:
             return self.array(inner) if mark == b"[" else self.members(inner)
         if mark == b'"':
             return self.string()
-        for word, value in WORDS.items():
-            if self.text.startswith(word, self.at):
-                self.at += len(word)
-                return value
-        return self.number()
+        return self.word() if mark in WORDS else self.number()
 
     def array(self, depth: int) -> list[Field]:
         values: list[Field] = []
         if self.takes(b"]"):
             return values
-        while True:
+        goes_on = True
+        while goes_on:
             values.append(self.value(depth))
-            if self.takes(b"]"):
-                return values
-            self.expect(b",")
+            goes_on = self.goes_on(b"]")
+        return values
 
     def members(self, depth: int) -> dict[str, Field]:
         """Where a key stands twice, the last value counts."""
         members: dict[str, Field] = {}
         if self.takes(b"}"):
             return members
-        while True:
+        goes_on = True
+        while goes_on:
             self.next()
             key = self.string()
-            self.expect(b":")
+            if not self.takes(b":"):
+                raise NotJson
             members[key] = self.value(depth)
-            if self.takes(b"}"):
-                return members
-            self.expect(b",")
+            goes_on = self.goes_on(b"}")
+        return members
+
+    def word(self) -> Field:
+        word, value = WORDS[self.next()]
+        if not self.text.startswith(word, self.at):
+            raise NotJson
+        self.at += len(word)
+        return value
 
     def string(self) -> str:
         found = STRING.match(self.text, self.at)
