@@ -6,6 +6,8 @@
 #[cfg(test)]
 mod alone;
 #[cfg(test)]
+mod crowd;
+#[cfg(test)]
 mod drawn;
 #[cfg(test)]
 mod instances;

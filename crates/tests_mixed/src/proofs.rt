@@ -40,7 +40,11 @@ fn short_kinds(alloc: Global, texts: &[&str]) -> Option<Vec<Instance>> {
 }
 
 /// What the judge says of a proof; `None` where it can't be asked.
-fn judged(alloc: Global, kinds: &[Instance], proof: &MixedProof) -> Option<MixedVerdict> {
+pub(crate) fn judged(
+    alloc: Global,
+    kinds: &[Instance],
+    proof: &MixedProof,
+) -> Option<MixedVerdict> {
     if !are_of_a_fleet(kinds) || !are_in_ranges(kinds, proof) {
         return None;
     }
