@@ -114,6 +114,8 @@ class Curve(NamedTuple):
 
 
 class Instance(NamedTuple):
+    """What an instance means: its battery levels, its arcs and its nodes."""
+
     nodes: int
     full: int
     reserve: int
@@ -130,6 +132,7 @@ class Instance(NamedTuple):
     limit: int
 
     def over(self, time: Optional[int]) -> str:
+        """A scaled time as it is put, or none."""
         return "none" if time is None else f"{time}/{self.denominator}"
 
 
