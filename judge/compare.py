@@ -1,14 +1,16 @@
 #!/usr/bin/env python3
 """Compares the second judge with evroute on drawn and changed files.
 
-    compare.py PROGRAM [--seed N] [--cases N]
+    compare.py PROGRAM [--seed N] [--cases N] [--kind KIND]
 
 It draws small instances, lets PROGRAM (a built evroute) write plans,
 certificates and proofs of them, changes these files and the instances in many
 ways, and asks PROGRAM and evjudge.py about each. Status and printed text have
 to be the same; of words that are no job, only the status, since each has a
-usage text of its own. There are N cases of each of four kinds: check,
-check-bound, check-route and check-mixed. The same seed draws the same cases.
+usage text of its own. There are N cases of each of four kinds, or of one:
+check, check-bound, check-route and check-mixed. The same seed draws the same
+cases, unless PROGRAM takes too long to write a file: then another instance is
+drawn.
 
 It prints how often each answer came, and the files of each difference are
 left in a folder whose name it prints. The exit status is 0 where there is no
@@ -30,9 +32,11 @@ from typing import Callable, NamedTuple, Optional
 
 import evjudge
 
-SECONDS = 60
+# How long PROGRAM may take to judge, and to write.
+JUDGE_SECONDS = 300
+WRITE_SECONDS = 30
 # How many cases are made of one drawn instance.
-CASES_AN_INSTANCE = 12
+CASES_AN_INSTANCE = 20
 Random = random.Random
 
 
@@ -81,9 +85,9 @@ def draw_matrices(draw: Random, nodes: int) -> tuple[list, list]:
     return energies, times
 
 
-def draw_instance(draw: Random) -> dict:
+def draw_instance(draw: Random, most_customers: int = 6) -> dict:
     stations = draw.choice([0, 1, 1, 2, 2, 3])
-    customers = draw.choice([0, 1, 2, 2, 3, 3, 4, 5, 6])
+    customers = min(most_customers, draw.choice([0, 1, 2, 2, 3, 3, 4, 5, 6]))
     nodes = 1 + customers + stations
     full = draw.randint(8, 40)
     energies, times = draw_matrices(draw, nodes)
@@ -135,15 +139,6 @@ def with_options(draw: Random, instance: dict) -> dict:
 
 def text_of(instance: dict) -> bytes:
     return json.dumps(instance).encode()
-
-
-def stations_of(instance: dict) -> list[int]:
-    return [entry["node_id"] for entry in instance["css"]]
-
-
-def customers_of(instance: dict) -> list[int]:
-    nodes = range(1, len(instance["energy_matrix"]))
-    return [node for node in nodes if node not in stations_of(instance)]
 
 
 # --------------------------------------------------------------------------
@@ -249,7 +244,9 @@ class Program:
             with open(os.path.join(self.folder, name), "wb") as file:
                 file.write(text)
 
-    def run(self, words: list[str]) -> tuple[int, str]:
+    def run(
+        self, words: list[str], seconds: int = JUDGE_SECONDS
+    ) -> tuple[int, str]:
         """The exit status, and what is put."""
         done = subprocess.run(
             [self.path, *words],
@@ -257,7 +254,7 @@ class Program:
             stdin=subprocess.DEVNULL,
             stdout=subprocess.PIPE,
             stderr=subprocess.DEVNULL,
-            timeout=SECONDS,
+            timeout=seconds,
             check=False,
         )
         return done.returncode, done.stdout.decode("utf-8", "replace")
@@ -266,7 +263,7 @@ class Program:
         """The files with those that the program writes beside them, and no
         words yet."""
         self.put(files)
-        self.run(words)
+        self.run(words, WRITE_SECONDS)
         found = dict(files)
         for name in os.listdir(self.folder):
             with open(os.path.join(self.folder, name), "rb") as file:
@@ -286,7 +283,7 @@ def draw_fleet(draw: Random, program: Program) -> Case:
 
 
 def draw_near(draw: Random, program: Program) -> Case:
-    files = {"file": text_of(draw_instance(draw))}
+    files = {"file": text_of(draw_instance(draw, most_customers=4))}
     words = ["bound", "file", "cert", "--near", str(draw.randint(0, 4))]
     files = program.written(words, files).files
     return Case(["check-bound", "file", "cert"], files)
@@ -883,6 +880,15 @@ def keep(case: Case, number: int, kept: str) -> str:
     return folder
 
 
+def draw_case(kind: str, draw: Random, program: Program) -> Case:
+    """A case of a kind; another one where the program takes too long."""
+    while True:
+        try:
+            return KINDS[kind](draw, program)
+        except subprocess.TimeoutExpired:
+            print(f"{kind}: an instance took too long, and is left out")
+
+
 def compare_kind(
     kind: str, program: Program, seed: int, cases: int, kept: str
 ) -> int:
@@ -892,7 +898,7 @@ def compare_kind(
     differences = 0
     for number in range(cases):
         if number % CASES_AN_INSTANCE == 0:
-            drawn = KINDS[kind](draw, program)
+            drawn = draw_case(kind, draw, program)
         case = drawn
         if number % CASES_AN_INSTANCE:
             case = changed(draw, drawn)
@@ -916,12 +922,13 @@ def main() -> int:
     parser.add_argument("program")
     parser.add_argument("--seed", type=int, default=1)
     parser.add_argument("--cases", type=int, default=200)
+    parser.add_argument("--kind", choices=KINDS)
     words = parser.parse_args()
     kept = tempfile.mkdtemp(prefix="evroute-differences-")
     differences = 0
     with tempfile.TemporaryDirectory() as folder:
         program = Program(words.program, folder)
-        for kind in KINDS:
+        for kind in [words.kind] if words.kind else KINDS:
             differences += compare_kind(
                 kind, program, words.seed, words.cases, kept
             )
