@@ -1,0 +1,44 @@
+-- What is held beside a proof that is accepted.
+use Rattle.std.proofs.Common.{◌≡◌, ℕ, ◌*◌, ◌≤◌, List, Option, None, Some, arith, refl}
+use Rattle.ev_model.specs.Fleet.{cost_of}
+use Rattle.ev_model.specs.Network.{Network}
+use Rattle.near_proof.specs.Truth.{IsTrueNearBound}
+use Rattle.near_proof.specs.declared.proof.NearProof.{NearProof}
+use Rattle.plan_check.specs.FleetRules.{stops_of}
+use Rattle.report_lines.specs.Lines.{IsBoundOf}
+use Rattle.route_improve.specs.Improved.{CostsNoMore, IsAnswer}
+use Rattle.route_improve.specs.declared.improving.Improved.{Improved}
+use Rattle.route_improve.specs.declared.improving.Improved.TheVariants.{Alone, Plan}
+use Rattle.route_plan.specs.declared.plan.RoutePlan.{RoutePlan}
+use Rattle.gap_search.specs.Gap.{IsGapOutcome, IsGapProof, IsHeld, IsNoDearer, cost_held, plan_held}
+
+no_dearer : (g : Network) (start : Option (List RoutePlan)) (cost : ℕ) → CostsNoMore g start cost → IsNoDearer g start cost
+no_dearer g None cost own = own.no_more
+no_dearer g (Some from) cost less = less
+
+held : (g : Network) (start : Option (List RoutePlan)) (found : Improved) → IsAnswer g start found → IsHeld g start found
+held g start (Plan plan) is = (is.0, no_dearer g start (cost_of g 1 (stops_of plan.routes)) is.1)
+held g start (Alone node) is = is
+
+bounded : (g : Network) (start : Option (List RoutePlan)) (found : Improved) (bound : Option ℕ) → IsAnswer g start found → IsTrueNearBound g bound → IsBoundOf (cost_held g found) bound
+bounded g start (Plan plan) (Some b) is truth =
+    let le : 1 * b ≤ cost_of g 1 (stops_of plan.routes) = truth 1 (stops_of plan.routes) is.0.fleet in
+    omega (arith, le)
+bounded g start (Plan plan) None is truth = tt
+bounded g start (Alone node) bound is truth = tt
+
+no_plan : (g : Network) (start : Option (List RoutePlan)) (found : Improved) → IsAnswer g start found → IsTrueNearBound g None → plan_held found ≡ None
+no_plan g start (Plan plan) is truth = absurd (truth 1 (stops_of plan.routes) is.0.fleet)
+no_plan g start (Alone node) is truth = refl
+
+none_held : (g : Network) (start : Option (List RoutePlan)) (found : Improved) (bound : Option ℕ) → IsAnswer g start found → IsTrueNearBound g bound → bound ≡ None → plan_held found ≡ None
+none_held g start found None is truth none = no_plan g start found is truth
+none_held g start found (Some b) is truth none = absurd (cc)
+
+pub is_outcome : (g : Network) (start : Option (List RoutePlan)) (found : Improved) (proof : NearProof) → IsAnswer g start found → IsGapProof g proof → IsGapOutcome g start (record { plan = found; proof = proof })
+is_outcome g start found proof is accepted = record {
+  plan = held g start found is;
+  proof = accepted;
+  bound = bounded g start found proof.bound is accepted.shows.bound;
+  none = none_held g start found proof.bound is accepted.shows.bound;
+}

@@ -1,0 +1,60 @@
+-- What a search for a close gap answers: a fleet plan that no move makes cheaper, and an accepted
+-- proof of what no fleet plan costs less than.
+use Rattle.std.specs.Prelude.{◌≡◌, ℕ, ◌≤◌, List, Option, None, Some}
+use Rattle.ev_model.specs.Fleet.{cost_of}
+use Rattle.ev_model.specs.Network.{Network}
+use Rattle.near_proof.specs.Accepted.{IsAccepted}
+use Rattle.near_proof.specs.Ranges.{NearFits}
+use Rattle.near_proof.specs.Truth.{IsTrue}
+use Rattle.near_proof.specs.declared.proof.NearProof.{NearProof}
+use Rattle.near_text.specs.NearIn.{IsKept}
+use Rattle.plan_check.specs.FleetRules.{stops_of}
+use Rattle.report_lines.specs.Lines.{IsBoundOf}
+use Rattle.route_improve.specs.Improved.{IsFirstAlone, IsImproved, own_orders}
+use Rattle.route_improve.specs.Orders.{HaveCost}
+use Rattle.route_improve.specs.declared.improving.Improved.{Improved}
+use Rattle.route_improve.specs.declared.improving.Improved.TheVariants.{Plan, Alone}
+use Rattle.route_plan.specs.declared.plan.FleetPlan.{FleetPlan}
+use Rattle.route_plan.specs.declared.plan.RoutePlan.{RoutePlan}
+use Rattle.gap_search.specs.declared.outcome.GapOutcome.{GapOutcome}
+
+-- a near proof that is accepted, and so is true, and whose text is read as it where it isn't too
+-- long
+pub record IsGapProof (g : Network) (p : NearProof) : Type 0 where
+  pub fits : NearFits g p
+  pub kept : IsKept p
+  pub accepted : IsAccepted g p
+  pub shows : IsTrue g p
+
+-- the cost is no more than that of the plan to begin with, or, where there was none, than that of
+-- routes for the customers alone, if each has one
+abbrev pub IsNoDearer : Network → Option (List RoutePlan) → ℕ → Type 0
+IsNoDearer g None cost = (own_cost : ℕ) → HaveCost g (own_orders g) own_cost → cost ≤ own_cost
+IsNoDearer g (Some start) cost = cost ≤ cost_of g 1 (stops_of start)
+
+-- a plan that no relocation and no exchange makes cheaper, and that is no dearer than the one to
+-- begin with; or, where there was none, the first customer without a route of his own
+abbrev pub IsHeld : Network → Option (List RoutePlan) → Improved → Type 0
+IsHeld g start (Plan plan) =
+    IsImproved g plan.routes × IsNoDearer g start (cost_of g 1 (stops_of plan.routes))
+IsHeld g start (Alone node) = (start ≡ None) × IsFirstAlone g node
+
+-- the plan that is held
+abbrev pub plan_held : Improved → Option FleetPlan
+plan_held (Plan plan) = Some plan
+plan_held (Alone node) = None
+
+-- what it costs
+abbrev pub cost_held : Network → Improved → Option ℕ
+cost_held g (Plan plan) = Some (cost_of g 1 (stops_of plan.routes))
+cost_held g (Alone node) = None
+
+-- a plan, or why none is held, beside a proof that is accepted: the plan costs no less than the
+-- bound, and none is held, nor was there one to begin with, where the proof shows that there is
+-- none
+pub record IsGapOutcome (g : Network) (start : Option (List RoutePlan)) (o : GapOutcome) :
+    Type 0 where
+  pub plan : IsHeld g start o.plan
+  pub proof : IsGapProof g o.proof
+  pub bound : IsBoundOf (cost_held g o.plan) o.proof.bound
+  pub none : o.proof.bound ≡ None → plan_held o.plan ≡ None

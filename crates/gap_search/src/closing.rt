@@ -1,0 +1,68 @@
+//! The search for a plan and for a close bound.
+
+ghost use Rattle.std.specs.Prelude.{◌≡◌, ◌≤◌, IfOk, IfSome, length, option_map};
+ghost use Rattle.ev_model.specs.Fleet.{IsFleetPlan};
+ghost use Rattle.gap_search.specs.Gap.{IsGapOutcome, IsGapProof};
+ghost use Rattle.instance_reader.specs.Instance.{customer_nodes, most_customers};
+ghost use Rattle.plan_check.specs.FleetRules.{stops_of};
+
+use crate::judged::judged_proof;
+use crate::outcome::GapOutcome;
+use instance_reader::Instance;
+use near_columns::{GapClock, search_near};
+use near_proof::NearProof;
+use ng_pricing::{PriceWatcher, near_bound_watched};
+use route_improve::{MoveWatcher, improve_watched};
+use route_plan::FleetPlan;
+use std::alloc::{AllocError, Global};
+
+/// How many other customers stand in a near set of the proof that stands in where the search finds
+/// none.
+const FEW_NEAR: usize = 4;
+
+/// A fleet plan, and a proof of what no fleet plan costs less than.
+///
+/// The plan costs no more than `start`, and without `start` no more than routes for the customers
+/// alone, where each has one; no relocation and no exchange of a customer makes it cheaper, and it
+/// may be written as text. None is held only where there is no `start` and some customer has no
+/// feasible route of his own. The proof is accepted, its text is read as it where it isn't too
+/// long, and no plan that is held costs less than its bound. How close the two are isn't promised.
+///
+/// The clock is asked whether the search stops. Where the search finds no proof that is accepted,
+/// one of few near customers stands in, which takes its time, whatever the clock says. The only
+/// `Err` is want of memory.
+pub fn close_gap<C: GapClock, W: MoveWatcher + PriceWatcher>(
+    alloc: Global,
+    inst: &Instance,
+    start: Option<&FleetPlan>,
+    clock: &mut C,
+    watcher: &mut W,
+) -> Result<GapOutcome, AllocError>
+    requires few { length (customer_nodes inst.now) ≤ most_customers }
+    requires start { IfSome start (λ plan. IsFleetPlan inst.now 1 (stops_of plan.now.routes)) }
+    ensures { IfOk result
+        (IsGapOutcome inst.now (option_map (λ plan. plan.now.routes) start.entry)) }
+{
+    let plan = improve_watched(alloc, inst, start, watcher)?;
+    let found = search_near(alloc, inst, clock)?;
+    let proof = proof_of(alloc, inst, found.proof, watcher)?;
+    Ok(GapOutcome { plan, proof })
+}
+
+/// A proof that is accepted: the candidate, where it is one, and else one of few near customers.
+fn proof_of<W: PriceWatcher>(
+    alloc: Global,
+    inst: &Instance,
+    candidate: Option<NearProof>,
+    watcher: &mut W,
+) -> Result<NearProof, AllocError>
+    requires { length (customer_nodes inst.now) ≤ most_customers }
+    ensures { IfOk result (IsGapProof inst.now) }
+{
+    if let Some(candidate) = candidate {
+        if let Some(proof) = judged_proof(alloc, inst, &candidate)? {
+            return Ok(proof);
+        }
+    }
+    near_bound_watched(alloc, inst, FEW_NEAR, watcher)
+}

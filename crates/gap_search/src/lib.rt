@@ -1,0 +1,17 @@
+//! A fleet plan and a close bound on what fleet plans cost, with a proof of it, for up to 128
+//! customers.
+//!
+//! The bound is by near routes (the ng-route relaxation: Baldacci, Mingozzi, Roberti 2011). What a
+//! search finds is judged here, and nothing is promised of the search itself.
+#![tactic(auto)]
+
+mod closing;
+mod judged;
+mod outcome;
+
+pub use closing::close_gap;
+pub use near_columns::GapClock;
+pub use near_proof::NearProof;
+pub use ng_pricing::{PriceProgress, PriceWatcher};
+pub use outcome::GapOutcome;
+pub use route_improve::{Improved, MoveProgress, MoveWatcher};
