@@ -1,0 +1,4 @@
+pub mod Costs
+pub mod Instances
+pub mod Plans
+pub mod Nears

@@ -1,0 +1,3 @@
+pub mod FleetNetwork
+pub mod PlanFile
+pub mod NearFile

@@ -1,0 +1,12 @@
+use Rattle.std.proofs.Common.{◌∙◌, ap, map, string_bytes}
+use Rattle.clap.specs.Walk.{texts}
+use Rattle.gap_words.proofs.NamedJobs.{empty_words, no_job}
+use Rattle.gap_words.proofs.job_words.Goals as goal
+
+pub returns-in-Ok-None-clause-job : goal.returns-in-Ok-None-clause-job
+returns-in-Ok-None-clause-job c =
+    no_job (map string_bytes c.args.words.now) (texts c.as_slice.result.now) c.in-Ok-None.field-0
+    (ap texts c.as_slice.ensures.value ∙ c.in_ok-named.ensures) c.in-Ok-None.field-0-is c.in-Ok-None.ensures
+
+pub returns-then-is_empty-clause-job : goal.returns-then-is_empty-clause-job
+returns-then-is_empty-clause-job c = empty_words c.args.words.now c.is_empty.result c.if-is_empty.true c.is_empty.ensures

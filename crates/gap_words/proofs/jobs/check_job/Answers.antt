@@ -1,0 +1,7 @@
+use Rattle.std.proofs.Common.{rules}
+use Rattle.command_line.specs.Matches.{rows_in}
+use Rattle.gap_words.proofs.NamedJobs.{no_check}
+use Rattle.gap_words.proofs.jobs.check_job.Goals as goal
+
+pub returns-in_default-clause-job : goal.returns-in_default-clause-job
+returns-in_default-clause-job c = no_check c.args.rest.now (rows_in c.args.matches.now) (search rules)

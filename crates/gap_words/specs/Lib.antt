@@ -1,0 +1,5 @@
+pub mod Command
+pub mod Words
+pub mod Matches
+pub mod JobValue
+pub mod Usage

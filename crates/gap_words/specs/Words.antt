@@ -1,0 +1,111 @@
+-- The job that the words of `evgap` name: a function of what the command finds in them.
+use Rattle.std.specs.Prelude.{ℕ, ◌&&◌, List, [], ◌∷◌, Option, None, Some, is_none, codes, option_and_then, option_map, if◌then◌else◌}
+use Rattle.std.specs.Str.{bytes_eq}
+use Rattle.clap.specs.Words.{Kinds, Row, Text, fault_of, first_of, matches_of}
+use Rattle.command_line.specs.Words.{are_different, limit_in, most_value, optional_number, rest_in}
+use Rattle.gap_words.specs.Command.{evgap}
+
+-- the job of planning a fleet with a close bound: the names of its files, the limit where one is
+-- given, how many seconds the search may take where they are given, and the name of the file with
+-- the plan to begin with where one is
+pub record PlanGap : Type 0 where
+  pub file : Text
+  pub plan : Text
+  pub proof : Text
+  pub limit : Option ℕ
+  pub seconds : Option ℕ
+  pub start : Option Text
+
+-- the job of judging such a plan and such a proof: the names of their files, and the limit where
+-- one is given
+pub record CheckGap : Type 0 where
+  pub file : Text
+  pub plan : Text
+  pub proof : Text
+  pub limit : Option ℕ
+
+pub data Job : Type 0 where
+  Planning : PlanGap → Job
+  Checking : CheckGap → Job
+
+-- the number of seconds, where it is given; none where its value is no number of them
+abbrev pub seconds_in : List Row → Option (Option ℕ)
+seconds_in rows = optional_number most_value (first_of (codes "seconds") rows)
+
+-- the name of the file with the plan to begin with
+abbrev pub start_in : List Row → Option Text
+start_in rows = first_of (codes "start") rows
+
+-- the names of all files
+abbrev pub all_names : Option Text → List Text → List Text
+all_names None names = names
+all_names (Some start) names = start ∷ names
+
+-- the job of these words
+abbrev pub plan_job_of : Text → Text → Text → Option ℕ → Option ℕ → Option Text → PlanGap
+plan_job_of file plan proof limit seconds start = record {
+  file = file;
+  plan = plan;
+  proof = proof;
+  limit = limit;
+  seconds = seconds;
+  start = start;
+}
+
+-- `plan FILE PLAN PROOF [--limit N] [--seconds N] [--start PLAN0]`
+abbrev pub plan_with : Text → Text → Text → Option (Option ℕ) → Option (Option ℕ) → Option Text →
+    Option Job
+plan_with file plan proof (Some limit) (Some seconds) start =
+    Some (Planning (plan_job_of file plan proof limit seconds start))
+plan_with file plan proof limit seconds start = None
+
+abbrev pub plan_of : List Text → List Row → Option Job
+plan_of (file ∷ plan ∷ proof ∷ []) rows =
+    if are_different (all_names (start_in rows) (file ∷ plan ∷ proof ∷ []))
+    then plan_with file plan proof (limit_in rows) (seconds_in rows) (start_in rows)
+    else None
+plan_of rest rows = None
+
+-- the job of these words
+abbrev pub check_job_of : Text → Text → Text → Option ℕ → CheckGap
+check_job_of file plan proof limit =
+    record { file = file; plan = plan; proof = proof; limit = limit }
+
+-- `check FILE PLAN PROOF [--limit N]`
+abbrev pub check_with : Text → Text → Text → Option (Option ℕ) → Option Job
+check_with file plan proof limit =
+    option_map (λ n. Checking (check_job_of file plan proof n)) limit
+
+abbrev pub check_of : List Text → List Row → Option Job
+check_of (file ∷ plan ∷ proof ∷ []) rows =
+    if is_none (first_of (codes "seconds") rows) && is_none (start_in rows)
+    && are_different (file ∷ plan ∷ proof ∷ [])
+    then check_with file plan proof (limit_in rows)
+    else None
+check_of rest rows = None
+
+-- the job of a command, of the words behind it and of the options
+abbrev pub job_of_command : Text → List Text → List Row → Option Job
+job_of_command command rest rows =
+    if bytes_eq command (codes "plan") then plan_of rest rows
+    else if bytes_eq command (codes "check") then check_of rest rows
+    else None
+
+-- the job of what the command finds
+abbrev pub job_in : List Row → Option Job
+job_in rows =
+    option_and_then (λ command. job_of_command command (rest_in rows) rows)
+    (first_of (codes "command") rows)
+
+-- the job where the command takes the words: no error of it comes
+abbrev pub job_unless : Kinds → Option Job → Option Job
+job_unless [] job = job
+job_unless (kind ∷ kinds) job = None
+
+-- the words with the name of the program in front of them
+abbrev pub named : List Text → List Text
+named words = codes "evgap" ∷ words
+
+-- the job of the words, if they name one
+abbrev pub job_of : List Text → Option Job
+job_of words = job_unless (fault_of evgap (named words)) (job_in (matches_of evgap (named words)))
