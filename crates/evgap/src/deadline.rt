@@ -1,0 +1,42 @@
+//! When a search has had its time.
+
+use evgap_run::{GapClock, JobClock};
+use std::rt::Clock;
+use std::time::Duration;
+
+/// The time by which a search is to stop, by the clock of the system. Where the clock fails it goes
+/// on.
+#[derive(Drop)]
+pub(crate) struct Deadline<'a, R: Clock> {
+    rt: &'a R,
+    /// `None` where the search takes what it takes.
+    until: Option<Duration>,
+}
+
+impl<'a, R: Clock> Deadline<'a, R> {
+    /// No time yet.
+    pub(crate) fn new(rt: &'a R) -> Self {
+        Deadline { rt, until: None }
+    }
+}
+
+impl<'a, R: Clock> GapClock for Deadline<'a, R> {
+    fn is_up(&mut self) -> bool {
+        let Some(until) = self.until else {
+            return false;
+        };
+        match self.rt.monotonic() {
+            Ok(now) => now.checked_sub(until).is_some(),
+            Err(_) => false,
+        }
+    }
+}
+
+impl<'a, R: Clock> JobClock for Deadline<'a, R> {
+    fn begin(&mut self, seconds: Option<u64>) {
+        self.until = match (seconds, self.rt.monotonic()) {
+            (Some(seconds), Ok(now)) => now.checked_add(Duration::from_secs(seconds)),
+            _ => None,
+        };
+    }
+}

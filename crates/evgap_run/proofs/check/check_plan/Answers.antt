@@ -1,0 +1,25 @@
+use Rattle.std.specs.Option.{option_map}
+use Rattle.evgap_run.proofs.CheckFinds.{check_found, proof_fails}
+use Rattle.gap_words.specs.JobValue.{check_value}
+use Rattle.job_frame.proofs.BehindReads.{finds_told, read_fails}
+use Rattle.job_frame.proofs.FileReads.{named_read}
+use Rattle.evgap_run.proofs.check.check_plan.Goals as goal
+
+pub returns-in-Err : goal.returns-in-Err
+returns-in-Err g c = λ bytes plan_bytes read read_plan fleet.
+    let before = g.S.Shelf.state c.args.shelf.now in
+    let after = g.S.Shelf.state c.read_file.new.shelf in
+    read_fails (proof_fails (check_value c.args.job.now) before after bytes plan_bytes c.args.inst.now (option_map (λ p. p.now) c.args.plan) read read_plan fleet)
+    c.as_str.ensures.value c.in-Err.ensures.fault c.in-Err.ensures.stays c.in-Err.ensures.falls c.in-Err.ensures.files
+
+pub returns-in-Ok-judge_text : goal.returns-in-Ok-judge_text
+returns-in-Ok-judge_text g c = λ bytes plan_bytes read read_plan fleet.
+    let job = check_value c.args.job.now in
+    let before = g.S.Shelf.state c.args.shelf.now in
+    let proof_bytes = c.in-Ok.bytes.items in
+    let answer = c.in-Ok-judge_text.answer in
+    let read_proof = named_read _ _ _ _ _ c.as_str.ensures.value c.in-Ok.ensures.bytes in
+    let found = check_found job before.files bytes plan_bytes proof_bytes c.as_slice.result.now answer.status answer.text.items read read_plan read_proof c.as_slice.ensures.value
+    (c.in-Ok-judge_text.ensures.answers job.limit bytes plan_bytes fleet) in
+    finds_told found c.in-Ok-judge_text.ensures.answered c.alone.ensures.answer c.alone.ensures.files
+    c.in-Ok.ensures.stays c.in-Ok.ensures.falls c.in-Ok.ensures.files

@@ -1,0 +1,8 @@
+use Rattle.std.specs.Option.{option_map}
+use Rattle.evgap_run.proofs.CheckFinds.{report_answers}
+use Rattle.evgap_run.proofs.judging.report_on.Goals as goal
+
+pub returns-clause-answers : goal.returns-clause-answers
+returns-clause-answers c = λ limit file plan_bytes bytes fleet has.
+    report_answers limit file plan_bytes bytes c.args.inst.now (option_map (λ p. p.now) c.args.plan) c.args.proof.now
+    c.in_ok-judgement.judgement c.report.result fleet has c.in_ok-judgement.ensures.found c.report.ensures.status c.report.ensures.text

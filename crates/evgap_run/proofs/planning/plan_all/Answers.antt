@@ -1,0 +1,31 @@
+use Rattle.std.proofs.Common.{◌≡◌, Option, subst, sym}
+use Rattle.std.specs.Option.{option_map}
+use Rattle.evgap_run.proofs.Outcomes.{bound_of, held_is_improved, is_found}
+use Rattle.evgap_run.proofs.Written.{held_fits}
+use Rattle.gap_search.specs.Gap.{cost_held}
+use Rattle.route_plan.specs.PlanTexts.{FitsFile, fleet_plan_text}
+use Rattle.route_plan.specs.declared.plan.FleetPlan.{FleetPlan}
+use Rattle.evgap_run.proofs.planning.plan_all.Goals as goal
+
+pub held_cost-requires : goal.held_cost-requires
+held_cost-requires g c =
+    held_is_improved c.args.inst.now (option_map (λ p. p.now.routes) c.args.start) c.in_ok-outcome.outcome.plan c.in_ok-outcome.ensures.plan
+
+pub report-requires-clause-bound : goal.report-requires-clause-bound
+report-requires-clause-bound g c =
+    bound_of c.in_ok-cost.cost (cost_held c.args.inst.now c.in_ok-outcome.outcome.plan) c.in_ok-outcome.outcome.proof.bound
+    c.in_ok-cost.ensures.cost c.in_ok-outcome.ensures.bound
+
+pub plan_text-requires : goal.plan_text-requires
+plan_text-requires g c =
+    subst (λ (p : Option FleetPlan). FitsFile p) (sym c.plan_held.ensures)
+    (held_fits c.args.inst.now (option_map (λ p. p.now.routes) c.args.start) c.in_ok-outcome.outcome.plan c.in_ok-outcome.ensures.plan)
+
+pub returns : goal.returns
+returns g c =
+    let o = c.in_ok-outcome.outcome in
+    let answer = c.in_ok-answer.answer in
+    let plan_is = subst (λ (p : Option FleetPlan). c.in_ok-plan.plan.items ≡ fleet_plan_text p) c.plan_held.ensures c.in_ok-plan.ensures in
+    is_found c.args.inst.now c.args.start o c.in_ok-cost.cost c.alone_in.result c.in_ok-plan.plan.items c.in_ok-cert.cert.items answer.text.items answer.status
+    c.nodes-nodes.ensures.network c.in_ok-outcome.ensures c.in_ok-cost.ensures.cost c.alone_in.ensures plan_is c.in_ok-cert.ensures
+    c.in_ok-answer.ensures.status c.in_ok-answer.ensures.text

@@ -1,0 +1,121 @@
+-- What `check` answers to the bytes of its instance, of its plan file and of its proof.
+use Rattle.std.specs.Prelude.{◌≡◌, ◌≢◌, ℕ, ◌⊎◌, List, [], ◌∷◌, Option, Err}
+use Rattle.ev_model.specs.Network.{Network}
+use Rattle.fleet_steps.specs.PlanFile.{BreaksFirst, HasFleet, IsValid}
+use Rattle.fleet_steps.specs.NearFile.{HasNear}
+use Rattle.fleet_steps.specs.FleetNetwork.{HasFleetNetwork, IsFleetRefused}
+use Rattle.gap_words.specs.Words.{CheckGap}
+use Rattle.job_frame.specs.Task.{Outcome, Task}
+use Rattle.job_frame.specs.declared.status.Status.{Status}
+use Rattle.job_frame.specs.declared.status.Status.TheVariants as status
+use Rattle.job_steps.specs.Caps.{certificate_read, file_read}
+use Rattle.near_proof.specs.Accepted.{IsAccepted}
+use Rattle.near_proof.specs.Truth.{IsTrue}
+use Rattle.near_proof.specs.Verdicts.{IsVerdict}
+use Rattle.near_proof.specs.declared.proof.NearProof.{NearProof}
+use Rattle.near_proof.specs.declared.verdict.NearVerdict.{NearVerdict}
+use Rattle.near_proof.specs.declared.verdict.NearVerdict.TheVariants as verdict
+use Rattle.near_text.specs.NearIn.{near_in}
+use Rattle.near_text.specs.VerdictText.{near_verdict_text}
+use Rattle.plan_check.specs.declared.fault.PlanFault.{PlanFault}
+use Rattle.plan_writer.specs.CheckText.{check_text}
+use Rattle.plan_writer.specs.RefusalText.{IsRule, refusal_text}
+use Rattle.plan_writer.specs.declared.check.Judgement.TheVariants as judgement
+use Rattle.plan_writer.specs.declared.refusal.Refusal.{Refusal}
+use Rattle.plan_writer.specs.declared.refusal.Refusal.TheVariants as refusal
+use Rattle.route_plan.specs.PlanReading.{fleet_plan_in}
+use Rattle.route_plan.specs.declared.plan.FleetPlan.{FleetPlan}
+use Rattle.evgap_run.specs.Report.{accepted_text}
+
+-- no rule of a text is broken: what the three files hold
+pub record Holds (limit : Option ℕ) (bytes plan_bytes proof_bytes : List ℕ) : Type 0 where
+  pub network : Network
+  pub plan : Option FleetPlan
+  pub fleet : HasFleet limit bytes plan_bytes network plan
+  pub proof : NearProof
+  pub has : HasNear network proof_bytes proof
+
+-- the first broken rule: of the instance, the limit, the count of customers, then of the plan's
+-- text, then of the proof's
+abbrev pub IsCheckRefused : Option ℕ → List ℕ → List ℕ → List ℕ → Refusal → Type 0
+IsCheckRefused limit bytes plan_bytes proof_bytes (refusal.Plan fault) =
+    (g : Network) × HasFleetNetwork limit bytes g × (fleet_plan_in plan_bytes ≡ Err fault)
+IsCheckRefused limit bytes plan_bytes proof_bytes (refusal.Certificate fault) =
+    (g : Network) × (plan : Option FleetPlan) × HasFleet limit bytes plan_bytes g plan
+    × (near_in g proof_bytes ≡ Err fault)
+IsCheckRefused limit bytes plan_bytes proof_bytes other = IsFleetRefused limit bytes other
+
+-- The plan is a fleet plan, or there is none, and the proof is accepted; cost, bound and gap are
+-- put. The proof is true, whoever wrote it: no fleet plan costs less than its bound, in any
+-- fraction of a unit, and where it has none there is no fleet plan.
+pub record PutsAccepted (limit : Option ℕ)
+    (bytes plan_bytes proof_bytes text : List ℕ) : Type 0 where
+  pub files : Holds limit bytes plan_bytes proof_bytes
+  pub cost : Option ℕ
+  pub valid : IsValid files.network files.plan cost
+  pub accepted : IsAccepted files.network files.proof
+  pub shows : IsTrue files.network files.proof
+  pub text_is : text ≡ accepted_text files.network.denominator cost files.proof.bound
+
+-- the first rule that the plan breaks is put
+pub record PutsBrokenPlan (limit : Option ℕ)
+    (bytes plan_bytes proof_bytes text : List ℕ) : Type 0 where
+  pub files : Holds limit bytes plan_bytes proof_bytes
+  pub fault : PlanFault
+  pub broken : BreaksFirst files.network files.plan fault
+  pub text_is : text ≡ check_text files.network.denominator (judgement.Plan fault)
+
+-- the plan breaks none, and the first rule that the proof breaks is put
+pub record PutsBrokenProof (limit : Option ℕ)
+    (bytes plan_bytes proof_bytes text : List ℕ) : Type 0 where
+  pub files : Holds limit bytes plan_bytes proof_bytes
+  pub cost : Option ℕ
+  pub valid : IsValid files.network files.plan cost
+  pub found : NearVerdict
+  pub broken : found ≢ verdict.Accepted
+  pub rejected : IsVerdict files.network files.proof found
+  pub text_is : text ≡ near_verdict_text files.network.denominator files.proof.bound found
+
+-- the first broken rule of the instance, the words, the plan's text or the proof's is put
+pub record PutsCheckRefusal (limit : Option ℕ)
+    (bytes plan_bytes proof_bytes text : List ℕ) : Type 0 where
+  pub refusal : Refusal
+  pub rule : IsRule refusal
+  pub refused : IsCheckRefused limit bytes plan_bytes proof_bytes refusal
+  pub text_is : text ≡ refusal_text refusal
+
+-- the text that belongs to a status
+abbrev pub CheckAnswers : Option ℕ → List ℕ → List ℕ → List ℕ → Status → List ℕ → Type 0
+CheckAnswers limit bytes plan_bytes proof_bytes status.Done text =
+    PutsAccepted limit bytes plan_bytes proof_bytes text
+CheckAnswers limit bytes plan_bytes proof_bytes status.Negative text =
+    PutsBrokenPlan limit bytes plan_bytes proof_bytes text
+    ⊎ PutsBrokenProof limit bytes plan_bytes proof_bytes text
+CheckAnswers limit bytes plan_bytes proof_bytes status.Refused text =
+    PutsCheckRefusal limit bytes plan_bytes proof_bytes text
+CheckAnswers limit bytes plan_bytes proof_bytes other text = ⊥
+
+-- `check` reads three files, and writes none
+abbrev pub check_answers : CheckGap → List (List ℕ) → Outcome → Type 0
+check_answers job (bytes ∷ plan_bytes ∷ proof_bytes ∷ []) o =
+    CheckAnswers job.limit bytes plan_bytes proof_bytes o.status o.text × (o.writes ≡ [])
+check_answers job other o = ⊥
+
+-- it comes to its plan where no rule of its instance is broken, and to its proof where none of its
+-- plan's text is either
+abbrev pub check_goes_on : CheckGap → List (List ℕ) → Type 0
+check_goes_on job [] = Unit {0}
+check_goes_on job (bytes ∷ []) = (g : Network) × HasFleetNetwork job.limit bytes g
+check_goes_on job (bytes ∷ plan_bytes ∷ []) =
+    (g : Network) × ((plan : Option FleetPlan) × HasFleet job.limit bytes plan_bytes g plan)
+check_goes_on job other = ⊥
+
+abbrev pub check_task : CheckGap → Task
+check_task job = record {
+  reads = file_read job.file ∷ file_read job.plan ∷ certificate_read job.proof ∷ [];
+  goes_on = check_goes_on job;
+  answers = check_answers job;
+  writes_first = λ ws. ⊥;
+  is_open = ⊥;
+  has_budget = ⊥;
+}

@@ -1,0 +1,43 @@
+-- What the judges of a plan and of a proof find.
+use Rattle.std.specs.Prelude.{◌≡◌, ◌≢◌, ℕ, List, Option}
+use Rattle.ev_model.specs.Network.{Network}
+use Rattle.fleet_steps.specs.PlanFile.{BreaksFirst, IsValid}
+use Rattle.job_frame.specs.declared.status.Status.{Status}
+use Rattle.job_frame.specs.declared.status.Status.TheVariants as status
+use Rattle.near_proof.specs.Accepted.{IsAccepted}
+use Rattle.near_proof.specs.Truth.{IsTrue}
+use Rattle.near_proof.specs.Verdicts.{IsVerdict}
+use Rattle.near_proof.specs.declared.proof.NearProof.{NearProof}
+use Rattle.near_proof.specs.declared.verdict.NearVerdict.TheVariants as verdict
+use Rattle.near_text.specs.VerdictText.{near_verdict_text}
+use Rattle.plan_writer.specs.CheckText.{check_text}
+use Rattle.plan_writer.specs.declared.check.Judgement.TheVariants as plan
+use Rattle.report_lines.specs.Lines.{IsBoundOf}
+use Rattle.route_plan.specs.declared.plan.FleetPlan.{FleetPlan}
+use Rattle.evgap_run.specs.Report.{IsSmallCost, accepted_text}
+use Rattle.evgap_run.specs.declared.judging.Judgement.{Judgement}
+use Rattle.evgap_run.specs.declared.judging.Judgement.TheVariants.{Accepted, Plan, Proof}
+
+-- both are accepted, or the first broken rule is found
+abbrev pub IsJudgementOf : Network → Option FleetPlan → NearProof → Judgement → Type 0
+IsJudgementOf g plan p (Accepted cost bound) =
+    IsValid g plan cost × IsAccepted g p × IsTrue g p × (bound ≡ p.bound)
+IsJudgementOf g plan p (Plan fault) = BreaksFirst g plan fault
+IsJudgementOf g plan p (Proof found) =
+    ((cost : Option ℕ) × IsValid g plan cost) × (found ≢ verdict.Accepted) × IsVerdict g p found
+
+-- what is accepted has a small cost, and no bound above it
+abbrev pub HasLines : Judgement → Type 0
+HasLines (Accepted cost bound) = IsBoundOf cost bound × IsSmallCost cost
+HasLines other = Unit {0}
+
+-- the lines of what is found, on a proof with this bound
+abbrev pub judgement_text : ℕ → Option ℕ → Judgement → List ℕ
+judgement_text denominator told (Accepted cost bound) = accepted_text denominator cost bound
+judgement_text denominator told (Plan fault) = check_text denominator (plan.Plan fault)
+judgement_text denominator told (Proof found) = near_verdict_text denominator told found
+
+-- the status of what is found
+abbrev pub judged_status : Judgement → Status
+judged_status (Accepted cost bound) = status.Done
+judged_status found = status.Negative

@@ -1,0 +1,6 @@
+pub mod Report
+pub mod CheckAnswer
+pub mod PlanAnswer
+pub mod Judged
+pub mod Run
+pub mod Ending

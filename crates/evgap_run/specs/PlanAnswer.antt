@@ -1,0 +1,187 @@
+-- What `plan` writes and puts on the bytes of its instance, and of the plan to begin with where it
+-- is given one.
+use Rattle.std.specs.Prelude.{◌≡◌, ℕ, ◌≤◌, ◌⊎◌, List, [], ◌∷◌, Option, None, Some, Err, if◌then◌else◌, length, nat_eq}
+use Rattle.certificate_parts.specs.Limits as certificate
+use Rattle.ev_model.specs.Network.{IsNetwork, Network}
+use Rattle.fleet_steps.specs.NearFile.{HasNear}
+use Rattle.fleet_steps.specs.PlanFile.{BreaksFirst, IsValid, routes_of}
+use Rattle.fleet_steps.specs.FleetNetwork.{HasFleetNetwork, IsFleetRefused}
+use Rattle.gap_search.specs.Gap.{IsGapOutcome, cost_held, plan_held}
+use Rattle.gap_search.specs.declared.outcome.GapOutcome.{GapOutcome}
+use Rattle.gap_words.specs.Words.{PlanGap}
+use Rattle.job_frame.specs.Task.{Outcome, Read, Task}
+use Rattle.job_frame.specs.Writes.{Written}
+use Rattle.job_frame.specs.declared.status.Status.{Status}
+use Rattle.job_frame.specs.declared.status.Status.TheVariants as status
+use Rattle.job_steps.specs.Caps.{file_read}
+use Rattle.near_proof.specs.Accepted.{IsAccepted}
+use Rattle.near_proof.specs.Truth.{IsTrue, IsTrueNearBound}
+use Rattle.near_proof.specs.declared.proof.NearProof.{NearProof}
+use Rattle.near_text.specs.NearTexts.{near_text}
+use Rattle.near_text.specs.Written.{written_near}
+use Rattle.plan_check.specs.declared.fault.PlanFault.{PlanFault}
+use Rattle.plan_writer.specs.CheckText.{check_text}
+use Rattle.plan_writer.specs.RefusalText.{IsRule, refusal_text}
+use Rattle.plan_writer.specs.declared.check.Judgement.TheVariants as judgement
+use Rattle.plan_writer.specs.declared.refusal.Refusal.{Refusal}
+use Rattle.plan_writer.specs.declared.refusal.Refusal.TheVariants as refusal
+use Rattle.route_improve.specs.declared.improving.Improved.{Improved}
+use Rattle.route_improve.specs.declared.improving.Improved.TheVariants.{Alone, Plan}
+use Rattle.route_plan.specs.Limits as route
+use Rattle.route_plan.specs.PlanReading.{fleet_plan_in}
+use Rattle.route_plan.specs.PlanTexts.{SpellsFleetPlan, fleet_plan_text}
+use Rattle.route_plan.specs.declared.plan.FleetPlan.{FleetPlan}
+use Rattle.evgap_run.specs.CheckAnswer.{CheckAnswers}
+use Rattle.evgap_run.specs.Report.{accepted_text, found_text}
+
+-- the file of the plan to begin with holds this one, or says that there is none; where no file is
+-- named there is none
+abbrev pub HasStart : Option (List ℕ) → List (List ℕ) → Option FleetPlan → Type 0
+HasStart None [] start = start ≡ None
+HasStart None (bytes ∷ more) start = ⊥
+HasStart (Some name) [] start = ⊥
+HasStart (Some name) (bytes ∷ []) start = SpellsFleetPlan bytes start
+HasStart (Some name) (bytes ∷ other ∷ more) start = ⊥
+
+-- the bytes break no rule of a text: g is the network, and this is the plan to begin with
+pub record HasPlanJob (job : PlanGap) (bytes : List ℕ) (more : List (List ℕ))
+    (g : Network) (start : Option FleetPlan) : Type 0 where
+  pub network : HasFleetNetwork job.limit bytes g
+  pub held : HasStart job.start more start
+
+-- the text of the plan to begin with is none
+abbrev pub IsNoStart : Option (List ℕ) → List (List ℕ) → Refusal → Type 0
+IsNoStart (Some name) (bytes ∷ []) (refusal.Plan fault) = fleet_plan_in bytes ≡ Err fault
+IsNoStart name more other = ⊥
+
+-- the first broken rule: of the instance, the limit, the count of customers, then of the text of
+-- the plan to begin with
+abbrev pub IsPlanRefused : PlanGap → List ℕ → List (List ℕ) → Refusal → Type 0
+IsPlanRefused job bytes more r =
+    IsFleetRefused job.limit bytes r
+    ⊎ ((g : Network) × HasFleetNetwork job.limit bytes g × IsNoStart job.start more r)
+
+-- the customer whom no route of his own reaches, where no plan is held
+abbrev pub alone_in : Improved → Option ℕ
+alone_in (Plan plan) = None
+alone_in (Alone node) = Some node
+
+-- the status beside a bound that is a number: whether a plan is held that costs no more
+abbrev pub gap_status : Option ℕ → ℕ → Status
+gap_status None bound = status.Stopped
+gap_status (Some cost) bound = if nat_eq cost bound then status.Done else status.Stopped
+
+-- the status beside this cost and this bound: there is no fleet plan, or no gap, or one
+abbrev pub plan_status : Option ℕ → Option ℕ → Status
+plan_status cost None = status.Negative
+plan_status cost (Some bound) = gap_status cost bound
+
+-- what `evroute check-bound` accepts: the bytes are the text of a proof, which is accepted and true
+pub record IsAcceptedBound (limit : Option ℕ) (bytes proof_bytes : List ℕ)
+    (bound : Option ℕ) : Type 0 where
+  pub network : Network
+  pub fleet : HasFleetNetwork limit bytes network
+  pub proof : NearProof
+  pub has : HasNear network proof_bytes proof
+  pub accepted : IsAccepted network proof
+  pub shows : IsTrue network proof
+  pub bound_is : proof.bound ≡ bound
+
+-- the two files, read again, are accepted by `check`, with the same cost and bound, and the proof
+-- by `evroute check-bound`, where no text is too long
+pub record AreAccepted (limit : Option ℕ) (bytes plan_bytes proof_bytes : List ℕ)
+    (denominator : ℕ) (cost bound : Option ℕ) : Type 0 where
+  pub both : length plan_bytes ≤ route.most_bytes → length proof_bytes ≤ certificate.most_bytes
+      → CheckAnswers limit bytes plan_bytes proof_bytes status.Done
+      (accepted_text denominator cost bound)
+  pub proof : length proof_bytes ≤ certificate.most_bytes
+      → IsAcceptedBound limit bytes proof_bytes bound
+
+-- A search found a plan, or holds none, and a proof, and these are the text of the plan file, the
+-- text of the proof, the status and the report. The bound is true: no fleet plan costs less, in any
+-- fraction of a unit; where there is none, there is no fleet plan, in any fraction.
+pub record IsPlanFound (g : Network) (start : Option FleetPlan)
+    (plan_bytes proof_bytes : List ℕ) (ended : Status) (text : List ℕ) : Type 0 where
+  pub is_network : IsNetwork g
+  pub outcome : GapOutcome
+  pub is : IsGapOutcome g (routes_of start) outcome
+  pub true_bound : IsTrueNearBound g outcome.proof.bound
+  pub plan_is : plan_bytes ≡ fleet_plan_text (plan_held outcome.plan)
+  pub proof_is : proof_bytes ≡ near_text (written_near g outcome.proof)
+  pub status_is : ended ≡ plan_status (cost_held g outcome.plan) outcome.proof.bound
+  pub text_is : text ≡ found_text g.denominator (alone_in outcome.plan)
+      (cost_held g outcome.plan) outcome.proof.bound
+
+-- the plan to begin with breaks no rule, and what was found is put, behind the two files, which are
+-- accepted
+pub record PutsPlan (job : PlanGap) (bytes : List ℕ) (more : List (List ℕ))
+    (ended : Status) (ws : List Written) (text : List ℕ) : Type 0 where
+  pub network : Network
+  pub start : Option FleetPlan
+  pub has : HasPlanJob job bytes more network start
+  pub was : Option ℕ
+  pub valid : IsValid network start was
+  pub plan_bytes : List ℕ
+  pub proof_bytes : List ℕ
+  pub found : IsPlanFound network start plan_bytes proof_bytes ended text
+  pub accepted : AreAccepted job.limit bytes plan_bytes proof_bytes network.denominator
+      (cost_held network found.outcome.plan) found.outcome.proof.bound
+  pub written : ws
+      ≡ record { name = job.plan; bytes = plan_bytes }
+      ∷ record { name = job.proof; bytes = proof_bytes } ∷ []
+
+-- the first rule that the plan to begin with breaks is put, and nothing is written
+pub record PutsBrokenStart (job : PlanGap) (bytes : List ℕ) (more : List (List ℕ))
+    (ws : List Written) (text : List ℕ) : Type 0 where
+  pub network : Network
+  pub start : Option FleetPlan
+  pub has : HasPlanJob job bytes more network start
+  pub fault : PlanFault
+  pub broken : BreaksFirst network start fault
+  pub none : ws ≡ []
+  pub text_is : text ≡ check_text network.denominator (judgement.Plan fault)
+
+-- the first broken rule of the instance, the words or the text of the plan to begin with is put,
+-- and nothing is written
+pub record PutsPlanRefusal (job : PlanGap) (bytes : List ℕ) (more : List (List ℕ))
+    (ws : List Written) (text : List ℕ) : Type 0 where
+  pub refusal : Refusal
+  pub rule : IsRule refusal
+  pub refused : IsPlanRefused job bytes more refusal
+  pub none : ws ≡ []
+  pub text_is : text ≡ refusal_text refusal
+
+-- the files and the text that belong to a status
+abbrev pub PlanAnswers : PlanGap → List ℕ → List (List ℕ) → Status → List Written → List ℕ → Type 0
+PlanAnswers job bytes more status.Done ws text = PutsPlan job bytes more status.Done ws text
+PlanAnswers job bytes more status.Negative ws text =
+    PutsPlan job bytes more status.Negative ws text ⊎ PutsBrokenStart job bytes more ws text
+PlanAnswers job bytes more status.Stopped ws text = PutsPlan job bytes more status.Stopped ws text
+PlanAnswers job bytes more status.Refused ws text = PutsPlanRefusal job bytes more ws text
+PlanAnswers job bytes more other ws text = ⊥
+
+-- `plan` reads its instance, and the plan to begin with where a file is named
+abbrev pub plan_answers : PlanGap → List (List ℕ) → Outcome → Type 0
+plan_answers job [] o = ⊥
+plan_answers job (bytes ∷ more) o = PlanAnswers job bytes more o.status o.writes o.text
+
+-- it comes to the plan to begin with where no rule of its instance is broken
+abbrev pub plan_goes_on : PlanGap → List (List ℕ) → Type 0
+plan_goes_on job [] = Unit {0}
+plan_goes_on job (bytes ∷ []) = (g : Network) × HasFleetNetwork job.limit bytes g
+plan_goes_on job other = ⊥
+
+abbrev pub start_reads : Option (List ℕ) → List Read
+start_reads None = []
+start_reads (Some name) = file_read name ∷ []
+
+-- what a search finds is left open, and it may leave a gap
+abbrev pub plan_task : PlanGap → Task
+plan_task job = record {
+  reads = file_read job.file ∷ start_reads job.start;
+  goes_on = plan_goes_on job;
+  answers = plan_answers job;
+  writes_first = λ ws. ⊥;
+  is_open = Unit {0};
+  has_budget = Unit {0};
+}

@@ -1,0 +1,218 @@
+//! What `plan` finds: a fleet is planned with a close bound, and its plan and the proof of the
+//! bound are written.
+
+ghost use Rattle.std.specs.Prelude.{◌≡◌, ◌≤◌, ◌∷◌, [], IfErr, IfOk, IfSome, List, None, Some, length, map, option_map, ℕ};
+ghost use Rattle.ev_model.specs.Fleet.{IsFleetPlan};
+ghost use Rattle.evgap_run.specs.PlanAnswer.{HasPlanJob, PlanAnswers, plan_task};
+ghost use Rattle.fleet_steps.specs.FleetNetwork.{HasFleetNetwork};
+ghost use Rattle.gap_words.specs.JobValue.{IsPlanJob, plan_value};
+ghost use Rattle.instance_reader.specs.Instance.{customer_nodes, most_customers};
+ghost use Rattle.job_frame.specs.Finds.{Finds, written_by};
+ghost use Rattle.job_frame.specs.Task.{AreReadUpTo};
+ghost use Rattle.job_steps.specs.Caps.{most_bytes};
+ghost use Rattle.plan_check.specs.FleetRules.{stops_of};
+ghost use Rattle.plan_writer.specs.CheckText.{check_text};
+ghost use Rattle.plan_writer.specs.declared.check.Judgement.TheVariants as judgement;
+
+use crate::clock::JobClock;
+use crate::planning::plan_all;
+use ev_outside::{Shelf, ShelfFault};
+use fleet_steps::{cost_of, fleet_instance, plan_of};
+use gap_search::{MoveWatcher, PriceWatcher};
+use gap_words::PlanWords;
+use instance_reader::Instance;
+use job_frame::{Answer, Found, Status, read_file};
+use job_steps::{Ended, MOST_BYTES, ScaleWatcher, refuse_job};
+use plan_check::{LargeFault, PlanFault};
+use plan_writer::{Judgement, push_check_report};
+use route_plan::FleetPlan;
+use std::alloc::{AllocError, Global};
+
+/// What `plan` finds: the instance is read, then the plan to begin with where a file is named; then
+/// a fleet is planned, and its plan and a proof of a bound on its cost are written.
+pub fn plan<S: Shelf, C: JobClock, W: MoveWatcher + PriceWatcher + ScaleWatcher>(
+    alloc: Global,
+    job: &PlanWords,
+    shelf: &mut S,
+    clock: &mut C,
+    watcher: &mut W,
+) -> Result<Found, ShelfFault>
+    requires { IsPlanJob job.now }
+    ensures { Finds (plan_task (plan_value job.now))
+        (S.state shelf.old) (S.state shelf.new) result }
+{
+    let bytes = match read_file(alloc, job.file.as_str(), MOST_BYTES, shelf) {
+        Ok(bytes) => bytes,
+        Err(fault) => return Err(fault),
+    };
+    match fleet_instance(alloc, bytes.as_slice(), job.limit) {
+        Ok(inst) => {
+            clock.begin(job.seconds);
+            watcher.begin(inst.denominator());
+            plan_on(alloc, &inst, job, shelf, clock, watcher)
+        }
+        Err(Ended::Refused(refusal)) => refuse_job(alloc, refusal),
+        Err(Ended::Memory) => Err(ShelfFault::Memory),
+    }
+}
+
+/// What `plan` finds on the instance of its file: the plan to begin with is read, where a file is
+/// named.
+fn plan_on<S: Shelf, C: JobClock, W: MoveWatcher + PriceWatcher>(
+    alloc: Global,
+    inst: &Instance,
+    job: &PlanWords,
+    shelf: &mut S,
+    clock: &mut C,
+    watcher: &mut W,
+) -> Result<Found, ShelfFault>
+    requires few { length (customer_nodes inst.now) ≤ most_customers }
+    requires files { IsPlanJob job.now }
+    ensures { (bytes : List ℕ)
+        → AreReadUpTo most_bytes (S.state shelf.old).files (plan_value job.now).file bytes
+        → HasFleetNetwork job.now.limit bytes inst.now
+        → Finds (plan_task (plan_value job.now))
+        (S.state shelf.old) (S.state shelf.new) result }
+{
+    match &job.start {
+        Some(name) => plan_from_file(alloc, inst, name.as_str(), job, shelf, clock, watcher),
+        None => plan_from_none(alloc, inst, job, clock, watcher),
+    }
+}
+
+/// What `plan` finds where the file of the plan to begin with has this name.
+fn plan_from_file<S: Shelf, C: JobClock, W: MoveWatcher + PriceWatcher>(
+    alloc: Global,
+    inst: &Instance,
+    name: &str,
+    job: &PlanWords,
+    shelf: &mut S,
+    clock: &mut C,
+    watcher: &mut W,
+) -> Result<Found, ShelfFault>
+    requires few { length (customer_nodes inst.now) ≤ most_customers }
+    requires files { IsPlanJob job.now }
+    ensures { (bytes : List ℕ)
+        → AreReadUpTo most_bytes (S.state shelf.old).files (plan_value job.now).file bytes
+        → HasFleetNetwork job.now.limit bytes inst.now
+        → (plan_value job.now).start ≡ Some name.now
+        → Finds (plan_task (plan_value job.now))
+        (S.state shelf.old) (S.state shelf.new) result }
+{
+    let bytes = match read_file(alloc, name, MOST_BYTES, shelf) {
+        Ok(bytes) => bytes,
+        Err(fault) => return Err(fault),
+    };
+    plan_from_text(alloc, inst, bytes.as_slice(), job, clock, watcher)
+}
+
+/// What is found where no file with a plan to begin with is named.
+fn plan_from_none<C: JobClock, W: MoveWatcher + PriceWatcher>(
+    alloc: Global,
+    inst: &Instance,
+    job: &PlanWords,
+    clock: &mut C,
+    watcher: &mut W,
+) -> Result<Found, ShelfFault>
+    requires few { length (customer_nodes inst.now) ≤ most_customers }
+    requires files { IsPlanJob job.now }
+    ensures answers { (bytes : List ℕ) (more : List (List ℕ))
+        → HasPlanJob (plan_value job.now) bytes more inst.now None
+        → IfOk result (λ f. PlanAnswers (plan_value job.now) bytes more
+        f.answer.status (map written_by f.files.items) f.answer.text.items) }
+    ensures memory { IfErr result (λ fault. fault ≡ ShelfFault.Memory) }
+{
+    match plan_from(alloc, inst, None, job, clock, watcher) {
+        Ok(found) => Ok(found),
+        Err(AllocError) => Err(ShelfFault::Memory),
+    }
+}
+
+/// What is found for the bytes of the file of the plan to begin with: it is read, and a fleet is
+/// planned.
+fn plan_from_text<C: JobClock, W: MoveWatcher + PriceWatcher>(
+    alloc: Global,
+    inst: &Instance,
+    bytes: &[u8],
+    job: &PlanWords,
+    clock: &mut C,
+    watcher: &mut W,
+) -> Result<Found, ShelfFault>
+    requires few { length (customer_nodes inst.now) ≤ most_customers }
+    requires files { IsPlanJob job.now }
+    ensures answers { (file name : List ℕ) → HasFleetNetwork job.now.limit file inst.now
+        → (plan_value job.now).start ≡ Some name
+        → IfOk result (λ f. PlanAnswers (plan_value job.now) file (bytes.now ∷ [])
+        f.answer.status (map written_by f.files.items) f.answer.text.items) }
+    ensures memory { IfErr result (λ fault. fault ≡ ShelfFault.Memory) }
+{
+    match plan_of(alloc, bytes) {
+        Ok(start) => match plan_from(alloc, inst, start.as_ref(), job, clock, watcher) {
+            Ok(found) => Ok(found),
+            Err(AllocError) => Err(ShelfFault::Memory),
+        },
+        Err(Ended::Refused(refusal)) => refuse_job(alloc, refusal),
+        Err(Ended::Memory) => Err(ShelfFault::Memory),
+    }
+}
+
+/// What is found with a plan to begin with, or with none: it is judged, and a fleet is planned.
+fn plan_from<C: JobClock, W: MoveWatcher + PriceWatcher>(
+    alloc: Global,
+    inst: &Instance,
+    start: Option<&FleetPlan>,
+    job: &PlanWords,
+    clock: &mut C,
+    watcher: &mut W,
+) -> Result<Found, AllocError>
+    requires few { length (customer_nodes inst.now) ≤ most_customers }
+    requires files { IsPlanJob job.now }
+    ensures { (bytes : List ℕ) (more : List (List ℕ))
+        → HasPlanJob (plan_value job.now) bytes more inst.now
+        (option_map (λ p. p.now) start.entry)
+        → IfOk result (λ f. PlanAnswers (plan_value job.now) bytes more
+        f.answer.status (map written_by f.files.items) f.answer.text.items) }
+{
+    match cost_of(alloc, inst, start) {
+        Ok(_was) => plan_judged(alloc, inst, start, job, clock, watcher),
+        Err(LargeFault::Plan { fault }) => reject(alloc, inst, fault),
+        Err(LargeFault::Memory) => Err(AllocError),
+    }
+}
+
+/// What is found with a fleet plan to begin with, or with none.
+fn plan_judged<C: JobClock, W: MoveWatcher + PriceWatcher>(
+    alloc: Global,
+    inst: &Instance,
+    start: Option<&FleetPlan>,
+    job: &PlanWords,
+    clock: &mut C,
+    watcher: &mut W,
+) -> Result<Found, AllocError>
+    requires few { length (customer_nodes inst.now) ≤ most_customers }
+    requires start { IfSome start (λ plan. IsFleetPlan inst.now 1 (stops_of plan.now.routes)) }
+    ensures { (bytes : List ℕ) (more : List (List ℕ))
+        → HasPlanJob (plan_value job.now) bytes more inst.now
+        (option_map (λ p. p.now) start.entry)
+        → IfOk result (λ f. PlanAnswers (plan_value job.now) bytes more
+        f.answer.status (map written_by f.files.items) f.answer.text.items) }
+{
+    let planned = plan_all(alloc, inst, start, clock, watcher)?;
+    planned.found(alloc, job.plan.as_str(), job.proof.as_str())
+}
+
+/// The line of the first rule that a plan breaks.
+fn reject(alloc: Global, inst: &Instance, fault: PlanFault) -> Result<Found, AllocError>
+    ensures status { IfOk result (λ f. f.answer.status ≡ Status.Negative) }
+    ensures files { IfOk result (λ f. map written_by f.files.items ≡ []) }
+    ensures text { IfOk result (λ f. f.answer.text.items
+        ≡ check_text inst.now.denominator (judgement.Plan fault)) }
+{
+    let mut text = Vec::new(alloc);
+    push_check_report(alloc, &mut text, inst, &Judgement::Plan(fault))?;
+    let answer = Answer {
+        status: Status::Negative,
+        text,
+    };
+    Ok(Found::alone(alloc, answer))
+}

@@ -1,0 +1,143 @@
+//! The search of `plan`, and the texts of what it finds.
+
+ghost use Rattle.std.specs.Prelude.{◌≡◌, ◌≤◌, IfOk, IfSome, length, option_map};
+ghost use Rattle.ev_model.specs.Fleet.{IsFleetPlan};
+ghost use Rattle.evgap_run.specs.PlanAnswer.{IsPlanFound, alone_in, plan_status};
+ghost use Rattle.evgap_run.specs.Report.{IsSmallCost, found_text};
+ghost use Rattle.gap_search.specs.Gap.{cost_held, plan_held};
+ghost use Rattle.instance_reader.specs.Instance.{customer_nodes, most_customers};
+ghost use Rattle.near_text.specs.NearTexts.{near_text};
+ghost use Rattle.near_text.specs.Written.{written_near};
+ghost use Rattle.plan_check.specs.FleetRules.{stops_of};
+ghost use Rattle.report_lines.specs.Lines.{IsBoundOf};
+ghost use Rattle.route_improve.specs.Improved.{IsImproved};
+ghost use Rattle.route_plan.specs.PlanTexts.{FitsFile, fleet_plan_text};
+
+use crate::report::push_found;
+use fleet_steps::cost_of;
+use gap_search::{GapClock, Improved, MoveWatcher, NearProof, PriceWatcher, close_gap};
+use instance_reader::Instance;
+use job_frame::{Answer, Status};
+use job_steps::Planned;
+use near_text::push_near;
+use plan_check::LargeFault;
+use route_plan::{FleetPlan, push_fleet_plan};
+use std::alloc::{AllocError, Global};
+
+/// What a search finds that begins with a plan, or with none: the texts of a plan and of a proof,
+/// and the report on both.
+pub fn plan_all<C: GapClock, W: MoveWatcher + PriceWatcher>(
+    alloc: Global,
+    inst: &Instance,
+    start: Option<&FleetPlan>,
+    clock: &mut C,
+    watcher: &mut W,
+) -> Result<Planned, AllocError>
+    requires few { length (customer_nodes inst.now) ≤ most_customers }
+    requires start { IfSome start (λ plan. IsFleetPlan inst.now 1 (stops_of plan.now.routes)) }
+    ensures { IfOk result (λ p. IsPlanFound inst.now (option_map (λ plan. plan.now) start.entry)
+        p.plan.items p.cert.items p.answer.status p.answer.text.items) }
+{
+    // That the instance's network is one is told by its calls.
+    let _nodes = inst.nodes();
+    let outcome = close_gap(alloc, inst, start, clock, watcher)?;
+    let cost = held_cost(alloc, inst, &outcome.plan)?;
+    let answer = report(
+        alloc,
+        inst,
+        alone_in(&outcome.plan),
+        cost,
+        outcome.proof.bound,
+    )?;
+    let plan = plan_text(alloc, plan_held(&outcome.plan))?;
+    let cert = proof_text(alloc, inst, &outcome.proof)?;
+    Ok(Planned { plan, cert, answer })
+}
+
+/// The plan that is held.
+fn plan_held(held: &Improved) -> Option<&FleetPlan>
+    ensures { option_map (λ p. p.now) result ≡ plan_held held.now }
+{
+    match held {
+        Improved::Plan(plan) => Some(plan),
+        Improved::Alone(_) => None,
+    }
+}
+
+/// The customer whom no route of his own reaches, where no plan is held.
+fn alone_in(held: &Improved) -> Option<usize>
+    ensures { result ≡ alone_in held.now }
+{
+    match held {
+        Improved::Plan(_) => None,
+        Improved::Alone(node) => Some(*node),
+    }
+}
+
+/// What the plan that is held costs.
+fn held_cost(alloc: Global, inst: &Instance, held: &Improved) -> Result<Option<u128>, AllocError>
+    requires { IfSome (plan_held held.now) (λ p. IsImproved inst.now p.routes) }
+    ensures cost { IfOk result (λ cost. cost ≡ cost_held inst.now held.now) }
+    ensures small { IfOk result IsSmallCost }
+{
+    match cost_of(alloc, inst, plan_held(held)) {
+        Ok(cost) => Ok(cost),
+        Err(LargeFault::Memory) => Err(AllocError),
+        // A fleet plan breaks no rule.
+        Err(LargeFault::Plan { .. }) => unreachable!(),
+    }
+}
+
+/// The report on what was found, and the status that goes with it.
+fn report(
+    alloc: Global,
+    inst: &Instance,
+    alone: Option<usize>,
+    cost: Option<u128>,
+    bound: Option<u128>,
+) -> Result<Answer, AllocError>
+    requires bound { IsBoundOf cost bound }
+    requires small { IsSmallCost cost }
+    ensures status { IfOk result (λ a. a.status ≡ plan_status cost bound) }
+    ensures text { IfOk result
+        (λ a. a.text.items ≡ found_text inst.now.denominator alone cost bound) }
+{
+    let mut text = Vec::new(alloc);
+    push_found(alloc, &mut text, inst, alone, cost, bound)?;
+    Ok(Answer {
+        status: plan_status(cost, bound),
+        text,
+    })
+}
+
+/// The status beside a cost and a bound.
+fn plan_status(cost: Option<u128>, bound: Option<u128>) -> Status
+    ensures { result ≡ plan_status cost bound }
+{
+    match (cost, bound) {
+        (_, None) => Status::Negative,
+        (Some(cost), Some(bound)) if cost == bound => Status::Done,
+        (_, Some(_)) => Status::Stopped,
+    }
+}
+
+/// The text of the file of a plan, or of none.
+fn plan_text(alloc: Global, plan: Option<&FleetPlan>) -> Result<Vec<u8>, AllocError>
+    requires { FitsFile (option_map (λ p. p.now) plan) }
+    ensures { IfOk result
+        (λ text. text.items ≡ fleet_plan_text (option_map (λ p. p.now) plan.entry)) }
+{
+    let mut text = Vec::new(alloc);
+    push_fleet_plan(alloc, &mut text, plan)?;
+    Ok(text)
+}
+
+/// The text of a proof.
+fn proof_text(alloc: Global, inst: &Instance, proof: &NearProof) -> Result<Vec<u8>, AllocError>
+    requires { length (customer_nodes inst.now) ≤ most_customers }
+    ensures { IfOk result (λ text. text.items ≡ near_text (written_near inst.now proof.now)) }
+{
+    let mut text = Vec::new(alloc);
+    push_near(alloc, &mut text, inst, proof)?;
+    Ok(text)
+}
