@@ -1,0 +1,249 @@
+//! Prices by the volume method (Barahona, Anbil 2000): steps along an average of what the columns
+//! that earn leave uncovered.
+
+use crate::columns::{Column, Service};
+use crate::fixed::{at, narrow, product, put};
+use crate::repair::{lower, raise};
+use std::alloc::{AllocError, Global};
+
+/// How many steps are made at once.
+const STEPS: usize = 300;
+
+/// How many bits of a share are behind the point.
+const SHARE_BITS: u32 = 20;
+
+/// A whole share.
+const WHOLE: i64 = 1 << 20;
+
+/// By so much, of one, the shares move to those of a step.
+const PULL: i64 = WHOLE / 20;
+
+/// How many bits of a step's size are behind the point.
+const SIZE_BITS: u32 = 16;
+
+/// The size of the first step, the least and the greatest.
+const SIZES: (i64, i64, i64) = (6553, 6, 1 << 17);
+
+/// After so many steps without a better value they become smaller.
+const PATIENCE: usize = 10;
+
+/// The state of the method, which stays from one call to the next.
+#[derive(Drop)]
+pub(crate) struct Volume {
+    /// The best prices.
+    center: Vec<i64>,
+    /// To which share each column is taken.
+    shares: Vec<i64>,
+    /// The prices of a step.
+    tried: Vec<i64>,
+    /// What the shares leave uncovered, by customer.
+    gaps: Vec<i64>,
+    /// Which columns earn by the prices of a step.
+    earns: Vec<bool>,
+}
+
+/// How a run of steps goes.
+#[derive(Drop)]
+struct Pace {
+    /// The best value.
+    best: i64,
+    /// The value that is aimed at.
+    target: i64,
+    /// The size of a step.
+    size: i64,
+    /// How many steps in a row brought no better value.
+    misses: usize,
+}
+
+impl Volume {
+    /// Prices 0 for so many customers.
+    pub(crate) fn new(alloc: Global, customers: usize) -> Result<Volume, AllocError> {
+        Ok(Volume {
+            center: vec![in alloc; 0; customers]?,
+            shares: Vec::new(alloc),
+            tried: vec![in alloc; 0; customers]?,
+            gaps: vec![in alloc; 0; customers]?,
+            earns: Vec::new(alloc),
+        })
+    }
+
+    /// Reckons with a further column.
+    pub(crate) fn add_column(&mut self) -> Result<(), AllocError> {
+        self.shares.push(0)?;
+        self.earns.push(false)?;
+        Ok(())
+    }
+
+    /// Takes nothing of a column any more.
+    pub(crate) fn ban(&mut self, place: usize) {
+        put(&mut self.shares, place, 0);
+    }
+
+    /// The best prices.
+    pub(crate) fn center(&self) -> &[i64] {
+        &self.center
+    }
+
+    /// Goes on from these prices.
+    pub(crate) fn set_center(&mut self, prices: &[i64]) {
+        for (own, price) in self.center.iter_mut().zip(prices) {
+            *own = *price;
+        }
+    }
+
+    /// Takes steps to better prices, and lets no column earn by them, but raises them as far as that
+    /// lasts.
+    pub(crate) fn solve(
+        &mut self,
+        alloc: Global,
+        columns: &[Column],
+        dearest: i64,
+    ) -> Result<(), AllocError> {
+        lower(alloc, columns, &mut self.center)?;
+        raise(alloc, columns, &mut self.center, dearest)?;
+        let best = value(columns, &self.center, &mut self.earns);
+        let mut pace = Pace::new(best);
+        for _ in 0..STEPS {
+            if !self.step(columns, dearest, &mut pace) {
+                break;
+            }
+        }
+        lower(alloc, columns, &mut self.center)?;
+        raise(alloc, columns, &mut self.center, dearest)
+    }
+
+    /// Takes a step. Whether anything is left to be covered.
+    fn step(&mut self, columns: &[Column], dearest: i64, pace: &mut Pace) -> bool {
+        find_gaps(columns, &self.shares, &mut self.gaps);
+        let norm = norm_of(&self.gaps, &self.center);
+        if norm == 0 {
+            return false;
+        }
+        self.try_prices(pace, norm, dearest);
+        let found = value(columns, &self.tried, &mut self.earns);
+        pull(&mut self.shares, &self.earns, columns);
+        if pace.learn(found) {
+            for (own, price) in self.center.iter_mut().zip(self.tried.iter()) {
+                *own = *price;
+            }
+        }
+        true
+    }
+
+    /// The prices of a step.
+    fn try_prices(&mut self, pace: &Pace, norm: i128, dearest: i64) {
+        let aim = product(pace.size, pace.target.saturating_sub(pace.best)) >> SIZE_BITS;
+        let under = (norm >> SHARE_BITS).max(1);
+        for (place, tried) in self.tried.iter_mut().enumerate() {
+            let gap = i128::from(at(&self.gaps, place));
+            let step = aim.saturating_mul(gap).checked_div(under).unwrap_or(0);
+            let price = at(&self.center, place).saturating_add(narrow(step));
+            *tried = price.min(dearest).max(0);
+        }
+    }
+}
+
+impl Pace {
+    /// The pace at the beginning, by the value of the first prices.
+    fn new(best: i64) -> Pace {
+        let (size, _, _) = SIZES;
+        Pace {
+            best,
+            target: above(best).saturating_add(1),
+            size,
+            misses: 0,
+        }
+    }
+
+    /// Goes on by the value of a step. Whether it is the best one.
+    fn learn(&mut self, found: i64) -> bool {
+        let (_, least, most) = SIZES;
+        if found > self.best {
+            self.best = found;
+            self.size = (self.size.saturating_mul(11) / 10).min(most);
+            self.misses = 0;
+            if found > self.target.saturating_sub(self.target / 100) {
+                self.target = above(found);
+            }
+            return true;
+        }
+        self.misses = self.misses.saturating_add(1);
+        if self.misses >= PATIENCE {
+            self.size = (self.size.saturating_mul(2) / 3).max(least);
+            self.misses = 0;
+        }
+        false
+    }
+}
+
+/// A value a little above a value.
+fn above(value: i64) -> i64 {
+    value.saturating_add(value / 50)
+}
+
+/// What prices bound: their sum, less what the columns earn that earn, which are told.
+fn value(columns: &[Column], prices: &[i64], earns: &mut [bool]) -> i64 {
+    let mut sum: i128 = 0;
+    for price in prices {
+        sum = sum.saturating_add(i128::from(*price));
+    }
+    for (column, earns) in columns.iter().zip(earns.iter_mut()) {
+        let reduced = column.reduced_cost(prices);
+        *earns = !column.is_banned && reduced < 0;
+        if *earns {
+            sum = sum.saturating_add(i128::from(reduced));
+        }
+    }
+    narrow(sum)
+}
+
+/// What the shares of the columns leave uncovered, by customer.
+fn find_gaps(columns: &[Column], shares: &[i64], gaps: &mut [i64]) {
+    for gap in gaps.iter_mut() {
+        *gap = WHOLE;
+    }
+    for (column, share) in columns.iter().zip(shares) {
+        if *share != 0 {
+            cover(&column.services, *share, gaps);
+        }
+    }
+}
+
+/// Takes a share of services from the gaps.
+fn cover(services: &[Service], share: i64, gaps: &mut [i64]) {
+    for service in services {
+        let gap = at(gaps, service.customer);
+        let part = share.saturating_mul(service.count);
+        put(gaps, service.customer, gap.saturating_sub(part));
+    }
+}
+
+/// The square of the gaps, without those that can't lower a price any more.
+fn norm_of(gaps: &[i64], center: &[i64]) -> i128 {
+    let mut norm: i128 = 0;
+    for (gap, price) in gaps.iter().zip(center) {
+        if *gap >= 0 || *price != 0 {
+            norm = norm.saturating_add(product(*gap, *gap));
+        }
+    }
+    norm
+}
+
+/// Moves the shares to those of the columns that earn.
+fn pull(shares: &mut [i64], earns: &[bool], columns: &[Column]) {
+    for (place, share) in shares.iter_mut().enumerate() {
+        let is_banned = match columns.get(place) {
+            Some(column) => column.is_banned,
+            None => true,
+        };
+        if !is_banned {
+            let aim = if earns.get(place).copied().unwrap_or(false) {
+                WHOLE
+            } else {
+                0
+            };
+            let part = aim.saturating_sub(*share).saturating_mul(PULL) / WHOLE;
+            *share = share.saturating_add(part);
+        }
+    }
+}
