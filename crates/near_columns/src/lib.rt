@@ -1,34 +1,29 @@
-//! A search for near routes that together cost little: a stand-in, which finds nothing.
+//! A search for bounds by near routes, on which a customer may be served again once it is forgotten
+//! (the ng-route relaxation: Baldacci, Mingozzi, Roberti 2011): prices of a linear optimum by column
+//! generation, and a candidate for a proof of them. It promises nothing but to be safe and to end;
+//! what it finds is judged by others.
 #![tactic(auto)]
 
-use instance_reader::Instance;
-use near_proof::NearProof;
-use std::alloc::{AllocError, Global};
+mod clock;
+mod closing;
+mod ground;
+mod growing;
+mod keeping;
+mod labels;
+mod memory;
+mod near_found;
+mod number;
+mod orders;
+mod proving;
+mod rest_table;
+mod rounds;
+mod routes;
+mod search;
+mod starting;
+mod strengthening;
+mod trips;
+mod values;
+mod whole;
 
-/// What a search found. Nothing is promised of it: who takes it judges it.
-#[derive(Drop)]
-pub struct NearFound {
-    /// A candidate of a near proof for the instance.
-    pub proof: Option<NearProof>,
-    /// Candidates of routes: the nodes of the customers, in order of service.
-    pub orders: Vec<Vec<usize>>,
-}
-
-/// Who tells whether to stop now, asked between two labels.
-pub trait GapClock {
-    /// Whether to stop now.
-    fn is_up(&mut self) -> bool;
-}
-
-/// A search that promises nothing but to be safe and to end.
-pub fn search_near<C: GapClock>(
-    alloc: Global,
-    _inst: &Instance,
-    clock: &mut C,
-) -> Result<NearFound, AllocError> {
-    let _is_up = clock.is_up();
-    Ok(NearFound {
-        proof: None,
-        orders: Vec::new(alloc),
-    })
-}
+pub use clock::{GapClock, NoClock};
+pub use near_found::{NearFound, search_near};
