@@ -1,7 +1,7 @@
 //! A search for bounds by near routes, on which a customer may be served again once it is forgotten
-//! (the ng-route relaxation: Baldacci, Mingozzi, Roberti 2011): prices of a linear optimum by column
-//! generation, and a candidate for a proof of them. It promises nothing but to be safe and to end;
-//! what it finds is judged by others.
+//! (the ng-route relaxation: Baldacci, Mingozzi, Roberti 2011): prices of a linear optimum by
+//! column generation, and a candidate for a proof of them. It promises nothing but to be safe and
+//! to end; what it finds is judged by others.
 #![tactic(auto)]
 
 mod clock;

@@ -29,8 +29,8 @@ pub struct NearFound {
 /// them). They are made whole so that no near route earns and each customer has a tight one, and
 /// closed labels are made for them. The only `Err` is want of memory.
 ///
-/// The clock stops rounds and the search for routes for plans, but neither the first rounds, of quick
-/// searches alone, nor what makes a proof of the prices at hand.
+/// The clock stops rounds and the search for routes for plans, but neither the first rounds, of
+/// quick searches alone, nor what makes a proof of the prices at hand.
 pub fn search_near<C: GapClock>(
     alloc: Global,
     inst: &Instance,

@@ -185,8 +185,8 @@ impl Search {
         })
     }
 
-    /// Makes the steps from the labels that wait, by least time, until none waits, enough routes are
-    /// found, or the time is up.
+    /// Makes the steps from the labels that wait, by least time, until none waits, enough routes
+    /// are found, or the time is up.
     pub(crate) fn run<C: GapClock>(
         &mut self,
         alloc: Global,

@@ -153,8 +153,8 @@ fn take_room(reduced: &mut [i64], serving: &[(usize, i64)], rise: i64) {
     }
 }
 
-/// The place of a route of the pool that is tight for a customer: it serves him, and would earn were
-/// his price one higher.
+/// The place of a route of the pool that is tight for a customer: it serves him, and would earn
+/// were his price one higher.
 pub(crate) fn tight_route(pool: &[Route], prices: &[i64], customer: usize) -> Option<usize> {
     for (place, route) in pool.iter().enumerate() {
         let count = route.count_of(customer);
