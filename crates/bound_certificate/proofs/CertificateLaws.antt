@@ -4,7 +4,7 @@ use Rattle.std.proofs.lemmas.Fmt.{decimal_digit}
 use Rattle.ev_model.specs.Network.{IsNetwork, Network}
 use Rattle.ev_text.specs.Texts.{IsLonger, StandsUnlessLonger}
 use Rattle.ev_text.proofs.ReadingLaws.{Reads}
-use Rattle.text_records.proofs.Numbers.{Anything}
+use Rattle.ev_text.proofs.Numbers.{Anything}
 use Rattle.certificate_parts.specs.Limits.{most_bytes}
 use Rattle.certificate_parts.specs.Versions.{greatest_version, version_line}
 use Rattle.certificate_parts.specs.declared.cert_text.CertText.TheVariants.{Range, Text, TooLong, Version}

@@ -6,10 +6,10 @@ use Rattle.ev_text.specs.Readers.{so_many}
 use Rattle.ev_text.specs.Texts.{AreLooseRun, StandsUnlessLonger, joined_texts}
 use Rattle.ev_text.proofs.ReadingLaws.{Reads}
 use Rattle.ev_text.proofs.RunLaws.{reads-so_many}
-use Rattle.text_records.specs.Numbers.{Keeping}
-use Rattle.text_records.proofs.Lines.{loose_length, own_length}
-use Rattle.text_records.proofs.Numbers.{Anything, ranged}
-use Rattle.text_records.proofs.Records.{parts-behind, parts-last, parts-own, parts-then, reads-record}
+use Rattle.ev_text.specs.Numbers.{Keeping}
+use Rattle.ev_text.proofs.Lines.{loose_length, own_length}
+use Rattle.ev_text.proofs.Numbers.{Anything, ranged}
+use Rattle.ev_text.proofs.Records.{parts-behind, parts-last, parts-own, parts-then, reads-record}
 use Rattle.bound_certificate.specs.CertificateTexts.{body_text, line_text, section_text, sections_text}
 use Rattle.certificate_parts.specs.Limits.{most_items}
 use Rattle.bound_certificate.specs.Reading.{body_at, line_at, section_at, sections_at, tree_at}

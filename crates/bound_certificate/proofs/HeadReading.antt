@@ -3,8 +3,8 @@ use Rattle.std.proofs.Common.{◌≡◌, ℕ, ◌^◌, ◌<◌, ◌≤◌, Bool,
 use Rattle.ev_model.specs.Network.{Network, scaled_limit}
 use Rattle.ev_text.specs.Texts.{StandsUnlessLonger}
 use Rattle.ev_text.proofs.ReadingLaws.{Reads}
-use Rattle.text_records.proofs.Numbers.{Anything}
-use Rattle.text_records.proofs.Records.{parts-behind, parts-own, parts-then, reads-record}
+use Rattle.ev_text.proofs.Numbers.{Anything}
+use Rattle.ev_text.proofs.Records.{parts-behind, parts-own, parts-then, reads-record}
 use Rattle.route_plan.specs.Limits.{greatest_number}
 use Rattle.bound_certificate.specs.CertificateTexts.{body_text, certificate_text, head_lines, is_first_version}
 use Rattle.bound_certificate.specs.Reading.{behind_head, body_at, certificate_at}

@@ -20,3 +20,4 @@ pub mod WrittenFits
 pub mod WrittenLabels
 pub mod WrittenWhole
 pub mod OneCertificate
+pub mod Entries

@@ -30,7 +30,7 @@ use Rattle.bound_certificate.specs.Reading.{certificate_at}
 use Rattle.bound_certificate.specs.WrittenRanges.{WrittenIs, WrittenLoose}
 use Rattle.bound_certificate.proofs.CertificateLaws.{certificate_is_spelled, reads}
 use Rattle.certificate_parts.proofs.Chosen.{chosen, same_chosen, split_same}
-use Rattle.text_records.proofs.Numbers.{Anything}
+use Rattle.ev_text.proofs.Numbers.{Anything}
 use Rattle.bound_certificate.proofs.WrittenWhole.{written_is}
 use Rattle.certificate_parts.proofs.OneWritten.{LabelIs, one_entry, one_label, same_items, same_maps}
 use Rattle.instance_reader.specs.Instance.{most_customers}

@@ -3,14 +3,14 @@ use Rattle.std.proofs.Common.{ℕ, [], Option, codes, refl, arith}
 use Rattle.ev_model.specs.Network.{Network}
 use Rattle.ev_text.specs.Texts.{StandsUnlessLonger}
 use Rattle.ev_text.proofs.ReadingLaws.{Reads}
-use Rattle.text_records.proofs.Numbers.{ranged}
-use Rattle.text_records.proofs.Records.{parts-behind, parts-none, parts-then, reads-record}
+use Rattle.ev_text.proofs.Numbers.{ranged}
+use Rattle.ev_text.proofs.Records.{parts-behind, parts-none, parts-then, reads-record}
 use Rattle.route_plan.specs.Limits.{greatest_number}
 use Rattle.bound_certificate.specs.CertificateTexts.{pair_text}
 use Rattle.certificate_parts.specs.Reading.{is_place}
 use Rattle.bound_certificate.specs.Reading.{pair_at}
 use Rattle.bound_certificate.specs.WrittenRanges.{PairFits, PairLoose, may_follow}
-pub use Rattle.text_records.proofs.Numbers.{Anything}
+pub use Rattle.ev_text.proofs.Numbers.{Anything}
 
 pub reads-pair : (g : Network) (last : Option (ℕ × ℕ)) → Reads StandsUnlessLonger (pair_at g last) pair_text (PairFits g last) PairLoose Anything
 reads-pair g last =

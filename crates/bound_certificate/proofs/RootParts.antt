@@ -2,8 +2,8 @@
 use Rattle.std.proofs.Common.{[], codes, nat_le, refl, arith}
 use Rattle.ev_text.specs.Texts.{StandsUnlessLonger}
 use Rattle.ev_text.proofs.ReadingLaws.{Reads}
-use Rattle.text_records.proofs.Numbers.{Anything, ranged}
-use Rattle.text_records.proofs.Records.{parts-behind, parts-last, parts-own, parts-then, reads-record}
+use Rattle.ev_text.proofs.Numbers.{Anything, ranged}
+use Rattle.ev_text.proofs.Records.{parts-behind, parts-last, parts-own, parts-then, reads-record}
 use Rattle.bound_certificate.specs.CertificateTexts.{column_text, share_text}
 use Rattle.certificate_parts.specs.Limits.{greatest_weight}
 use Rattle.certificate_parts.specs.Ranges.{ColumnFits}

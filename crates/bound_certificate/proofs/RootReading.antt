@@ -8,10 +8,10 @@ use Rattle.ev_text.specs.Texts.{AreLooseRun, AreRun, StandsUnlessLonger, joined_
 use Rattle.ev_text.proofs.ChoiceLaws.{BeforeChoice}
 use Rattle.ev_text.proofs.ReadingLaws.{Reads}
 use Rattle.ev_text.proofs.RunLaws.{reads-so_many}
-use Rattle.text_records.proofs.Choices.{parts-either, reads-choice}
-use Rattle.text_records.proofs.Lines.{loose_length, own_length}
-use Rattle.text_records.proofs.Numbers.{Anything, ranged, upto}
-use Rattle.text_records.proofs.Records.{parts-behind, parts-last, parts-none, parts-then, reads-record}
+use Rattle.ev_text.proofs.Choices.{parts-either, reads-choice}
+use Rattle.ev_text.proofs.Lines.{loose_length, own_length}
+use Rattle.ev_text.proofs.Numbers.{Anything, ranged, upto}
+use Rattle.ev_text.proofs.Records.{parts-behind, parts-last, parts-none, parts-then, reads-record}
 use Rattle.route_plan.specs.declared.plan.RoutePlan.{RoutePlan}
 use Rattle.certificate_parts.specs.Texts.{basis_text}
 use Rattle.bound_certificate.specs.CertificateTexts.{column_text, root_text, share_text}

@@ -5,9 +5,9 @@ use Rattle.ev_text.specs.Readers.{many_from}
 use Rattle.ev_text.specs.Texts.{AreLooseRun, AreRun, StandsUnlessLonger, joined_texts}
 use Rattle.ev_text.proofs.ReadingLaws.{Reads}
 use Rattle.ev_text.proofs.RunLaws.{reads-many}
-use Rattle.text_records.proofs.Lines.{loose_length, own_length}
-use Rattle.text_records.proofs.Numbers.{Anything, upto}
-use Rattle.text_records.proofs.Records.{parts-behind, parts-last, parts-then, reads-record}
+use Rattle.ev_text.proofs.Lines.{loose_length, own_length}
+use Rattle.ev_text.proofs.Numbers.{Anything, upto}
+use Rattle.ev_text.proofs.Records.{parts-behind, parts-last, parts-then, reads-record}
 use Rattle.certificate_parts.specs.Texts.{label_text, prices_text}
 use Rattle.bound_certificate.specs.CertificateTexts.{pair_text, section_text}
 use Rattle.certificate_parts.specs.Limits.{greatest_weight, most_items}

@@ -4,9 +4,9 @@ use Rattle.ev_model.specs.Network.{Network}
 use Rattle.ev_text.specs.Texts.{StandsUnlessLonger}
 use Rattle.ev_text.proofs.ChoiceLaws.{other_word}
 use Rattle.ev_text.proofs.ReadingLaws.{Reads}
-use Rattle.text_records.proofs.Choices.{parts-either, reads-choice}
-use Rattle.text_records.proofs.Numbers.{Anything, ranged}
-use Rattle.text_records.proofs.Records.{parts-behind, parts-none, parts-then, reads-record}
+use Rattle.ev_text.proofs.Choices.{parts-either, reads-choice}
+use Rattle.ev_text.proofs.Numbers.{Anything, ranged}
+use Rattle.ev_text.proofs.Records.{parts-behind, parts-none, parts-then, reads-record}
 use Rattle.route_plan.specs.Limits.{greatest_number}
 use Rattle.bound_certificate.specs.CertificateTexts.{line_text}
 use Rattle.certificate_parts.specs.Limits.{most_items}

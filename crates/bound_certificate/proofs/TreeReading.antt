@@ -15,7 +15,7 @@ use Rattle.bound_certificate.specs.Reading.{few_lines, tree_at}
 use Rattle.bound_certificate.specs.Trees.{Closes, open_behind}
 use Rattle.bound_certificate.specs.declared.certificate.TreeLine.{TreeLine}
 use Rattle.bound_certificate.specs.declared.certificate.TreeLine.TheVariants.{Split, Leaf}
-use Rattle.text_records.proofs.Numbers.{Anything}
+use Rattle.ev_text.proofs.Numbers.{Anything}
 
 -- a line behind which lines close the trees that are open there
 pub closes_with : (line : TreeLine) (trees : ℕ) (lines : List TreeLine) → Closes (open_behind line (suc trees)) lines → Closes (suc trees) (line ∷ lines)

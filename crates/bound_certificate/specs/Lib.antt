@@ -8,3 +8,4 @@ pub mod Reading
 pub mod WrittenRanges
 pub mod CertificateIn
 pub mod Kept
+pub mod Entries

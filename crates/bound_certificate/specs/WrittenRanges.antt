@@ -4,7 +4,7 @@ use Rattle.std.specs.Prelude.{ℕ, ◌≤◌, Bool, ◌&&◌, not, List, [], Opt
 use Rattle.std.specs.List.{All}
 use Rattle.ev_model.specs.Network.{Network}
 use Rattle.ev_text.specs.Texts.{AllFrom, AreLooseRun, AreRun}
-use Rattle.text_records.specs.Numbers.{Keeping, UpTo}
+use Rattle.ev_text.specs.Numbers.{Keeping, UpTo}
 use Rattle.route_plan.specs.Limits.{greatest_number}
 use Rattle.certificate_parts.specs.Limits.{greatest_weight, most_items}
 use Rattle.bound_certificate.specs.Limits.{most_pairs}

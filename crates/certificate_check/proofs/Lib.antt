@@ -16,3 +16,4 @@ pub mod Costs
 pub mod Roots
 pub mod Truths
 pub mod Rules
+pub mod RoundedSums

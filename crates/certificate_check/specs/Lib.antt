@@ -9,3 +9,4 @@ pub mod Labels
 pub mod Shares
 pub mod Columns
 pub mod Truth
+pub mod RoundedUp

@@ -8,8 +8,8 @@ ghost use Rattle.certificate_check.specs.Columns.{StandFor, TellsTooWide, entry_
 ghost use Rattle.fleet_model.specs.Equations.{Column};
 
 use certificate_parts::BasisEntry;
+use master_simplex::{ListedRoute, is_too_wide};
 use std::alloc::{AllocError, Global};
-use wide_bases::{ListedRoute, is_too_wide};
 
 /// Whether the basis over listed routes is too wide, whatever columns stand for the routes. `Err`
 /// is want of memory alone.

@@ -1,6 +1,6 @@
 //! The judge of certificates: whether a certificate shows that no fleet plan costs less than its
 //! bound, and that the bound of its first section is the linear optimum; or the first rule that it
-//! breaks.
+//! breaks. What prices over a weight of time bound, rounded up.
 #![tactic(auto)]
 
 mod basis;
@@ -12,6 +12,7 @@ mod laws;
 mod leaves;
 mod product;
 mod root;
+mod rounding;
 mod routes;
 mod sections;
 mod shares;
@@ -26,6 +27,7 @@ pub use labels::check_labels;
 pub use laws::{
     accepted_bounds_are_true, accepted_where_no_rule_is_broken, exact_roots_are_least_covers,
 };
+pub use master_simplex::ListedRoute;
+pub use rounding::{price_sum, rounded_up};
 pub use routes::fleet_route;
 pub use verdict::Verdict;
-pub use wide_bases::ListedRoute;

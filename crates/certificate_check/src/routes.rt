@@ -10,9 +10,9 @@ ghost use Rattle.plan_check.specs.Tallies.{AreKnown};
 
 use customer_sets::CustSet;
 use instance_reader::Instance;
+use master_simplex::ListedRoute;
 use plan_check::stray_stop;
 use route_plan::{Stop, walk};
-use wide_bases::ListedRoute;
 
 /// The customers and the scaled time of a route of a fleet: a feasible plan from full that serves
 /// customers alone, one at least and each once. `None` exactly where the stops are none. It takes

@@ -9,9 +9,9 @@ use crate::basis::is_wide_basis;
 use crate::routes::fleet_route;
 use bound_certificate::BasisEntry;
 use instance_reader::Instance;
+use master_simplex::ListedRoute;
 use route_plan::RoutePlan;
 use std::alloc::{AllocError, Global};
-use wide_bases::ListedRoute;
 
 /// Whether the columns are routes of a fleet, and the basis over them is too wide.
 pub(crate) fn is_wide(

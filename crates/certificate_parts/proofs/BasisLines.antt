@@ -4,10 +4,10 @@ use Rattle.ev_model.specs.Network.{Network}
 use Rattle.ev_text.specs.Texts.{AreLooseRun, AreRun, StandsUnlessLonger}
 use Rattle.ev_text.proofs.ChoiceLaws.{BeforeChoice}
 use Rattle.ev_text.proofs.ReadingLaws.{Reads}
-use Rattle.text_records.proofs.Choices.{parts-either, reads-choice}
-use Rattle.text_records.proofs.Lines.{reads-line}
-use Rattle.text_records.proofs.Numbers.{Anything, number_is_no_word, upto}
-use Rattle.text_records.proofs.Records.{parts-behind, parts-none, parts-then, reads-record}
+use Rattle.ev_text.proofs.Choices.{parts-either, reads-choice}
+use Rattle.ev_text.proofs.Lines.{reads-line}
+use Rattle.ev_text.proofs.Numbers.{Anything, number_is_no_word, upto}
+use Rattle.ev_text.proofs.Records.{parts-behind, parts-none, parts-then, reads-record}
 use Rattle.certificate_parts.specs.Texts.{basis_text, bound_text, entry_text}
 use Rattle.certificate_parts.specs.Limits.{greatest_bound}
 use Rattle.certificate_parts.specs.Ranges.{customer_count}

@@ -4,9 +4,9 @@ use Rattle.std.specs.List.{list_any}
 use Rattle.ev_model.specs.Network.{Network}
 use Rattle.ev_text.specs.Texts.{StandsUnlessLonger}
 use Rattle.ev_text.proofs.ReadingLaws.{Reads}
-use Rattle.text_records.proofs.Choices.{parts-either, reads-optional}
-use Rattle.text_records.proofs.Numbers.{NoDigit, number_is_no_mark, ranged}
-use Rattle.text_records.proofs.Records.{parts-last, reads-record}
+use Rattle.ev_text.proofs.Choices.{parts-either, reads-optional}
+use Rattle.ev_text.proofs.Numbers.{NoDigit, number_is_no_mark, ranged}
+use Rattle.ev_text.proofs.Records.{parts-last, reads-record}
 use Rattle.route_plan.specs.Limits.{greatest_number}
 use Rattle.certificate_parts.specs.Texts.{entry_text}
 use Rattle.certificate_parts.specs.Limits.{most_items}

@@ -6,8 +6,8 @@ use Rattle.ev_text.proofs.ListLaws.{cons_text}
 use Rattle.ev_text.proofs.MarkedLaws.{ended_text}
 use Rattle.ev_text.proofs.ReadingLaws.{Reads}
 use Rattle.ev_text.proofs.RunLaws.{ConsBehind, reads-so_many}
-use Rattle.text_records.proofs.Numbers.{Anything, ranged}
-use Rattle.text_records.proofs.Records.{parts-behind, parts-last, parts-then, reads-record}
+use Rattle.ev_text.proofs.Numbers.{Anything, ranged}
+use Rattle.ev_text.proofs.Records.{parts-behind, parts-last, parts-then, reads-record}
 use Rattle.route_plan.specs.Limits.{greatest_number}
 use Rattle.certificate_parts.specs.Texts.{label_text, point_text, set_text}
 use Rattle.certificate_parts.specs.Reading.{is_place, label_at}

@@ -12,10 +12,10 @@ use Rattle.ev_text.proofs.MarkedLaws.{ended_text}
 use Rattle.ev_text.proofs.ListLaws.{cons_text}
 use Rattle.ev_text.proofs.ReadingLaws.{Reads}
 use Rattle.ev_text.proofs.RunLaws.{ConsBehind, reads-cons}
-use Rattle.text_records.specs.Numbers.{UpTo}
-use Rattle.text_records.proofs.Choices.{parts-either, reads-optional}
-use Rattle.text_records.proofs.Numbers.{Anything, NoDigit, number_is_no_mark, ranged}
-use Rattle.text_records.proofs.Records.{parts-behind, parts-last, parts-none, parts-then, reads-record}
+use Rattle.ev_text.specs.Numbers.{UpTo}
+use Rattle.ev_text.proofs.Choices.{parts-either, reads-optional}
+use Rattle.ev_text.proofs.Numbers.{Anything, NoDigit, number_is_no_mark, ranged}
+use Rattle.ev_text.proofs.Records.{parts-behind, parts-last, parts-none, parts-then, reads-record}
 use Rattle.route_plan.specs.Limits.{greatest_number}
 use Rattle.certificate_parts.specs.Texts.{point_text, set_text}
 use Rattle.certificate_parts.specs.Reading.{customer_at, is_above, is_customer_node, point_at, points_at, set_at, set_behind}

@@ -8,7 +8,7 @@ use Rattle.ev_text.specs.declared.TextFault.TheVariants.{TooLarge}
 use Rattle.ev_text.proofs.Mended.{IsMended, mended-here, mended-whole}
 use Rattle.ev_text.proofs.ReadingLaws.{Reads}
 use Rattle.ev_text.proofs.Results.{Err-ne-Ok}
-use Rattle.text_records.proofs.Numbers.{NoDigit, ranged}
+use Rattle.ev_text.proofs.Numbers.{NoDigit, ranged}
 use Rattle.route_plan.specs.Limits.{greatest_number}
 use Rattle.certificate_parts.specs.Reading.{node_where}
 

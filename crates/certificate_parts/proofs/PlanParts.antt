@@ -6,8 +6,8 @@ use Rattle.ev_text.specs.Texts.{StandsUnlessLonger, parted_texts}
 use Rattle.ev_text.proofs.ListLaws.{AreParted, reader-parted}
 use Rattle.ev_text.proofs.ReadingLaws.{Reads}
 use Rattle.ev_text.proofs.ReaderLaws.{reads-reader}
-use Rattle.text_records.proofs.Numbers.{Anything}
-use Rattle.text_records.proofs.Records.{parts-last, reads-record}
+use Rattle.ev_text.proofs.Numbers.{Anything}
+use Rattle.ev_text.proofs.Records.{parts-last, reads-record}
 use Rattle.route_plan.specs.PlanReading.{stop_at}
 use Rattle.route_plan.specs.PlanTexts.{IsSmallStop, stop_text}
 use Rattle.route_plan.proofs.PlanReaders.{BeforeStop, reader-stop}

@@ -3,8 +3,8 @@ use Rattle.std.proofs.Common.{ℕ, ◌^◌, ◌<◌, [], Option, refl}
 use Rattle.ev_model.specs.Network.{Network, scaled_limit}
 use Rattle.ev_text.specs.Texts.{StandsUnlessLonger}
 use Rattle.ev_text.proofs.ReadingLaws.{Reads}
-use Rattle.text_records.proofs.Numbers.{NoDigit, ranged}
-use Rattle.text_records.proofs.Records.{parts-behind, parts-last, parts-then, reads-record}
+use Rattle.ev_text.proofs.Numbers.{NoDigit, ranged}
+use Rattle.ev_text.proofs.Records.{parts-behind, parts-last, parts-then, reads-record}
 use Rattle.certificate_parts.specs.Texts.{point_text}
 use Rattle.certificate_parts.specs.Reading.{is_higher, is_later, point_at}
 use Rattle.certificate_parts.specs.WrittenRanges.{PointIs, PointLoose}

@@ -7,8 +7,8 @@ use Rattle.ev_text.specs.Readers.{signed_at}
 use Rattle.ev_text.specs.Texts.{AreLooseRun, AreRun, StandsUnlessLonger, AllFrom}
 use Rattle.ev_text.proofs.ReadingLaws.{Reads}
 use Rattle.ev_text.proofs.SignedLaws.{reads-signed}
-use Rattle.text_records.proofs.Lines.{reads-line}
-use Rattle.text_records.proofs.Numbers.{Anything}
+use Rattle.ev_text.proofs.Lines.{reads-line}
+use Rattle.ev_text.proofs.Numbers.{Anything}
 use Rattle.certificate_parts.specs.Texts.{prices_text}
 use Rattle.certificate_parts.specs.Limits.{greatest_price}
 use Rattle.certificate_parts.specs.Ranges.{IsPrice, customer_count}

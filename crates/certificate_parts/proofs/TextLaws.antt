@@ -9,9 +9,9 @@ use Rattle.ev_text.specs.declared.TextFault.TheVariants.{NotWhole, TooLarge, Wor
 use Rattle.ev_text.proofs.ReadingLaws.{Reads}
 use Rattle.ev_text.proofs.Results.{Ok-injective}
 use Rattle.ev_text.proofs.WholeReads.{ranged-cut, ranged-first, ranged-spells, ranged-wrong}
-use Rattle.text_records.specs.Numbers.{UpTo}
-use Rattle.text_records.proofs.Numbers.{Anything, upto}
-use Rattle.text_records.proofs.Records.{parts-behind, parts-none, parts-then, reads-record}
+use Rattle.ev_text.specs.Numbers.{UpTo}
+use Rattle.ev_text.proofs.Numbers.{Anything, upto}
+use Rattle.ev_text.proofs.Records.{parts-behind, parts-none, parts-then, reads-record}
 use Rattle.certificate_parts.specs.Limits.{most_bytes}
 use Rattle.certificate_parts.specs.Refusals.{or_refused}
 use Rattle.certificate_parts.specs.Versions.{BeginsAnother, begins_another, greatest_version, is_another, text_in, version_at, version_line}

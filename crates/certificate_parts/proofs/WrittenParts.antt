@@ -9,7 +9,7 @@ use Rattle.ev_text.specs.Texts.{AllFrom}
 use Rattle.instance_reader.specs.Instance.{customer_nodes}
 use Rattle.instance_reader.proofs.InstanceLemmas.{All-filter-true, customers_known}
 use Rattle.route_plan.specs.Limits.{greatest_number}
-use Rattle.text_records.specs.Numbers.{Keeping}
+use Rattle.ev_text.specs.Numbers.{Keeping}
 use Rattle.certificate_parts.specs.Limits.{greatest_weight}
 use Rattle.certificate_parts.specs.Ranges.{IsLast, IsWeight, PointFits, customer_count}
 use Rattle.certificate_parts.specs.Reading.{is_customer_node, is_place}

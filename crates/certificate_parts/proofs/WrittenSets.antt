@@ -11,7 +11,7 @@ use Rattle.instance_reader.specs.Instance.{customer_nodes}
 use Rattle.instance_reader.proofs.InstanceLemmas.{customers_rise}
 use Rattle.piece_fn.specs.declared.label.Label.{Label}
 use Rattle.route_plan.specs.Limits.{greatest_number}
-use Rattle.text_records.specs.Numbers.{Keeping}
+use Rattle.ev_text.specs.Numbers.{Keeping}
 use Rattle.certificate_parts.specs.Ranges.{LabelFits}
 use Rattle.certificate_parts.specs.Reading.{is_above, is_customer_node}
 use Rattle.certificate_parts.specs.Written.{nodes_in, written_label}

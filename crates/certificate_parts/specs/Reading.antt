@@ -4,7 +4,7 @@ use Rattle.std.specs.List.{list_any}
 use Rattle.ev_model.specs.Network.{Network, is_customer, node_count, scaled_limit}
 use Rattle.ev_text.specs.Readers.{Reader, answer, behind_word, choice_at, each_from, exactly_from, list_at, number_where, optional_at, signed_at, then_reads}
 use Rattle.ev_text.specs.Scans.{whole_at}
-use Rattle.text_records.specs.Lines.{line_of}
+use Rattle.ev_text.specs.Lines.{line_of}
 use Rattle.route_plan.specs.Limits.{greatest_number}
 use Rattle.route_plan.specs.PlanReading.{stop_at}
 use Rattle.route_plan.specs.declared.plan.RoutePlan.{RoutePlan}

@@ -4,7 +4,7 @@ use Rattle.std.specs.Prelude.{ℕ, ◌≤◌, ◌&&◌, not, List, [], ◌∷◌
 use Rattle.std.specs.List.{All, list_any}
 use Rattle.ev_model.specs.Network.{Network, node_count, scaled_limit}
 use Rattle.ev_text.specs.Texts.{AllFrom, ConsFrom, ConsLoose}
-use Rattle.text_records.specs.Numbers.{Keeping, UpTo}
+use Rattle.ev_text.specs.Numbers.{Keeping, UpTo}
 use Rattle.route_plan.specs.Limits.{greatest_number}
 use Rattle.certificate_parts.specs.Limits.{greatest_bound, most_items}
 use Rattle.certificate_parts.specs.Ranges.{same_entry}

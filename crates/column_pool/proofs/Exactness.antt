@@ -25,7 +25,7 @@ use Rattle.column_pool.specs.Columns.{IsNodeRoute, no_route, share_of}
 use Rattle.column_pool.specs.Nodes.{IsTimedRoute, node_problem}
 use Rattle.column_pool.specs.declared.route.NodeRoute.{NodeRoute}
 use Rattle.column_pool.proofs.Routes.{node_route}
-use Rattle.feasible_texts.proofs.PlanRanges.{feasible_fits}
+use Rattle.route_plan.proofs.PlanRanges.{feasible_fits}
 
 -- what holds of each that is mapped holds of its origin
 module _ {X Y : Type 0} (P : Y → Type 0) (f : X → Y) where

@@ -28,7 +28,7 @@ use Rattle.bound_certificate.specs.declared.certificate.Share.{Share}
 use Rattle.column_pool.specs.Bounds.{IsExact, IsNodeSection, IsPlanAtBound, plans_of}
 use Rattle.column_pool.specs.Chains.{AreChains, IsChain}
 use Rattle.column_pool.specs.Columns.{IsNodeRoute}
-use Rattle.feasible_texts.proofs.PlanRanges.{feasible_fits}
+use Rattle.route_plan.proofs.PlanRanges.{feasible_fits}
 use Rattle.column_pool.proofs.OneOrder.{one_order}
 use Rattle.column_pool.proofs.OneWay.{Stands}
 use Rattle.column_pool.proofs.ServedTests.{served_at}

@@ -18,15 +18,15 @@ use Rattle.bound_certificate.specs.Meaning.{basis_columns, entry_column, route_c
 use Rattle.bound_certificate.specs.Ranges.{ColumnFits, ColumnsFit, EntryFits}
 use Rattle.certificate_parts.specs.declared.entry.BasisEntry.{BasisEntry}
 use Rattle.bound_certificate.specs.declared.certificate.Section.{Section}
-use Rattle.listed_bases.specs.Entries.{entry_of}
-use Rattle.listed_bases.proofs.Entries.{different, entries_are, entry_fits, many_helpers}
+use Rattle.bound_certificate.specs.Entries.{entry_of}
+use Rattle.bound_certificate.proofs.Entries.{different, entries_are, entry_fits, many_helpers}
 use Rattle.price_loop.proofs.ListedBases.{at_certificate_caps, too_wide_at}
 use Rattle.column_pool.specs.Bounds.{IsNodeBound, IsNodeSection}
 use Rattle.column_pool.specs.Columns.{AreNodeRoutes, IsNodeRoute}
 use Rattle.column_pool.specs.TooWide.{columns_of, IsNodeBoundAt, IsPastBasis, IsWideAt, IsWideBasisAt}
 use Rattle.column_pool.specs.declared.bound.NodeBound.{NodeBound}
 use Rattle.column_pool.specs.declared.bound.NodeBound.TheVariants.{Exact, Empty, Wide}
-use Rattle.feasible_texts.proofs.PlanRanges.{feasible_fits}
+use Rattle.route_plan.proofs.PlanRanges.{feasible_fits}
 
 -- ---- the columns that entries name
 same_routes : (g : Network) (plans : List RoutePlan) → route_columns g plans ≡ map (column_of g) (map (λ c. c.stops) plans)

@@ -4,7 +4,9 @@ use Rattle.std.proofs.Common.{◌≡◌, ◌≤◌, ◌&&◌, ◌∷◌, [], ℕ
 use Rattle.std.proofs.lemmas.Bool.Decides.{nat_tests}
 use Rattle.clap.specs.Words.{Row, Text}
 use Rattle.command_line.proofs.Tested.{both_true, where_passed}
-use Rattle.command_line.specs.Words.{MixedJob, are_different, are_few, gives_only, limit_in, mixed_with, mixed_words_of, most_kinds}
+use Rattle.call_words.specs.Matches.{limit_in}
+use Rattle.call_words.specs.Names.{are_different}
+use Rattle.command_line.specs.Words.{MixedJob, are_few, gives_only, mixed_with, mixed_words_of, most_kinds}
 
 -- what is told of the files
 pub record AreMixedFiles (job : MixedJob) : Type 0 where

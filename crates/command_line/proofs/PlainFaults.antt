@@ -16,7 +16,8 @@ use Rattle.clap.specs.declared.builder.value_parser.ValueParser.TheVariants as v
 use Rattle.command_line.proofs.Plain.{AllStand, Stands, command_walked, form_of, held_after, rules, value_met, waiting_after, walk_after, walk_at_start, word_walked, words_walked}
 use Rattle.command_line.specs.Command.{evroute}
 use Rattle.command_line.specs.Plain.{is_plain}
-use Rattle.command_line.specs.Words.{job_in, job_of, job_of_command, job_unless, named}
+use Rattle.call_words.specs.Matches.{job_unless}
+use Rattle.command_line.specs.Words.{job_in, job_of, job_of_command, named}
 
 abbrev pub shape : Shape
 shape = (built evroute).top

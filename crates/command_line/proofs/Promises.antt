@@ -9,7 +9,10 @@ use Rattle.clap.specs.Words.{Row, Text, first_of}
 use Rattle.command_line.proofs.MixedFiles.{AreMixedFiles, mixed_files}
 use Rattle.command_line.proofs.Tested.{both_true, where_passed}
 use Rattle.command_line.specs.JobValue.{IsJob, IsMixedJob, job_value, mixed_value}
-use Rattle.command_line.specs.Words.{BoundFleets, CheckBound, CheckMixed, CheckPlan, CheckRoute, ConvertFile, FixedRoute, ImprovePlan, Job, MakeInstance, MixedJob, PlanFleet, PlanMixed, ProofJob, ProveRoute, are_different, at_least_one, bound_of, bound_with, charge_in, check_bound_of, check_bound_with, check_mixed_of, check_of, check_route_of, check_with, convert_of, convert_with, energy_digits_in, fixed_of, fixed_with, fleet_of, fleet_with, gives_only, improve_of, improve_with, is_listed, job_in, job_of_command, limit_in, make_of, make_with, mixed_of, mixed_words_of, most_count, most_seed, most_value, near_in, nodes_in, number_of, optional_number, proof_of, prove_of, rest_in, time_digits_in}
+use Rattle.call_words.specs.Matches.{limit_in, rest_in}
+use Rattle.call_words.specs.Names.{are_different, is_listed}
+use Rattle.call_words.specs.Numbers.{most_value, number_of, optional_number}
+use Rattle.command_line.specs.Words.{BoundFleets, CheckBound, CheckMixed, CheckPlan, CheckRoute, ConvertFile, FixedRoute, ImprovePlan, Job, MakeInstance, MixedJob, PlanFleet, PlanMixed, ProofJob, ProveRoute, at_least_one, bound_of, bound_with, charge_in, check_bound_of, check_bound_with, check_mixed_of, check_of, check_route_of, check_with, convert_of, convert_with, energy_digits_in, fixed_of, fixed_with, fleet_of, fleet_with, gives_only, improve_of, improve_with, job_in, job_of_command, make_of, make_with, mixed_of, mixed_words_of, most_count, most_seed, near_in, nodes_in, proof_of, prove_of, time_digits_in}
 use Rattle.command_line.specs.declared.Job as values
 use Rattle.command_line.specs.declared.MixedWords.{MixedWords}
 use Rattle.command_line.specs.declared.Job.TheVariants as value

@@ -1,7 +1,8 @@
 -- The job that a value of the program stands for.
 use Rattle.std.specs.Prelude.{◌≡◌, ◌≢◌, ◌≤◌, ◌∷◌, IfOk, IfSome, List, Option, Result, length, map, option_map, string_bytes, true}
 use Rattle.clap.specs.Words.{Text}
-use Rattle.command_line.specs.Words.{BoundFleets, FixedRoute, PlanFleet, PlanMixed, CheckPlan, ConvertFile, MakeInstance, ImprovePlan, MixedJob, ProofJob, ProveRoute, are_different, bound_check_job_of, bound_job_of, check_job_of, convert_job_of, fleet_job_of, improve_job_of, job_with, make_job_of, mixed_job_of, most_kinds, proof_job_of}
+use Rattle.call_words.specs.Names.{are_different}
+use Rattle.command_line.specs.Words.{BoundFleets, FixedRoute, PlanFleet, PlanMixed, CheckPlan, ConvertFile, MakeInstance, ImprovePlan, MixedJob, ProofJob, ProveRoute, bound_check_job_of, bound_job_of, check_job_of, convert_job_of, fleet_job_of, improve_job_of, job_with, make_job_of, mixed_job_of, most_kinds, proof_job_of}
 use Rattle.command_line.specs.Words as words
 use Rattle.command_line.specs.declared.FleetWords.{FleetWords}
 use Rattle.command_line.specs.declared.Job.{Job}

@@ -1,10 +1,10 @@
 -- The job that the words of a command line name: a function of what the command finds in them.
-use Rattle.std.specs.Prelude.{ℕ, ◌-◌, ◌^◌, ◌&&◌, ◌||◌, Bool, true, not, List, [], ◌∷◌, Option, None, Some, Result, Ok, Err, is_none, codes, nat_eq, nat_le, nat_lt, option_and_then, option_map, unwrap_or, if◌then◌else◌, length}
-use Rattle.std.specs.List.{list_any}
+use Rattle.std.specs.Prelude.{ℕ, ◌-◌, ◌^◌, ◌&&◌, Bool, List, [], ◌∷◌, Option, None, Some, codes, nat_le, nat_lt, option_and_then, option_map, if◌then◌else◌, length}
 use Rattle.std.specs.Str.{bytes_eq}
-use Rattle.clap.specs.Words.{Kinds, Row, Text, all_of, fault_of, first_of, matches_of}
-use Rattle.ev_text.specs.Scans.{rest_of, whole_at}
-use Rattle.ev_text.specs.declared.TextFault.{TextFault}
+use Rattle.clap.specs.Words.{Row, Text, fault_of, first_of, matches_of}
+use Rattle.call_words.specs.Matches.{gives_own, job_unless, limit_in, rest_in}
+use Rattle.call_words.specs.Names.{are_different}
+use Rattle.call_words.specs.Numbers.{most_value, number_of, optional_number, required_number}
 use Rattle.command_line.specs.Command.{evroute}
 use Rattle.command_line.specs.declared.Options.{Options}
 
@@ -98,10 +98,6 @@ pub data Job : Type 0 where
   PlanMixed : MixedJob → Job
   CheckMixed : MixedJob → Job
 
--- the greatest limit, level and number of nodes
-abbrev pub most_value : ℕ
-most_value = 10 ^ 18
-
 -- the greatest number of digits
 abbrev pub most_digits : ℕ
 most_digits = 10 ^ 9
@@ -122,62 +118,23 @@ most_count = 2 ^ 32 - 1
 abbrev pub most_kinds : ℕ
 most_kinds = 8
 
--- the whole word is a number in its one spelling, at most `most`
-abbrev pub all_taken : Result (ℕ × (List ℕ × ℕ)) TextFault → Option ℕ
-all_taken (Ok found) = if nat_eq (length (rest_of found.1)) 0 then Some found.0 else None
-all_taken (Err fault) = None
-
-abbrev pub number_of : ℕ → Text → Option ℕ
-number_of most word = all_taken (whole_at most (word, 0))
-
--- an option that need not be given: no number where it is not, and else the number of its value
-abbrev pub optional_number : ℕ → Option Text → Option (Option ℕ)
-optional_number most None = Some None
-optional_number most (Some word) = option_map (λ n. Some n) (number_of most word)
-
--- an option that has to be given
-abbrev pub required_number : ℕ → Option Text → Option ℕ
-required_number most word = option_and_then (number_of most) word
-
 -- a number that is given is at least 1
 abbrev pub at_least_one : Option ℕ → Option (Option ℕ)
 at_least_one None = Some None
 at_least_one (Some n) = if nat_lt 0 n then Some (Some n) else None
 
--- the text is one of the names
-abbrev pub is_listed : Text → List Text → Bool
-is_listed text names = list_any (λ name. bytes_eq name text) names
-
--- the names are pairwise different texts
-abbrev pub are_different : List Text → Bool
-are_different [] = true
-are_different (name ∷ names) = not (is_listed name names) && are_different names
-
 -- there is a file, and no more than the most
 abbrev pub are_few : List Text → Bool
 are_few files = nat_lt 0 (length files) && nat_le (length files) most_kinds
-
--- the words behind the word of the command
-abbrev pub rest_in : List Row → List Text
-rest_in rows = unwrap_or (all_of (codes "rest") rows) []
 
 abbrev pub option_names : List Text
 option_names =
     codes "limit" ∷ codes "charge" ∷ codes "nodes"
     ∷ codes "time-digits" ∷ codes "energy-digits" ∷ codes "near" ∷ []
 
--- of these options none is given that is not a command's own
-abbrev pub gives_own : List Text → List Row → List Text → Bool
-gives_own own rows [] = true
-gives_own own rows (name ∷ names) =
-    (is_listed name own || is_none (first_of name rows)) && gives_own own rows names
-
 -- no option is given but some of these
 abbrev pub gives_only : List Text → List Row → Bool
 gives_only own rows = gives_own own rows option_names
-
-abbrev pub limit_in : List Row → Option (Option ℕ)
-limit_in rows = optional_number most_value (first_of (codes "limit") rows)
 
 abbrev pub charge_in : List Row → Option (Option ℕ)
 charge_in rows = optional_number most_value (first_of (codes "charge") rows)
@@ -414,11 +371,6 @@ abbrev pub job_in : List Row → Option Job
 job_in rows =
     option_and_then (λ command. job_of_command command (rest_in rows) rows)
     (first_of (codes "command") rows)
-
--- the job where the command takes the words: no error of it comes
-abbrev pub job_unless : Kinds → Option Job → Option Job
-job_unless [] job = job
-job_unless (kind ∷ kinds) job = None
 
 -- the words with the name of the program in front of them
 abbrev pub named : List Text → List Text

@@ -3,12 +3,12 @@
 ghost use Rattle.std.specs.Prelude.{◌≡◌, IfOk, option_map};
 ghost use Rattle.clap.specs.Walk.{texts};
 ghost use Rattle.command_line.specs.JobValue.{AnswersJob};
-ghost use Rattle.command_line.specs.Matches.{rows_in};
+ghost use Rattle.call_words.specs.Matches.{rows_in};
 ghost use Rattle.command_line.specs.Words.{check_of};
 
-use crate::matches::{gives_only, limit_in};
-use crate::words::are_different;
+use crate::matches::gives_only;
 use crate::{CheckWords, Job};
+use call_words::{are_different, limit_in};
 use clap::ArgMatches;
 use std::alloc::{AllocError, Global};
 

@@ -3,12 +3,12 @@
 ghost use Rattle.std.specs.Prelude.{◌≡◌, IfOk, option_map};
 ghost use Rattle.clap.specs.Walk.{texts};
 ghost use Rattle.command_line.specs.JobValue.{AnswersJob};
-ghost use Rattle.command_line.specs.Matches.{rows_in};
+ghost use Rattle.call_words.specs.Matches.{rows_in};
 ghost use Rattle.command_line.specs.Words.{convert_of};
 
 use crate::matches::{digits_in, gives_only};
-use crate::words::are_different;
 use crate::{ConvertWords, Job};
+use call_words::are_different;
 use clap::ArgMatches;
 use std::alloc::{AllocError, Global};
 

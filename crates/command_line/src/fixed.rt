@@ -3,11 +3,12 @@
 ghost use Rattle.std.specs.Prelude.{◌≡◌, IfOk, option_map};
 ghost use Rattle.clap.specs.Walk.{texts};
 ghost use Rattle.command_line.specs.JobValue.{AnswersJob};
-ghost use Rattle.command_line.specs.Matches.{rows_in};
+ghost use Rattle.call_words.specs.Matches.{rows_in};
 ghost use Rattle.command_line.specs.Words.{fixed_of};
 
-use crate::matches::{charge_in, gives_only, limit_in};
+use crate::matches::{charge_in, gives_only};
 use crate::{FixedWords, Job, Options};
+use call_words::limit_in;
 use clap::ArgMatches;
 use std::alloc::{AllocError, Global};
 

@@ -1,21 +1,10 @@
-//! The laws of words. A law is a function whose meaning is its contract, which is proved for all
+//! The law of words. A law is a function whose meaning is its contract, which is proved for all
 //! words.
 
 ghost use Rattle.std.specs.List.{list_all};
-ghost use Rattle.std.specs.Prelude.{◌≡◌, ◌<◌, ◌≤◌, ◌↔◌, ◌^◌, ◌∷◌, [], List, ℕ, Some, codes, decimal, length, true};
+ghost use Rattle.std.specs.Prelude.{◌≡◌, ◌<◌, ◌^◌, ◌∷◌, [], List, ℕ, codes, length, true};
 ghost use Rattle.command_line.specs.Plain.{is_plain};
-ghost use Rattle.command_line.specs.Words.{job_of, job_of_command, number_of};
-
-use ev_text::whole_answers;
-
-/// A word is read as a number exactly where it is the number's decimal digits, without leading
-/// zeros, and the number is at most `most`.
-pub fn numbers_have_one_spelling(most: u64)
-    ensures { (word : List ℕ) (n : ℕ) →
-        (number_of most word ≡ Some n) ↔ ((word ≡ decimal n) × (n ≤ most)) }
-{
-    whole_answers(u128::from(most));
-}
+ghost use Rattle.command_line.specs.Words.{job_of, job_of_command};
 
 /// Words without options are read as they stand.
 ///

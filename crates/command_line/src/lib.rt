@@ -18,10 +18,10 @@ mod make;
 mod matches;
 mod mixed;
 mod proof;
-mod words;
 
-use arguments::{matches_of, named};
-pub use laws::{numbers_have_one_spelling, words_are_read_as_they_stand};
+use arguments::{PROGRAM, found_in};
+use call_words::named;
+pub use laws::words_are_read_as_they_stand;
 use matches::job_in;
 use std::alloc::{AllocError, Global};
 
@@ -192,8 +192,8 @@ pub fn job_words(alloc: Global, words: &[String]) -> Result<Option<Job>, AllocEr
     if words.is_empty() {
         return Ok(None);
     }
-    let named = named(alloc, words)?;
-    match matches_of(alloc, named.as_slice()) {
+    let named = named(alloc, PROGRAM, words)?;
+    match found_in(alloc, named.as_slice()) {
         Ok(Some(matches)) => job_in(alloc, &matches),
         Ok(None) => Ok(None),
         Err(AllocError) => Err(AllocError),

@@ -3,14 +3,21 @@
 ghost use Rattle.std.specs.Prelude.{◌≡◌, IfOk, option_map};
 ghost use Rattle.clap.specs.Walk.{texts};
 ghost use Rattle.command_line.specs.JobValue.{AnswersJob};
-ghost use Rattle.command_line.specs.Matches.{rows_in};
-ghost use Rattle.command_line.specs.Words.{make_of, most_count, number_of};
+ghost use Rattle.call_words.specs.Matches.{rows_in};
+ghost use Rattle.call_words.specs.Numbers.{number_of};
+ghost use Rattle.command_line.specs.Words.{make_of, most_count};
 
 use crate::matches::gives_only;
-use crate::words::{GREATEST_COUNT, GREATEST_SEED, number_of};
 use crate::{Job, MakeWords};
+use call_words::number_of;
 use clap::ArgMatches;
 use std::alloc::{AllocError, Global};
+
+/// The greatest number that an instance is made from.
+const GREATEST_SEED: u64 = u64::MAX;
+
+/// The greatest count of customers or stations.
+const GREATEST_COUNT: u64 = u32::MAX as u64;
 
 /// The job of making an instance from a number.
 pub(crate) fn make_job(

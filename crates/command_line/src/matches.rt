@@ -4,8 +4,8 @@ ghost use Rattle.std.specs.Prelude.{◌≡◌, IfOk, codes, is_none, option_map}
 ghost use Rattle.clap.specs.Words.{first_of};
 ghost use Rattle.clap.specs.Walk.{texts};
 ghost use Rattle.command_line.specs.JobValue.{AnswersJob};
-ghost use Rattle.command_line.specs.Matches.{rows_in};
-ghost use Rattle.command_line.specs.Words.{charge_in, digits_in, gives_only, gives_own, job_in, job_of_command, limit_in, near_in, nodes_in, rest_in};
+ghost use Rattle.call_words.specs.Matches.{gives_own, limit_in, rows_in};
+ghost use Rattle.command_line.specs.Words.{charge_in, digits_in, gives_only, job_in, job_of_command, near_in, nodes_in};
 
 use crate::Job;
 use crate::bound::{bound_job, check_bound_job};
@@ -17,11 +17,15 @@ use crate::improve::improve_job;
 use crate::make::make_job;
 use crate::mixed::{check_mixed_job, mixed_job};
 use crate::proof::{check_route_job, prove_job};
-use crate::words::{
-    GREATEST_DIGITS, GREATEST_NEAR, GREATEST_VALUE, is_listed, optional_number, required_number,
-};
+use call_words::{GREATEST_VALUE, first_of, gives_own, optional_number, required_number};
 use clap::ArgMatches;
 use std::alloc::{AllocError, Global};
+
+/// The greatest number of digits.
+const GREATEST_DIGITS: u64 = 1_000_000_000;
+
+/// The most other customers of a near set.
+const GREATEST_NEAR: u64 = 1_000_000_000;
 
 /// The options of all commands.
 const OPTIONS: [&str; 6] = [
@@ -33,37 +37,11 @@ const OPTIONS: [&str; 6] = [
     "near",
 ];
 
-/// The first value of an argument.
-fn first_of<'a>(matches: &ArgMatches<'a>, name: &str) -> Option<&'a str>
-    ensures { option_map (λ text. text.now) result ≡ first_of name.now (rows_in matches.now) }
-{
-    matches.get_str(name)
-}
-
-/// Whether none of the options `names` is given that is not one of a command's own.
-fn gives_own(matches: &ArgMatches<'_>, own: &[&str], names: &[&str]) -> bool
-    ensures { result ≡ gives_own (texts own.now) (rows_in matches.now) (texts names.now) }
-{
-    for name in names {
-        if !is_listed(name, own) && first_of(matches, name).is_some() {
-            return false;
-        }
-    }
-    true
-}
-
 /// Whether no option is given but some of these.
 pub(crate) fn gives_only(matches: &ArgMatches<'_>, own: &[&str]) -> bool
     ensures { result ≡ gives_only (texts own.now) (rows_in matches.now) }
 {
     gives_own(matches, own, &OPTIONS)
-}
-
-/// The limit, where it is given; `None` where its value is no number of one.
-pub(crate) fn limit_in(matches: &ArgMatches<'_>) -> Option<Option<u64>>
-    ensures { result ≡ limit_in (rows_in matches.now) }
-{
-    optional_number(first_of(matches, "limit"), GREATEST_VALUE)
 }
 
 /// The level at the start, where it is given; `None` where its value is no number of one.

@@ -3,12 +3,12 @@
 ghost use Rattle.std.specs.Prelude.{◌≡◌, IfOk, map, option_map, string_bytes};
 ghost use Rattle.clap.specs.Walk.{texts};
 ghost use Rattle.command_line.specs.JobValue.{AnswersJob, mixed_value};
-ghost use Rattle.command_line.specs.Matches.{rows_in};
+ghost use Rattle.call_words.specs.Matches.{rows_in};
 ghost use Rattle.command_line.specs.Words.{are_few, check_mixed_of, mixed_of, mixed_words_of};
 
-use crate::matches::{gives_only, limit_in};
-use crate::words::are_different;
+use crate::matches::gives_only;
 use crate::{Job, MixedWords};
+use call_words::{are_different, limit_in};
 use clap::ArgMatches;
 use std::alloc::{AllocError, Global};
 

@@ -9,8 +9,8 @@ use std::alloc::{AllocError, Global};
 /// No price is higher.
 const MOST_PRICE: u64 = 1 << 60;
 
-/// Where covering a customer without a column costs less, all costs are reckoned in parts of a unit:
-/// the methods stop some units short of the optimum.
+/// Where covering a customer without a column costs less, all costs are reckoned in parts of a
+/// unit: the methods stop some units short of the optimum.
 const FINE: u64 = 1 << 24;
 
 /// A unit has so many parts at the most.

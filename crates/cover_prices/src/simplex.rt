@@ -53,7 +53,6 @@ struct Run {
     is_full: bool,
     mends: usize,
     resets: usize,
-    pivots: usize,
 }
 
 impl Simplex {
@@ -94,7 +93,6 @@ impl Simplex {
             is_full: true,
             mends: 0,
             resets: 0,
-            pivots: 0,
         };
         for _ in 0..self.most_steps() {
             if !self.step(alloc, columns, dearest, &mut run)? {
@@ -266,7 +264,6 @@ impl Simplex {
         }
         tell(&mut self.is_basic, entering, true);
         let fits = self.basis.exchange(&self.entries, place, entering)?;
-        run.pivots = run.pivots.saturating_add(1);
         self.since = self.since.saturating_add(1);
         if !fits || self.since >= PIVOTS {
             return self.rebuild(alloc, columns, run);

@@ -91,8 +91,8 @@ impl Volume {
         }
     }
 
-    /// Takes steps to better prices, and lets no column earn by them, but raises them as far as that
-    /// lasts.
+    /// Takes steps to better prices, and lets no column earn by them, but raises them as far as
+    /// that lasts.
     pub(crate) fn solve(
         &mut self,
         alloc: Global,

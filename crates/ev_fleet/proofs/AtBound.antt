@@ -17,7 +17,7 @@ use Rattle.fleet_model.proofs.Counts.{AreCustomers, times_append}
 use Rattle.fleet_model.proofs.Fleets.{plan_below}
 use Rattle.fleet_model.proofs.Plans.{filtered}
 use Rattle.fleet_model.proofs.Weighed.{AreBelow}
-use Rattle.price_bounds.proofs.RoundedSums.{cancelled}
+use Rattle.certificate_check.proofs.RoundedSums.{cancelled}
 
 abbrev pub plans_in : List Share → List (List Stop)
 plans_in shares = map (λ x. x.plan) shares

@@ -12,9 +12,9 @@ use Rattle.fleet_model.proofs.Fleets.{plan_below}
 use Rattle.plan_check.specs.FleetRules.{stops_of}
 use Rattle.route_plan.specs.declared.plan.FleetPlan.{FleetPlan}
 use Rattle.route_plan.specs.declared.plan.RoutePlan.{RoutePlan}
-use Rattle.feasible_texts.proofs.PlanRanges.{feasible_fits}
-use Rattle.rising_routes.specs.FirstCustomers.{first_outside}
-use Rattle.rising_routes.proofs.FirstCustomers.{AreApart, few_routes, firsts_rise as rise_in_order}
+use Rattle.route_plan.proofs.PlanRanges.{feasible_fits}
+use Rattle.set_partitioning.specs.FirstCustomers.{first_outside}
+use Rattle.set_partitioning.proofs.FirstCustomers.{AreApart, few_routes, firsts_rise as rise_in_order}
 use Rattle.ev_fleet.specs.Plans.{IsHeld, first_customer}
 
 abbrev stops_in : RoutePlan → List Stop

@@ -4,7 +4,7 @@ use Rattle.std.proofs.lemmas.Int.{ints}
 use Rattle.fleet_model.specs.Prices.{sum_of}
 use Rattle.fleet_model.specs.Section.{Section}
 use Rattle.fleet_model.specs.Tree.{IsBoundedBy}
-use Rattle.price_bounds.proofs.RoundedSums.{rounded_is_one}
+use Rattle.certificate_check.proofs.RoundedSums.{rounded_is_one}
 use Rattle.ev_fleet.specs.Bounds.{IsAtMost, IsBoundOf}
 
 pub bound_is_one : (s : Section) (b c : Option ℕ) → IsBoundOf s b → IsBoundOf s c → b ≡ c

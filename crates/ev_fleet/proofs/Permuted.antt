@@ -8,7 +8,7 @@ use Rattle.ev_model.specs.Fleet.{IsFleetPlan, ServesOnly, cost_of, customers_of}
 use Rattle.ev_model.specs.Network.{Network}
 use Rattle.ev_model.specs.Time.{time_of}
 use Rattle.ev_model.specs.declared.Stop.{Stop}
-use Rattle.rising_routes.proofs.RouteOrders.{permuted_times}
+use Rattle.set_partitioning.proofs.RouteOrders.{permuted_times}
 
 cost_summed : (g : Network) (k : ℕ) (plans : List (List Stop)) → cost_of g k plans ≡ sum_by (λ stops. time_of g k g.capacity stops) plans
 cost_summed g k [] = refl

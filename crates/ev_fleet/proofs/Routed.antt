@@ -10,7 +10,7 @@ use Rattle.column_pool.specs.Bounds.{plans_of}
 use Rattle.plan_check.specs.FleetRules.{stops_of}
 use Rattle.route_plan.specs.declared.plan.FleetPlan.{FleetPlan}
 use Rattle.route_plan.specs.declared.plan.RoutePlan.{RoutePlan}
-use Rattle.rising_routes.specs.FirstCustomers.{first_outside}
+use Rattle.set_partitioning.specs.FirstCustomers.{first_outside}
 use Rattle.ev_fleet.specs.SameRoutes.{IsPlanOf}
 use Rattle.ev_fleet.proofs.HeldPlans.{firsts_rise, may_hold}
 use Rattle.ev_fleet.proofs.Permuted.{permuted_cost, permuted_fleet}

@@ -14,7 +14,7 @@ use Rattle.bound_certificate.specs.declared.certificate.Section.{Section}
 use Rattle.bound_certificate.specs.declared.certificate.Share.{Share}
 use Rattle.column_pool.specs.Bounds.{IsNodeBound, plans_of}
 use Rattle.ev_fleet.specs.Answers.{answer_of, shares_in}
-use Rattle.price_bounds.proofs.RoundedSums.{rounded_is_cost}
+use Rattle.certificate_check.proofs.RoundedSums.{rounded_is_cost}
 use Rattle.ev_fleet.specs.Bounds.{IsAtMost}
 use Rattle.ev_fleet.specs.Whole.{IsNoDearer, ReachesCost, ReachesWhole, TakesShares}
 use Rattle.ev_fleet.proofs.AtBound.{costs_bound, plans_in}

@@ -4,7 +4,7 @@ use Rattle.fleet_model.specs.Prices.{sum_of}
 use Rattle.fleet_model.specs.Section.{Section as PricedSection, ShowsNoPlan}
 use Rattle.bound_certificate.specs.Meaning.{priced_section}
 use Rattle.bound_certificate.specs.declared.certificate.Section.{Section}
-use Rattle.price_bounds.specs.RoundedUp.{IsRoundedUp}
+use Rattle.certificate_check.specs.RoundedUp.{IsRoundedUp}
 
 -- The bound of a section: the price sum over the weight, rounded up, where the weight is above 0. Where it is 0, there
 -- is none where the price sum is above 0, which says that there is no plan, and else it is 0.

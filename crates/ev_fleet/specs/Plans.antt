@@ -11,7 +11,7 @@ use Rattle.route_plan.specs.PlanTexts.{FitsFile}
 use Rattle.route_plan.specs.declared.plan.FleetPlan.{FleetPlan}
 use Rattle.route_plan.specs.declared.plan.RoutePlan.{RoutePlan}
 use Rattle.plan_check.specs.FleetRules.{stops_of}
-use Rattle.rising_routes.specs.FirstCustomers.{first_customer_of}
+use Rattle.set_partitioning.specs.FirstCustomers.{first_customer_of}
 
 -- the node of the first customer of a route, and 0 where it has none
 abbrev pub first_customer : Network → RoutePlan → ℕ

@@ -7,6 +7,7 @@ mod candidates;
 mod greedy;
 mod held;
 mod kept;
+mod moved;
 mod outcome;
 mod own;
 mod pair;

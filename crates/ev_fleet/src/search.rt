@@ -19,9 +19,9 @@ use std::alloc::{AllocError, Global};
 /// a certificate of what none costs less than.
 ///
 /// The certificate's sections are those of the nodes, in the order in which their bounds were
-/// found; its text, where it isn't too long, is read as it. `stopped` is true exactly where the budget is used up and the cost is above the
-/// certificate's bound, or no plan is held though the bound is a number. The only `Err` is want of
-/// memory.
+/// found; its text, where it isn't too long, is read as it. `stopped` is true exactly where the
+/// budget is used up and the cost is above the certificate's bound, or no plan is held though the
+/// bound is a number. The only `Err` is want of memory.
 pub fn plan_fleet(
     alloc: Global,
     inst: &Instance,

@@ -10,7 +10,7 @@ ghost use Rattle.ev_fleet.specs.Bounds.{IsBoundOf};
 ghost use Rattle.ev_fleet.specs.State.{greater_of};
 
 use bound_certificate::Section;
-use price_bounds::{price_sum, rounded_up};
+use certificate_check::{price_sum, rounded_up};
 
 /// The bound of a section: its price sum over its weight, rounded up, where the weight is above 0;
 /// `None`, that there is no plan, where the weight is 0 and the price sum above 0; and else 0.

@@ -11,8 +11,8 @@ use bound_certificate::Share;
 use ev_list::Listed;
 use instance_reader::Instance;
 use plan_check::{check_fleet, fleet_plans_break_no_rule};
-use rising_routes::sort_by_first;
 use route_plan::{FleetPlan, RoutePlan};
+use set_partitioning::sort_by_first;
 use std::alloc::{AllocError, Global};
 
 /// The plans of the shares as a fleet plan, in rising order of their first customers; `None`

@@ -126,6 +126,7 @@ fn advance(alloc: Global, inst: &Instance, search: &mut Search) -> Result<Root, 
     ensures work { OnOk result
         (work_left search.new.tree.nodes < work_left search.old.tree.nodes) }
 {
+    let moved = moved_cost(search);
     let taken = take_next(&mut search.tree);
     let (section, root) = bound_pairs(
         alloc,
@@ -134,6 +135,7 @@ fn advance(alloc: Global, inst: &Instance, search: &mut Search) -> Result<Root, 
         &mut search.held,
         &taken.pairs,
         looks_at(search.sections.len()),
+        moved,
     )?;
     let own = bound_of(&section);
     let number = search.sections.len();
@@ -153,6 +155,16 @@ fn advance(alloc: Global, inst: &Instance, search: &mut Search) -> Result<Root, 
     )?;
     search.open_nodes = open_behind(search.open_nodes, is_split);
     Ok(root)
+}
+
+/// The cost of the plan that is held where it was made cheaper by moves already: behind the first
+/// node.
+fn moved_cost(search: &Search) -> Option<u128> {
+    if search.sections.is_empty() {
+        None
+    } else {
+        cost_of(&search.held)
+    }
 }
 
 /// How many nodes are open once one of them was split or closed.

@@ -18,6 +18,7 @@ ghost use Rattle.ev_fleet.specs.Whole.{ReachesCost, TakesShares};
 
 use crate::greedy::{greedy_routes, routes_at};
 use crate::held::{Held, offer};
+use crate::moved::moved_plan;
 use crate::pair::choose_pair;
 use crate::partition::plan_of_pool;
 use crate::shares::{plan_of_routes, plan_of_shares};
@@ -61,7 +62,8 @@ pub(crate) fn take_next(tree: &mut Tree) -> TakenNode
 
 /// The section of the node with these forbidden pairs, and what shows its bound. The plans of its
 /// shares are offered as the plan that is held, and then one of the pool's routes, for which so
-/// many of them may be looked at.
+/// many of them may be looked at. What is held then is made cheaper by moves, unless it has the
+/// cost `moved` of a plan that was.
 #[tactic(auto, using(crate::proofs::Bounds::most_most))]
 pub(crate) fn bound_pairs(
     alloc: Global,
@@ -70,6 +72,7 @@ pub(crate) fn bound_pairs(
     held: &mut Option<Held>,
     pairs: &Pairs,
     looks: u64,
+    moved: Option<u128>,
 ) -> Result<(Section, Root), AllocError>
     requires few { length (customer_nodes inst.now) ≤ most_customers }
     requires pairs { pairs.now.customers ≡ length (customer_nodes inst.now) }
@@ -87,6 +90,7 @@ pub(crate) fn bound_pairs(
 {
     let (section, root) = bound_shares(alloc, inst, pool, held, pairs)?;
     offer_pool(alloc, inst, held, pool, &section, looks)?;
+    offer_moved(alloc, inst, held, moved)?;
     Ok((section, root))
 }
 
@@ -135,6 +139,28 @@ fn offer_pool(
     ensures kept { IsAtMost (cost_at held.new) (cost_at held.old) }
 {
     if let Some(plan) = plan_of_pool(alloc, inst, pool, section, cost_of(held), looks)? {
+        offer(inst, held, plan);
+    }
+    Ok(())
+}
+
+/// Offers the plan that is held, made cheaper by moves, unless it has the cost `moved` of a plan
+/// that was made so already.
+fn offer_moved(
+    alloc: Global,
+    inst: &Instance,
+    held: &mut Option<Held>,
+    moved: Option<u128>,
+) -> Result<(), AllocError>
+    requires few { length (customer_nodes inst.now) ≤ most_customers }
+    requires held { MayHold inst.now held.old }
+    ensures held { MayHold inst.now held.new }
+    ensures kept { IsAtMost (cost_at held.new) (cost_at held.old) }
+{
+    if cost_of(held) == moved {
+        return Ok(());
+    }
+    if let Some(plan) = moved_plan(alloc, inst, held)? {
         offer(inst, held, plan);
     }
     Ok(())

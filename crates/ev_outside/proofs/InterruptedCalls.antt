@@ -32,3 +32,7 @@ kept_write a b c (Err e) bytes p q = keeps_twice a b c p q
 pub keeps_same : (a : Option (List ℕ)) → Keeps a a
 keeps_same None = tt
 keeps_same (Some xs) = refl
+
+pub ruleset kept_reads = (kept_read, keeps_twice, keeps_same)
+
+pub ruleset kept_writes = (kept_write, keeps_twice, keeps_same)

@@ -4,6 +4,7 @@ pub mod Sink
 pub mod MemorySink
 pub mod MemoryShelf
 pub mod Storage
+pub mod SystemName
 pub mod PieceStorage
 pub mod PieceLaws
 pub mod Sure

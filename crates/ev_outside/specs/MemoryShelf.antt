@@ -36,6 +36,7 @@ told_by shelf = record {
   files = Some (state_of shelf).files;
   failed_reads = times_in (state_of shelf).failed_reads;
   failed_writes = times_in (state_of shelf).failed_writes;
+  asked = None;
 }
 
 -- no file and no call yet, where the calls with these numbers are to fail

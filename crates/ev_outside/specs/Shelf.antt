@@ -1,5 +1,5 @@
 -- What calls on named files do. A shelf that doesn't tell its bytes has `None` in place of its files.
-use Rattle.std.specs.Prelude.{◌≡◌, ◌≢◌, ℕ, ◌+◌, ◌≤◌, List, [], ◌++◌, length, take, Option, Some, None, unwrap_or}
+use Rattle.std.specs.Prelude.{◌≡◌, ◌≢◌, ℕ, ◌+◌, ◌≤◌, List, [], ◌++◌, length, take, Option, Some, None, IfSome, unwrap_or}
 use Rattle.ev_outside.specs.Counts.{NeverFalls, Stays}
 use Rattle.ev_text.specs.Scans.{IsPrefixOf}
 
@@ -7,12 +7,17 @@ use Rattle.ev_text.specs.Scans.{IsPrefixOf}
 abbrev pub Files : Type 0
 Files = List ℕ → Option (List ℕ)
 
--- what holds of a shelf: which names hold which bytes, where it tells it, and how many reads and how
--- many writes of each name have failed
+-- what holds of a shelf: which names hold which bytes, where it tells it, how many reads and how
+-- many writes of each name have failed, and which name a call asked for last, where it is kept
 pub record ShelfState : Type 0 where
   pub files : Option Files
   pub failed_reads : List ℕ → ℕ
   pub failed_writes : List ℕ → ℕ
+  pub asked : Option (List ℕ)
+
+-- A call asked for this name last, where that is kept.
+abbrev pub HasAsked : List ℕ → Option (List ℕ) → Type 0
+HasAsked name asked = IfSome asked (λ kept. kept ≡ name)
 
 -- No count is below what it was.
 pub record CountsNeverFall (before now : ShelfState) : Type 0 where

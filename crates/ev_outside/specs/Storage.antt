@@ -17,11 +17,12 @@ abbrev pub rest_of : Option Told → Option (List ℕ)
 rest_of told = option_map (λ t. t.rest) told
 
 -- the files as a shelf, with one count for all reads and writes of all names
-abbrev pub shelf_of : Option Told → ℕ → ShelfState
-shelf_of told failed = record {
+abbrev pub shelf_of : Option Told → ℕ → Option (List ℕ) → ShelfState
+shelf_of told failed asked = record {
   files = files_of told;
   failed_reads = λ name. failed;
   failed_writes = λ name. failed;
+  asked = asked;
 }
 
 -- All bytes of the name are left to read.

@@ -11,6 +11,7 @@ without_faults files = record {
   files = Some files;
   failed_reads = λ name. 0;
   failed_writes = λ name. 0;
+  asked = None;
 }
 
 -- which names hold which bytes

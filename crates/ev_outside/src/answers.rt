@@ -13,7 +13,7 @@ const MOST_REPEATS: u32 = 1000;
 
 /// Reads the next bytes. The answer is the reader's own, to the last of its calls where the first
 /// ones were interrupted.
-#[tactic(auto, using(crate::proofs::InterruptedCalls::kept_read, crate::proofs::InterruptedCalls::keeps_twice, crate::proofs::InterruptedCalls::keeps_same))]
+#[tactic(auto, using(crate::proofs::InterruptedCalls::kept_reads))]
 pub(crate) fn read_piece<F: Read>(from: &mut F, into: &mut [u8]) -> io::Result<usize>
     ensures within { IfOk result (λ n. n ≤ length into.new) }
     ensures bytes { ReadConsumes (F.remaining from.old) (F.remaining from.new) result into.new }
@@ -39,7 +39,7 @@ fn read_once<F: Read>(from: &mut F, into: &mut [u8]) -> io::Result<usize>
 /// Writes the first of the bytes, one at least where there is one. The answer is the writer's own,
 /// to the last of its calls where the first ones were interrupted, but that a writer that takes
 /// none of a piece that isn't empty has failed.
-#[tactic(auto, using(crate::proofs::InterruptedCalls::kept_write, crate::proofs::InterruptedCalls::keeps_twice, crate::proofs::InterruptedCalls::keeps_same))]
+#[tactic(auto, using(crate::proofs::InterruptedCalls::kept_writes))]
 pub(crate) fn write_piece<W: Write>(to: &mut W, bytes: &[u8]) -> io::Result<usize>
     ensures some { IfOk result
         (λ n. (n ≤ length bytes.now) × (0 < length bytes.now → 0 < n)) }

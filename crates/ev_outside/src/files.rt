@@ -2,7 +2,7 @@
 ghost use Rattle.std.specs.Prelude.{◌≡◌, ◌≤◌, false, OnOk, OnErr, IsErrOf};
 ghost use Rattle.ev_outside.specs.Counts.{CountsOne, Rose};
 ghost use Rattle.ev_text.specs.Scans.{IsPrefixOf};
-ghost use Rattle.ev_outside.specs.Shelf.{AppendsFile, CountsNeverFall, CountsStay, HoldsUnder, KeepsOthers};
+ghost use Rattle.ev_outside.specs.Shelf.{AppendsFile, CountsNeverFall, CountsStay, HasAsked, HoldsUnder, KeepsOthers};
 ghost use Rattle.ev_outside.specs.Storage.{files_of, shelf_of};
 
 use super::shelf::{Shelf, ShelfFault};
@@ -49,7 +49,8 @@ impl<S: Storage> StorageShelf<S> {
 }
 
 impl<S: Storage> Shelf for StorageShelf<S> {
-    ghost state = { λ shelf. shelf_of (S.told shelf.storage) (S.failed shelf.storage) };
+    ghost state = { λ shelf. shelf_of (S.told shelf.storage) (S.failed shelf.storage)
+        (S.asked shelf.storage) };
 
     fn read(&mut self, name: &str, most: usize, into: &mut Vec<u8>) -> Result<(), ShelfFault>
         ensures bytes { OnOk result
@@ -60,11 +61,16 @@ impl<S: Storage> Shelf for StorageShelf<S> {
         ensures failed { IsErrOf result ShelfFault.Failed →
             Rose (S.failed self.old.storage) (S.failed self.new.storage) }
         ensures falls { CountsNeverFall
-            (shelf_of (S.told self.old.storage) (S.failed self.old.storage))
-            (shelf_of (S.told self.new.storage) (S.failed self.new.storage)) }
+            (shelf_of (S.told self.old.storage) (S.failed self.old.storage)
+            (S.asked self.old.storage))
+            (shelf_of (S.told self.new.storage) (S.failed self.new.storage)
+            (S.asked self.new.storage)) }
         ensures stays { (IsErrOf result ShelfFault.Failed → ⊥) → CountsStay
-            (shelf_of (S.told self.old.storage) (S.failed self.old.storage))
-            (shelf_of (S.told self.new.storage) (S.failed self.new.storage)) }
+            (shelf_of (S.told self.old.storage) (S.failed self.old.storage)
+            (S.asked self.old.storage))
+            (shelf_of (S.told self.new.storage) (S.failed self.new.storage)
+            (S.asked self.new.storage)) }
+        ensures asked { HasAsked name.now (S.asked self.new.storage) }
 
         // `Failed` comes exactly where a call of the storage failed.
         ensures counted { IsErrOf result ShelfFault.Failed →
@@ -88,11 +94,16 @@ impl<S: Storage> Shelf for StorageShelf<S> {
         ensures failed { IsErrOf result ShelfFault.Failed →
             Rose (S.failed self.old.storage) (S.failed self.new.storage) }
         ensures falls { CountsNeverFall
-            (shelf_of (S.told self.old.storage) (S.failed self.old.storage))
-            (shelf_of (S.told self.new.storage) (S.failed self.new.storage)) }
+            (shelf_of (S.told self.old.storage) (S.failed self.old.storage)
+            (S.asked self.old.storage))
+            (shelf_of (S.told self.new.storage) (S.failed self.new.storage)
+            (S.asked self.new.storage)) }
         ensures stays { (IsErrOf result ShelfFault.Failed → ⊥) → CountsStay
-            (shelf_of (S.told self.old.storage) (S.failed self.old.storage))
-            (shelf_of (S.told self.new.storage) (S.failed self.new.storage)) }
+            (shelf_of (S.told self.old.storage) (S.failed self.old.storage)
+            (S.asked self.old.storage))
+            (shelf_of (S.told self.new.storage) (S.failed self.new.storage)
+            (S.asked self.new.storage)) }
+        ensures asked { HasAsked name.now (S.asked self.new.storage) }
 
         // `Failed` comes exactly where a call of the storage failed.
         ensures counted { IsErrOf result ShelfFault.Failed →

@@ -89,6 +89,7 @@ impl PieceStorage {
 }
 
 impl Stream for PieceStorage {
+    ghost use Rattle.std.specs.Prelude.{None};
     ghost use Rattle.ev_outside.specs.PieceLaws.{writes_add, writes_more, writes_nothing};
     ghost use Rattle.ev_outside.specs.PieceStorage.{TakesPiece, target_bytes, told_of};
 
@@ -97,6 +98,8 @@ impl Stream for PieceStorage {
     ghost written = { target_bytes };
 
     ghost failed = { λ storage. storage.failed };
+
+    ghost asked = { λ _. None };
 
     ghost nothing = { λ a. writes_nothing (told_of a) };
 

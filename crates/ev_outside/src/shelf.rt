@@ -2,7 +2,7 @@
 ghost use Rattle.std.specs.Prelude.{◌≡◌, OnOk, OnErr, IsErrOf};
 ghost use Rattle.ev_outside.specs.Counts.{Rose};
 ghost use Rattle.ev_text.specs.Scans.{IsPrefixOf};
-ghost use Rattle.ev_outside.specs.Shelf.{ShelfState, AppendsFile, CountsNeverFall, CountsStay, HoldsUnder, KeepsOthers};
+ghost use Rattle.ev_outside.specs.Shelf.{ShelfState, AppendsFile, CountsNeverFall, CountsStay, HasAsked, HoldsUnder, KeepsOthers};
 
 use super::storage::CallFailed;
 use thiserror::Error;
@@ -32,8 +32,8 @@ impl From<CallFailed> for ShelfFault {
 
 /// Named files. Names and contents are bytes.
 pub trait Shelf {
-    // Which names hold which bytes, where the shelf tells it, and how many reads and writes of each
-    // name have failed.
+    // Which names hold which bytes, where the shelf tells it, how many reads and writes of each
+    // name have failed, and which name was asked for last, where that is kept.
     ghost state: { Self → ShelfState };
 
     /// Appends the bytes of the file to `into`, or its first `most` bytes where it is longer. A
@@ -49,7 +49,8 @@ pub trait Shelf {
             ((state self.new).failed_reads name.now) }
         ensures falls { CountsNeverFall (state self.old) (state self.new) }
         ensures stays { (IsErrOf result ShelfFault.Failed → ⊥)
-            → CountsStay (state self.old) (state self.new) };
+            → CountsStay (state self.old) (state self.new) }
+        ensures asked { HasAsked name.now (state self.new).asked };
 
     /// Leaves exactly these bytes under the name. After `Failed` nothing is known of the bytes
     /// under this name. No count rises but where the call answers `Failed`.
@@ -63,5 +64,6 @@ pub trait Shelf {
             ((state self.new).failed_writes name.now) }
         ensures falls { CountsNeverFall (state self.old) (state self.new) }
         ensures stays { (IsErrOf result ShelfFault.Failed → ⊥)
-            → CountsStay (state self.old) (state self.new) };
+            → CountsStay (state self.old) (state self.new) }
+        ensures asked { HasAsked name.now (state self.new).asked };
 }

@@ -2,7 +2,7 @@
 ghost use Rattle.std.specs.Prelude.{◌≡◌, ◌<◌, ◌≤◌, ◌++◌, Bool, false, ℕ, List, [], Option, take, length, IfOk, OnOk, MatchResult};
 ghost use Rattle.std.specs.Io.KnownBytes.{ReadConsumes};
 ghost use Rattle.ev_outside.specs.Counts.{IsCounted};
-ghost use Rattle.ev_outside.specs.Shelf.{KeepsOthers};
+ghost use Rattle.ev_outside.specs.Shelf.{HasAsked, KeepsOthers};
 ghost use Rattle.ev_outside.specs.Sink.{Adds};
 ghost use Rattle.ev_outside.specs.Storage.{Creates, Opens, Told, WritesTo, files_of, rest_of};
 
@@ -24,6 +24,9 @@ pub trait Stream {
     // How many calls have failed.
     ghost failed: { Self → ℕ };
 
+    // The name that was asked for last, where it is kept.
+    ghost asked: { Self → Option (List ℕ) };
+
     /// Writes the first of the bytes, one at least where there is one, and answers how many. A call
     /// that took nothing of a piece that isn't empty has failed.
     fn write(&mut self, bytes: &[u8]) -> Result<usize, CallFailed>
@@ -31,7 +34,8 @@ pub trait Stream {
             (λ _. takes self.old [] self.new) }
         ensures some { IfOk result
             (λ n. (n ≤ length bytes.now) × (0 < length bytes.now → 0 < n)) }
-        ensures counts { IsCounted result (failed self.old) (failed self.new) };
+        ensures counts { IsCounted result (failed self.old) (failed self.new) }
+        ensures asked { asked self.new ≡ asked self.old };
 
     ghost nothing: { (a : Self) → takes a [] a };
 
@@ -56,7 +60,8 @@ pub trait Storage: Stream {
     fn open(&mut self, name: &str) -> Result<(), CallFailed>
         ensures opens { OnOk result (Opens (told self.old) name.now (told self.new)) }
         ensures files { files_of (told self.new) ≡ files_of (told self.old) }
-        ensures counts { IsCounted result (Self.failed self.old) (Self.failed self.new) };
+        ensures counts { IsCounted result (Self.failed self.old) (Self.failed self.new) }
+        ensures asked { HasAsked name.now (Self.asked self.new) };
 
     /// Reads the next bytes of the file that is open, and answers how many; none where it has no
     /// more.
@@ -65,7 +70,8 @@ pub trait Storage: Stream {
         ensures bytes { ReadConsumes (rest_of (told self.old)) (rest_of (told self.new))
             result into.new }
         ensures files { files_of (told self.new) ≡ files_of (told self.old) }
-        ensures counts { IsCounted result (Self.failed self.old) (Self.failed self.new) };
+        ensures counts { IsCounted result (Self.failed self.old) (Self.failed self.new) }
+        ensures asked { Self.asked self.new ≡ Self.asked self.old };
 
     /// Makes a file that is empty, to be written. Nothing is known of its bytes where the call
     /// fails.
@@ -73,19 +79,22 @@ pub trait Storage: Stream {
         ensures creates { OnOk result (Creates name.now (told self.new)) }
         ensures others { KeepsOthers name.now
             (files_of (told self.old)) (files_of (told self.new)) }
-        ensures counts { IsCounted result (Self.failed self.old) (Self.failed self.new) };
+        ensures counts { IsCounted result (Self.failed self.old) (Self.failed self.new) }
+        ensures asked { HasAsked name.now (Self.asked self.new) };
 
     /// Sees that what was written into the file that is open is kept, behind its last write. No
     /// bytes of any file change.
     fn keep(&mut self) -> Result<(), CallFailed>
         ensures files { files_of (told self.new) ≡ files_of (told self.old) }
-        ensures counts { IsCounted result (Self.failed self.old) (Self.failed self.new) };
+        ensures counts { IsCounted result (Self.failed self.old) (Self.failed self.new) }
+        ensures asked { Self.asked self.new ≡ Self.asked self.old };
 
     /// Closes the file that is open, if one is. No bytes of any file change.
     fn close(&mut self)
         ensures closed { is_open self.new ≡ false }
         ensures files { files_of (told self.new) ≡ files_of (told self.old) }
-        ensures failed { Self.failed self.new ≡ Self.failed self.old };
+        ensures failed { Self.failed self.new ≡ Self.failed self.old }
+        ensures asked { Self.asked self.new ≡ Self.asked self.old };
 
     ghost writes: { (a b : Self) (piece : List ℕ) → Self.takes a piece b →
         WritesTo (told a) piece (told b) };

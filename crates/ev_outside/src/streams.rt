@@ -2,7 +2,7 @@
 ghost use Rattle.std.specs.Prelude.{◌≡◌, ◌+◌, ◌++◌, ◌≤◌, List, ℕ, take, length, OnOk, OnErr, IfSome, IsErrOf, MatchResult};
 ghost use Rattle.ev_text.specs.Scans.{IsPrefixOf};
 ghost use Rattle.ev_outside.specs.Counts.{CountsOne, IsCounted};
-ghost use Rattle.ev_outside.specs.Shelf.{AppendsFile, HoldsUnder, KeepsOthers};
+ghost use Rattle.ev_outside.specs.Shelf.{AppendsFile, HasAsked, HoldsUnder, KeepsOthers};
 ghost use Rattle.ev_outside.specs.Storage.{files_of, rest_of};
 
 use super::shelf::ShelfFault;
@@ -26,6 +26,7 @@ pub(crate) fn read_named<S: Storage>(
         CountsOne (S.failed storage.old) (S.failed storage.new) }
     ensures stays { (IsErrOf result ShelfFault.Failed → ⊥) →
         S.failed storage.new ≡ S.failed storage.old }
+    ensures asked { HasAsked name.now (S.asked storage.new) }
 {
     storage.open(name)?;
     read_up_to(storage, most, into)
@@ -41,6 +42,7 @@ pub(crate) fn write_named<S: Storage>(
     ensures others { KeepsOthers name.now (files_of (S.told storage.old))
         (files_of (S.told storage.new)) }
     ensures counts { IsCounted result (S.failed storage.old) (S.failed storage.new) }
+    ensures asked { HasAsked name.now (S.asked storage.new) }
 {
     storage.create(name)?;
     write_whole(storage, bytes)?;
@@ -63,6 +65,7 @@ pub(crate) fn read_up_to<S: Storage>(
         CountsOne (S.failed storage.old) (S.failed storage.new) }
     ensures stays { (IsErrOf result ShelfFault.Failed → ⊥) →
         S.failed storage.new ≡ S.failed storage.old }
+    ensures asked { S.asked storage.new ≡ S.asked storage.old }
 {
     let mut chunk = [0u8; CHUNK];
     let mut left = most;
@@ -87,6 +90,7 @@ pub(crate) fn write_whole<S: Stream>(stream: &mut S, bytes: &[u8]) -> Result<(),
     ensures takes { MatchResult result (λ _. S.takes stream.old bytes.now stream.new)
         (λ _. (part : List ℕ) × IsPrefixOf part bytes.now × S.takes stream.old part stream.new) }
     ensures counts { IsCounted result (S.failed stream.old) (S.failed stream.new) }
+    ensures asked { S.asked stream.new ≡ S.asked stream.old }
 {
     let mut at = 0;
     while at < bytes.len() {

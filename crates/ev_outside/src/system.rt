@@ -4,8 +4,9 @@
 ghost use Rattle.std.specs.Prelude.{◌≡◌, ◌<◌, ◌≤◌, ◌↔◌, ℕ, [], None, Some, false, is_some, IfErr, IfOk, IfSome, codes, IsErr, IsNone, IsSome, MatchOption, MatchResult, OnErr, OnOk, length, refl, string_bytes};
 ghost use Rattle.std.specs.Io.KnownBytes.{ReadConsumes, WriteAppends};
 ghost use Rattle.ev_outside.specs.Counts.{CountsOne, IsCounted};
-ghost use Rattle.ev_outside.specs.Shelf.{KeepsOthers};
+ghost use Rattle.ev_outside.specs.Shelf.{HasAsked, KeepsOthers};
 ghost use Rattle.ev_outside.specs.Storage.{Creates, Opens, files_of, rest_of};
+ghost use Rattle.ev_outside.specs.SystemName.{asked_by};
 
 use super::answers::{read_piece, write_piece};
 use super::failure::Failure;
@@ -69,6 +70,8 @@ impl<'a, R: Files> SystemFiles<'a, R> {
         ensures cause { IfSome result (λ failure. self.now.cause ≡ Some failure.cause) }
         ensures name { IfSome result (λ failure. IfSome self.now.name
             (λ name. failure.name.now ≡ string_bytes name)) }
+        ensures asked { IfSome result (λ failure.
+            HasAsked failure.name.now (asked_by self.now.name)) }
     {
         let cause = self.cause?;
         let name = match &self.name {
@@ -87,8 +90,10 @@ impl<'a, R: Files> SystemFiles<'a, R> {
 
     /// Begins with another file: keeps its name, where there is memory for it, and forgets why
     /// calls on the one before failed.
+    #[tactic(auto, using(crate::proofs::SystemNames::has_asked))]
     fn begin(&mut self, name: &str)
         ensures name { IfSome self.new.name (λ kept. string_bytes kept ≡ name.now) }
+        ensures asked { HasAsked name.now (asked_by self.new.name) }
         ensures failed { self.new.failed ≡ self.old.failed }
         ensures cause { IsNone self.new.cause }
     {
@@ -227,6 +232,8 @@ impl<'a, R: Files> Stream for SystemFiles<'a, R> {
 
     ghost failed = { λ files. files.failed };
 
+    ghost asked = { λ files. asked_by files.name };
+
     ghost nothing = { λ a. tt };
 
     ghost more = { λ a b c xs ys first second. tt };
@@ -238,6 +245,7 @@ impl<'a, R: Files> Stream for SystemFiles<'a, R> {
         ensures some { IfOk result
             (λ n. (n ≤ length bytes.now) × (0 < length bytes.now → 0 < n)) }
         ensures counts { IsCounted result self.old.failed self.new.failed }
+        ensures asked { asked_by self.new.name ≡ asked_by self.old.name }
 
         // The file that is open took what is answered. Where none is open, the call fails.
         ensures took { MatchOption self.old.file (IsErr result) (λ old. MatchOption self.new.file ⊥
@@ -269,6 +277,7 @@ impl<'a, R: Files> Storage for SystemFiles<'a, R> {
         ensures opens { OnOk result (Opens None name.now None) }
         ensures files { files_of None ≡ files_of None }
         ensures counts { IsCounted result self.old.failed self.new.failed }
+        ensures asked { HasAsked name.now (asked_by self.new.name) }
         ensures held { OnOk result (IsSome self.new.file) }
         ensures cause { MatchResult result (λ _. IsNone self.new.cause)
             (λ _. IsSome self.new.cause) }
@@ -288,6 +297,7 @@ impl<'a, R: Files> Storage for SystemFiles<'a, R> {
         ensures bytes { ReadConsumes (rest_of None) (rest_of None) result into.new }
         ensures files { files_of None ≡ files_of None }
         ensures counts { IsCounted result self.old.failed self.new.failed }
+        ensures asked { asked_by self.new.name ≡ asked_by self.old.name }
 
         // The file that is open gave what is answered. Where none is open, the call fails.
         ensures gave { MatchOption self.old.file (IsErr result) (λ old. MatchOption self.new.file ⊥
@@ -309,6 +319,7 @@ impl<'a, R: Files> Storage for SystemFiles<'a, R> {
         ensures creates { OnOk result (Creates name.now None) }
         ensures others { KeepsOthers name.now (files_of None) (files_of None) }
         ensures counts { IsCounted result self.old.failed self.new.failed }
+        ensures asked { HasAsked name.now (asked_by self.new.name) }
         ensures held { OnOk result (IsSome self.new.file) }
         ensures cause { MatchResult result (λ _. IsNone self.new.cause)
             (λ _. IsSome self.new.cause) }
@@ -327,6 +338,7 @@ impl<'a, R: Files> Storage for SystemFiles<'a, R> {
     fn keep(&mut self) -> Result<(), CallFailed>
         ensures files { files_of None ≡ files_of None }
         ensures counts { IsCounted result self.old.failed self.new.failed }
+        ensures asked { asked_by self.new.name ≡ asked_by self.old.name }
         ensures closed { MatchOption self.old.file (IsErr result) (λ _. IsSome self.new.file) }
         ensures cause { MatchResult result (λ _. self.new.cause ≡ self.old.cause)
             (λ _. IsSome self.new.cause) }
@@ -346,6 +358,7 @@ impl<'a, R: Files> Storage for SystemFiles<'a, R> {
         ensures closed { is_some self.new.file ≡ false }
         ensures files { files_of None ≡ files_of None }
         ensures failed { self.new.failed ≡ self.old.failed }
+        ensures asked { asked_by self.new.name ≡ asked_by self.old.name }
         ensures cause { self.new.cause ≡ self.old.cause }
         ensures name { self.new.name ≡ self.old.name }
     {
@@ -405,6 +418,8 @@ impl<'a, R: Print> Stream for SystemOutput<'a, R> {
     ghost written = { λ _. None };
 
     ghost failed = { λ output. output.failed };
+
+    ghost asked = { λ _. None };
 
     ghost nothing = { λ a. tt };
 

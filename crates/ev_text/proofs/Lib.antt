@@ -18,3 +18,7 @@ pub mod RunLaws
 pub mod EachFromLaws
 pub mod WholeReads
 pub mod SignedLaws
+pub mod Records
+pub mod Choices
+pub mod Numbers
+pub mod Lines

@@ -4,6 +4,10 @@
 //! it is negative, and `0` for zero. That is what std writes for `{}`, so contracts cite std's
 //! `decimal` and `signed_decimal`; `one_spelling` states that no other text of digits in this form
 //! has the value.
+//!
+//! What a text of parts owes its reader is proved from its parts: of a record
+//! `proofs/Records.antt`, of a choice by a word `Choices.antt`, of a line of so many items
+//! `Lines.antt`.
 #![tactic(auto)]
 
 mod laws;

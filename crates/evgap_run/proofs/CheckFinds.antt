@@ -13,10 +13,10 @@ use Rattle.job_frame.specs.Task.{Answers, AreReadUpTo}
 use Rattle.job_frame.specs.declared.found.Answer.{Answer}
 use Rattle.job_frame.specs.declared.status.Status.{Status}
 use Rattle.job_frame.specs.declared.status.Status.TheVariants as status
-use Rattle.job_steps.specs.Caps.{certificate_read, file_read, most_bytes, most_certificate_bytes}
-use Rattle.job_steps.specs.Ended.{IsRuleOrMemory}
-use Rattle.job_steps.specs.declared.answer.Ended.{Ended}
-use Rattle.job_steps.specs.declared.answer.Ended.TheVariants.{Refused}
+use Rattle.job_frame.specs.Caps.{certificate_read, file_read, most_bytes, most_certificate_bytes}
+use Rattle.job_frame.specs.Ended.{IsRuleOrMemory}
+use Rattle.job_frame.specs.declared.answer.Ended.{Ended}
+use Rattle.job_frame.specs.declared.answer.Ended.TheVariants.{Refused}
 use Rattle.near_proof.specs.declared.proof.NearProof.{NearProof}
 use Rattle.plan_writer.specs.RefusalText.{IsRule, refusal_text}
 use Rattle.plan_writer.specs.declared.refusal.Refusal.{Refusal}

@@ -3,9 +3,8 @@ use Rattle.std.proofs.Common.{◌≡◌, ◌∙◌, ℕ, ◌⊎◌, List, [], �
 use Rattle.std.proofs.lemmas.Option.{same_Some}
 use Rattle.ev_model.specs.Network.{Network}
 use Rattle.ev_outside.specs.Shelf.{Files, HoldsUnder}
-use Rattle.ev_text.proofs.Results.{Err-ne-Ok, Ok-injective}
-use Rattle.ev_text.proofs.WholeLaws.{whole-spells}
-use Rattle.fleet_steps.proofs.Plans.{same_plan, valid_breaks_none}
+use Rattle.ev_text.proofs.Results.{Err-ne-Ok}
+use Rattle.fleet_steps.proofs.Plans.{one_plan, same_plan, valid_breaks_none}
 use Rattle.fleet_steps.proofs.Instances.{fleet_refused_not, same_fleet}
 use Rattle.fleet_steps.specs.PlanFile.{BreaksFirst}
 use Rattle.fleet_steps.specs.FleetNetwork.{HasFleetNetwork}
@@ -25,19 +24,9 @@ use Rattle.plan_writer.specs.declared.refusal.Refusal.TheVariants as refusal
 use Rattle.route_improve.specs.declared.improving.Improved.{Improved}
 use Rattle.route_improve.specs.declared.improving.Improved.TheVariants.{Alone, Plan}
 use Rattle.route_plan.proofs.PlanLaws.{fleet_plan_is_spelled}
-use Rattle.route_plan.proofs.PlanReaders.{AnyBehind, reader-file}
-use Rattle.route_plan.specs.PlanReading.{file_at}
-use Rattle.route_plan.specs.PlanTexts.{FitsFile, fleet_plan_text}
 use Rattle.route_plan.specs.declared.plan.FleetPlan.{FleetPlan}
 use Rattle.evgap_run.proofs.Written.{held_fits}
 use Rattle.evgap_run.specs.PlanAnswer.{HasPlanJob, HasStart, IsNoStart, IsPlanFound, IsPlanRefused, PlanAnswers, PutsBrokenStart, PutsPlan, PutsPlanRefusal, plan_answers, plan_status, plan_task}
-
--- plans with the same text are the same
-one_plan : (p q : Option FleetPlan) → FitsFile p → FitsFile q → fleet_plan_text p ≡ fleet_plan_text q → p ≡ q
-one_plan p q fits other same =
-    let first = whole-spells file_at fleet_plan_text FitsFile AnyBehind reader-file (λ plan own. tt) (fleet_plan_text q) p in
-    let second = whole-spells file_at fleet_plan_text FitsFile AnyBehind reader-file (λ plan own. tt) (fleet_plan_text q) q in
-    Ok-injective p q (sym (first.1 (fits, sym same)) ∙ second.1 (other, refl))
 
 -- what the plan that is held costs, by the plan
 cost_by_plan : Network → Option FleetPlan → Option ℕ

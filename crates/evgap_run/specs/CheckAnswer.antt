@@ -8,7 +8,7 @@ use Rattle.gap_words.specs.Words.{CheckGap}
 use Rattle.job_frame.specs.Task.{Outcome, Task}
 use Rattle.job_frame.specs.declared.status.Status.{Status}
 use Rattle.job_frame.specs.declared.status.Status.TheVariants as status
-use Rattle.job_steps.specs.Caps.{certificate_read, file_read}
+use Rattle.job_frame.specs.Caps.{certificate_read, file_read}
 use Rattle.near_proof.specs.Accepted.{IsAccepted}
 use Rattle.near_proof.specs.Truth.{IsTrue}
 use Rattle.near_proof.specs.Verdicts.{IsVerdict}

@@ -13,7 +13,7 @@ use Rattle.job_frame.specs.Task.{Outcome, Read, Task}
 use Rattle.job_frame.specs.Writes.{Written}
 use Rattle.job_frame.specs.declared.status.Status.{Status}
 use Rattle.job_frame.specs.declared.status.Status.TheVariants as status
-use Rattle.job_steps.specs.Caps.{file_read}
+use Rattle.job_frame.specs.Caps.{file_read}
 use Rattle.near_proof.specs.Accepted.{IsAccepted}
 use Rattle.near_proof.specs.Truth.{IsTrue, IsTrueNearBound}
 use Rattle.near_proof.specs.declared.proof.NearProof.{NearProof}

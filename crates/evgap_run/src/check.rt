@@ -8,7 +8,7 @@ ghost use Rattle.gap_words.specs.JobValue.{check_value};
 ghost use Rattle.instance_reader.specs.Instance.{customer_nodes, most_customers};
 ghost use Rattle.job_frame.specs.Finds.{Finds};
 ghost use Rattle.job_frame.specs.Task.{AreReadUpTo};
-ghost use Rattle.job_steps.specs.Caps.{most_bytes};
+ghost use Rattle.job_frame.specs.Caps.{most_bytes};
 ghost use Rattle.route_plan.specs.PlanTexts.{FitsFile};
 
 use crate::judging::judge_text;
@@ -16,8 +16,7 @@ use ev_outside::{Shelf, ShelfFault};
 use fleet_steps::{fleet_instance, plan_of};
 use gap_words::CheckWords;
 use instance_reader::Instance;
-use job_frame::{Found, read_file};
-use job_steps::{Ended, MOST_BYTES, MOST_CERTIFICATE_BYTES, refuse_job};
+use job_frame::{Ended, Found, MOST_BYTES, MOST_CERTIFICATE_BYTES, read_file, refuse_job};
 use route_plan::FleetPlan;
 use std::alloc::{AllocError, Global};
 

@@ -16,10 +16,9 @@ use crate::plan::plan;
 use crate::usage::put_usage;
 use crate::watcher::Nobody;
 use ev_outside::{Shelf, Sink};
-use gap_search::{MoveWatcher, PriceWatcher};
+use gap_search::GapWatcher;
 use gap_words::{Job, job_words};
-use job_frame::Status;
-use job_steps::ScaleWatcher;
+use job_frame::{ScaleWatcher, Status};
 use std::alloc::{AllocError, Global};
 
 /// The program: its words after its name, the files and the output.
@@ -77,7 +76,7 @@ where
     S: Shelf,
     K: Sink,
     C: JobClock,
-    W: MoveWatcher + PriceWatcher + ScaleWatcher,
+    W: GapWatcher + ScaleWatcher,
     ensures { Runs words.now K.takes_memory (S.state shelf.old) (S.state shelf.new)
         (K.state out.old) (K.state out.new) result }
 {
@@ -116,7 +115,7 @@ where
     S: Shelf,
     K: Sink,
     C: JobClock,
-    W: MoveWatcher + PriceWatcher + ScaleWatcher,
+    W: GapWatcher + ScaleWatcher,
     requires { IsJob job.now }
     ensures words { result ≢ Status.Words }
     ensures job { Performs (task_of (job_value job.now)) (S.state shelf.old) (S.state shelf.new)

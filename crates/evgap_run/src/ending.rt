@@ -11,11 +11,9 @@ ghost use Rattle.job_frame.specs.declared.status.Status.{Status};
 
 use crate::clock::JobClock;
 use crate::command::run_watched;
-use ev_outside::{Shelf, Sink};
-use gap_search::{MoveWatcher, PriceWatcher};
-use job_ending::{Diagnostics, LastFailure, Message, end_at, end_without_words};
-use job_frame::Status;
-use job_steps::ScaleWatcher;
+use gap_search::GapWatcher;
+use job_ending::{Diagnostics, FailingShelf, FailingSink, Message, end_run, end_without_words};
+use job_frame::{ScaleWatcher, Status};
 use std::alloc::Global;
 use std::io::{self, ErrorKind};
 use std::process::ExitCode;
@@ -32,16 +30,16 @@ pub fn run_to_end<S, K, D, C, W>(
     watcher: &mut W,
 ) -> ExitCode
 where
-    S: Shelf + LastFailure,
-    K: Sink + LastFailure,
+    S: FailingShelf,
+    K: FailingSink,
     D: Diagnostics,
     C: JobClock,
-    W: MoveWatcher + PriceWatcher + ScaleWatcher,
+    W: GapWatcher + ScaleWatcher,
     ensures runs { IfOk words (λ words. (ended : Status) × (exit_status result ≡ code_of ended)
         × Runs words.items K.takes_memory (S.state shelf.old) (S.state shelf.new)
         (K.state out.old) (K.state out.new) ended) }
     ensures told { IfOk words (λ _. (message : Option Message)
-        × IsToldAt (exit_status result) message
+        × IsToldAt (exit_status result) (S.state shelf.new).asked message
         × TellsIfSome (D.told people.old) message (D.told people.new)) }
     ensures memory { IfErr words (λ error. error_kind error ≡ ErrorKind.OutOfMemory
         → (exit_status result ≡ code_of Status.Memory)
@@ -57,6 +55,5 @@ where
         Err(error) => return end_without_words(people, error),
     };
     let code = run_watched(alloc, words.as_slice(), shelf, out, clock, watcher).code();
-    let failure = out.last_failure().or(shelf.last_failure());
-    end_at(people, code, Message::at(code, failure))
+    end_run(people, code, shelf, out)
 }

@@ -16,8 +16,10 @@ mod watcher;
 pub use clock::{AtOnce, JobClock, Never};
 pub use command::{exit_code, run, run_watched};
 pub use ending::run_to_end;
-pub use gap_search::{GapClock, MoveProgress, MoveWatcher, PriceProgress, PriceWatcher};
-pub use job_ending::{Diagnostics, LastFailure, Message};
-pub use job_frame::Status;
-pub use job_steps::ScaleWatcher;
+pub use gap_search::{
+    GapClock, GapProgress, GapWatcher, MoveProgress, MoveWatcher, PriceProgress, PriceWatcher,
+    RoundsProgress, RoundsWatcher,
+};
+pub use job_ending::{Diagnostics, FailingShelf, FailingSink, Message};
+pub use job_frame::{ScaleWatcher, Status};
 pub use watcher::Nobody;

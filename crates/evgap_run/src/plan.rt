@@ -9,28 +9,24 @@ ghost use Rattle.gap_words.specs.JobValue.{IsPlanJob, plan_value};
 ghost use Rattle.instance_reader.specs.Instance.{customer_nodes, most_customers};
 ghost use Rattle.job_frame.specs.Finds.{Finds, written_by};
 ghost use Rattle.job_frame.specs.Task.{AreReadUpTo};
-ghost use Rattle.job_steps.specs.Caps.{most_bytes};
+ghost use Rattle.job_frame.specs.Caps.{most_bytes};
 ghost use Rattle.plan_check.specs.FleetRules.{stops_of};
-ghost use Rattle.plan_writer.specs.CheckText.{check_text};
-ghost use Rattle.plan_writer.specs.declared.check.Judgement.TheVariants as judgement;
 
 use crate::clock::JobClock;
 use crate::planning::plan_all;
 use ev_outside::{Shelf, ShelfFault};
-use fleet_steps::{cost_of, fleet_instance, plan_of};
-use gap_search::{MoveWatcher, PriceWatcher};
+use fleet_steps::{cost_of, fleet_instance, plan_of, reject};
+use gap_search::GapWatcher;
 use gap_words::PlanWords;
 use instance_reader::Instance;
-use job_frame::{Answer, Found, Status, read_file};
-use job_steps::{Ended, MOST_BYTES, ScaleWatcher, refuse_job};
-use plan_check::{LargeFault, PlanFault};
-use plan_writer::{Judgement, push_check_report};
+use job_frame::{Ended, Found, MOST_BYTES, ScaleWatcher, read_file, refuse_job};
+use plan_check::LargeFault;
 use route_plan::FleetPlan;
 use std::alloc::{AllocError, Global};
 
 /// What `plan` finds: the instance is read, then the plan to begin with where a file is named; then
 /// a fleet is planned, and its plan and a proof of a bound on its cost are written.
-pub fn plan<S: Shelf, C: JobClock, W: MoveWatcher + PriceWatcher + ScaleWatcher>(
+pub fn plan<S: Shelf, C: JobClock, W: GapWatcher + ScaleWatcher>(
     alloc: Global,
     job: &PlanWords,
     shelf: &mut S,
@@ -58,7 +54,7 @@ pub fn plan<S: Shelf, C: JobClock, W: MoveWatcher + PriceWatcher + ScaleWatcher>
 
 /// What `plan` finds on the instance of its file: the plan to begin with is read, where a file is
 /// named.
-fn plan_on<S: Shelf, C: JobClock, W: MoveWatcher + PriceWatcher>(
+fn plan_on<S: Shelf, C: JobClock, W: GapWatcher>(
     alloc: Global,
     inst: &Instance,
     job: &PlanWords,
@@ -81,7 +77,7 @@ fn plan_on<S: Shelf, C: JobClock, W: MoveWatcher + PriceWatcher>(
 }
 
 /// What `plan` finds where the file of the plan to begin with has this name.
-fn plan_from_file<S: Shelf, C: JobClock, W: MoveWatcher + PriceWatcher>(
+fn plan_from_file<S: Shelf, C: JobClock, W: GapWatcher>(
     alloc: Global,
     inst: &Instance,
     name: &str,
@@ -107,7 +103,7 @@ fn plan_from_file<S: Shelf, C: JobClock, W: MoveWatcher + PriceWatcher>(
 }
 
 /// What is found where no file with a plan to begin with is named.
-fn plan_from_none<C: JobClock, W: MoveWatcher + PriceWatcher>(
+fn plan_from_none<C: JobClock, W: GapWatcher>(
     alloc: Global,
     inst: &Instance,
     job: &PlanWords,
@@ -130,7 +126,7 @@ fn plan_from_none<C: JobClock, W: MoveWatcher + PriceWatcher>(
 
 /// What is found for the bytes of the file of the plan to begin with: it is read, and a fleet is
 /// planned.
-fn plan_from_text<C: JobClock, W: MoveWatcher + PriceWatcher>(
+fn plan_from_text<C: JobClock, W: GapWatcher>(
     alloc: Global,
     inst: &Instance,
     bytes: &[u8],
@@ -157,7 +153,7 @@ fn plan_from_text<C: JobClock, W: MoveWatcher + PriceWatcher>(
 }
 
 /// What is found with a plan to begin with, or with none: it is judged, and a fleet is planned.
-fn plan_from<C: JobClock, W: MoveWatcher + PriceWatcher>(
+fn plan_from<C: JobClock, W: GapWatcher>(
     alloc: Global,
     inst: &Instance,
     start: Option<&FleetPlan>,
@@ -181,7 +177,7 @@ fn plan_from<C: JobClock, W: MoveWatcher + PriceWatcher>(
 }
 
 /// What is found with a fleet plan to begin with, or with none.
-fn plan_judged<C: JobClock, W: MoveWatcher + PriceWatcher>(
+fn plan_judged<C: JobClock, W: GapWatcher>(
     alloc: Global,
     inst: &Instance,
     start: Option<&FleetPlan>,
@@ -199,20 +195,4 @@ fn plan_judged<C: JobClock, W: MoveWatcher + PriceWatcher>(
 {
     let planned = plan_all(alloc, inst, start, clock, watcher)?;
     planned.found(alloc, job.plan.as_str(), job.proof.as_str())
-}
-
-/// The line of the first rule that a plan breaks.
-fn reject(alloc: Global, inst: &Instance, fault: PlanFault) -> Result<Found, AllocError>
-    ensures status { IfOk result (λ f. f.answer.status ≡ Status.Negative) }
-    ensures files { IfOk result (λ f. map written_by f.files.items ≡ []) }
-    ensures text { IfOk result (λ f. f.answer.text.items
-        ≡ check_text inst.now.denominator (judgement.Plan fault)) }
-{
-    let mut text = Vec::new(alloc);
-    push_check_report(alloc, &mut text, inst, &Judgement::Plan(fault))?;
-    let answer = Answer {
-        status: Status::Negative,
-        text,
-    };
-    Ok(Found::alone(alloc, answer))
 }

@@ -11,22 +11,20 @@ ghost use Rattle.near_text.specs.Written.{written_near};
 ghost use Rattle.plan_check.specs.FleetRules.{stops_of};
 ghost use Rattle.report_lines.specs.Lines.{IsBoundOf};
 ghost use Rattle.route_improve.specs.Improved.{IsImproved};
-ghost use Rattle.route_plan.specs.PlanTexts.{FitsFile, fleet_plan_text};
 
 use crate::report::push_found;
-use fleet_steps::cost_of;
-use gap_search::{GapClock, Improved, MoveWatcher, NearProof, PriceWatcher, close_gap};
+use fleet_steps::{cost_of, plan_text};
+use gap_search::{GapClock, GapWatcher, Improved, NearProof, close_gap};
 use instance_reader::Instance;
-use job_frame::{Answer, Status};
-use job_steps::Planned;
+use job_frame::{Answer, Planned, Status};
 use near_text::push_near;
 use plan_check::LargeFault;
-use route_plan::{FleetPlan, push_fleet_plan};
+use route_plan::FleetPlan;
 use std::alloc::{AllocError, Global};
 
 /// What a search finds that begins with a plan, or with none: the texts of a plan and of a proof,
 /// and the report on both.
-pub fn plan_all<C: GapClock, W: MoveWatcher + PriceWatcher>(
+pub fn plan_all<C: GapClock, W: GapWatcher>(
     alloc: Global,
     inst: &Instance,
     start: Option<&FleetPlan>,
@@ -119,17 +117,6 @@ fn plan_status(cost: Option<u128>, bound: Option<u128>) -> Status
         (Some(cost), Some(bound)) if cost == bound => Status::Done,
         (_, Some(_)) => Status::Stopped,
     }
-}
-
-/// The text of the file of a plan, or of none.
-fn plan_text(alloc: Global, plan: Option<&FleetPlan>) -> Result<Vec<u8>, AllocError>
-    requires { FitsFile (option_map (λ p. p.now) plan) }
-    ensures { IfOk result
-        (λ text. text.items ≡ fleet_plan_text (option_map (λ p. p.now) plan.entry)) }
-{
-    let mut text = Vec::new(alloc);
-    push_fleet_plan(alloc, &mut text, plan)?;
-    Ok(text)
 }
 
 /// The text of a proof.

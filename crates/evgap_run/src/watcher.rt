@@ -1,7 +1,10 @@
 //! Who watches a search: nobody.
 
-use gap_search::{MoveProgress, MoveWatcher, PriceProgress, PriceWatcher};
-use job_steps::ScaleWatcher;
+use gap_search::{
+    GapProgress, GapWatcher, MoveProgress, MoveWatcher, PriceProgress, PriceWatcher,
+    RoundsProgress, RoundsWatcher,
+};
+use job_frame::ScaleWatcher;
 
 /// Nobody.
 #[derive(Drop)]
@@ -13,6 +16,14 @@ impl PriceWatcher for Nobody {
 
 impl MoveWatcher for Nobody {
     fn watch_moves(&mut self, _progress: MoveProgress) {}
+}
+
+impl RoundsWatcher for Nobody {
+    fn watch_rounds(&mut self, _progress: RoundsProgress) {}
+}
+
+impl GapWatcher for Nobody {
+    fn watch_gap(&mut self, _progress: GapProgress) {}
 }
 
 impl ScaleWatcher for Nobody {

@@ -2,7 +2,7 @@
 #![tactic(auto)]
 
 use ev_outside::{FileShelf, OutSink};
-use evroute_run::{LastFailure, run_to_end};
+use evroute_run::{FailingShelf, FailingSink, run_to_end};
 pub use evroute_run::{Status, exit_code, run};
 use job_listeners::{HeardSink, PlainDiagnostics, ToldProgress, wants_progress};
 use plain_words::{Failed, left_behind, told_behind, unwritable};
@@ -24,13 +24,14 @@ fn words_of(rt: &HostRuntime) -> io::Result<Vec<String>> {
 }
 
 /// The program with these words over the files and the outputs of the system: its exit status is
-/// that of a run. Beside it people are told on standard error what a long search couldn't write,
-/// and what the end means; nothing of that where memory is refused or standard error fails.
+/// that of a run, or tells that the system gave no words. Beside it people are told on standard
+/// error what a long search couldn't write, and what the end means; nothing of that where memory is
+/// refused or standard error fails.
 fn run_on(rt: &HostRuntime, words: io::Result<Vec<String>>) -> ExitCode {
     let alloc = rt.alloc();
     let mut shelf = FileShelf::new(alloc, rt);
     let mut out = HeardSink::over(OutSink::new(rt));
-    let mut people = PlainDiagnostics::new(alloc, rt);
+    let mut people = PlainDiagnostics::new(alloc, rt, "evroute");
     let mut progress = ToldProgress::new(rt, wants_progress(rt));
     tell_in_front(rt);
     let code = run_to_end(

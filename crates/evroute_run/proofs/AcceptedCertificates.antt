@@ -32,7 +32,7 @@ use Rattle.certificate_check.specs.Verdicts.{IsVerdict}
 use Rattle.certificate_check.specs.declared.verdict.Verdict.{Verdict}
 use Rattle.certificate_check.specs.declared.verdict.Verdict.TheVariants as verdict
 use Rattle.evroute_run.proofs.OneCertificate.{AreSame}
-use Rattle.evroute_run.specs.CheckAnswer.{IsValid}
+use Rattle.fleet_steps.specs.PlanFile.{IsValid}
 
 -- ---- the bound
 

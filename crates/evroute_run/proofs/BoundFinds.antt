@@ -7,11 +7,10 @@ use Rattle.ev_model.specs.Network.{Network}
 use Rattle.ev_outside.specs.Shelf.{Files}
 use Rattle.evroute_run.proofs.Refused.{puts_fleet_refusal}
 use Rattle.evroute_run.specs.BoundAnswer.{AcceptsBound, BoundAnswers, IsBoundFound, IsReadBack, PutsBound, bound_status, bound_task}
-use Rattle.job_steps.specs.Caps.{most_bytes}
-use Rattle.evroute_run.specs.Ended.{IsFleetEnded}
-use Rattle.evroute_run.specs.FleetNetwork.{HasFleetNetwork}
-use Rattle.job_steps.specs.declared.answer.Ended.{Ended}
-use Rattle.job_steps.specs.declared.answer.Ended.TheVariants.{Refused}
+use Rattle.job_frame.specs.Caps.{most_bytes}
+use Rattle.fleet_steps.specs.FleetNetwork.{HasFleetNetwork, IsFleetEnded}
+use Rattle.job_frame.specs.declared.answer.Ended.{Ended}
+use Rattle.job_frame.specs.declared.answer.Ended.TheVariants.{Refused}
 use Rattle.job_frame.specs.Finds.{written_by}
 use Rattle.job_frame.specs.Task.{Answers, AreReadUpTo, IsAnswered}
 use Rattle.job_frame.specs.Writes.{AreDifferent, Written}

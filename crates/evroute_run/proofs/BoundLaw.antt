@@ -2,7 +2,7 @@
 use Rattle.std.proofs.Common.{◌≡◌, ◌∙◌, ℕ, List, [], ◌∷◌, Option, None, Some, refl, subst, sym}
 use Rattle.command_line.specs.Words.{BoundJob}
 use Rattle.ev_model.specs.Network.{Network}
-use Rattle.evroute_run.proofs.Instances.{fleet_refused_not, same_fleet}
+use Rattle.fleet_steps.proofs.Instances.{fleet_refused_not, same_fleet}
 use Rattle.evroute_run.proofs.NearSetsLaw.{stands_on_none}
 use Rattle.evroute_run.specs.BoundAnswer.{BoundAnswers, PutsBound, bound_answers, bound_status, bound_task}
 use Rattle.job_frame.proofs.OneStatus.{ExcludeEachOther, IsPlain, lawful, nothing_excludes}

@@ -3,12 +3,13 @@ use Rattle.std.proofs.Common.{◌≡◌, ◌≢◌, ℕ, List, [], ◌∷◌, Op
 use Rattle.command_line.specs.Words.{BoundCheckJob}
 use Rattle.ev_model.specs.Network.{Network}
 use Rattle.ev_outside.specs.Shelf.{Files, ShelfState}
-use Rattle.job_steps.specs.Caps.{certificate_read, file_read, most_bytes, most_certificate_bytes}
-use Rattle.evroute_run.specs.CheckBoundAnswer.{CheckBoundAnswers, HasNear, IsCheckBoundRefused, PutsRejectedBound, check_bound_task, verdict_status}
-use Rattle.evroute_run.specs.Ended.{IsCheckBoundEnded, IsFleetEnded}
-use Rattle.evroute_run.specs.FleetNetwork.{HasFleetNetwork, IsFleetRefused}
-use Rattle.job_steps.specs.declared.answer.Ended.{Ended}
-use Rattle.job_steps.specs.declared.answer.Ended.TheVariants.{Refused}
+use Rattle.job_frame.specs.Caps.{certificate_read, file_read, most_bytes, most_certificate_bytes}
+use Rattle.evroute_run.specs.CheckBoundAnswer.{CheckBoundAnswers, IsCheckBoundRefused, PutsRejectedBound, check_bound_task, verdict_status}
+use Rattle.fleet_steps.specs.NearFile.{HasNear}
+use Rattle.evroute_run.specs.Ended.{IsCheckBoundEnded}
+use Rattle.fleet_steps.specs.FleetNetwork.{HasFleetNetwork, IsFleetEnded, IsFleetRefused}
+use Rattle.job_frame.specs.declared.answer.Ended.{Ended}
+use Rattle.job_frame.specs.declared.answer.Ended.TheVariants.{Refused}
 use Rattle.job_frame.proofs.FileReads.{some_read}
 use Rattle.job_frame.specs.Faults.{FailsReading, HasFailedRead}
 use Rattle.job_frame.specs.Task.{Answers, AreReadUpTo}

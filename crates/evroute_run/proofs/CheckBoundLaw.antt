@@ -1,44 +1,24 @@
 -- The causes of the statuses of `check-bound` exclude each other.
-use Rattle.std.proofs.Common.{◌≡◌, ◌≢◌, ◌∙◌, ℕ, List, [], ◌∷◌, Option, Ok, Err, refl, subst, sym}
+use Rattle.std.proofs.Common.{◌≡◌, ◌∙◌, ℕ, List, [], ◌∷◌, Option, Err, subst, sym}
 use Rattle.command_line.specs.Words.{BoundCheckJob}
 use Rattle.ev_model.specs.Network.{Network}
-use Rattle.ev_text.proofs.Results.{Err-ne-Ok, Ok-injective}
-use Rattle.evroute_run.proofs.Instances.{fleet_refused_not, same_fleet}
-use Rattle.evroute_run.specs.CheckBoundAnswer.{CheckBoundAnswers, HasNear, HoldsNear, IsCheckBoundRefused, PutsAcceptedBound, PutsRejectedBound, check_bound_answers, check_bound_task}
+use Rattle.ev_text.proofs.Results.{Err-ne-Ok}
+use Rattle.fleet_steps.proofs.Instances.{fleet_refused_not, same_fleet}
+use Rattle.fleet_steps.proofs.Nears.{accepted_keeps, one_near}
+use Rattle.evroute_run.specs.CheckBoundAnswer.{CheckBoundAnswers, HoldsNear, IsCheckBoundRefused, PutsAcceptedBound, PutsRejectedBound, check_bound_answers, check_bound_task}
+use Rattle.fleet_steps.specs.NearFile.{HasNear}
 use Rattle.job_frame.proofs.OneStatus.{ExcludeEachOther, IsPlain, lawful, nothing_excludes}
 use Rattle.job_frame.proofs.Performed.{IsLawful}
 use Rattle.job_frame.specs.Task.{Outcome}
 use Rattle.job_frame.specs.declared.status.Status.{Status}
 use Rattle.job_frame.specs.declared.status.Status.TheVariants as status
-use Rattle.near_proof.proofs.Rules.{not_broken}
-use Rattle.near_proof.specs.Accepted.{IsAccepted}
-use Rattle.near_proof.specs.Broken.{at_bound, at_home, at_start, at_step, at_tight}
 use Rattle.near_proof.specs.Verdicts.{IsVerdict}
 use Rattle.near_proof.specs.declared.proof.NearProof.{NearProof}
-use Rattle.near_proof.specs.declared.verdict.NearVerdict.{NearVerdict}
-use Rattle.near_proof.specs.declared.verdict.NearVerdict.TheVariants as verdict
-use Rattle.near_text.proofs.WrittenNears.{one_written}
 use Rattle.near_text.specs.NearIn.{near_in}
 use Rattle.near_text.specs.Written.{written_near}
 use Rattle.plan_writer.specs.RefusalText.{IsRule}
 use Rattle.plan_writer.specs.declared.refusal.Refusal.{Refusal}
 use Rattle.plan_writer.specs.declared.refusal.Refusal.TheVariants as refusal
-
--- ---- an accepted proof breaks no rule
-
-accepted_keeps : (g : Network) (p : NearProof) (v : NearVerdict) → IsAccepted g p → v ≢ verdict.Accepted → IsVerdict g p v → ⊥
-accepted_keeps g p verdict.Accepted accepted other is = other refl
-accepted_keeps g p verdict.Start accepted other first = not_broken g p accepted at_start first.broken
-accepted_keeps g p (verdict.Step label node) accepted other first = not_broken g p accepted (at_step label node) first.broken
-accepted_keeps g p (verdict.End label) accepted other first = not_broken g p accepted (at_home label) first.broken
-accepted_keeps g p verdict.Bound accepted other first = not_broken g p accepted at_bound first.broken
-accepted_keeps g p (verdict.Tight customer) accepted other first = not_broken g p accepted (at_tight customer) first.broken
-
--- ---- files hold one proof
-
-one_near : (g : Network) (bytes : List ℕ) (p q : NearProof) → HasNear g bytes p → HasNear g bytes q → p ≡ q
-one_near g bytes p q is was =
-    one_written g p q is.spelled.fits was.spelled.fits is.spelled.kept was.spelled.kept (Ok-injective (written_near g p) (written_near g q) (sym is.read ∙ was.read))
 
 module _ (limit : Option ℕ) (bytes cert_bytes : List ℕ) where
   accepted_is_unbroken : (text told : List ℕ) → PutsAcceptedBound limit bytes cert_bytes text → PutsRejectedBound limit bytes cert_bytes told → ⊥

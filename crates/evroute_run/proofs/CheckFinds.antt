@@ -3,12 +3,13 @@ use Rattle.std.proofs.Common.{◌≡◌, ℕ, List, [], ◌∷◌, Option, refl,
 use Rattle.command_line.specs.Words.{CheckJob}
 use Rattle.ev_model.specs.Network.{Network}
 use Rattle.ev_outside.specs.Shelf.{Files, ShelfState}
-use Rattle.job_steps.specs.Caps.{certificate_read, file_read, most_bytes, most_certificate_bytes}
-use Rattle.evroute_run.specs.CheckAnswer.{CheckAnswers, HasFleet, check_task}
-use Rattle.evroute_run.specs.FleetNetwork.{HasFleetNetwork}
+use Rattle.job_frame.specs.Caps.{certificate_read, file_read, most_bytes, most_certificate_bytes}
+use Rattle.evroute_run.specs.CheckAnswer.{CheckAnswers, check_task}
+use Rattle.fleet_steps.specs.PlanFile.{HasFleet}
+use Rattle.fleet_steps.specs.FleetNetwork.{HasFleetNetwork}
 use Rattle.evroute_run.specs.Ended.{IsCheckEnded}
-use Rattle.job_steps.specs.declared.answer.Ended.{Ended}
-use Rattle.job_steps.specs.declared.answer.Ended.TheVariants.{Refused}
+use Rattle.job_frame.specs.declared.answer.Ended.{Ended}
+use Rattle.job_frame.specs.declared.answer.Ended.TheVariants.{Refused}
 use Rattle.job_frame.proofs.FileReads.{some_read}
 use Rattle.job_frame.specs.Faults.{FailsReading, HasFailedRead}
 use Rattle.job_frame.specs.Task.{Answers, AreReadUpTo}

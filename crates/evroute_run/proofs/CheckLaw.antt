@@ -1,5 +1,5 @@
 -- The causes of the statuses of `check` exclude each other.
-use Rattle.std.proofs.Common.{◌≡◌, ◌∙◌, ℕ, List, [], ◌∷◌, Option, None, Some, Err, ap, arith, subst, sym}
+use Rattle.std.proofs.Common.{◌≡◌, ◌∙◌, ℕ, List, [], ◌∷◌, Option, Err, ap, arith, subst, sym}
 use Rattle.bound_certificate.specs.CertificateIn.{certificate_in}
 use Rattle.bound_certificate.specs.Ranges.{customer_count}
 use Rattle.bound_certificate.specs.Written.{written}
@@ -7,30 +7,26 @@ use Rattle.bound_certificate.specs.declared.certificate.Certificate.{Certificate
 use Rattle.certificate_check.specs.Accepted.{IsAccepted}
 use Rattle.command_line.specs.Words.{CheckJob}
 use Rattle.ev_model.specs.Network.{Network}
-use Rattle.ev_text.proofs.Results.{Err-ne-Ok, Ok-injective}
+use Rattle.ev_text.proofs.Results.{Err-ne-Ok}
 use Rattle.job_frame.proofs.OneStatus.{ExcludeEachOther, IsPlain, lawful, nothing_excludes}
 use Rattle.job_frame.proofs.Performed.{IsLawful}
 use Rattle.job_frame.specs.Task.{Outcome}
-use Rattle.plan_check.proofs.FleetPlans.{fleet_plan_keeps}
-use Rattle.plan_check.specs.declared.fault.PlanFault.{PlanFault}
 use Rattle.plan_writer.specs.RefusalText.{IsRule}
 use Rattle.plan_writer.specs.declared.check.Judgement.{Judgement}
 use Rattle.plan_writer.specs.declared.check.Judgement.TheVariants as judgement
 use Rattle.plan_writer.specs.declared.refusal.Refusal.{Refusal}
 use Rattle.plan_writer.specs.declared.refusal.Refusal.TheVariants as refusal
 use Rattle.route_plan.proofs.PlanLaws.{fleet_plan_is_spelled}
-use Rattle.route_plan.specs.PlanTexts.{SpellsFleetPlan}
 use Rattle.route_plan.specs.declared.plan.FleetPlan.{FleetPlan}
 use Rattle.evroute_run.proofs.AcceptedCertificates.{accepted_is_no_rejection, accepted_same}
-use Rattle.evroute_run.proofs.Instances.{same_fleet}
-use Rattle.job_steps.proofs.LimitedNetworks.{one_limited, refused_has_none}
+use Rattle.fleet_steps.proofs.Instances.{same_fleet}
+use Rattle.fleet_steps.proofs.Plans.{same_plan, valid_breaks_none}
+use Rattle.job_frame.proofs.LimitedNetworks.{one_limited, refused_has_none}
 use Rattle.evroute_run.proofs.OneCertificate.{AreSame, one_certificate}
-use Rattle.evroute_run.specs.CheckAnswer.{BreaksFirst, CheckAnswers, Holds, IsCertificateOf, IsCheckRefused, IsRejection, IsValid, PutsAccepted, PutsRejected, check_answers, check_task}
+use Rattle.evroute_run.specs.CheckAnswer.{CheckAnswers, Holds, IsCertificateOf, IsCheckRefused, IsRejection, PutsAccepted, PutsRejected, check_answers, check_task}
+use Rattle.fleet_steps.specs.PlanFile.{IsValid}
 use Rattle.job_frame.specs.declared.status.Status.{Status}
 use Rattle.job_frame.specs.declared.status.Status.TheVariants as status
-
-pub same_plan : (bytes : List ℕ) (p q : Option FleetPlan) → SpellsFleetPlan bytes p → SpellsFleetPlan bytes q → p ≡ q
-same_plan bytes p q is other = Ok-injective p q (sym ((fleet_plan_is_spelled bytes p).1 is) ∙ (fleet_plan_is_spelled bytes q).1 other)
 
 -- what the files hold breaks no rule of a text
 refused_holds_not : (limit : Option ℕ) (bytes plan_bytes cert_bytes : List ℕ) (h : Holds limit bytes plan_bytes cert_bytes) (r : Refusal) →
@@ -53,11 +49,6 @@ refused_holds_not limit bytes plan_bytes cert_bytes h (refusal.Charge level) rul
 refused_holds_not limit bytes plan_bytes cert_bytes h (refusal.Route e) rule is = absurd is
 refused_holds_not limit bytes plan_bytes cert_bytes h (refusal.Literal e) rule is = absurd is
 refused_holds_not limit bytes plan_bytes cert_bytes h refusal.Maker rule is = absurd is
-
--- a valid plan breaks no rule
-pub valid_breaks_none : (g : Network) (plan : Option FleetPlan) (cost : Option ℕ) (fault : PlanFault) → IsValid g plan cost → BreaksFirst g plan fault → ⊥
-valid_breaks_none g None cost fault valid broken = broken
-valid_breaks_none g (Some plan) cost fault valid broken = fleet_plan_keeps g plan.routes valid.0 fault broken.broken
 
 no_rejection : (g : Network) (plan : Option FleetPlan) (c d : Certificate) (cost : Option ℕ) (found : Judgement) → IsValid g plan cost → IsAccepted g c → AreSame c d → IsRejection g plan d found → ⊥
 no_rejection g plan c d cost (judgement.Accepted other bound) valid accepted same rejected = rejected

@@ -13,19 +13,19 @@ use Rattle.job_frame.specs.declared.status.Status.TheVariants as status
 use Rattle.plan_writer.specs.RefusalText.{IsRule, refusal_text}
 use Rattle.plan_writer.specs.declared.refusal.Refusal.{Refusal}
 use Rattle.plan_writer.specs.declared.refusal.Refusal.TheVariants as refusal
-use Rattle.proof_text.specs.ProofIn.{SpellsProof, proof_in}
-use Rattle.proof_text.specs.VerdictText.{verdict_text}
+use Rattle.route_proof.specs.ProofIn.{SpellsProof, proof_in}
+use Rattle.route_proof.specs.VerdictText.{verdict_text}
 use Rattle.route_proof.specs.Closed.{IsAccepted, IsTrue}
 use Rattle.route_proof.specs.Verdicts.{IsVerdict}
 use Rattle.route_proof.specs.declared.proof.RouteProof.{RouteProof}
 use Rattle.route_proof.specs.declared.verdict.RouteVerdict.{RouteVerdict}
 use Rattle.route_proof.specs.declared.verdict.RouteVerdict.TheVariants as verdict
-use Rattle.job_steps.specs.Caps.{certificate_read, file_read, most_bytes, most_certificate_bytes}
+use Rattle.job_frame.specs.Caps.{certificate_read, file_read, most_bytes, most_certificate_bytes}
 use Rattle.evroute_run.specs.CheckRouteAnswer.{CheckRouteAnswers, IsCheckRouteRefused, check_route_task, listed_time}
 use Rattle.evroute_run.specs.Ended.{IsCheckRouteEnded, IsEnded}
 use Rattle.evroute_run.specs.FixedAnswer.{IsRefused, IsTask, start_of}
-use Rattle.job_steps.specs.declared.answer.Ended.{Ended}
-use Rattle.job_steps.specs.declared.answer.Ended.TheVariants.{Memory, Refused}
+use Rattle.job_frame.specs.declared.answer.Ended.{Ended}
+use Rattle.job_frame.specs.declared.answer.Ended.TheVariants.{Memory, Refused}
 
 -- ---- the answer to a proof that was read
 

@@ -15,7 +15,7 @@ use Rattle.job_frame.specs.declared.status.Status.TheVariants as status
 use Rattle.plan_writer.specs.RefusalText.{IsRule}
 use Rattle.plan_writer.specs.declared.refusal.Refusal.{Refusal}
 use Rattle.plan_writer.specs.declared.refusal.Refusal.TheVariants as refusal
-use Rattle.proof_text.specs.ProofIn.{proof_in}
+use Rattle.route_proof.specs.ProofIn.{proof_in}
 use Rattle.route_plan.proofs.Feasibly.{tells}
 use Rattle.route_plan.specs.declared.plan.RoutePlan.{RoutePlan}
 use Rattle.route_proof.specs.Broken.{IsBroken, Place, at_home, at_start, at_step}

@@ -6,7 +6,7 @@ use Rattle.decimal_import.specs.Converted.{IsConverted}
 use Rattle.decimal_import.specs.declared.fault.ImportFault.{ImportFault}
 use Rattle.decimal_import.specs.declared.fault.ImportFault.TheVariants as faults
 use Rattle.ev_outside.specs.Shelf.{Files}
-use Rattle.job_steps.specs.Caps.{most_bytes}
+use Rattle.job_frame.specs.Caps.{most_bytes}
 use Rattle.evroute_run.specs.ConvertAnswer.{BecomesWhole, convert_task}
 use Rattle.job_frame.specs.Task.{Answers, AreReadUpTo}
 use Rattle.job_frame.specs.declared.status.Status.TheVariants as status

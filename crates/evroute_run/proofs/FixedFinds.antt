@@ -2,7 +2,7 @@
 use Rattle.std.proofs.Common.{◌≡◌, ℕ, List, [], ◌∷◌, Option, refl, subst}
 use Rattle.command_line.specs.Words.{FixedJob}
 use Rattle.ev_outside.specs.Shelf.{Files}
-use Rattle.job_steps.specs.Caps.{most_bytes}
+use Rattle.job_frame.specs.Caps.{most_bytes}
 use Rattle.evroute_run.specs.FixedAnswer.{FixedAnswers, fixed_task}
 use Rattle.job_frame.specs.Task.{Answers, AreReadUpTo}
 use Rattle.job_frame.specs.declared.status.Status.{Status}

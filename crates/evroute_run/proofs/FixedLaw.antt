@@ -15,7 +15,7 @@ use Rattle.route_plan.proofs.Routes.{is_unbroken}
 use Rattle.route_plan.proofs.Spelled.{reads_what_is_spelled}
 use Rattle.route_plan.specs.RouteRules.{route_fault, route_in}
 use Rattle.route_plan.specs.RouteWords.{nodes_in}
-use Rattle.job_steps.proofs.LimitedNetworks.{one_limited, refused_has_none}
+use Rattle.job_frame.proofs.LimitedNetworks.{one_limited, refused_has_none}
 use Rattle.evroute_run.specs.FixedAnswer.{FixedAnswers, IsRefused, IsTask, PutsInfeasible, PutsPlan, fixed_answers, fixed_task, start_of}
 use Rattle.job_frame.specs.declared.status.Status.{Status}
 use Rattle.job_frame.specs.declared.status.Status.TheVariants as status

@@ -9,12 +9,11 @@ use Rattle.ev_outside.specs.Shelf.{Files}
 use Rattle.evroute_run.proofs.Refused.{puts_fleet_refusal}
 use Rattle.evroute_run.proofs.SearchReports.{held_fits, held_is_valid}
 use Rattle.evroute_run.specs.CheckAnswer.{IsCertificateOf}
-use Rattle.job_steps.specs.Caps.{most_bytes}
-use Rattle.evroute_run.specs.FleetNetwork.{HasFleetNetwork}
-use Rattle.evroute_run.specs.Ended.{IsFleetEnded}
+use Rattle.job_frame.specs.Caps.{most_bytes}
+use Rattle.fleet_steps.specs.FleetNetwork.{HasFleetNetwork, IsFleetEnded}
 use Rattle.evroute_run.specs.FleetAnswer.{AcceptsFound, FleetAnswers, IsFound, PutsFound, fleet_task, search_status}
-use Rattle.job_steps.specs.declared.answer.Ended.{Ended}
-use Rattle.job_steps.specs.declared.answer.Ended.TheVariants.{Refused}
+use Rattle.job_frame.specs.declared.answer.Ended.{Ended}
+use Rattle.job_frame.specs.declared.answer.Ended.TheVariants.{Refused}
 use Rattle.job_frame.specs.Task.{Answers, AreReadUpTo, IsAnswered}
 use Rattle.job_frame.specs.Writes.{AreDifferent, Written}
 use Rattle.job_frame.specs.declared.status.Status.{Status}

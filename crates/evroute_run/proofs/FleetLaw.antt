@@ -4,10 +4,10 @@ use Rattle.command_line.specs.Words.{FleetJob}
 use Rattle.job_frame.proofs.Performed.{AreWrittenAlike, IsLawful}
 use Rattle.job_frame.specs.Task.{Outcome}
 use Rattle.job_frame.specs.Writes.{Written}
-use Rattle.evroute_run.proofs.Instances.{fleet_refused_not}
+use Rattle.fleet_steps.proofs.Instances.{fleet_refused_not}
 use Rattle.evroute_run.proofs.OneSearch.{same_search}
 use Rattle.evroute_run.specs.FleetAnswer.{FleetAnswers, PutsFound, fleet_answers, fleet_task}
-use Rattle.evroute_run.specs.FleetNetwork.{PutsFleetRefusal}
+use Rattle.evroute_run.specs.FleetRefusal.{PutsFleetRefusal}
 use Rattle.job_frame.specs.declared.status.Status.{Status}
 use Rattle.job_frame.specs.declared.status.Status.TheVariants as status
 

@@ -6,14 +6,14 @@ use Rattle.command_line.specs.Words.{ImproveJob}
 use Rattle.ev_model.specs.Fleet.{cost_of}
 use Rattle.ev_model.specs.Network.{Network}
 use Rattle.ev_outside.specs.Shelf.{Files, ShelfState}
-use Rattle.job_steps.specs.Caps.{file_read, most_bytes}
-use Rattle.evroute_run.specs.CheckAnswer.{BreaksFirst, IsValid}
+use Rattle.job_frame.specs.Caps.{file_read, most_bytes}
+use Rattle.fleet_steps.specs.PlanFile.{BreaksFirst, IsValid, routes_of}
 use Rattle.evroute_run.specs.Ended.{IsImproveEnded}
-use Rattle.job_steps.specs.Ended.{IsNetworkEnded}
-use Rattle.evroute_run.specs.ImproveAnswer.{HasPlan, ImproveAnswers, PutsAlone, PutsBrokenPlan, improve_task, routes_of}
-use Rattle.job_steps.specs.LimitedNetwork.{HasNetwork}
-use Rattle.job_steps.specs.declared.answer.Ended.{Ended}
-use Rattle.job_steps.specs.declared.answer.Ended.TheVariants.{Refused, Memory}
+use Rattle.job_frame.specs.Ended.{IsNetworkEnded}
+use Rattle.evroute_run.specs.ImproveAnswer.{HasPlan, ImproveAnswers, PutsAlone, PutsBrokenPlan, improve_task}
+use Rattle.job_frame.specs.LimitedNetwork.{HasNetwork}
+use Rattle.job_frame.specs.declared.answer.Ended.{Ended}
+use Rattle.job_frame.specs.declared.answer.Ended.TheVariants.{Refused, Memory}
 use Rattle.job_frame.proofs.BehindReads.{IsFoundFor, no_write, one_write}
 use Rattle.job_frame.proofs.FileReads.{finds, some_read}
 use Rattle.job_frame.specs.Faults.{FailsReading, HasFailedRead}

@@ -13,10 +13,10 @@ use Rattle.plan_writer.specs.declared.refusal.Refusal.TheVariants as refusal
 use Rattle.route_improve.specs.Improved.{CostsNoMore, IsFirstAlone}
 use Rattle.route_plan.proofs.PlanLaws.{fleet_plan_is_spelled}
 use Rattle.route_plan.specs.declared.plan.FleetPlan.{FleetPlan}
-use Rattle.evroute_run.proofs.CheckLaw.{same_plan, valid_breaks_none}
-use Rattle.job_steps.proofs.LimitedNetworks.{one_limited, refused_has_none}
-use Rattle.evroute_run.specs.CheckAnswer.{BreaksFirst}
-use Rattle.evroute_run.specs.ImproveAnswer.{HoldsPlan, ImproveAnswers, IsImproveRefused, PutsAlone, PutsBrokenPlan, PutsImproved, improve_answers, improve_task, routes_of}
+use Rattle.fleet_steps.proofs.Plans.{same_plan, valid_breaks_none}
+use Rattle.job_frame.proofs.LimitedNetworks.{one_limited, refused_has_none}
+use Rattle.fleet_steps.specs.PlanFile.{BreaksFirst, routes_of}
+use Rattle.evroute_run.specs.ImproveAnswer.{HoldsPlan, ImproveAnswers, IsImproveRefused, PutsAlone, PutsBrokenPlan, PutsImproved, improve_answers, improve_task}
 use Rattle.job_frame.specs.declared.status.Status.{Status}
 use Rattle.job_frame.specs.declared.status.Status.TheVariants as status
 

@@ -1,5 +1,5 @@
 pub mod Task
-pub mod Instances
+pub mod Endings
 pub mod OneCertificate
 pub mod AcceptedCertificates
 pub mod Refused

@@ -6,7 +6,7 @@ use Rattle.customer_sets.specs.CustSet.{has}
 use Rattle.ev_model.specs.Network.{Network}
 use Rattle.ev_model.specs.declared.Stop.{Stop}
 use Rattle.instance_reader.specs.Instance.{customer_nodes}
-use Rattle.near_check.specs.NearSets.{AreNearSets, IsNearSet}
+use Rattle.near_proof.specs.NearSets.{AreNearSets, IsNearSet}
 use Rattle.near_proof.specs.Routes.{IsNearRoute, KeepsMemory}
 use Rattle.near_proof.specs.Terms.{near_set, remembered}
 use Rattle.ng_pricing.specs.Rising.{StandsOnNone}

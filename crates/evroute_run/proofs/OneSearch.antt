@@ -20,29 +20,19 @@ use Rattle.ev_model.specs.Network.{IsNetwork, Network}
 use Rattle.ev_outside.specs.Shelf.{Files, HoldsUnder}
 use Rattle.ev_text.specs.Texts.{StandsUnlessLonger}
 use Rattle.ev_text.proofs.Results.{Ok-injective}
-use Rattle.ev_text.proofs.WholeLaws.{whole-spells}
 use Rattle.ev_text.proofs.WholeReads.{ranged-spells}
 use Rattle.instance_reader.specs.Instance.{most_customers}
-use Rattle.route_plan.proofs.PlanReaders.{AnyBehind, reader-file}
-use Rattle.route_plan.specs.PlanReading.{file_at}
-use Rattle.route_plan.specs.PlanTexts.{FitsFile, fleet_plan_text}
+use Rattle.fleet_steps.proofs.Plans.{one_plan}
 use Rattle.route_plan.specs.declared.plan.FleetPlan.{FleetPlan}
 use Rattle.job_frame.proofs.Performed.{AreWrittenAlike}
 use Rattle.job_frame.specs.Task.{Outcome as Answered}
 use Rattle.job_frame.specs.Writes.{HoldsAll, Written as NewFile}
-use Rattle.job_steps.proofs.LimitedNetworks.{one_limited}
+use Rattle.job_frame.proofs.LimitedNetworks.{one_limited}
 use Rattle.evroute_run.proofs.SearchReports.{held_fits}
 use Rattle.evroute_run.specs.FleetAnswer.{IsFound, PutsFound, search_status}
 use Rattle.job_frame.specs.declared.status.Status.{Status}
 
 -- ---- one text for each
-
--- plans with the same text are the same
-one_plan : (p q : Option FleetPlan) → FitsFile p → FitsFile q → fleet_plan_text p ≡ fleet_plan_text q → p ≡ q
-one_plan p q fits other same =
-    let first = whole-spells file_at fleet_plan_text FitsFile AnyBehind reader-file (λ plan own. tt) (fleet_plan_text q) p in
-    let second = whole-spells file_at fleet_plan_text FitsFile AnyBehind reader-file (λ plan own. tt) (fleet_plan_text q) q in
-    Ok-injective p q (sym (first.1 (fits, sym same)) ∙ second.1 (other, refl))
 
 -- certificates with the same text are written the same
 one_written : (g : Network) (v w : Written) → IsNetwork g → WrittenIs g v → WrittenIs g w → certificate_text g v ≡ certificate_text g w → v ≡ w

@@ -20,20 +20,20 @@ use Rattle.job_frame.specs.declared.status.Status.TheVariants as status
 use Rattle.plan_writer.specs.FixedText.{fixed_text}
 use Rattle.plan_writer.specs.RefusalText.{refusal_text}
 use Rattle.plan_writer.specs.declared.refusal.Refusal.{Refusal}
-use Rattle.proof_text.specs.ProofIn.{proof_in}
-use Rattle.proof_text.specs.ProofTexts.{proof_text}
+use Rattle.route_proof.specs.ProofIn.{proof_in}
+use Rattle.route_proof.specs.ProofTexts.{proof_text}
 use Rattle.route_plan.specs.declared.plan.RoutePlan.{RoutePlan}
 use Rattle.route_proof.specs.Closed.{HasGoodPlan, IsAccepted, IsTrue}
 use Rattle.route_proof.specs.Ranges.{ProofFits}
 use Rattle.route_proof.specs.declared.proof.RouteProof.{RouteProof}
 use Rattle.route_steps.specs.Trips.{Journey}
-use Rattle.job_steps.specs.Caps.{most_bytes}
+use Rattle.job_frame.specs.Caps.{most_bytes}
 use Rattle.evroute_run.specs.CheckRouteAnswer.{journey_of}
 use Rattle.evroute_run.specs.Ended.{IsEnded}
 use Rattle.evroute_run.specs.FixedAnswer.{IsTask, start_of}
 use Rattle.evroute_run.specs.ProveAnswer.{AcceptsProof, ProveAnswers, PutsProved, fixed_status, prove_task, timed_plan}
-use Rattle.job_steps.specs.declared.answer.Ended.{Ended}
-use Rattle.job_steps.specs.declared.answer.Ended.TheVariants.{Refused}
+use Rattle.job_frame.specs.declared.answer.Ended.{Ended}
+use Rattle.job_frame.specs.declared.answer.Ended.TheVariants.{Refused}
 
 -- a listed plan is feasible
 pub good_is_feasible : (t : Journey) (plan : Option RoutePlan) → HasGoodPlan t plan → IfSome plan (λ p. IsFeasible t.network 1 t.start p.stops)

@@ -1,11 +1,12 @@
 -- The line of a refusal as an answer of `check`, and of the commands that read an instance for a fleet alone.
 use Rattle.std.proofs.Common.{◌≡◌, ℕ, List, [], Option, Result, Ok, Err, IfOk, refl, subst, sym}
 use Rattle.evroute_run.specs.CheckAnswer.{CheckAnswers, IsCheckRefused}
-use Rattle.evroute_run.specs.Ended.{IsCheckEnded, IsFleetEnded}
-use Rattle.evroute_run.specs.FleetNetwork.{PutsFleetRefusal}
+use Rattle.evroute_run.specs.Ended.{IsCheckEnded}
+use Rattle.fleet_steps.specs.FleetNetwork.{IsFleetEnded}
+use Rattle.evroute_run.specs.FleetRefusal.{PutsFleetRefusal}
 use Rattle.job_frame.specs.declared.found.Answer.{Answer}
-use Rattle.job_steps.specs.declared.answer.Ended.{Ended}
-use Rattle.job_steps.specs.declared.answer.Ended.TheVariants.{Refused}
+use Rattle.job_frame.specs.declared.answer.Ended.{Ended}
+use Rattle.job_frame.specs.declared.answer.Ended.TheVariants.{Refused}
 use Rattle.job_frame.specs.declared.status.Status.{Status}
 use Rattle.job_frame.specs.declared.status.Status.TheVariants as status
 use Rattle.plan_writer.specs.RefusalText.{IsRule, refusal_text}

@@ -32,7 +32,7 @@ use Rattle.plan_writer.specs.declared.fleet.RootLine.{RootLine}
 use Rattle.plan_writer.specs.declared.fleet.RootLine.TheVariants as line
 use Rattle.route_plan.specs.PlanTexts.{FitsFile, fleet_plan_text}
 use Rattle.route_plan.specs.declared.plan.FleetPlan.{FleetPlan}
-use Rattle.evroute_run.specs.CheckAnswer.{BreaksFirst, IsValid}
+use Rattle.fleet_steps.specs.PlanFile.{BreaksFirst, IsValid}
 use Rattle.evroute_run.specs.FleetAnswer.{IsFound, IsReadBack, TellsKind, TellsRootOf, outcomes_of, search_status}
 use Rattle.job_frame.specs.declared.status.Status.{Status}
 use Rattle.evroute_run.proofs.AcceptedCertificates.{is_bound_of_cost}

@@ -17,11 +17,11 @@ use Rattle.route_plan.specs.RouteWords.{SpellsRoute, nodes_in}
 use Rattle.route_plan.specs.declared.route.RouteFault.{RouteFault}
 use Rattle.evroute_run.specs.FixedAnswer.{FixedAnswers, HasStart, IsTask, start_of}
 use Rattle.evroute_run.specs.Ended.{IsEnded}
-use Rattle.job_steps.specs.Ended.{IsNetworkEnded}
-use Rattle.job_steps.specs.LimitedNetwork.{HasNetwork}
+use Rattle.job_frame.specs.Ended.{IsNetworkEnded}
+use Rattle.job_frame.specs.LimitedNetwork.{HasNetwork}
 use Rattle.job_frame.specs.declared.found.Answer.{Answer}
-use Rattle.job_steps.specs.declared.answer.Ended.{Ended}
-use Rattle.job_steps.specs.declared.answer.Ended.TheVariants.{Refused, Memory}
+use Rattle.job_frame.specs.declared.answer.Ended.{Ended}
+use Rattle.job_frame.specs.declared.answer.Ended.TheVariants.{Refused, Memory}
 use Rattle.job_frame.specs.declared.status.Status.{Status}
 use Rattle.job_frame.specs.declared.status.Status.TheVariants as status
 use Rattle.plan_writer.specs.declared.refusal.Refusal.TheVariants as refusal

@@ -10,9 +10,11 @@ use Rattle.near_text.specs.NearTexts.{near_text}
 use Rattle.near_text.specs.VerdictText.{near_bound_text, near_verdict_text}
 use Rattle.near_text.specs.Written.{written_near}
 use Rattle.ng_pricing.specs.NearBound.{IsNearBound}
-use Rattle.job_steps.specs.Caps.{file_read}
-use Rattle.evroute_run.specs.CheckBoundAnswer.{HasNear, PutsAcceptedBound}
-use Rattle.evroute_run.specs.FleetNetwork.{HasFleetNetwork, PutsFleetRefusal}
+use Rattle.job_frame.specs.Caps.{file_read}
+use Rattle.evroute_run.specs.CheckBoundAnswer.{PutsAcceptedBound}
+use Rattle.fleet_steps.specs.NearFile.{HasNear}
+use Rattle.fleet_steps.specs.FleetNetwork.{HasFleetNetwork}
+use Rattle.evroute_run.specs.FleetRefusal.{PutsFleetRefusal}
 use Rattle.job_frame.specs.Task.{Outcome, Task}
 use Rattle.job_frame.specs.Writes.{Written}
 use Rattle.job_frame.specs.declared.status.Status.{Status}

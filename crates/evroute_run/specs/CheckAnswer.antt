@@ -1,5 +1,5 @@
 -- What `check` answers to the bytes of its instance, of its plan file and of its certificate.
-use Rattle.std.specs.Prelude.{◌≡◌, ◌≢◌, ℕ, ◌<◌, List, [], ◌∷◌, Option, None, Some, Ok, Err}
+use Rattle.std.specs.Prelude.{◌≡◌, ◌≢◌, ℕ, ◌<◌, List, [], ◌∷◌, Option, Ok, Err}
 use Rattle.std.specs.List.{All}
 use Rattle.bound_certificate.specs.CertificateIn.{certificate_in}
 use Rattle.bound_certificate.specs.Kept.{IsKept}
@@ -11,11 +11,8 @@ use Rattle.certificate_check.specs.Truth.{IsTrueCertificate}
 use Rattle.certificate_check.specs.Verdicts.{IsVerdict}
 use Rattle.certificate_check.specs.declared.verdict.Verdict.TheVariants as verdict
 use Rattle.command_line.specs.Words.{CheckJob}
-use Rattle.ev_model.specs.Fleet.{cost_of, IsFleetPlan}
 use Rattle.ev_model.specs.Network.{Network}
 use Rattle.instance_reader.specs.Faults.{IsFirstFault}
-use Rattle.plan_check.specs.FleetRules.{IsFirstBroken, stops_of}
-use Rattle.plan_check.specs.declared.fault.PlanFault.{PlanFault}
 use Rattle.plan_writer.specs.CheckText.{check_text}
 use Rattle.plan_writer.specs.RefusalText.{IsRule, refusal_text}
 use Rattle.plan_writer.specs.declared.check.Judgement.{Judgement}
@@ -23,22 +20,15 @@ use Rattle.plan_writer.specs.declared.check.Judgement.TheVariants as judgement
 use Rattle.plan_writer.specs.declared.refusal.Refusal.{Refusal}
 use Rattle.plan_writer.specs.declared.refusal.Refusal.TheVariants as refusal
 use Rattle.route_plan.specs.PlanReading.{fleet_plan_in}
-use Rattle.route_plan.specs.PlanTexts.{SpellsFleetPlan}
 use Rattle.route_plan.specs.declared.plan.FleetPlan.{FleetPlan}
-use Rattle.job_steps.specs.Caps.{certificate_read, file_read}
+use Rattle.job_frame.specs.Caps.{certificate_read, file_read}
 use Rattle.instance_reader.specs.Instance.{most_customers}
-use Rattle.evroute_run.specs.FleetNetwork.{HasFleetNetwork}
-use Rattle.job_steps.specs.LimitedNetwork.{HasNetwork, IsPastLimit}
+use Rattle.fleet_steps.specs.FleetNetwork.{HasFleetNetwork}
+use Rattle.fleet_steps.specs.PlanFile.{BreaksFirst, HasFleet, IsValid}
+use Rattle.job_frame.specs.LimitedNetwork.{HasNetwork, IsPastLimit}
 use Rattle.job_frame.specs.Task.{Outcome, Task}
 use Rattle.job_frame.specs.declared.status.Status.{Status}
 use Rattle.job_frame.specs.declared.status.Status.TheVariants as status
-
--- the bytes of the instance and of the plan file break no rule: g is the network, and the file holds the plan or says
--- that there is none
-pub record HasFleet (limit : Option ℕ) (bytes plan_bytes : List ℕ)
-    (g : Network) (plan : Option FleetPlan) : Type 0 where
-  pub network : HasFleetNetwork limit bytes g
-  pub spelled : SpellsFleetPlan plan_bytes plan
 
 -- the bytes are the text of the certificate, which is in the ranges of the network
 pub record IsCertificateOf (g : Network) (bytes : List ℕ) (c : Certificate) : Type 0 where
@@ -59,17 +49,6 @@ IsCheckRefused limit bytes plan_bytes cert_bytes (refusal.Certificate fault) =
     (g : Network) × (plan : Option FleetPlan) × HasFleet limit bytes plan_bytes g plan
     × (certificate_in g cert_bytes ≡ Err fault)
 IsCheckRefused limit bytes plan_bytes cert_bytes other = ⊥
-
--- the plan file holds a fleet plan of this cost, or says that there is none
-abbrev pub IsValid : Network → Option FleetPlan → Option ℕ → Type 0
-IsValid g None cost = cost ≡ None
-IsValid g (Some plan) cost =
-    IsFleetPlan g 1 (stops_of plan.routes) × (cost ≡ Some (cost_of g 1 (stops_of plan.routes)))
-
--- the plan file holds plans, and this is the first rule that they break
-abbrev pub BreaksFirst : Network → Option FleetPlan → PlanFault → Type 0
-BreaksFirst g None fault = ⊥
-BreaksFirst g (Some plan) fault = IsFirstBroken g plan.routes fault
 
 -- the first broken rule of plan and certificate, the plan's before the certificate's
 abbrev pub IsRejection : Network → Option FleetPlan → Certificate → Judgement → Type 0

@@ -1,5 +1,5 @@
 -- What `check-bound` answers to the bytes of its instance and of its proof.
-use Rattle.std.specs.Prelude.{◌≡◌, ◌≢◌, ℕ, List, [], ◌∷◌, Option, Ok, Err}
+use Rattle.std.specs.Prelude.{◌≡◌, ◌≢◌, ℕ, List, [], ◌∷◌, Option, Err}
 use Rattle.command_line.specs.Words.{BoundCheckJob}
 use Rattle.ev_model.specs.Network.{Network}
 use Rattle.near_proof.specs.Accepted.{IsAccepted}
@@ -8,22 +8,17 @@ use Rattle.near_proof.specs.Verdicts.{IsVerdict}
 use Rattle.near_proof.specs.declared.proof.NearProof.{NearProof}
 use Rattle.near_proof.specs.declared.verdict.NearVerdict.{NearVerdict}
 use Rattle.near_proof.specs.declared.verdict.NearVerdict.TheVariants as verdict
-use Rattle.near_text.specs.NearIn.{IsSpelledBy, near_in}
+use Rattle.near_text.specs.NearIn.{near_in}
 use Rattle.near_text.specs.VerdictText.{near_verdict_text}
-use Rattle.near_text.specs.Written.{written_near}
 use Rattle.plan_writer.specs.RefusalText.{IsRule, refusal_text}
 use Rattle.plan_writer.specs.declared.refusal.Refusal.{Refusal}
 use Rattle.plan_writer.specs.declared.refusal.Refusal.TheVariants as refusal
-use Rattle.job_steps.specs.Caps.{certificate_read, file_read}
-use Rattle.evroute_run.specs.FleetNetwork.{HasFleetNetwork, IsFleetRefused}
+use Rattle.job_frame.specs.Caps.{certificate_read, file_read}
+use Rattle.fleet_steps.specs.FleetNetwork.{HasFleetNetwork, IsFleetRefused}
+use Rattle.fleet_steps.specs.NearFile.{HasNear}
 use Rattle.job_frame.specs.Task.{Outcome, Task}
 use Rattle.job_frame.specs.declared.status.Status.{Status}
 use Rattle.job_frame.specs.declared.status.Status.TheVariants as status
-
--- the bytes are the text of a near proof of the network, and are read as it
-pub record HasNear (g : Network) (bytes : List ℕ) (p : NearProof) : Type 0 where
-  pub read : near_in g bytes ≡ Ok (written_near g p)
-  pub spelled : IsSpelledBy g bytes p
 
 -- no rule of a text is broken: what the two files hold
 pub record HoldsNear (limit : Option ℕ) (bytes cert_bytes : List ℕ) : Type 0 where

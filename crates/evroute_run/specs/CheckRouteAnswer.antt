@@ -7,8 +7,8 @@ use Rattle.ev_model.specs.Time.{time_of}
 use Rattle.plan_writer.specs.RefusalText.{IsRule, refusal_text}
 use Rattle.plan_writer.specs.declared.refusal.Refusal.{Refusal}
 use Rattle.plan_writer.specs.declared.refusal.Refusal.TheVariants as refusal
-use Rattle.proof_text.specs.ProofIn.{SpellsProof, proof_in}
-use Rattle.proof_text.specs.VerdictText.{verdict_text}
+use Rattle.route_proof.specs.ProofIn.{SpellsProof, proof_in}
+use Rattle.route_proof.specs.VerdictText.{verdict_text}
 use Rattle.route_plan.specs.declared.plan.RoutePlan.{RoutePlan}
 use Rattle.route_proof.specs.Closed.{IsAccepted, IsTrue}
 use Rattle.route_proof.specs.Verdicts.{IsVerdict}
@@ -16,7 +16,7 @@ use Rattle.route_proof.specs.declared.proof.RouteProof.{RouteProof}
 use Rattle.route_proof.specs.declared.verdict.RouteVerdict.{RouteVerdict}
 use Rattle.route_proof.specs.declared.verdict.RouteVerdict.TheVariants as verdict
 use Rattle.route_steps.specs.Trips.{Journey}
-use Rattle.job_steps.specs.Caps.{certificate_read, file_read}
+use Rattle.job_frame.specs.Caps.{certificate_read, file_read}
 use Rattle.evroute_run.specs.FixedAnswer.{IsRefused, IsTask, start_of}
 use Rattle.job_frame.specs.Task.{Outcome, Task}
 use Rattle.job_frame.specs.declared.status.Status.{Status}

@@ -5,11 +5,10 @@ use Rattle.evroute_run.specs.CheckAnswer.{IsCheckRefused}
 use Rattle.evroute_run.specs.CheckBoundAnswer.{IsCheckBoundRefused}
 use Rattle.evroute_run.specs.CheckRouteAnswer.{IsCheckRouteRefused}
 use Rattle.evroute_run.specs.FixedAnswer.{IsRefused}
-use Rattle.evroute_run.specs.FleetNetwork.{IsFleetRefused}
 use Rattle.evroute_run.specs.ImproveAnswer.{IsImproveRefused}
 use Rattle.plan_writer.specs.RefusalText.{IsRule}
-use Rattle.job_steps.specs.declared.answer.Ended.{Ended}
-use Rattle.job_steps.specs.declared.answer.Ended.TheVariants.{Refused, Memory}
+use Rattle.job_frame.specs.declared.answer.Ended.{Ended}
+use Rattle.job_frame.specs.declared.answer.Ended.TheVariants.{Refused, Memory}
 
 -- of `fixed`
 abbrev pub IsEnded : Options → List ℕ → List ℕ → Ended → Type 0
@@ -39,8 +38,3 @@ abbrev pub IsImproveEnded : Option ℕ → List ℕ → List ℕ → Ended → T
 IsImproveEnded limit bytes plan_bytes (Refused refusal) =
     IsRule refusal × IsImproveRefused limit bytes plan_bytes refusal
 IsImproveEnded limit bytes plan_bytes Memory = Unit {0}
-
--- of `fleet` and `bound`
-abbrev pub IsFleetEnded : Option ℕ → List ℕ → Ended → Type 0
-IsFleetEnded limit bytes (Refused refusal) = IsRule refusal × IsFleetRefused limit bytes refusal
-IsFleetEnded limit bytes Memory = Unit {0}

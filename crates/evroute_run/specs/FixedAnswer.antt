@@ -15,8 +15,8 @@ use Rattle.ev_model.specs.Route.{IsRoute}
 use Rattle.route_plan.specs.Limits.{most_route_nodes}
 use Rattle.route_plan.specs.RouteRules.{route_in}
 use Rattle.route_plan.specs.RouteWords.{SpellsRoute}
-use Rattle.job_steps.specs.Caps.{file_read}
-use Rattle.job_steps.specs.LimitedNetwork.{HasNetwork, IsPastLimit}
+use Rattle.job_frame.specs.Caps.{file_read}
+use Rattle.job_frame.specs.LimitedNetwork.{HasNetwork, IsPastLimit}
 use Rattle.job_frame.specs.Task.{Outcome, Task}
 use Rattle.job_frame.specs.declared.status.Status.{Status}
 use Rattle.job_frame.specs.declared.status.Status.TheVariants as status

@@ -23,9 +23,10 @@ use Rattle.plan_writer.specs.declared.fleet.RootLine.{RootLine}
 use Rattle.plan_writer.specs.declared.fleet.RootLine.TheVariants as line
 use Rattle.route_plan.specs.Limits.{most_bytes as most_plan_bytes}
 use Rattle.route_plan.specs.PlanTexts.{fleet_plan_text}
-use Rattle.job_steps.specs.Caps.{file_read}
+use Rattle.job_frame.specs.Caps.{file_read}
 use Rattle.evroute_run.specs.CheckAnswer.{IsCertificateOf, PutsAccepted}
-use Rattle.evroute_run.specs.FleetNetwork.{HasFleetNetwork, PutsFleetRefusal}
+use Rattle.fleet_steps.specs.FleetNetwork.{HasFleetNetwork}
+use Rattle.evroute_run.specs.FleetRefusal.{PutsFleetRefusal}
 use Rattle.job_frame.specs.Task.{Task}
 use Rattle.job_frame.specs.Task as task
 use Rattle.job_frame.specs.Writes.{Written}

@@ -1,12 +1,10 @@
 -- What `improve` answers to the bytes of its instance and of its plan file.
-use Rattle.std.specs.Prelude.{◌≡◌, ℕ, ◌⊎◌, List, [], ◌∷◌, Option, None, Some, Err, option_map}
+use Rattle.std.specs.Prelude.{◌≡◌, ℕ, ◌⊎◌, List, [], ◌∷◌, Option, None, Some, Err}
 use Rattle.command_line.specs.Words.{ImproveJob}
 use Rattle.ev_model.specs.Fleet.{cost_of}
 use Rattle.ev_model.specs.Network.{Network}
 use Rattle.instance_reader.specs.Faults.{IsFirstFault}
 use Rattle.plan_check.specs.FleetRules.{stops_of}
-use Rattle.plan_check.specs.declared.fault.LargeFault.{LargeFault}
-use Rattle.plan_check.specs.declared.fault.LargeFault.TheVariants as large
 use Rattle.plan_check.specs.declared.fault.PlanFault.{PlanFault}
 use Rattle.plan_writer.specs.CheckText.{check_text}
 use Rattle.plan_writer.specs.RefusalText.{IsRule, refusal_text}
@@ -18,10 +16,9 @@ use Rattle.route_improve.specs.ImprovedText.{alone_text, improved_text}
 use Rattle.route_plan.specs.PlanReading.{fleet_plan_in}
 use Rattle.route_plan.specs.PlanTexts.{SpellsFleetPlan, fleet_plan_text}
 use Rattle.route_plan.specs.declared.plan.FleetPlan.{FleetPlan}
-use Rattle.route_plan.specs.declared.plan.RoutePlan.{RoutePlan}
-use Rattle.job_steps.specs.Caps.{file_read}
-use Rattle.evroute_run.specs.CheckAnswer.{BreaksFirst, IsValid}
-use Rattle.job_steps.specs.LimitedNetwork.{HasNetwork, IsPastLimit}
+use Rattle.job_frame.specs.Caps.{file_read}
+use Rattle.fleet_steps.specs.PlanFile.{BreaksFirst, IsValid, routes_of}
+use Rattle.job_frame.specs.LimitedNetwork.{HasNetwork, IsPastLimit}
 use Rattle.job_frame.specs.Task.{Outcome, Task}
 use Rattle.job_frame.specs.Writes.{Written}
 use Rattle.job_frame.specs.declared.status.Status.{Status}
@@ -41,15 +38,6 @@ IsImproveRefused limit bytes plan_bytes (refusal.Limit given) = IsPastLimit limi
 IsImproveRefused limit bytes plan_bytes (refusal.Plan fault) =
     (g : Network) × HasNetwork limit bytes g × (fleet_plan_in plan_bytes ≡ Err fault)
 IsImproveRefused limit bytes plan_bytes other = ⊥
-
--- why a plan, or none, isn't made cheaper: the first rule that it breaks, or want of memory
-abbrev pub IsUnfit : Network → Option FleetPlan → LargeFault → Type 0
-IsUnfit g plan (large.Plan fault) = BreaksFirst g plan fault
-IsUnfit g plan large.Memory = Unit {0}
-
--- the routes of a plan, where there is one
-abbrev pub routes_of : Option FleetPlan → Option (List RoutePlan)
-routes_of plan = option_map (λ p. p.routes) plan
 
 -- no rule of a text is broken: what the two files hold
 pub record HoldsPlan (limit : Option ℕ) (bytes plan_bytes : List ℕ) : Type 0 where

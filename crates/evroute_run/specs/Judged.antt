@@ -7,7 +7,8 @@ use Rattle.ev_model.specs.Network.{Network}
 use Rattle.plan_writer.specs.declared.check.Judgement.{Judgement}
 use Rattle.plan_writer.specs.declared.check.Judgement.TheVariants as judgement
 use Rattle.route_plan.specs.declared.plan.FleetPlan.{FleetPlan}
-use Rattle.evroute_run.specs.CheckAnswer.{IsRejection, IsValid}
+use Rattle.evroute_run.specs.CheckAnswer.{IsRejection}
+use Rattle.fleet_steps.specs.PlanFile.{IsValid}
 use Rattle.job_frame.specs.declared.status.Status.{Status}
 use Rattle.job_frame.specs.declared.status.Status.TheVariants as status
 

@@ -1,4 +1,4 @@
-pub mod FleetNetwork
+pub mod FleetRefusal
 pub mod FixedAnswer
 pub mod CheckAnswer
 pub mod FleetAnswer

@@ -10,14 +10,14 @@ use Rattle.ev_model.specs.declared.Stop.{Stop}
 use Rattle.plan_writer.specs.FixedText.{fixed_text}
 use Rattle.plan_writer.specs.RefusalText.{IsRule, refusal_text}
 use Rattle.plan_writer.specs.declared.refusal.Refusal.{Refusal}
-use Rattle.proof_text.specs.ProofTexts.{proof_text}
-use Rattle.proof_text.specs.VerdictText.{verdict_text}
+use Rattle.route_proof.specs.ProofTexts.{proof_text}
+use Rattle.route_proof.specs.VerdictText.{verdict_text}
 use Rattle.route_plan.specs.declared.plan.RoutePlan.{RoutePlan}
 use Rattle.route_proof.specs.Closed.{IsAccepted, IsTrue}
 use Rattle.route_proof.specs.Ranges.{ProofFits}
 use Rattle.route_proof.specs.declared.proof.RouteProof.{RouteProof}
 use Rattle.route_proof.specs.declared.verdict.RouteVerdict.TheVariants as verdict
-use Rattle.job_steps.specs.Caps.{file_read}
+use Rattle.job_frame.specs.Caps.{file_read}
 use Rattle.evroute_run.specs.CheckRouteAnswer.{PutsAcceptedProof, journey_of, listed_time}
 use Rattle.evroute_run.specs.FixedAnswer.{IsRefused, IsTask, start_of}
 use Rattle.job_frame.specs.Task.{Outcome, Task}

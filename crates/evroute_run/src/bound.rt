@@ -15,13 +15,12 @@ ghost use Rattle.near_text.specs.NearTexts.{near_text};
 ghost use Rattle.near_text.specs.VerdictText.{near_bound_text};
 ghost use Rattle.near_text.specs.Written.{written_near};
 
-use crate::instance::fleet_instance;
 use crate::watcher::JobWatcher;
 use command_line::BoundWords;
 use ev_outside::{Shelf, ShelfFault};
+use fleet_steps::fleet_instance;
 use instance_reader::Instance;
-use job_frame::{Answer, Found, NewFile, Status, read_file};
-use job_steps::{Ended, MOST_BYTES, refuse_job};
+use job_frame::{Answer, Ended, Found, MOST_BYTES, NewFile, Status, read_file, refuse_job};
 use near_text::written_near_proofs_are_read;
 use ng_pricing::{NearProof, near_bound_watched, push_near, push_near_bound};
 use std::alloc::{AllocError, Global};

@@ -1,31 +1,24 @@
 //! What `check` finds: a plan file and a certificate are judged on an instance.
 
-ghost use Rattle.std.specs.Prelude.{◌≡◌, ◌≤◌, IfErr, IfOk, List, Option, option_map, string_bytes, ℕ};
+ghost use Rattle.std.specs.Prelude.{◌≤◌, List, option_map, string_bytes, ℕ};
 ghost use Rattle.bound_certificate.specs.Ranges.{customer_count};
 ghost use Rattle.command_line.specs.JobValue.{job_value};
 ghost use Rattle.command_line.specs.declared.Job.TheVariants.{Check};
-ghost use Rattle.ev_model.specs.Network.{Network};
-ghost use Rattle.job_steps.specs.Caps.{most_bytes};
+ghost use Rattle.job_frame.specs.Caps.{most_bytes};
 ghost use Rattle.instance_reader.specs.Instance.{most_customers};
-ghost use Rattle.evroute_run.specs.CheckAnswer.{HasFleet};
-ghost use Rattle.evroute_run.specs.FleetNetwork.{HasFleetNetwork};
-ghost use Rattle.evroute_run.specs.Ended.{IsCheckEnded, IsImproveEnded};
-ghost use Rattle.job_steps.specs.Ended.{IsRuleOrMemory};
-ghost use Rattle.job_steps.specs.LimitedNetwork.{HasNetwork};
+ghost use Rattle.fleet_steps.specs.PlanFile.{HasFleet};
+ghost use Rattle.fleet_steps.specs.FleetNetwork.{HasFleetNetwork};
 ghost use Rattle.evroute_run.specs.Run.{task_of};
 ghost use Rattle.job_frame.specs.Finds.{Finds};
 ghost use Rattle.job_frame.specs.Task.{AreReadUpTo};
-ghost use Rattle.route_plan.specs.PlanTexts.{SpellsFleetPlan};
 
-use crate::instance::fleet_instance;
 use crate::judging::judge_text;
 use command_line::CheckWords;
 use ev_outside::{Shelf, ShelfFault};
+use fleet_steps::{fleet_instance, plan_of};
 use instance_reader::Instance;
-use job_frame::{Found, read_file};
-use job_steps::{Ended, MOST_BYTES, MOST_CERTIFICATE_BYTES, refuse_job};
-use plan_writer::Refusal;
-use route_plan::{FleetPlan, PlanText, read_fleet_plan};
+use job_frame::{Ended, Found, MOST_BYTES, MOST_CERTIFICATE_BYTES, read_file, refuse_job};
+use route_plan::FleetPlan;
 use std::alloc::{AllocError, Global};
 
 /// What `check` finds: the instance is read, then the plan, then the certificate; and then they are
@@ -94,22 +87,5 @@ fn check_plan<S: Shelf>(
     match judge_text(alloc, inst, plan, bytes.as_slice()) {
         Ok(answer) => Ok(Found::alone(alloc, answer)),
         Err(AllocError) => Err(ShelfFault::Memory),
-    }
-}
-
-/// The fleet plan of a plan file, or none where it says so.
-pub fn plan_of(alloc: Global, bytes: &[u8]) -> Result<Option<FleetPlan>, Ended>
-    ensures ok { IfOk result (SpellsFleetPlan bytes.now) }
-    ensures rule { IfErr result IsRuleOrMemory }
-    ensures ended { (limit : Option ℕ) (file cert_bytes : List ℕ) (g : Network)
-        → HasFleetNetwork limit file g
-        → IfErr result (IsCheckEnded limit file bytes.now cert_bytes) }
-    ensures improve { (limit : Option ℕ) (file : List ℕ) (g : Network) → HasNetwork limit file g
-        → IfErr result (IsImproveEnded limit file bytes.now) }
-{
-    match read_fleet_plan(alloc, bytes) {
-        Ok(plan) => Ok(plan),
-        Err(PlanText::Memory) => Err(Ended::Memory),
-        Err(fault) => Err(Ended::Refused(Refusal::Plan(fault))),
     }
 }

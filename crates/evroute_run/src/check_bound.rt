@@ -1,28 +1,27 @@
 //! What `check-bound` finds: a proof of what no fleet plan costs less than is judged.
 
-ghost use Rattle.std.specs.Prelude.{◌≡◌, ◌≤◌, IfErr, IfOk, List, Option, string_bytes, ℕ};
+ghost use Rattle.std.specs.Prelude.{◌≡◌, ◌≤◌, IfOk, List, Option, string_bytes, ℕ};
 ghost use Rattle.bound_certificate.specs.Ranges.{customer_count};
 ghost use Rattle.command_line.specs.JobValue.{job_value};
 ghost use Rattle.command_line.specs.declared.Job.TheVariants.{CheckBound};
-ghost use Rattle.job_steps.specs.Caps.{most_bytes};
+ghost use Rattle.job_frame.specs.Caps.{most_bytes};
 ghost use Rattle.instance_reader.specs.Instance.{most_customers};
-ghost use Rattle.evroute_run.specs.CheckBoundAnswer.{CheckBoundAnswers, HasNear, verdict_status};
-ghost use Rattle.evroute_run.specs.Ended.{IsCheckBoundEnded};
-ghost use Rattle.job_steps.specs.Ended.{IsRuleOrMemory};
-ghost use Rattle.evroute_run.specs.FleetNetwork.{HasFleetNetwork};
+ghost use Rattle.evroute_run.specs.CheckBoundAnswer.{CheckBoundAnswers, verdict_status};
+ghost use Rattle.fleet_steps.specs.NearFile.{HasNear};
+ghost use Rattle.fleet_steps.specs.FleetNetwork.{HasFleetNetwork};
 ghost use Rattle.evroute_run.specs.Run.{task_of};
 ghost use Rattle.job_frame.specs.Finds.{Finds};
 ghost use Rattle.job_frame.specs.Task.{AreReadUpTo, IsAnswered};
 ghost use Rattle.near_proof.specs.Ranges.{NearFits};
 
-use crate::instance::fleet_instance;
 use command_line::BoundCheckWords;
 use ev_outside::{Shelf, ShelfFault};
+use fleet_steps::{fleet_instance, proof_of};
 use instance_reader::Instance;
-use job_frame::{Answer, Found, Status, read_file};
-use job_steps::{Ended, MOST_BYTES, MOST_CERTIFICATE_BYTES, refuse, refuse_job};
-use ng_pricing::{CertText, NearProof, NearVerdict, check_near, push_near_verdict, read_near};
-use plan_writer::Refusal;
+use job_frame::{
+    Answer, Ended, Found, MOST_BYTES, MOST_CERTIFICATE_BYTES, Status, read_file, refuse, refuse_job,
+};
+use ng_pricing::{NearProof, NearVerdict, check_near, push_near_verdict};
 use std::alloc::{AllocError, Global};
 
 /// What `check-bound` finds: the instance is read, then the proof; and then this is judged.
@@ -80,22 +79,6 @@ fn judge_text(alloc: Global, inst: &Instance, bytes: &[u8]) -> Result<Answer, Al
         Ok(proof) => judge(alloc, inst, &proof),
         Err(Ended::Refused(refusal)) => refuse(alloc, refusal),
         Err(Ended::Memory) => Err(AllocError),
-    }
-}
-
-/// The proof of a file.
-fn proof_of(alloc: Global, inst: &Instance, bytes: &[u8]) -> Result<NearProof, Ended>
-    requires { customer_count inst.now ≤ most_customers }
-    ensures has { IfOk result (HasNear inst.now bytes.now) }
-    ensures fits { IfOk result (NearFits inst.now) }
-    ensures rule { IfErr result IsRuleOrMemory }
-    ensures ended { (limit : Option ℕ) (file : List ℕ) → HasFleetNetwork limit file inst.now
-        → IfErr result (IsCheckBoundEnded limit file bytes.now) }
-{
-    match read_near(alloc, inst, bytes) {
-        Ok(proof) => Ok(proof),
-        Err(CertText::Memory) => Err(Ended::Memory),
-        Err(fault) => Err(Ended::Refused(Refusal::Certificate(fault))),
     }
 }
 

@@ -7,16 +7,16 @@ ghost use Rattle.command_line.specs.declared.Options.{Options};
 ghost use Rattle.ev_model.specs.Feasible.{IsFeasible};
 ghost use Rattle.ev_model.specs.Route.{IsRoute};
 ghost use Rattle.ev_model.specs.Time.{time_of};
-ghost use Rattle.job_steps.specs.Caps.{most_bytes};
+ghost use Rattle.job_frame.specs.Caps.{most_bytes};
 ghost use Rattle.evroute_run.specs.CheckRouteAnswer.{CheckRouteAnswers, listed_time};
 ghost use Rattle.evroute_run.specs.Ended.{IsCheckRouteEnded};
-ghost use Rattle.job_steps.specs.Ended.{IsRuleOrMemory};
+ghost use Rattle.job_frame.specs.Ended.{IsRuleOrMemory};
 ghost use Rattle.evroute_run.specs.FixedAnswer.{IsTask, start_of};
 ghost use Rattle.evroute_run.specs.Run.{task_of};
 ghost use Rattle.job_frame.specs.Finds.{Finds};
 ghost use Rattle.job_frame.specs.Task.{AreReadUpTo, IsAnswered};
-ghost use Rattle.proof_text.specs.ProofIn.{SpellsProof, proof_in};
-ghost use Rattle.proof_text.specs.VerdictText.{verdict_text};
+ghost use Rattle.route_proof.specs.ProofIn.{SpellsProof, proof_in};
+ghost use Rattle.route_proof.specs.VerdictText.{verdict_text};
 ghost use Rattle.route_proof.specs.Ranges.{ProofFits};
 ghost use Rattle.route_proof.specs.declared.verdict.RouteVerdict.TheVariants as verdict;
 
@@ -24,12 +24,12 @@ use crate::trip::{Trip, trip_of};
 use command_line::ProofWords;
 use ev_outside::{Shelf, ShelfFault};
 use instance_reader::Instance;
-use job_frame::{Answer, Found, Status, read_file};
-use job_steps::{Ended, MOST_BYTES, MOST_CERTIFICATE_BYTES, refuse, refuse_job};
+use job_frame::{
+    Answer, Ended, Found, MOST_BYTES, MOST_CERTIFICATE_BYTES, Status, read_file, refuse, refuse_job,
+};
 use plan_writer::Refusal;
-use proof_text::{CertText, push_route_verdict, read_proof};
 use route_plan::{RoutePlan, walk};
-use route_proof::{RouteProof, RouteVerdict};
+use route_proof::{CertText, RouteProof, RouteVerdict, push_route_verdict, read_proof};
 use std::alloc::{AllocError, Global};
 
 /// What `check-route` finds: the instance is read, then the proof; and then this is judged.

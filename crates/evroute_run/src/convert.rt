@@ -9,8 +9,7 @@ ghost use Rattle.job_frame.specs.Finds.{Finds, written_by};
 use command_line::ConvertWords;
 use decimal_import::ImportFault;
 use ev_outside::{Shelf, ShelfFault};
-use job_frame::{Answer, Found, NewFile, Status, read_file};
-use job_steps::{MOST_BYTES, refuse_job};
+use job_frame::{Answer, Found, MOST_BYTES, NewFile, Status, read_file, refuse_job};
 use plan_writer::Refusal;
 use std::alloc::{AllocError, Global};
 

@@ -10,14 +10,13 @@ ghost use Rattle.evroute_run.specs.Run.{task_of};
 ghost use Rattle.job_frame.specs.Finds.{Finds, written_by};
 ghost use Rattle.instance_reader.specs.Instance.{most_customers};
 
-use crate::instance::fleet_instance;
 use crate::planning::plan_all;
 use crate::watcher::JobWatcher;
 use command_line::FleetWords;
 use ev_outside::{Shelf, ShelfFault};
+use fleet_steps::fleet_instance;
 use instance_reader::Instance;
-use job_frame::{Found, read_file};
-use job_steps::{Ended, MOST_BYTES, refuse_job};
+use job_frame::{Ended, Found, MOST_BYTES, read_file, refuse_job};
 use std::alloc::{AllocError, Global};
 
 /// What `fleet` finds: the instance is read, a fleet is planned on it, and its plan and a

@@ -4,31 +4,29 @@ ghost use Rattle.std.specs.Prelude.{◌≡◌, ◌∷◌, [], IfErr, IfOk, List,
 ghost use Rattle.command_line.specs.JobValue.{job_value};
 ghost use Rattle.command_line.specs.declared.Job.TheVariants.{Improve};
 ghost use Rattle.ev_model.specs.Fleet.{cost_of};
-ghost use Rattle.job_steps.specs.Caps.{most_bytes};
-ghost use Rattle.evroute_run.specs.CheckAnswer.{IsValid};
-ghost use Rattle.evroute_run.specs.ImproveAnswer.{HasPlan, ImproveAnswers, IsUnfit};
-ghost use Rattle.job_steps.specs.LimitedNetwork.{HasNetwork};
+ghost use Rattle.job_frame.specs.Caps.{most_bytes};
+ghost use Rattle.fleet_steps.specs.PlanFile.{IsValid};
+ghost use Rattle.evroute_run.specs.ImproveAnswer.{HasPlan, ImproveAnswers};
+ghost use Rattle.job_frame.specs.LimitedNetwork.{HasNetwork};
 ghost use Rattle.evroute_run.specs.Run.{task_of};
 ghost use Rattle.job_frame.specs.Finds.{Finds, written_by};
 ghost use Rattle.job_frame.specs.Task.{AreReadUpTo};
 ghost use Rattle.plan_check.specs.FleetRules.{stops_of};
-ghost use Rattle.plan_writer.specs.CheckText.{check_text};
-ghost use Rattle.plan_writer.specs.declared.check.Judgement.TheVariants as judgement;
 ghost use Rattle.route_improve.specs.Improved.{IsImproved};
 ghost use Rattle.route_improve.specs.ImprovedText.{alone_text, improved_text};
-ghost use Rattle.route_plan.specs.PlanTexts.{FitsFile, fleet_plan_text};
+ghost use Rattle.route_plan.specs.PlanTexts.{fleet_plan_text};
 
-use crate::check::plan_of;
 use crate::watcher::JobWatcher;
 use command_line::ImproveWords;
 use ev_outside::{Shelf, ShelfFault};
+use fleet_steps::{cost_of, plan_of, plan_text, reject};
 use instance_reader::Instance;
-use job_frame::{Answer, Found, NewFile, Status, read_file};
-use job_steps::{Ended, MOST_BYTES, limited_instance, refuse_job};
-use plan_check::{LargeFault, PlanFault, check_large};
-use plan_writer::{Judgement, push_check_report};
+use job_frame::{
+    Answer, Ended, Found, MOST_BYTES, NewFile, Status, limited_instance, read_file, refuse_job,
+};
+use plan_check::{LargeFault, check_large};
 use route_improve::{Improved, improve_watched, push_alone, push_improved};
-use route_plan::{FleetPlan, push_fleet_plan};
+use route_plan::FleetPlan;
 use std::alloc::{AllocError, Global};
 
 /// What `improve` finds: the instance is read, then the plan; and then this is made cheaper.
@@ -109,28 +107,10 @@ fn improve_plan<W: JobWatcher>(
         → IfOk result (λ f. ImproveAnswers limit outfile.now file plan_bytes
         f.answer.status (map written_by f.files.items) f.answer.text.items) }
 {
-    match cost_before(alloc, inst, plan) {
+    match cost_of(alloc, inst, plan) {
         Ok(was) => make_cheaper(alloc, inst, plan, was, outfile, watcher),
         Err(LargeFault::Plan { fault }) => reject(alloc, inst, fault),
         Err(LargeFault::Memory) => Err(AllocError),
-    }
-}
-
-/// The cost of a fleet plan, or none where there is none.
-fn cost_before(
-    alloc: Global,
-    inst: &Instance,
-    plan: Option<&FleetPlan>,
-) -> Result<Option<u128>, LargeFault>
-    ensures ok { IfOk result (IsValid inst.now (option_map (λ p. p.now) plan.entry)) }
-    ensures fault { IfErr result (IsUnfit inst.now (option_map (λ p. p.now) plan.entry)) }
-{
-    match plan {
-        Some(plan) => match check_large(alloc, inst, plan) {
-            Ok(cost) => Ok(Some(cost)),
-            Err(fault) => Err(fault),
-        },
-        None => Ok(None),
     }
 }
 
@@ -177,7 +157,7 @@ fn write_better(
     let cost = cost_after(alloc, inst, better)?;
     let mut text = Vec::new(alloc);
     push_improved(alloc, &mut text, inst, cost, was)?;
-    let bytes = plan_text(alloc, better)?;
+    let bytes = plan_text(alloc, Some(better))?;
     let file = NewFile::new(alloc, outfile, bytes)?;
     let answer = Answer {
         status: Status::Done,
@@ -199,16 +179,6 @@ fn cost_after(alloc: Global, inst: &Instance, better: &FleetPlan) -> Result<u128
     }
 }
 
-/// The text of the file of a plan.
-fn plan_text(alloc: Global, better: &FleetPlan) -> Result<Vec<u8>, AllocError>
-    requires { FitsFile (Some better.now) }
-    ensures { IfOk result (λ text. text.items ≡ fleet_plan_text (Some better.now)) }
-{
-    let mut text = Vec::new(alloc);
-    push_fleet_plan(alloc, &mut text, Some(better))?;
-    Ok(text)
-}
-
 /// The line of a customer whom no route of his own reaches.
 fn put_alone(alloc: Global, node: usize) -> Result<Found, AllocError>
     ensures status { IfOk result (λ f. f.answer.status ≡ Status.Negative) }
@@ -217,30 +187,9 @@ fn put_alone(alloc: Global, node: usize) -> Result<Found, AllocError>
 {
     let mut text = Vec::new(alloc);
     push_alone(alloc, &mut text, node)?;
-    Ok(without_plan(alloc, text))
-}
-
-/// The line of the first rule that a plan breaks.
-fn reject(alloc: Global, inst: &Instance, fault: PlanFault) -> Result<Found, AllocError>
-    ensures status { IfOk result (λ f. f.answer.status ≡ Status.Negative) }
-    ensures files { IfOk result (λ f. map written_by f.files.items ≡ []) }
-    ensures text { IfOk result (λ f. f.answer.text.items
-        ≡ check_text inst.now.denominator (judgement.Plan fault)) }
-{
-    let mut text = Vec::new(alloc);
-    push_check_report(alloc, &mut text, inst, &Judgement::Plan(fault))?;
-    Ok(without_plan(alloc, text))
-}
-
-/// A text that says why no plan is written.
-fn without_plan(alloc: Global, text: Vec<u8>) -> Found
-    ensures status { result.answer.status ≡ Status.Negative }
-    ensures files { map written_by result.files.items ≡ [] }
-    ensures text { result.answer.text ≡ text }
-{
     let answer = Answer {
         status: Status::Negative,
         text,
     };
-    Found::alone(alloc, answer)
+    Ok(Found::alone(alloc, answer))
 }

@@ -2,10 +2,11 @@
 
 ghost use Rattle.std.specs.Prelude.{◌≡◌, ◌≤◌, IfErr, IfOk, List, Option, option_map, ℕ};
 ghost use Rattle.bound_certificate.specs.Ranges.{Fits, customer_count};
-ghost use Rattle.evroute_run.specs.CheckAnswer.{BreaksFirst, CheckAnswers, HasFleet, IsCertificateOf, IsValid};
+ghost use Rattle.evroute_run.specs.CheckAnswer.{CheckAnswers, IsCertificateOf};
+ghost use Rattle.fleet_steps.specs.PlanFile.{BreaksFirst, HasFleet, IsValid};
 ghost use Rattle.evroute_run.specs.Ended.{IsCheckEnded};
 ghost use Rattle.instance_reader.specs.Instance.{most_customers};
-ghost use Rattle.job_steps.specs.Ended.{IsRuleOrMemory};
+ghost use Rattle.job_frame.specs.Ended.{IsRuleOrMemory};
 ghost use Rattle.evroute_run.specs.Judged.{IsJudgementOf, judged_status};
 ghost use Rattle.job_frame.specs.Task.{IsAnswered};
 ghost use Rattle.plan_writer.specs.CheckText.{IsJudged, check_text};
@@ -13,8 +14,7 @@ ghost use Rattle.plan_writer.specs.CheckText.{IsJudged, check_text};
 use bound_certificate::{CertText, Certificate, read_certificate};
 use certificate_check::{Verdict, check_certificate};
 use instance_reader::Instance;
-use job_frame::{Answer, Status};
-use job_steps::{Ended, refuse};
+use job_frame::{Answer, Ended, Status, refuse};
 use plan_check::{PlanFault, check_fleet};
 use plan_writer::{Judgement, Refusal, push_check_report};
 use route_plan::FleetPlan;

@@ -20,8 +20,7 @@ use bound_certificate::{
 use certificate_check::price_total;
 use ev_fleet::{Outcome, plan_fleet_watched};
 use instance_reader::Instance;
-use job_frame::{Answer, Status};
-use job_steps::Planned;
+use job_frame::{Answer, Planned, Status};
 use plan_writer::{Outcomes, RootLine, push_fleet_report};
 use route_plan::push_fleet_plan;
 use std::alloc::{AllocError, Global};

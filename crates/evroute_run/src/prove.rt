@@ -12,7 +12,7 @@ ghost use Rattle.evroute_run.specs.ProveAnswer.{ProveAnswers, fixed_status, time
 ghost use Rattle.evroute_run.specs.Run.{task_of};
 ghost use Rattle.job_frame.specs.Finds.{Finds, written_by};
 ghost use Rattle.plan_writer.specs.FixedText.{fixed_text};
-ghost use Rattle.proof_text.specs.ProofTexts.{proof_text};
+ghost use Rattle.route_proof.specs.ProofTexts.{proof_text};
 
 use crate::fixed::{infeasible, report_plan};
 use crate::trip::trip_of;
@@ -20,11 +20,9 @@ use command_line::{Options, ProofWords};
 use ev_outside::{Shelf, ShelfFault};
 use fixed_certificate::prove_route;
 use instance_reader::Instance;
-use job_frame::{Answer, Found, NewFile, read_file};
-use job_steps::{Ended, MOST_BYTES, refuse_job};
-use proof_text::{push_proof, written_proofs_are_read};
+use job_frame::{Answer, Ended, Found, MOST_BYTES, NewFile, read_file, refuse_job};
 use route_plan::RoutePlan;
-use route_proof::RouteProof;
+use route_proof::{RouteProof, push_proof, written_proofs_are_read};
 use std::alloc::{AllocError, Global};
 
 /// What `prove` finds: the file is read as an instance, its route is charged, and the proof is

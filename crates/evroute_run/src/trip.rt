@@ -4,15 +4,15 @@ ghost use Rattle.std.specs.Prelude.{◌≡◌, ◌≤◌, IfErr, IfOk, List, len
 ghost use Rattle.command_line.specs.declared.Options.{Options};
 ghost use Rattle.ev_model.specs.Route.{IsRoute};
 ghost use Rattle.evroute_run.specs.Ended.{IsEnded};
-ghost use Rattle.job_steps.specs.Ended.{IsRuleOrMemory};
+ghost use Rattle.job_frame.specs.Ended.{IsRuleOrMemory};
 ghost use Rattle.evroute_run.specs.FixedAnswer.{HasStart, IsTask, start_of};
-ghost use Rattle.job_steps.specs.LimitedNetwork.{HasNetwork};
+ghost use Rattle.job_frame.specs.LimitedNetwork.{HasNetwork};
 ghost use Rattle.route_plan.specs.Limits.{most_route_nodes};
 ghost use Rattle.route_plan.specs.RouteWords.{SpellsRoute};
 
 use command_line::Options;
 use instance_reader::Instance;
-use job_steps::{Ended, limited_instance};
+use job_frame::{Ended, limited_instance};
 use plan_writer::Refusal;
 use route_plan::{RouteFault, read_route};
 use std::alloc::Global;

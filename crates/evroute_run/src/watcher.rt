@@ -1,7 +1,7 @@
 //! Who watches a long job.
 
 use ev_fleet::{Progress, Watcher};
-use job_steps::ScaleWatcher;
+use job_frame::ScaleWatcher;
 use mixed_run::{RisingProgress, RoundProgress, RoundWatcher};
 use ng_pricing::{PriceProgress, PriceWatcher};
 use route_improve::{MoveProgress, MoveWatcher};

@@ -16,7 +16,7 @@ use Rattle.route_proof.specs.Closed.{IsTrue}
 use Rattle.route_proof.specs.Ranges.{ListedPlanFits, RouteLabelFits}
 use Rattle.route_steps.specs.Trips.{Journey}
 use Rattle.route_steps.specs.declared.state.State.{State}
-use Rattle.feasible_texts.proofs.PlanRanges.{feasible_fits}
+use Rattle.route_plan.proofs.PlanRanges.{feasible_fits}
 use Rattle.fixed_certificate.specs.Labels.{label_of}
 
 -- what a solver answers is what a proof of it is to show

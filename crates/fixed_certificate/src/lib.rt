@@ -5,7 +5,7 @@
 mod labels;
 mod proving;
 
-pub use proof_text::{push_proof, push_route_verdict, read_proof};
 pub use proving::prove_route;
-pub use route_judge::check_route;
-pub use route_proof::{RouteLabel, RouteProof, RouteVerdict};
+pub use route_proof::{
+    RouteLabel, RouteProof, RouteVerdict, check_route, push_proof, push_route_verdict, read_proof,
+};

@@ -11,9 +11,8 @@ use crate::labels::labels_of;
 use ev_list::Listed;
 use frvcp_labels::{Solved, reachable_states, solve_with_labels};
 use instance_reader::Instance;
-use route_judge::check_route;
 use route_plan::RoutePlan;
-use route_proof::{RouteProof, RouteVerdict};
+use route_proof::{RouteProof, RouteVerdict, check_route};
 use route_steps::State;
 use std::alloc::{AllocError, Global};
 

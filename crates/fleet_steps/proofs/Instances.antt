@@ -3,7 +3,7 @@ use Rattle.std.proofs.Common.{◌≡◌, ◌∙◌, ℕ, List, Option, ap, arith
 use Rattle.certificate_parts.specs.Ranges.{customer_count}
 use Rattle.ev_model.specs.Network.{Network}
 use Rattle.fleet_steps.specs.FleetNetwork.{HasFleetNetwork, IsFleetRefused}
-use Rattle.job_steps.proofs.LimitedNetworks.{one_limited, refused_has_none}
+use Rattle.job_frame.proofs.LimitedNetworks.{one_limited, refused_has_none}
 use Rattle.plan_writer.specs.RefusalText.{IsRule}
 use Rattle.plan_writer.specs.declared.refusal.Refusal.{Refusal}
 use Rattle.plan_writer.specs.declared.refusal.Refusal.TheVariants as refusal

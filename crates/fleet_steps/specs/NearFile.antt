@@ -2,8 +2,8 @@
 use Rattle.std.specs.Prelude.{◌≡◌, ℕ, List, Ok, Err}
 use Rattle.certificate_parts.specs.declared.cert_text.CertText.{CertText}
 use Rattle.ev_model.specs.Network.{Network}
-use Rattle.job_steps.specs.declared.answer.Ended.{Ended}
-use Rattle.job_steps.specs.declared.answer.Ended.TheVariants.{Refused, Memory}
+use Rattle.job_frame.specs.declared.answer.Ended.{Ended}
+use Rattle.job_frame.specs.declared.answer.Ended.TheVariants.{Refused, Memory}
 use Rattle.near_proof.specs.declared.proof.NearProof.{NearProof}
 use Rattle.near_text.specs.NearIn.{IsSpelledBy, near_in}
 use Rattle.near_text.specs.Written.{written_near}

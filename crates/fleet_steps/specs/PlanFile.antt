@@ -2,8 +2,8 @@
 use Rattle.std.specs.Prelude.{◌≡◌, ℕ, List, Option, None, Some, Err, option_map}
 use Rattle.ev_model.specs.Fleet.{cost_of, IsFleetPlan}
 use Rattle.ev_model.specs.Network.{Network}
-use Rattle.job_steps.specs.declared.answer.Ended.{Ended}
-use Rattle.job_steps.specs.declared.answer.Ended.TheVariants.{Refused, Memory}
+use Rattle.job_frame.specs.declared.answer.Ended.{Ended}
+use Rattle.job_frame.specs.declared.answer.Ended.TheVariants.{Refused, Memory}
 use Rattle.plan_check.specs.FleetRules.{IsFirstBroken, stops_of}
 use Rattle.plan_check.specs.declared.fault.LargeFault.{LargeFault}
 use Rattle.plan_check.specs.declared.fault.LargeFault.TheVariants as large

@@ -2,10 +2,10 @@
 
 ghost use Rattle.std.specs.Prelude.{IfErr, IfOk};
 ghost use Rattle.fleet_steps.specs.FleetNetwork.{HasFleetNetwork, IsFleetEnded};
-ghost use Rattle.job_steps.specs.Ended.{IsRuleOrMemory};
+ghost use Rattle.job_frame.specs.Ended.{IsRuleOrMemory};
 
 use instance_reader::{Instance, MOST_CUSTOMERS};
-use job_steps::{Ended, limited_instance};
+use job_frame::{Ended, limited_instance};
 use plan_writer::Refusal;
 use std::alloc::Global;
 

@@ -1,9 +1,12 @@
-//! The first steps of jobs on fleets: an instance without too many customers, the plan of a file
-//! and what it costs, and the near proof of a file.
+//! The steps of jobs on fleets: an instance without too many customers, the plan of a file and what
+//! it costs, the near proof of a file; the line of a plan that breaks a rule, and the file of one
+//! that breaks none.
 #![tactic(auto)]
 
+mod answering;
 mod instance;
 mod reading;
 
+pub use answering::{plan_text, reject};
 pub use instance::fleet_instance;
 pub use reading::{cost_of, plan_of, proof_of};

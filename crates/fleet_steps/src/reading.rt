@@ -4,12 +4,12 @@ ghost use Rattle.std.specs.Prelude.{◌≤◌, ◌^◌, IfErr, IfOk, IfSome, len
 ghost use Rattle.fleet_steps.specs.NearFile.{HasNear, IsProofEnded};
 ghost use Rattle.fleet_steps.specs.PlanFile.{IsPlanEnded, IsUnfit, IsValid};
 ghost use Rattle.instance_reader.specs.Instance.{customer_nodes, most_customers};
-ghost use Rattle.job_steps.specs.Ended.{IsRuleOrMemory};
+ghost use Rattle.job_frame.specs.Ended.{IsRuleOrMemory};
 ghost use Rattle.near_proof.specs.Ranges.{NearFits};
 ghost use Rattle.route_plan.specs.PlanTexts.{FitsFile, SpellsFleetPlan};
 
 use instance_reader::Instance;
-use job_steps::Ended;
+use job_frame::Ended;
 use near_proof::NearProof;
 use near_text::{CertText, read_near};
 use plan_check::{LargeFault, check_large};

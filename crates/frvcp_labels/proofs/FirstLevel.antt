@@ -11,3 +11,9 @@ first_is_least v valid level is =
     let inside : level - v.first < length v.times = omega (arith, is.0, is.1) in
     let later : slice_index v.times 0 ≤ slice_index v.times (level - v.first) = valid.rising 0 (level - v.first) 0 (omega arith) inside in
     omega (arith, start, later)
+
+-- a higher level has no less time
+pub higher_is_later : (v : LevelTimes) → IsValue v → (low high : ℕ) → IsLevel v low → IsLevel v high → low ≤ high → time_at v low ≤ time_at v high
+higher_is_later v valid low high is there up =
+    let inside : high - v.first < length v.times = omega (arith, there.0, there.1) in
+    valid.rising (low - v.first) (high - v.first) 0 (omega (arith, up)) inside

@@ -1,6 +1,8 @@
 pub mod MoreLabels
 pub mod SearchTurns
 mod FullBattery
+mod ChargeTimes
+mod ChargedStates
 mod FirstLevel
 mod StationSteps
 mod TakenLabels

@@ -1,6 +1,6 @@
 -- Labels after one was added.
 use Rattle.std.proofs.Common.{◌≡◌, ℕ, ◌+◌, ◌-◌, ◌*◌, ◌/◌, ◌<◌, ◌⊎◌, inl, inr, List, [], ◌∷◌, ◌++◌, length, map, refl, sym, ◌∙◌, ap, subst, arith, Option, Some, None, true, false}
-use Rattle.std.specs.Prelude.{Bool, IfSome, IsNone, nat_eq, option_map, slice_get}
+use Rattle.std.specs.Prelude.{◌&&◌, not, Bool, IfSome, IsNone, nat_eq, option_map, slice_get}
 use Rattle.std.proofs.lemmas.Option.{same_Some, none-some, slice_get-map}
 use Rattle.std.proofs.lemmas.Bool.{and_parts, and_from, eqb-true, eq-eqb, false≢true}
 use Rattle.std.proofs.lemmas.Nat.{div-mul-add}
@@ -12,6 +12,7 @@ use Rattle.label_pool.specs.Labels.{IsCovered, Labels, beside, labels_with}
 use Rattle.label_pool.specs.declared.label.Label.{Label}
 use Rattle.label_pool.proofs.Elements.{appended_before, appended_cases}
 use Rattle.piece_fn.specs.PieceFn.{level_times}
+use Rattle.frvcp_labels.specs.Charged.{OnlyAdds}
 use Rattle.frvcp_labels.specs.Search.{AreSound, HasOrigin, HasPlans, IsBelowWays, IsGrown, IsSound, IsSoundPool, Reached, settled_count}
 use Rattle.route_steps.specs.Steps.{Holds, IsSoundState, IsStep}
 use Rattle.route_steps.specs.Trips.{Journey}
@@ -141,6 +142,21 @@ module _ (t : Journey) (old : List (Label State)) (new : Label State) (sound : A
     count = count_with by_value new.bucket new.value old new waits;
   }
 
+-- a vehicle that is reached was before, or the new label holds it
+with_only : (t : Journey) (old : List (Label State)) (new : Label State) (v : Leaving) → Reached (labels_with by_value old new) v → Reached old v ⊎ Holds new.value v
+with_only t old new v r = elim (with_cases by_value old new r.by r.label r.here) [
+  | inl before ↦
+      let live = ap (λ (l : Label State). l.live) (sym before.2) ∙ r.live in
+      inl (record {
+        by = r.by;
+        label = before.0;
+        here = before.1;
+        live = (and_parts before.0.live (not (nat_eq before.0.bucket new.bucket && by_value new.value before.0.value)) live).0;
+        holds = subst (λ (l : Label State). Holds l.value v) before.2 r.holds;
+      })
+  | inr last ↦ inr (subst (λ (l : Label State). Holds l.value v) last r.holds)
+]
+
 pub grown_same : (labels : List (Label State)) → IsGrown labels labels
 grown_same labels = record {
   stays = λ i label here. (label, here, refl);
@@ -168,6 +184,7 @@ pub record IsAdded (t : Journey) (old now : Labels State) (s : State) : Type 0 w
   pub pool : IsSoundPool t now
   pub grown : IsGrown old.labels now.labels
   pub reached : (v : Leaving) → Holds s v → Reached now.labels v
+  pub only : OnlyAdds old.labels now.labels s
 
 module _ (t : Journey) (old now : Labels State) (new : Label State) where
   pub added_is : (added : Option ℕ) → IsSoundPool t old → IsSound t old.labels new → new.settled ≡ false → (IsNone added → now ≡ old) → IfSome added (λ i. now ≡ record old { labels = labels_with by_value old.labels new })
@@ -179,6 +196,7 @@ module _ (t : Journey) (old now : Labels State) (new : Label State) where
         pool = pool;
         grown = subst (λ (p : Labels State). IsGrown old.labels p.labels) (sym e) (grown_same old.labels);
         reached = λ v holds. covered_reached t now.labels new.value v pool.labels is.state.node (subst (λ b. IsCovered by_value now.labels b new.value) is.bucket own) holds;
+        only = λ v r. inl (subst (λ (p : Labels State). Reached p.labels v) e r);
       }
   added_is (Some i) sound is waits same grows own keeps =
       let labels : now.labels ≡ labels_with by_value old.labels new = ap (λ (p : Labels State). p.labels) grows in
@@ -193,6 +211,7 @@ module _ (t : Journey) (old now : Labels State) (new : Label State) where
         grown = subst (λ (ls : List (Label State)). IsGrown old.labels ls) (sym labels)
             (with_grown t old.labels new sound.labels is waits (λ b x c. subst (λ (ls : List (Label State)). IsCovered by_value ls b x) labels (keeps b x c)));
         reached = λ v holds. covered_reached t now.labels new.value v pool.labels is.state.node (subst (λ b. IsCovered by_value now.labels b new.value) is.bucket own) holds;
+        only = λ v r. with_only t old.labels new v (subst (λ (ls : List (Label State)). Reached ls v) labels r);
       }
 
 -- a new label

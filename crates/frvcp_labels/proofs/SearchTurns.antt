@@ -15,6 +15,7 @@ use Rattle.label_pool.specs.Labels.{IsNext, NoneWaits, is_waiting}
 use Rattle.label_pool.specs.declared.label.Label.{Label}
 use Rattle.label_pool.proofs.Elements.{appended_before, appended_here, element_at, set_here, set_there}
 use Rattle.route_steps.specs.Homes.{NoWayHome}
+use Rattle.frvcp_labels.specs.Charged.{OnlyAdds}
 use Rattle.frvcp_labels.specs.Search.{AreReached, AreSound, HasOrigin, IsGrown, IsSound, IsSpread, Reached, Spreads, SpreadsTo, settled_count}
 use Rattle.route_steps.specs.Steps.{AreSteps, CoverStops, Holds, IsSoundState, IsSoundStep, IsStep, MayGo, state_at}
 use Rattle.route_steps.specs.Stations.{stations}
@@ -63,6 +64,14 @@ module _ (t : Journey) (passed to : ℕ) (all values left : List (List (ℕ × �
     | inr other ↦
         let count : length values ≡ length left + 1 = ap length parts ∙ length-append left (value ∷ []) in
         grown.keeps v (reached k w (omega (arith, from, other, count)) here v holds)
+  ]
+
+  -- a vehicle that is reached was before, or one of the values holds it
+  pub left_only : (first before now : List (Label State)) → ((v : Leaving) → Reached before v → Reached first v ⊎ ((k : ℕ) × (w : List (ℕ × ℕ)) × (slice_get all k ≡ Some w) × Holds (state_at passed to k w) v))
+      → OnlyAdds before now (taken_state passed to (not empty) value) → (v : Leaving) → Reached now v → Reached first v ⊎ ((k : ℕ) × (w : List (ℕ × ℕ)) × (slice_get all k ≡ Some w) × Holds (state_at passed to k w) v)
+  left_only first before now were only v r = elim (only v r) [
+    | inl was ↦ were v was
+    | inr own ↦ inr (length left, value, taken_here, subst (λ (s : State). Holds s v) state_is own)
   ]
 
 -- the label that a step leaves, in labels that have grown
@@ -155,6 +164,19 @@ module _ (t : Journey) (old : List (Label State)) (i : ℕ) (label : Label State
           holds = subst (λ (l : Label State). Holds l.value v) same r.holds;
         }
     | inr other ↦ record { by = r.by; label = r.label; here = set_there old i r.by (record label { settled = true }) other ∙ r.here; live = r.live; holds = r.holds }
+  ]
+
+  pub was_reached : (v : Leaving) → Reached settled_now v → Reached old v
+  was_reached v r = elim (now_cases r.by r.label r.here) [
+    | inl this ↦
+        record {
+          by = i;
+          label = label;
+          here = here;
+          live = ap (λ (l : Label State). l.live) (sym this.1) ∙ r.live;
+          holds = subst (λ (l : Label State). Holds l.value v) this.1 r.holds;
+        }
+    | inr other ↦ record { by = r.by; label = r.label; here = other; live = r.live; holds = r.holds }
   ]
 
   pub now_count : settled_count settled_now ≡ settled_count old + 1

@@ -7,13 +7,14 @@ use Rattle.label_pool.specs.Labels.{Labels}
 use Rattle.label_pool.specs.declared.label.Label.{Label}
 use Rattle.label_pool.proofs.Elements.{set_here}
 use Rattle.frvcp_labels.specs.Answers.{IsHome, IsTaken}
+use Rattle.frvcp_labels.specs.Charged.{AreCharged, charged_by}
 use Rattle.frvcp_labels.specs.Full.{AreFull}
 use Rattle.frvcp_labels.specs.Search.{AreSound, IsGrown, IsSoundPool, IsSpread, Reached, Spreads, settled_count}
 use Rattle.route_steps.specs.Trips.{Journey}
 use Rattle.route_steps.specs.Ways.{begin}
 use Rattle.route_steps.specs.declared.state.State.{State}
 use Rattle.frvcp_labels.proofs.FullBattery.{full_grown}
-use Rattle.frvcp_labels.proofs.SearchTurns.{count_most, falls, least_home, now_count, now_reached, now_sound, settled_now, turn}
+use Rattle.frvcp_labels.proofs.SearchTurns.{count_most, falls, least_home, now_count, now_reached, now_sound, settled_now, turn, was_reached}
 
 pub is_taken : (old now : Labels State) (o : Option ℕ) (i : ℕ) → o ≡ Some i → IfSome o (λ n. IsTaken old now n) → IsTaken old now i
 is_taken old now o i is told = subst (λ (x : Option ℕ). IfSome x (λ n. IsTaken old now n)) is told
@@ -39,6 +40,12 @@ module _ (t : Journey) (old now : Labels State) (i : ℕ) (taken : IsTaken old n
   pub taken_full : (full : List (Option ℕ)) → AreFull t old.labels full → AreFull t now.labels full
   taken_full full is = full_grown t old.labels now.labels full
       (λ v r. subst (λ (ls : List (Label State)). Reached ls v) (sym labels_are) (now_reached t old.labels i taken.label taken.next.here taken.next.waits v r)) is
+
+  pub taken_charged : AreCharged t old.labels → AreCharged t now.labels
+  taken_charged is v added r other may =
+      let was = was_reached t old.labels i taken.label taken.next.here taken.next.waits v (subst (λ (ls : List (Label State)). Reached ls v) labels_are r) in
+      subst (λ (ls : List (Label State)). Reached ls (charged_by t.network v added)) (sym labels_are)
+      (now_reached t old.labels i taken.label taken.next.here taken.next.waits (charged_by t.network v added) (is v added was other may))
 
   -- short of the end there is a next node
   pub taken_on_way : (state : State) (end : ℕ) → IsSoundPool t old → end ≡ length t.route - 1 → (state.passed ≡ end → ⊥) → ((label : Label State) → slice_get now.labels i ≡ Some label → state ≡ label.value)

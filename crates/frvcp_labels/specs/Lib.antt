@@ -3,6 +3,7 @@ pub mod TripView
 pub mod Search
 pub mod Listing
 pub mod Full
+pub mod Charged
 pub mod Answers
 pub mod Bounds
 pub mod BoundsView

@@ -2,6 +2,7 @@
 
 ghost use Rattle.std.specs.Prelude.{◌≡◌, ◌+◌, ◌<◌, ◌*◌, ◌^◌, ℕ, IfOk, IfSome, IsTrue, None, OnOk, Option, length, replicate};
 ghost use Rattle.ev_model.specs.Network.{node_count};
+ghost use Rattle.frvcp_labels.specs.Charged.{OnlyAdds};
 ghost use Rattle.frvcp_labels.specs.Full.{AreFull, IsFullBy, IsNoted};
 ghost use Rattle.frvcp_labels.specs.Search.{HasOrigin, IsGrown, IsSoundPool, Reached};
 ghost use Rattle.route_steps.specs.Steps.{Holds, IsSoundState};
@@ -31,6 +32,7 @@ impl<'a> Trip<'a> {
         ensures grown { OnOk result (IsGrown pool.old.labels pool.new.labels) }
         ensures reached { OnOk result ((v : Leaving) → Holds state v →
             Reached pool.new.labels v) }
+        ensures only { OnOk result (OnlyAdds pool.old.labels pool.new.labels state) }
     {
         let bucket = self.bucket(state.passed, state.node);
         let full_by = state.value.at(self.capacity());

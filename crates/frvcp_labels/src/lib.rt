@@ -6,7 +6,8 @@
 //! way home from a label takes less than its key, which at the route's end is its least time. So
 //! the first label there that is taken has the least time, and where the least key is past the
 //! limit there is no plan. Where a full battery was had by some time, a vehicle that arrives later
-//! is needless, whatever it may charge; so no value is made for it.
+//! is needless, whatever it may charge; so no value is made for it. Nor is one made to charge where
+//! a label was at the station before with all that arrives, since what it may charge was had then.
 #![tactic(auto)]
 
 mod bounds;
@@ -17,6 +18,7 @@ mod reaching;
 mod rest;
 mod search;
 mod solve;
+mod there;
 mod trace;
 mod trip;
 

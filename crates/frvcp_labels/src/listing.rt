@@ -3,6 +3,7 @@
 ghost use Rattle.std.specs.Prelude.{◌≡◌, ◌↔◌, ◌-◌, ◌<◌, ℕ, IfOk, IsTrue, OnOk, Some, true, length, slice_get};
 ghost use Rattle.std.specs.List.{All, Contains};
 ghost use Rattle.charge_curve.specs.Points.{ArePoints};
+ghost use Rattle.frvcp_labels.specs.Charged.{AreCharged};
 ghost use Rattle.frvcp_labels.specs.Full.{AreFull};
 ghost use Rattle.frvcp_labels.specs.Listing.{HoldReached, IsStateOnWay, StandForLabels};
 ghost use Rattle.frvcp_labels.specs.Search.{IsGrown, IsSoundPool, IsSpreadOnWay, Spreads};
@@ -27,6 +28,7 @@ impl<'a> Trip<'a> {
     ) -> Result<(), AllocError>
         requires pool { IsSoundPool self.now pool.old }
         requires full { AreFull self.now pool.old.labels full.old }
+        requires charged { AreCharged self.now pool.old.labels }
         requires spread { IsSpreadOnWay self.now pool.old.labels (begin self.now.start) }
         ensures pool { OnOk result (IsSoundPool self.now pool.new) }
         ensures spread { OnOk result
@@ -49,9 +51,11 @@ impl<'a> Trip<'a> {
     ) -> Result<(), AllocError>
         requires pool { IsSoundPool self.now pool.old }
         requires full { AreFull self.now pool.old.labels full.old }
+        requires charged { AreCharged self.now pool.old.labels }
         requires from { i < length pool.old.labels }
         ensures pool { OnOk result (IsSoundPool self.now pool.new) }
         ensures full { OnOk result (AreFull self.now pool.new.labels full.new) }
+        ensures charged { OnOk result (AreCharged self.now pool.new.labels) }
         ensures grown { OnOk result (IsGrown pool.old.labels pool.new.labels) }
         ensures spreads { OnOk result ((label : Label State) →
             slice_get pool.old.labels i ≡ Some label →

@@ -7,9 +7,10 @@ ghost use Rattle.dominance.specs.LevelTimes.{IsValue, time_at};
 ghost use Rattle.piece_fn.specs.PieceFn.{level_times};
 ghost use Rattle.frvcp_labels.specs.Answers.{IsHomeOrNone, IsTaken};
 ghost use Rattle.route_steps.specs.Homes.{NoWayHome};
+ghost use Rattle.frvcp_labels.specs.Charged.{AreCharged, OnlyAdds};
 ghost use Rattle.frvcp_labels.specs.Full.{AreFull};
 ghost use Rattle.frvcp_labels.specs.Search.{AreReached, HasOrigin, IsBelowWays, IsGrown, IsSoundPool, IsSpread, Reached, Spreads, SpreadsTo, SpreadsToStations};
-ghost use Rattle.route_steps.specs.Steps.{AreSteps, Holds, IsSoundState, MayGo};
+ghost use Rattle.route_steps.specs.Steps.{AreSteps, CoverStops, Holds, IsSoundState, MayGo};
 ghost use Rattle.route_steps.specs.Ways.{Leaving, begin};
 ghost use Rattle.route_steps.specs.declared.state.State.{State};
 
@@ -28,6 +29,7 @@ impl<'a> Trip<'a> {
     pub(crate) fn begin(&self, alloc: Global) -> Result<(Pool<State>, Vec<Option<u64>>), AllocError>
         ensures pool { IfOk result (λ found. IsSoundPool self.now found.0) }
         ensures full { IfOk result (λ found. AreFull self.now found.0.labels found.1.items) }
+        ensures charged { IfOk result (λ found. AreCharged self.now found.0.labels) }
         ensures spread { IfOk result (λ found.
             IsSpread self.now found.0.labels (begin self.now.start)) }
     {
@@ -56,6 +58,7 @@ impl<'a> Trip<'a> {
     ) -> Result<Option<usize>, AllocError>
         requires pool { IsSoundPool self.now pool.old }
         requires full { AreFull self.now pool.old.labels full.old }
+        requires charged { AreCharged self.now pool.old.labels }
         requires spread { IsSpread self.now pool.old.labels (begin self.now.start) }
         ensures pool { OnOk result (IsSoundPool self.now pool.new) }
         ensures full { OnOk result (AreFull self.now pool.new.labels full.new) }
@@ -98,11 +101,13 @@ impl<'a> Trip<'a> {
     ) -> Result<(), AllocError>
         requires pool { IsSoundPool self.now pool.old }
         requires full { AreFull self.now pool.old.labels full.old }
+        requires charged { AreCharged self.now pool.old.labels }
         requires from { i < length pool.old.labels }
         requires on_way { (label : Label State) → slice_get pool.old.labels i ≡ Some label →
             label.value.passed + 1 < length self.now.route }
         ensures pool { OnOk result (IsSoundPool self.now pool.new) }
         ensures full { OnOk result (AreFull self.now pool.new.labels full.new) }
+        ensures charged { OnOk result (AreCharged self.now pool.new.labels) }
         ensures grown { OnOk result (IsGrown pool.old.labels pool.new.labels) }
         ensures spreads { OnOk result ((label : Label State) →
             slice_get pool.old.labels i ≡ Some label →
@@ -124,11 +129,13 @@ impl<'a> Trip<'a> {
     ) -> Result<(), AllocError>
         requires pool { IsSoundPool self.now pool.old }
         requires full { AreFull self.now pool.old.labels full.old }
+        requires charged { AreCharged self.now pool.old.labels }
         requires from { i < length pool.old.labels }
         requires on_way { (label : Label State) → slice_get pool.old.labels i ≡ Some label →
             (passed ≡ label.value.passed) × (passed + 1 < length self.now.route) }
         ensures pool { OnOk result (IsSoundPool self.now pool.new) }
         ensures full { OnOk result (AreFull self.now pool.new.labels full.new) }
+        ensures charged { OnOk result (AreCharged self.now pool.new.labels) }
         ensures grown { OnOk result (IsGrown pool.old.labels pool.new.labels) }
         ensures spreads { OnOk result ((label : Label State) →
             slice_get pool.old.labels i ≡ Some label →
@@ -152,11 +159,13 @@ impl<'a> Trip<'a> {
     ) -> Result<(), AllocError>
         requires pool { IsSoundPool self.now pool.old }
         requires full { AreFull self.now pool.old.labels full.old }
+        requires charged { AreCharged self.now pool.old.labels }
         requires from { i < length pool.old.labels }
         requires next { (label : Label State) → slice_get pool.old.labels i ≡ Some label →
             MayGo self.now.network self.now.route label.value.passed passed to }
         ensures pool { OnOk result (IsSoundPool self.now pool.new) }
         ensures full { OnOk result (AreFull self.now pool.new.labels full.new) }
+        ensures charged { OnOk result (AreCharged self.now pool.new.labels) }
         ensures grown { OnOk result (IsGrown pool.old.labels pool.new.labels) }
         ensures spreads { OnOk result ((label : Label State) →
             slice_get pool.old.labels i ≡ Some label →
@@ -167,6 +176,9 @@ impl<'a> Trip<'a> {
             return Ok(());
         }
         if self.is_full_by(full, from, passed, to) {
+            return Ok(());
+        }
+        if self.were_there(pool, from, passed, to)? {
             return Ok(());
         }
         let start = Place {
@@ -191,11 +203,15 @@ impl<'a> Trip<'a> {
     ) -> Result<(), AllocError>
         requires pool { IsSoundPool self.now pool.old }
         requires full { AreFull self.now pool.old.labels full.old }
+        requires charged { AreCharged self.now pool.old.labels }
         requires from { i < length pool.old.labels }
         requires steps { (label : Label State) → slice_get pool.old.labels i ≡ Some label →
             AreSteps self.now.network self.now.route label.value passed to values.items }
+        requires covers { (label : Label State) → slice_get pool.old.labels i ≡ Some label →
+            CoverStops self.now.network self.now.route label.value passed to values.items }
         ensures pool { OnOk result (IsSoundPool self.now pool.new) }
         ensures full { OnOk result (AreFull self.now pool.new.labels full.new) }
+        ensures charged { OnOk result (AreCharged self.now pool.new.labels) }
         ensures grown { OnOk result (IsGrown pool.old.labels pool.new.labels) }
         ensures reached { OnOk result (AreReached pool.new.labels passed to values.items) }
     {
@@ -225,6 +241,7 @@ impl<'a> Trip<'a> {
         ensures grown { OnOk result (IsGrown pool.old.labels pool.new.labels) }
         ensures reached { OnOk result ((v : Leaving) → Holds state v →
             Reached pool.new.labels v) }
+        ensures only { OnOk result (OnlyAdds pool.old.labels pool.new.labels state) }
     {
         let key = self.key(&state);
         let bucket = self.bucket(state.passed, state.node);

@@ -7,12 +7,15 @@ ghost use Rattle.instance_reader.specs.Instance.{customer_nodes, most_customers}
 ghost use Rattle.plan_check.specs.FleetRules.{stops_of};
 
 use crate::judged::judged_proof;
+use crate::offers::cost_of_plan;
 use crate::outcome::GapOutcome;
+use crate::plans::{FoundRoutes, cheaper};
+use crate::watcher::{GapProgress, GapWatcher};
 use instance_reader::Instance;
-use near_columns::{GapClock, search_near};
+use near_columns::{GapClock, NearFound, search_near};
 use near_proof::NearProof;
 use ng_pricing::{PriceWatcher, near_bound_watched};
-use route_improve::{MoveWatcher, improve_watched};
+use route_improve::{Improved, improve_watched};
 use route_plan::FleetPlan;
 use std::alloc::{AllocError, Global};
 
@@ -31,7 +34,7 @@ const FEW_NEAR: usize = 4;
 /// The clock is asked whether the search stops. Where the search finds no proof that is accepted,
 /// one of few near customers stands in, which takes its time, whatever the clock says. The only
 /// `Err` is want of memory.
-pub fn close_gap<C: GapClock, W: MoveWatcher + PriceWatcher>(
+pub fn close_gap<C: GapClock, W: GapWatcher>(
     alloc: Global,
     inst: &Instance,
     start: Option<&FleetPlan>,
@@ -43,10 +46,27 @@ pub fn close_gap<C: GapClock, W: MoveWatcher + PriceWatcher>(
     ensures { IfOk result
         (IsGapOutcome inst.now (option_map (λ plan. plan.now.routes) start.entry)) }
 {
-    let plan = improve_watched(alloc, inst, start, watcher)?;
-    let found = search_near(alloc, inst, clock)?;
-    let proof = proof_of(alloc, inst, found.proof, watcher)?;
+    let first = improve_watched(alloc, inst, start, watcher)?;
+    tell_first(inst, &first, watcher);
+    let NearFound {
+        proof: candidate,
+        orders,
+        dives,
+    } = search_near(alloc, inst, clock, watcher)?;
+    let proof = proof_of(alloc, inst, candidate, watcher)?;
+    let found = FoundRoutes { orders, dives };
+    let plan = cheaper(alloc, inst, first, found, &proof, clock, watcher)?;
     Ok(GapOutcome { plan, proof })
+}
+
+/// Tells what the first plan costs, where there is one.
+fn tell_first<W: GapWatcher>(inst: &Instance, first: &Improved, watcher: &mut W) {
+    if let Improved::Plan(plan) = first {
+        watcher.watch_gap(GapProgress {
+            cost: cost_of_plan(inst, plan),
+            bound: None,
+        });
+    }
 }
 
 /// A proof that is accepted: the candidate, where it is one, and else one of few near customers.

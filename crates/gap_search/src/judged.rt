@@ -5,8 +5,7 @@ ghost use Rattle.gap_search.specs.Gap.{IsGapProof};
 ghost use Rattle.instance_reader.specs.Instance.{customer_nodes, most_customers};
 
 use instance_reader::Instance;
-use near_check::check_near;
-use near_proof::{NearProof, NearVerdict};
+use near_proof::{NearProof, NearVerdict, check_near};
 use near_text::{CertText, push_near, read_near};
 use std::alloc::{AllocError, Global};
 

@@ -5,13 +5,18 @@
 //! search finds is judged here, and nothing is promised of the search itself.
 #![tactic(auto)]
 
+mod choosing;
 mod closing;
 mod judged;
+mod offers;
 mod outcome;
+mod plans;
+mod watcher;
 
 pub use closing::close_gap;
-pub use near_columns::GapClock;
+pub use near_columns::{GapClock, RoundsProgress, RoundsWatcher};
 pub use near_proof::NearProof;
 pub use ng_pricing::{PriceProgress, PriceWatcher};
 pub use outcome::GapOutcome;
 pub use route_improve::{Improved, MoveProgress, MoveWatcher};
+pub use watcher::{GapProgress, GapWatcher};

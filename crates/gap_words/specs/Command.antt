@@ -1,14 +1,8 @@
 -- The command that reads the words of `evgap`: its name, two positionals, and three options of one
 -- value each. It has no flag for help and none for a version.
-use Rattle.std.specs.Prelude.{codes, true}
-use Rattle.clap.specs.Simple.{on_top}
-use Rattle.clap.specs.Words.{App, new_app, with_rule}
-use Rattle.command_line.specs.Command.{option_rule, with_positionals}
-
-abbrev pub without_arguments : App
-without_arguments =
-    on_top (λ shape. record shape { disable_help_flag = true; disable_version_flag = true })
-    (new_app (codes "evgap"))
+use Rattle.std.specs.Prelude.{codes}
+use Rattle.clap.specs.Words.{App, with_rule}
+use Rattle.call_words.specs.Command.{option_rule, with_positionals, without_arguments}
 
 abbrev pub with_options : App → App
 with_options app =
@@ -17,4 +11,4 @@ with_options app =
     (option_rule (codes "start"))
 
 unfoldable pub evgap : App
-evgap = with_options (with_positionals without_arguments)
+evgap = with_options (with_positionals (without_arguments (codes "evgap")))

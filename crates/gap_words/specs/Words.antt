@@ -1,8 +1,10 @@
 -- The job that the words of `evgap` name: a function of what the command finds in them.
 use Rattle.std.specs.Prelude.{ℕ, ◌&&◌, List, [], ◌∷◌, Option, None, Some, is_none, codes, option_and_then, option_map, if◌then◌else◌}
 use Rattle.std.specs.Str.{bytes_eq}
-use Rattle.clap.specs.Words.{Kinds, Row, Text, fault_of, first_of, matches_of}
-use Rattle.command_line.specs.Words.{are_different, limit_in, most_value, optional_number, rest_in}
+use Rattle.clap.specs.Words.{Row, Text, fault_of, first_of, matches_of}
+use Rattle.call_words.specs.Matches.{job_unless, limit_in, rest_in}
+use Rattle.call_words.specs.Names.{are_different}
+use Rattle.call_words.specs.Numbers.{most_value, optional_number}
 use Rattle.gap_words.specs.Command.{evgap}
 
 -- the job of planning a fleet with a close bound: the names of its files, the limit where one is
@@ -96,11 +98,6 @@ abbrev pub job_in : List Row → Option Job
 job_in rows =
     option_and_then (λ command. job_of_command command (rest_in rows) rows)
     (first_of (codes "command") rows)
-
--- the job where the command takes the words: no error of it comes
-abbrev pub job_unless : Kinds → Option Job → Option Job
-job_unless [] job = job
-job_unless (kind ∷ kinds) job = None
 
 -- the words with the name of the program in front of them
 abbrev pub named : List Text → List Text

@@ -1,61 +1,17 @@
 //! The command that reads the words, with its arguments.
 
-ghost use Rattle.std.specs.Prelude.{◌≡◌, false, IfOk, map, string_bytes};
-ghost use Rattle.clap.specs.Words.{app_of, rule_of, with_rule};
+ghost use Rattle.std.specs.Prelude.{◌≡◌, IfOk};
+ghost use Rattle.clap.specs.Words.{app_of};
 ghost use Rattle.clap.specs.Walk.{texts};
-ghost use Rattle.command_line.specs.Command.{command_rule, option_rule, rest_rule, with_positionals};
-ghost use Rattle.gap_words.specs.Command.{evgap, with_options, without_arguments};
-ghost use Rattle.gap_words.specs.Matches.{IsMatched};
-ghost use Rattle.gap_words.specs.Words.{named};
+ghost use Rattle.call_words.specs.Matches.{IsMatched};
+ghost use Rattle.gap_words.specs.Command.{evgap, with_options};
 
-use clap::error::ErrorKind;
-use clap::{Arg, ArgMatches, Command};
+use call_words::{matches_of, with_option, with_positionals, without_arguments};
+use clap::{ArgMatches, Command};
 use std::alloc::{AllocError, Global};
 
-/// The command without its arguments.
-fn without_arguments<'a>(alloc: Global) -> Command<'a>
-    ensures { app_of result ≡ without_arguments }
-{
-    Command::new(alloc, "evgap")
-        .disable_help_flag(true)
-        .disable_version_flag(true)
-}
-
-/// The command and one more option, with one value.
-fn with_option<'a>(
-    alloc: Global,
-    command: Command<'a>,
-    name: &'a str,
-) -> Result<Command<'a>, AllocError>
-    ensures { IfOk result (λ c.
-        app_of c ≡ with_rule (app_of command.entry) (option_rule name.entry.now)) }
-{
-    let option = Arg::new(alloc, name).long(name);
-    command.arg(option)
-}
-
-/// The command and its first positional, which has to stand.
-fn with_command_word<'a>(alloc: Global, command: Command<'a>) -> Result<Command<'a>, AllocError>
-    ensures { IfOk result (λ c. app_of c ≡ with_rule (app_of command.entry) command_rule) }
-{
-    let word = Arg::new(alloc, "command").required(true);
-    command.arg(word)
-}
-
-/// The last positional, which takes any number of values.
-fn rest<'a>(alloc: Global) -> Arg<'a>
-    ensures rule { rule_of result ≡ rest_rule }
-    ensures own { result.global ≡ false }
-{
-    Arg::new(alloc, "rest").num_args(0..)
-}
-
-/// The command and its positionals.
-fn with_positionals<'a>(alloc: Global, command: Command<'a>) -> Result<Command<'a>, AllocError>
-    ensures { IfOk result (λ c. app_of c ≡ with_positionals (app_of command.entry)) }
-{
-    with_command_word(alloc, command)?.arg(rest(alloc))
-}
+/// The name of the program.
+pub(crate) const PROGRAM: &str = "evgap";
 
 /// The command and its options.
 fn with_options<'a>(alloc: Global, command: Command<'a>) -> Result<Command<'a>, AllocError>
@@ -71,36 +27,18 @@ fn with_options<'a>(alloc: Global, command: Command<'a>) -> Result<Command<'a>, 
 fn evgap<'a>(alloc: Global) -> Result<Command<'a>, AllocError>
     ensures { IfOk result (λ c. app_of c ≡ evgap) }
 {
-    let command = with_positionals(alloc, without_arguments(alloc))?;
+    let command = with_positionals(alloc, without_arguments(alloc, PROGRAM))?;
     with_options(alloc, command)
-}
-
-/// The program's name, and then the words.
-pub(crate) fn named<'a>(alloc: Global, words: &'a [String]) -> Result<Vec<&'a str>, AllocError>
-    ensures { IfOk result (λ all. texts all.items ≡ named (map string_bytes words.now)) }
-{
-    let mut all: Vec<&'a str> = Vec::new(alloc);
-    all.push("evgap")?;
-    for word in words {
-        all.push(word.as_str())?;
-    }
-    Ok(all)
 }
 
 /// What the command finds in the words, of which the first is the program's name; `None` where it
 /// takes no such words.
-pub(crate) fn matches_of<'a>(
+pub(crate) fn found_in<'a>(
     alloc: Global,
     words: &'a [&'a str],
 ) -> Result<Option<ArgMatches<'a>>, AllocError>
-    ensures { IfOk result (IsMatched (texts words.now)) }
+    ensures { IfOk result (IsMatched evgap (texts words.now)) }
 {
     let command: Command<'a> = evgap(alloc)?;
-    match command.try_get_matches_from(words) {
-        Ok(matches) => Ok(Some(matches)),
-        Err(error) => match error.kind() {
-            ErrorKind::OutOfMemory => Err(AllocError),
-            _ => Ok(None),
-        },
-    }
+    matches_of(command, words)
 }

@@ -2,30 +2,15 @@
 
 ghost use Rattle.std.specs.Prelude.{◌≡◌, ◌∷◌, [], IfOk, IfSome, option_map, string_bytes};
 ghost use Rattle.clap.specs.Walk.{texts};
-ghost use Rattle.clap.specs.Words.{first_of};
-ghost use Rattle.command_line.specs.Matches.{rows_in};
-ghost use Rattle.command_line.specs.Words.{are_different, limit_in};
+ghost use Rattle.call_words.specs.Matches.{rows_in};
+ghost use Rattle.call_words.specs.Names.{are_different};
 ghost use Rattle.gap_words.specs.JobValue.{AnswersJob, IsJob};
 ghost use Rattle.gap_words.specs.Words.{all_names, check_of, job_in, job_of_command, plan_of, seconds_in};
 
-use crate::words::{GREATEST_VALUE, are_different, optional_number};
 use crate::{CheckWords, Job, PlanWords};
+use call_words::{GREATEST_VALUE, are_different, first_of, limit_in, optional_number};
 use clap::ArgMatches;
 use std::alloc::{AllocError, Global};
-
-/// The first value of an argument.
-fn first_of<'a>(matches: &ArgMatches<'a>, name: &str) -> Option<&'a str>
-    ensures { option_map (λ text. text.now) result ≡ first_of name.now (rows_in matches.now) }
-{
-    matches.get_str(name)
-}
-
-/// The limit, where it is given; `None` where its value is no number of one.
-fn limit_in(matches: &ArgMatches<'_>) -> Option<Option<u64>>
-    ensures { result ≡ limit_in (rows_in matches.now) }
-{
-    optional_number(first_of(matches, "limit"), GREATEST_VALUE)
-}
 
 /// The number of seconds, where it is given; `None` where its value is no number of them.
 fn seconds_in(matches: &ArgMatches<'_>) -> Option<Option<u64>>

@@ -8,9 +8,9 @@ ghost use Rattle.gap_words.specs.Words.{job_of};
 
 mod arguments;
 mod jobs;
-mod words;
 
-use arguments::{matches_of, named};
+use arguments::{PROGRAM, found_in};
+use call_words::named;
 use jobs::job_in;
 use std::alloc::{AllocError, Global};
 
@@ -65,8 +65,8 @@ pub fn job_words(alloc: Global, words: &[String]) -> Result<Option<Job>, AllocEr
     if words.is_empty() {
         return Ok(None);
     }
-    let named = named(alloc, words)?;
-    match matches_of(alloc, named.as_slice()) {
+    let named = named(alloc, PROGRAM, words)?;
+    match found_in(alloc, named.as_slice()) {
         Ok(Some(matches)) => job_in(alloc, &matches),
         Ok(None) => Ok(None),
         Err(AllocError) => Err(AllocError),

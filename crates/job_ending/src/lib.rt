@@ -2,8 +2,12 @@
 //! would leave them without a cause.
 #![tactic(auto)]
 
+mod diagnostics;
 mod ending;
+mod failing;
 mod message;
 
-pub use ending::{Diagnostics, LastFailure, end_at, end_without_words};
+pub use diagnostics::{Diagnostics, SystemDiagnostics};
+pub use ending::{end_run, end_without_words};
+pub use failing::{FailingShelf, FailingSink};
 pub use message::Message;

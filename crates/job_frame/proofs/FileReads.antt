@@ -139,7 +139,7 @@ fails_since task before later after same stays fails = record {
   bytes = fails.bytes;
   are_read = subst (λ (files : Option Files). AreRead files fails.first fails.bytes) same fails.are_read;
   goes_on = fails.goes_on;
-  failed = subst (λ (n : ℕ). Rose n (after.failed_reads fails.read.name)) (stays.reads fails.read.name) fails.failed;
+  failed = (subst (λ (n : ℕ). Rose n (after.failed_reads fails.read.name)) (stays.reads fails.read.name) fails.failed.0, fails.failed.1);
 }
 
 answers_since : (task : Task) (files later : Option Files) (o : Outcome) → later ≡ files → Answers task later o → Answers task files o

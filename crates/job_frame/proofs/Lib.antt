@@ -3,3 +3,5 @@ pub mod FileReads
 pub mod BehindReads
 pub mod Performed
 pub mod OneStatus
+pub mod ReadRules
+pub mod LimitedNetworks

@@ -93,7 +93,7 @@ fails_since ws before later after same stays fails = record {
   are = fails.are;
   written = fails.written;
   others = subst (λ (files : Option Files). KeepsAllBut (fails.first ++ fails.write ∷ []) files after.files) same fails.others;
-  failed = subst (λ (n : ℕ). Rose n (after.failed_writes fails.write.name)) (stays.writes fails.write.name) fails.failed;
+  failed = (subst (λ (n : ℕ). Rose n (after.failed_writes fails.write.name)) (stays.writes fails.write.name) fails.failed.0, fails.failed.1);
 }
 
 comes_since : (o : Outcome) (old later new : Option Files) → later ≡ old → ComesToPut o later new → ComesToPut o old new
@@ -177,10 +177,10 @@ pub never_rose : Rose 0 0 → ⊥
 never_rose rose = let one : 1 ≤ 0 = rose in omega (arith, one)
 
 answers_surely : (o : Outcome) (files left : Files) (old new : List ℕ) → FailsToAnswer o (without_faults files) (without_faults left) (sure_output old) (sure_output new) → ⊥
-answers_surely o files left old new (inl (fails, unput)) = never_rose fails.failed
+answers_surely o files left old new (inl (fails, unput)) = never_rose fails.failed.0
 answers_surely o files left old new (inr (comes, rose)) = never_rose rose
 
 pub never_fails : (task : Task) (files left : Files) (old new : List ℕ) → HasFaultCause task (without_faults files) (without_faults left) (sure_output old) (sure_output new) → ⊥
-never_fails task files left old new (inl (fails, same, unput)) = never_rose fails.failed
+never_fails task files left old new (inl (fails, same, unput)) = never_rose fails.failed.0
 never_fails task files left old new (inr (inl (o, is, fails))) = answers_surely o files left old new fails
-never_fails task files left old new (inr (inr (ws, first, fails, unput))) = never_rose fails.failed
+never_fails task files left old new (inr (inr (ws, first, fails, unput))) = never_rose fails.failed.0

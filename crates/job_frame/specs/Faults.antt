@@ -1,20 +1,22 @@
 -- How far a job came that did not end with its answer.
 use Rattle.std.specs.Prelude.{◌≡◌, ◌≢◌, ℕ, ◌⊎◌, List, [], ◌∷◌, ◌++◌, Option}
 use Rattle.ev_outside.specs.Counts.{Rose}
-use Rattle.ev_outside.specs.Shelf.{Files, ShelfState}
+use Rattle.ev_outside.specs.Shelf.{Files, HasAsked, ShelfState}
 use Rattle.ev_outside.specs.Sink.{Adds, AddsPrefix, SinkState}
 use Rattle.job_frame.specs.Task.{AreRead, IsAnswered, Outcome, Read, Task}
 use Rattle.job_frame.specs.Writes.{HoldsAll, KeepsAllBut, Leaves, Written}
 use Rattle.job_frame.specs.declared.status.Status.{Status}
 use Rattle.job_frame.specs.declared.status.Status.TheVariants as status
 
--- a read of the name failed
+-- a read of the name failed, and no other name was asked for since
 abbrev pub HasFailedRead : ShelfState → ShelfState → List ℕ → Type 0
-HasFailedRead before after name = Rose (before.failed_reads name) (after.failed_reads name)
+HasFailedRead before after name =
+    Rose (before.failed_reads name) (after.failed_reads name) × HasAsked name after.asked
 
--- a write of the name failed
+-- the same of a write
 abbrev pub HasFailedWrite : ShelfState → ShelfState → List ℕ → Type 0
-HasFailedWrite before after name = Rose (before.failed_writes name) (after.failed_writes name)
+HasFailedWrite before after name =
+    Rose (before.failed_writes name) (after.failed_writes name) × HasAsked name after.asked
 
 -- a file of the task couldn't be read when its turn came: the files before it break no rule
 pub record FailsReading (task : Task) (before after : ShelfState) : Type 0 where

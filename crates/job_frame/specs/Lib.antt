@@ -4,3 +4,6 @@ pub mod Task
 pub mod Faults
 pub mod Finds
 pub mod Performs
+pub mod Caps
+pub mod LimitedNetwork
+pub mod Ended

@@ -1,11 +1,12 @@
 //! An output that remembers how what was printed begins.
 
-ghost use Rattle.std.specs.Prelude.{◌≡◌, ◌≤◌, OnErr, OnOk, IsErrOf, true};
+ghost use Rattle.std.specs.Prelude.{◌≡◌, ◌≤◌, IfSome, OnErr, OnOk, IsErrOf, true};
 ghost use Rattle.ev_outside.specs.Counts.{Rose};
 ghost use Rattle.ev_outside.specs.Sink.{Adds, AddsPrefix};
+ghost use Rattle.job_ending.specs.Ending.{output_name};
 
 use ev_outside::{Failure, Sink, SinkFault};
-use evroute_run::LastFailure;
+use job_ending::FailingSink;
 
 /// The most bytes that are remembered.
 const MOST: usize = 256;
@@ -68,8 +69,10 @@ impl<K: Sink + Drop> Sink for HeardSink<K> {
     }
 }
 
-impl<K: Sink + LastFailure + Drop> LastFailure for HeardSink<K> {
-    fn last_failure(&self) -> Option<Failure<'_>> {
+impl<K: FailingSink + Drop> FailingSink for HeardSink<K> {
+    fn last_failure(&self) -> Option<Failure<'_>>
+        ensures name { IfSome result (λ failure. failure.name.now ≡ output_name) }
+    {
         self.out.last_failure()
     }
 }

@@ -11,5 +11,6 @@ mod taken;
 mod told;
 
 pub use heard::HeardSink;
+pub use pace::Pace;
 pub use taken::{OutOfMemory, PlainDiagnostics, most_memory};
 pub use told::{ToldProgress, wants_progress};

@@ -10,7 +10,7 @@ const BETWEEN: u64 = 1;
 
 /// A pace: at which time the next line is due, and none before.
 #[derive(Drop)]
-pub(crate) struct Pace {
+pub struct Pace {
     /// `None` where no clock reaches that time.
     next: Option<Duration>,
 }
@@ -21,7 +21,7 @@ impl Pace {
     ghost use Rattle.std.specs.Duration.{as_nanos};
 
     /// The pace of what begins at a time: the first line is due 3 seconds later.
-    pub(crate) fn beginning(at: Duration) -> Pace
+    pub fn beginning(at: Duration) -> Pace
         ensures { IfSome result.next
             (λ next. as_nanos next ≡ as_nanos at + 3 * 10 ^ 9) }
     {
@@ -31,7 +31,7 @@ impl Pace {
     }
 
     /// Whether a line is due now. Then the next is due a second later.
-    pub(crate) fn is_due(&mut self, now: Duration) -> bool
+    pub fn is_due(&mut self, now: Duration) -> bool
         ensures due { IsTrue result
             ↔ MatchOption self.old.next ⊥ (λ next. as_nanos next ≤ as_nanos now) }
         ensures next { IsTrue result → IfSome self.new.next

@@ -7,7 +7,7 @@ ghost use Rattle.job_listeners.specs.MostMemory.{is_blank, most_memory, number_b
 
 use ev_outside::{FileShelf, Shelf};
 use ev_text::Scan;
-use evroute_run::{Diagnostics, Message, SystemDiagnostics};
+use job_ending::{Diagnostics, Message, SystemDiagnostics};
 use std::alloc::Global;
 use std::fmt::{self, Display, Formatter};
 use std::io::Eprint;
@@ -78,7 +78,7 @@ pub struct OutOfMemory {
 impl Display for OutOfMemory {
     fn fmt<W: fmt::Write>(&self, f: &mut Formatter<W>) -> fmt::Result {
         let megabytes = self.kilobytes / 1024;
-        f.write_str("evroute: out of memory after ")?;
+        f.write_str("out of memory after ")?;
         if megabytes < 1000 {
             write!(f, "{megabytes} MB")
         } else {
@@ -93,12 +93,13 @@ impl Display for OutOfMemory {
 pub struct PlainDiagnostics<'a, R: Eprint + Files> {
     alloc: Global,
     rt: &'a R,
+    program: &'a str,
 }
 
 impl<'a, R: Eprint + Files> PlainDiagnostics<'a, R> {
-    /// The standard error of the runtime.
-    pub fn new(alloc: Global, rt: &'a R) -> Self {
-        PlainDiagnostics { alloc, rt }
+    /// The standard error of the runtime, for a program of this name.
+    pub fn new(alloc: Global, rt: &'a R, program: &'a str) -> Self {
+        PlainDiagnostics { alloc, rt, program }
     }
 
     /// The most memory that had been taken, where the system tells it.
@@ -116,10 +117,12 @@ impl<'a, R: Eprint + Files> Diagnostics for PlainDiagnostics<'a, R> {
     fn tell(&mut self, message: Message<'_>) {
         if let Message::Memory = message {
             if let Some(kilobytes) = self.kilobytes() {
-                let _ = self.rt.eprintln(OutOfMemory { kilobytes });
+                let program = self.program;
+                let taken = OutOfMemory { kilobytes };
+                let _ = eprintln!(self.rt; "{program}: {taken}");
                 return;
             }
         }
-        SystemDiagnostics::new(self.rt).tell(message);
+        SystemDiagnostics::new(self.rt, self.program).tell(message);
     }
 }

@@ -3,8 +3,7 @@
 ghost use Rattle.std.specs.Prelude.{◌≡◌, ◌+◌, ◌-◌, ◌*◌, ◌<◌, ◌≤◌, ◌^◌, ◌⊎◌, length};
 ghost use Rattle.ev_model.specs.Network.{node_count, scaled_limit};
 ghost use Rattle.level_table.specs.Stations.{stations};
-ghost use Rattle.level_table.specs.Places.{entry_count, index_of, IsHome, IsPlace, IsTrip};
-ghost use Rattle.level_table.specs.Places.{node_at, place_of};
+ghost use Rattle.level_table.specs.Places.{entry_count, index_of, IsHome, IsPlace, IsTrip, node_at, place_of};
 
 use crate::place::Place;
 use instance_reader::Instance;

@@ -15,7 +15,7 @@ use Rattle.master_table.specs.Tableau.{IsTableau, Tableau, basis_columns, entry_
 use Rattle.master_table.proofs.PastCaps.{basis_of}
 use Rattle.master_simplex.specs.Phase.{IsRefused}
 use Rattle.master_simplex.specs.Sharing.{IsRowsWeight, own_at, right_at, share_at}
-use Rattle.master_simplex.proofs.Starts.{basis_entry}
+use Rattle.master_simplex.proofs.HelperStarts.{basis_entry}
 
 -- ---- the divisor of one row
 pub whole_where_divided : (own right g : ℕ) → 0 < own → IsGcd right own g → (W : ℕ) → (own ∣ (W * right)) ↔ ((own / g) ∣ W)

@@ -7,7 +7,7 @@ pub mod Tables
 pub mod Phases
 pub mod Factors
 pub mod LeavingRows
-pub mod Starts
+pub mod HelperStarts
 pub mod Returns
 pub mod Sums
 pub mod BasisShares
@@ -16,3 +16,12 @@ pub mod Ray
 pub mod Duality
 pub mod EnteringColumns
 pub mod Apart
+mod Moves
+mod Dependence
+mod Within
+mod FollowingHelpers
+mod Exchange
+mod ShareWeights
+mod Reached
+mod StartSteps
+mod HelperTables

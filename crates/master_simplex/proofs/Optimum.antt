@@ -19,7 +19,7 @@ use Rattle.master_simplex.specs.declared.phase.Goal.TheVariants.{Helpers, Cost}
 use Rattle.master_simplex.proofs.Factors.{cofactors, common_above, entry_is, factor_at, gathered, gathered_at, length_factors, length_gathered, product_of, spreads}
 use Rattle.master_simplex.proofs.Returns.{one_at}
 use Rattle.master_simplex.proofs.BasisShares.{own_is}
-use Rattle.master_simplex.proofs.Starts.{basis_column}
+use Rattle.master_simplex.proofs.HelperStarts.{basis_column}
 use Rattle.master_simplex.proofs.Sums.{each_at, each_given, expansion_sum, one_at_most, some_member, sum_from, sum_same, sum_times, term, total_unit, unit, worth, worth_cost, worth_given, worth_unit}
 
 -- x shares of a column, by its own coefficient, in place of k factors of its row

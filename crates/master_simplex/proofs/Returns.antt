@@ -11,7 +11,7 @@ use Rattle.master_table.proofs.PastCaps.{table_basis}
 use Rattle.master_simplex.specs.Cover.{expansion}
 use Rattle.master_simplex.specs.Phase.{AreBasic, IsFeasible}
 use Rattle.master_simplex.proofs.Factors.{cofactors, common_above, gathered, gathered_at, length_gathered, product_of, spreads}
-use Rattle.master_simplex.proofs.Starts.{basis_column}
+use Rattle.master_simplex.proofs.HelperStarts.{basis_column}
 use Rattle.master_simplex.proofs.Tables.{body_at}
 
 expansion_zero : (ms : List ℤ) (basis : List Column) (ks : List ℤ) (rows : List (List ℤ)) (s : ℕ → Bool)

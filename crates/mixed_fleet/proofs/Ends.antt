@@ -23,7 +23,7 @@ use Rattle.mixed_model.specs.Ranges.{ShareFits}
 use Rattle.mixed_model.specs.declared.proof.MixedRoot.TheVariants as root
 use Rattle.mixed_model.specs.declared.proof.MixedRoute.{MixedRoute}
 use Rattle.mixed_model.specs.declared.proof.MixedShare.{MixedShare}
-use Rattle.listed_bases.specs.Entries.{entry_of}
+use Rattle.bound_certificate.specs.Entries.{entry_of}
 use Rattle.mixed_fleet.specs.Fleets.{AreFleetKinds}
 use Rattle.mixed_fleet.specs.Once.{served_once}
 use Rattle.mixed_fleet.specs.Problem.{problem_of}

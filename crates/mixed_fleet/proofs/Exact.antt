@@ -7,7 +7,7 @@ use Rattle.fleet_model.specs.Cover.{shares_of}
 use Rattle.fleet_model.specs.Places.{customer_number}
 use Rattle.fleet_model.proofs.Counts.{number_less}
 use Rattle.fleet_model.proofs.Numbers.{counted}
-use Rattle.feasible_texts.proofs.PlanRanges.{feasible_fits}
+use Rattle.route_plan.proofs.PlanRanges.{feasible_fits}
 use Rattle.instance_reader.specs.Instance.{customer_nodes}
 use Rattle.mixed_model.specs.Covers.{IsExactCover, IsKindRoute, KindShare, mixed_cost_of_shares, plain_shares}
 use Rattle.mixed_model.specs.Kinds.{first_of, network_of}

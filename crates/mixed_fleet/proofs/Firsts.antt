@@ -7,11 +7,11 @@ use Rattle.std.proofs.lemmas.List.Elements.{All-get_or}
 use Rattle.ev_model.specs.Fleet.{all_customers, customers_of, ServesOnly, times_in}
 use Rattle.ev_model.specs.Network.{Network, node_count}
 use Rattle.ev_model.specs.declared.Stop.{Stop}
-use Rattle.feasible_texts.proofs.PlanRanges.{feasible_fits}
+use Rattle.route_plan.proofs.PlanRanges.{feasible_fits}
 use Rattle.fleet_model.proofs.Fleets.{plan_below}
 use Rattle.fleet_model.proofs.Weighed.{AreBelow}
-use Rattle.rising_routes.specs.FirstCustomers.{first_outside}
-use Rattle.rising_routes.proofs.FirstCustomers.{AreApart, few_routes, firsts_rise}
+use Rattle.set_partitioning.specs.FirstCustomers.{first_outside}
+use Rattle.set_partitioning.proofs.FirstCustomers.{AreApart, few_routes, firsts_rise}
 use Rattle.mixed_model.specs.Kinds.{first_of, network_of}
 use Rattle.mixed_model.specs.Meaning.{kind_plan, kind_plans}
 use Rattle.mixed_model.specs.Plans.{IsFeasibleIn, IsMixedPlan, KindPlan, plain_plans}

@@ -14,7 +14,7 @@ use Rattle.plan_check.proofs.CustomersOnce.{customer_once}
 use Rattle.mixed_model.specs.Kinds.{first_of}
 use Rattle.mixed_model.specs.Meaning.{kind_plan, kind_plans}
 use Rattle.mixed_model.specs.Plans.{IsFeasibleIn, IsMixedPlan, KindPlan, mixed_cost, plain_plans, time_in}
-use Rattle.mixed_plan.specs.MixedTexts.{FitsRoute}
+use Rattle.mixed_model.specs.MixedTexts.{FitsRoute}
 use Rattle.mixed_fleet.specs.Fleets.{AreFleetKinds}
 use Rattle.mixed_fleet.specs.Own.{AreLeastOwn, AreOwn, IsOwn, LacksOwn, own_way}
 use Rattle.mixed_fleet.specs.Plans.{cost_of_routes, CostsNoMoreThanOwn, first_customer, IsHeld}

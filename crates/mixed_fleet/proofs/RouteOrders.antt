@@ -5,7 +5,7 @@ use Rattle.std.proofs.lemmas.List.Sums.{sum_by-cons}
 use Rattle.std.proofs.lemmas.List.Sorted.{All-permutation, IsPermutation-map, sum_by-IsPermutation}
 use Rattle.ev_model.specs.Fleet.{customers_of, ServesOnly}
 use Rattle.ev_model.specs.Network.{Network}
-use Rattle.rising_routes.proofs.RouteOrders.{permuted_times}
+use Rattle.set_partitioning.proofs.RouteOrders.{permuted_times}
 use Rattle.mixed_model.specs.Kinds.{first_of}
 use Rattle.mixed_model.specs.Plans.{IsFeasibleIn, IsMixedPlan, KindPlan, mixed_cost, plain_plans, time_in}
 

@@ -22,8 +22,8 @@ use Rattle.mixed_model.specs.declared.proof.MixedRoute.{MixedRoute}
 use Rattle.mixed_model.specs.declared.proof.MixedShare.{MixedShare}
 use Rattle.mixed_model.proofs.AgreeingNetworks.{same_customers}
 use Rattle.mixed_model.proofs.Known.{plan_known}
-use Rattle.price_bounds.proofs.RoundedSums.{cancelled, rounded_is_cost, same_factor}
-use Rattle.rising_routes.specs.FirstCustomers.{first_outside}
+use Rattle.certificate_check.proofs.RoundedSums.{cancelled, rounded_is_cost, same_factor}
+use Rattle.set_partitioning.specs.FirstCustomers.{first_outside}
 use Rattle.mixed_fleet.specs.Fleets.{AreFleetKinds}
 use Rattle.mixed_fleet.specs.Plans.{cost_of_routes}
 use Rattle.mixed_fleet.specs.Proofs.{IsBestProof, IsBoundOf}

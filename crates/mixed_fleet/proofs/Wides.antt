@@ -24,8 +24,8 @@ use Rattle.mixed_model.specs.Meaning.{kind_plan, mixed_basis, mixed_columns}
 use Rattle.mixed_model.specs.Ranges.{ColumnsFit, RouteFits}
 use Rattle.mixed_model.specs.declared.proof.MixedRoute.{MixedRoute}
 use Rattle.bound_certificate.specs.Meaning.{route_column}
-use Rattle.listed_bases.specs.Entries.{entry_of}
-use Rattle.listed_bases.proofs.Entries.{different, entries_are, entry_fits, many_helpers}
+use Rattle.bound_certificate.specs.Entries.{entry_of}
+use Rattle.bound_certificate.proofs.Entries.{different, entries_are, entry_fits, many_helpers}
 use Rattle.mixed_fleet.specs.Fleets.{AreFleetKinds}
 use Rattle.mixed_fleet.specs.Problem.{problem_of}
 use Rattle.mixed_fleet.specs.Searched.{IsSearched}

@@ -7,8 +7,8 @@ use Rattle.mixed_model.specs.Kinds.{first_of}
 use Rattle.mixed_model.specs.Meaning.{kind_plans}
 use Rattle.mixed_model.specs.Plans.{IsMixedPlan, KindPlan, mixed_cost}
 use Rattle.mixed_model.specs.declared.proof.MixedRoute.{MixedRoute}
-use Rattle.mixed_plan.specs.MixedTexts.{FitsMixedPlan}
-use Rattle.rising_routes.specs.FirstCustomers.{first_customer_of}
+use Rattle.mixed_model.specs.MixedTexts.{FitsMixedPlan}
+use Rattle.set_partitioning.specs.FirstCustomers.{first_customer_of}
 use Rattle.mixed_fleet.specs.Own.{AreOwn}
 
 -- the node of the first customer of a route, and 0 where it has none

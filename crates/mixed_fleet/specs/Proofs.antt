@@ -3,7 +3,7 @@
 use Rattle.std.specs.Prelude.{◌≡◌, ℕ, ◌≤◌, ℤ, pos, ◌<ℤ◌, List, IsSome, Option, Some, None}
 use Rattle.ev_model.specs.Network.{Network}
 use Rattle.fleet_model.specs.Prices.{sum_of}
-use Rattle.price_bounds.specs.RoundedUp.{IsRoundedUp}
+use Rattle.certificate_check.specs.RoundedUp.{IsRoundedUp}
 use Rattle.mixed_model.specs.Accepted.{IsMixedAccepted}
 use Rattle.mixed_model.specs.Ranges.{MixedFits}
 use Rattle.mixed_model.specs.Truth.{IsTrueProof}

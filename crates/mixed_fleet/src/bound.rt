@@ -7,7 +7,7 @@ ghost use Rattle.certificate_parts.specs.Ranges.{IsPrice};
 ghost use Rattle.fleet_model.specs.Prices.{sum_of};
 ghost use Rattle.mixed_fleet.specs.Proofs.{IsBoundOf};
 
-use price_bounds::{price_sum, rounded_up};
+use certificate_check::{price_sum, rounded_up};
 
 /// The bound by prices: their sum over the weight, rounded up; `None`, that there is no plan, where
 /// the weight is 0.

@@ -12,9 +12,8 @@ use crate::listed::columns_of;
 use crate::own::OwnRoutes;
 use ev_list::Listed;
 use instance_reader::Instance;
-use mixed_model::MixedRoute;
-use mixed_plan::check_mixed_plan;
-use rising_routes::sort_by_first;
+use mixed_model::{MixedRoute, check_mixed_plan};
+use set_partitioning::sort_by_first;
 use std::alloc::{AllocError, Global};
 
 /// The plan of the fastest routes of customers alone; `None` exactly where some customer has none.

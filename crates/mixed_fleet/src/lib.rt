@@ -19,11 +19,9 @@ mod searched;
 mod seeking;
 mod whole;
 
-pub use mixed_check::check_mixed;
-pub use mixed_model::{MixedProof, MixedRoot, MixedRoute, MixedShare, MixedVerdict};
-pub use mixed_plan::{
-    PlanFault, PlanText, check_mixed_plan, kinds_agree, push_kinds_refusal, push_mixed_plan,
-    read_mixed_plan,
+pub use mixed_model::{
+    MixedProof, MixedRoot, MixedRoute, MixedShare, MixedVerdict, PlanFault, PlanText, check_mixed,
+    check_mixed_plan, kinds_agree, push_kinds_refusal, push_mixed_plan, read_mixed_plan,
 };
 pub use mixed_text::{CertText, push_mixed, push_mixed_verdict, read_mixed};
 pub use outcome::MixedOutcome;

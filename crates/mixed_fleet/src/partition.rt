@@ -12,8 +12,7 @@ use crate::listed::copy_of_route;
 use crate::searched::Searched;
 use ev_list::Listed;
 use instance_reader::Instance;
-use mixed_model::{MixedProof, MixedRoute};
-use mixed_plan::check_mixed_plan;
+use mixed_model::{MixedProof, MixedRoute, check_mixed_plan};
 use set_partitioning::{Candidate, find_partition, room_below};
 use std::alloc::{AllocError, Global};
 

@@ -9,7 +9,7 @@ use crate::listed::copy_of_route;
 use ev_list::Listed;
 use instance_reader::Instance;
 use mixed_model::{MixedProof, MixedRoot, MixedRoute, MixedShare};
-use rising_routes::sort_by_first;
+use set_partitioning::sort_by_first;
 use std::alloc::{AllocError, Global};
 
 /// The routes of an exact root as a plan, in rising order of their first customers, where each has

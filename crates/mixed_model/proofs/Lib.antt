@@ -8,3 +8,14 @@ pub mod Sections
 pub mod Truths
 pub mod Rules
 pub mod OneKind
+pub mod KindNumbers
+pub mod Walks
+pub mod Broken
+pub mod LineReaders
+pub mod FileReaders
+pub mod TextLaws
+pub mod PlanReading
+pub mod OneProof
+pub mod ProofRules
+pub mod KindRoutes
+pub mod Roots

@@ -8,3 +8,9 @@ pub mod Verdicts
 pub mod Ranges
 pub mod Truth
 pub mod Examples
+pub mod Agreement
+pub mod MixedRules
+pub mod MixedTexts
+pub mod MixedReading
+pub mod OneKind
+pub mod Tellings

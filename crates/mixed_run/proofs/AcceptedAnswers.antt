@@ -5,9 +5,9 @@ use Rattle.ev_model.specs.Network.{Network}
 use Rattle.job_frame.specs.declared.found.Answer.{Answer}
 use Rattle.job_frame.specs.declared.status.Status.{Status}
 use Rattle.job_frame.specs.declared.status.Status.TheVariants as status
-use Rattle.job_steps.specs.Ended.{IsRuleOrMemory}
-use Rattle.job_steps.specs.declared.answer.Ended.{Ended}
-use Rattle.job_steps.specs.declared.answer.Ended.TheVariants.{Refused}
+use Rattle.job_frame.specs.Ended.{IsRuleOrMemory}
+use Rattle.job_frame.specs.declared.answer.Ended.{Ended}
+use Rattle.job_frame.specs.declared.answer.Ended.TheVariants.{Refused}
 use Rattle.mixed_model.specs.Kinds.{first_of}
 use Rattle.mixed_model.specs.Meaning.{kind_plans}
 use Rattle.mixed_model.specs.Plans.{mixed_cost}

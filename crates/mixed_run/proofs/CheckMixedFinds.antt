@@ -8,7 +8,7 @@ use Rattle.job_frame.specs.Faults.{FailsReading, HasFailedRead}
 use Rattle.job_frame.specs.Task.{Answers, AreRead, AreReadUpTo, Read}
 use Rattle.job_frame.specs.declared.status.Status.{Status}
 use Rattle.job_frame.specs.declared.status.Status.TheVariants as status
-use Rattle.job_steps.specs.Caps.{certificate_read, file_read, most_bytes, most_certificate_bytes}
+use Rattle.job_frame.specs.Caps.{certificate_read, file_read, most_bytes, most_certificate_bytes}
 use Rattle.mixed_model.specs.declared.proof.MixedRoute.{MixedRoute}
 use Rattle.mixed_run.proofs.KindReading.{as_many, read_both}
 use Rattle.mixed_run.specs.CheckMixedAnswer.{CheckMixedAnswers, HasPlan, IsCheckMixedRefused, check_mixed_task}

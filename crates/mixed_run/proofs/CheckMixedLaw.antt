@@ -19,10 +19,10 @@ use Rattle.mixed_model.specs.declared.proof.MixedProof.{MixedProof}
 use Rattle.mixed_model.specs.declared.proof.MixedRoute.{MixedRoute}
 use Rattle.mixed_model.specs.declared.verdict.MixedVerdict.{MixedVerdict}
 use Rattle.mixed_model.specs.declared.verdict.MixedVerdict.TheVariants as verdict
-use Rattle.mixed_plan.proofs.Broken.{plan_breaks_none}
-use Rattle.mixed_plan.proofs.TextLaws.{plan_is_spelled}
-use Rattle.mixed_plan.specs.MixedReading.{mixed_plan_in}
-use Rattle.mixed_plan.specs.MixedTexts.{FitsRoute, SpellsMixedPlan}
+use Rattle.mixed_model.proofs.Broken.{plan_breaks_none}
+use Rattle.mixed_model.proofs.TextLaws.{plan_is_spelled}
+use Rattle.mixed_model.specs.MixedReading.{mixed_plan_in}
+use Rattle.mixed_model.specs.MixedTexts.{FitsRoute, SpellsMixedPlan}
 use Rattle.mixed_run.proofs.KindLaws.{kinds_refused_not, same_kinds}
 use Rattle.mixed_run.specs.CheckMixedAnswer.{AnswersCheckMixed, BreaksFirst, CheckMixedAnswers, HasPlan, HasProof, HoldsMixed, IsCheckMixedRefused, IsRejection, IsValid, PutsMixedAccepted, PutsMixedRejected, check_mixed_task}
 use Rattle.command_line.specs.Words.{MixedJob}

@@ -4,7 +4,7 @@ use Rattle.std.proofs.lemmas.Bool.{false≢true}
 use Rattle.std.proofs.lemmas.Slice.Eq.{bytes_eq-Decides}
 use Rattle.std.specs.Str.{bytes_eq}
 use Rattle.command_line.proofs.Tested.{both_true}
-use Rattle.command_line.specs.Words.{are_different, is_listed}
+use Rattle.call_words.specs.Names.{are_different, is_listed}
 
 -- the first two of different names are different
 pub first_differ : (plan cert : List ℕ) (files : List (List ℕ)) → are_different (plan ∷ cert ∷ files) ≡ true → plan ≢ cert

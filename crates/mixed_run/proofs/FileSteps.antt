@@ -10,11 +10,11 @@ use Rattle.ev_outside.specs.declared.shelf.ShelfFault.TheVariants as shelf
 use Rattle.job_frame.specs.Faults.{FailsReading, HasFailedRead}
 use Rattle.job_frame.specs.Finds.{Finds}
 use Rattle.job_frame.specs.Task.{AreRead, AreReadUpTo, Task}
-use Rattle.job_steps.specs.Caps.{most_bytes}
-use Rattle.job_steps.specs.Ended.{IsNetworkEnded}
-use Rattle.job_steps.specs.LimitedNetwork.{HasNetwork}
-use Rattle.job_steps.specs.declared.answer.Ended.{Ended}
-use Rattle.job_steps.specs.declared.answer.Ended.TheVariants as ended
+use Rattle.job_frame.specs.Caps.{most_bytes}
+use Rattle.job_frame.specs.Ended.{IsNetworkEnded}
+use Rattle.job_frame.specs.LimitedNetwork.{HasNetwork}
+use Rattle.job_frame.specs.declared.answer.Ended.{Ended}
+use Rattle.job_frame.specs.declared.answer.Ended.TheVariants as ended
 use Rattle.mixed_run.proofs.KindReading.{halts_at_first, halts_behind, reads_next}
 use Rattle.mixed_run.specs.KindFiles.{IsFileRefused, kind_reads}
 use Rattle.mixed_run.specs.KindReading.{FailsFile, IsHalt, ReadAs}

@@ -20,8 +20,8 @@ use Rattle.mixed_model.specs.declared.proof.MixedRoot.{MixedRoot}
 use Rattle.mixed_model.specs.declared.proof.MixedRoot.TheVariants as root
 use Rattle.mixed_model.specs.declared.proof.MixedRoute.{MixedRoute}
 use Rattle.mixed_model.specs.declared.proof.MixedShare.{MixedShare}
-use Rattle.mixed_plan.specs.MixedRules.{IsBroken}
-use Rattle.mixed_plan.specs.MixedTexts.{FitsMixedPlan, FitsRoute, mixed_plan_text}
+use Rattle.mixed_model.specs.MixedRules.{IsBroken}
+use Rattle.mixed_model.specs.MixedTexts.{FitsMixedPlan, FitsRoute, mixed_plan_text}
 use Rattle.mixed_run.specs.Judged.{AreKnown}
 use Rattle.mixed_run.proofs.AcceptedAnswers.{is_bound_of_cost}
 use Rattle.mixed_run.specs.CheckMixedAnswer.{BreaksFirst, IsValid}

@@ -2,10 +2,10 @@
 use Rattle.std.proofs.Common.{◌≡◌, ℕ, List, [], ◌∷◌, Option, ap₂, arith, inl, inr, refl, subst}
 use Rattle.std.proofs.lemmas.List.Elements.{All-get_or}
 use Rattle.ev_model.specs.Network.{Network}
-use Rattle.job_steps.proofs.LimitedNetworks.{one_limited, refused_has_none}
-use Rattle.job_steps.specs.LimitedNetwork.{HasNetwork}
+use Rattle.job_frame.proofs.LimitedNetworks.{one_limited, refused_has_none}
+use Rattle.job_frame.specs.LimitedNetwork.{HasNetwork}
 use Rattle.mixed_model.specs.Kinds.{Agrees, AreKinds, first_of, no_network}
-use Rattle.mixed_plan.specs.Agreement.{IsFirstApart}
+use Rattle.mixed_model.specs.Agreement.{IsFirstApart}
 use Rattle.mixed_run.specs.KindFiles.{AreUnfit, HasKinds, HaveNetworks, IsFileRefused, IsFileRule, IsKindsRefused, IsMixedRule}
 use Rattle.mixed_run.specs.declared.refusal.MixedRefusal.{MixedRefusal}
 use Rattle.mixed_run.specs.declared.refusal.MixedRefusal.TheVariants.{Plain, Kinds}

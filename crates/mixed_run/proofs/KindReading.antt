@@ -12,7 +12,7 @@ use Rattle.ev_outside.specs.Shelf.{CountsStay, Files, ShelfState}
 use Rattle.ev_outside.specs.declared.shelf.ShelfFault.TheVariants as shelf
 use Rattle.job_frame.proofs.FileReads.{some_read}
 use Rattle.job_frame.specs.Task.{AreRead, Read}
-use Rattle.job_steps.specs.Caps.{file_read}
+use Rattle.job_frame.specs.Caps.{file_read}
 use Rattle.instance_reader.specs.Instance.{most_customers}
 use Rattle.mixed_model.specs.Kinds.{AreKinds, first_of}
 use Rattle.mixed_run.specs.KindFiles.{AreUnfit, HasKinds, HaveNetworks, IsFileRefused, IsKindsRefused, IsMixedRule, kind_reads}
@@ -95,7 +95,7 @@ halts_behind limit name names before mid after g (Stopped shelf.Failed) same sta
   are = ap (λ (ns : List (List ℕ)). name ∷ ns) q.are;
   kinds = g ∷ q.kinds;
   read = reads_next limit name q.first before.files mid.files g q.kinds same one q.read;
-  failed = subst (λ (n : ℕ). Rose n (after.failed_reads q.name)) (stays.reads q.name) q.failed;
+  failed = (subst (λ (n : ℕ). Rose n (after.failed_reads q.name)) (stays.reads q.name) q.failed.0, q.failed.1);
 }
 halts_behind limit name names before mid after g (Stopped shelf.Memory) same stays one q = tt
 

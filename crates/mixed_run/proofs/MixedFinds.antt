@@ -13,7 +13,7 @@ use Rattle.job_frame.specs.Task.{Answers, AreRead, IsAnswered}
 use Rattle.job_frame.specs.Writes.{AreDifferent, Written}
 use Rattle.job_frame.specs.declared.status.Status.{Status}
 use Rattle.job_frame.specs.declared.status.Status.TheVariants as status
-use Rattle.job_steps.specs.Caps.{file_read}
+use Rattle.job_frame.specs.Caps.{file_read}
 use Rattle.mixed_run.proofs.Different.{first_differ}
 use Rattle.mixed_run.proofs.Found.{held_fits, held_is_valid}
 use Rattle.mixed_run.specs.CheckMixedAnswer.{HasProof}

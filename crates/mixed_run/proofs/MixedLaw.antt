@@ -23,7 +23,7 @@ use Rattle.mixed_text.specs.MixedTexts.{mixed_text}
 use Rattle.mixed_text.specs.Reading.{mixed_proof_at}
 use Rattle.mixed_text.specs.Written.{WrittenMixed, written_mixed}
 use Rattle.mixed_text.specs.WrittenRanges.{MixedIs, MixedLoose}
-use Rattle.text_records.proofs.Numbers.{Anything}
+use Rattle.ev_text.proofs.Numbers.{Anything}
 
 -- proofs with the same text have the same bound
 same_bound : (limit : Option ℕ) (files : List (List ℕ)) (kinds : List Network) (p q : MixedProof) → HasKinds limit files kinds → MixedFits kinds p → MixedFits kinds q

@@ -5,7 +5,7 @@ use Rattle.certificate_parts.specs.declared.cert_text.CertText.{CertText}
 use Rattle.job_frame.specs.Task.{Outcome, Read, Task}
 use Rattle.job_frame.specs.declared.status.Status.{Status}
 use Rattle.job_frame.specs.declared.status.Status.TheVariants as status
-use Rattle.job_steps.specs.Caps.{certificate_read, file_read}
+use Rattle.job_frame.specs.Caps.{certificate_read, file_read}
 use Rattle.mixed_model.specs.Accepted.{IsMixedAccepted}
 use Rattle.mixed_model.specs.Kinds.{first_of}
 use Rattle.mixed_model.specs.Meaning.{kind_plans}
@@ -15,9 +15,9 @@ use Rattle.mixed_model.specs.Verdicts.{IsVerdict}
 use Rattle.mixed_model.specs.declared.proof.MixedProof.{MixedProof}
 use Rattle.mixed_model.specs.declared.proof.MixedRoute.{MixedRoute}
 use Rattle.mixed_model.specs.declared.verdict.MixedVerdict.TheVariants as verdict
-use Rattle.mixed_plan.specs.MixedReading.{mixed_plan_in}
-use Rattle.mixed_plan.specs.MixedRules.{IsFirstBroken}
-use Rattle.mixed_plan.specs.MixedTexts.{SpellsMixedPlan}
+use Rattle.mixed_model.specs.MixedReading.{mixed_plan_in}
+use Rattle.mixed_model.specs.MixedRules.{IsFirstBroken}
+use Rattle.mixed_model.specs.MixedTexts.{SpellsMixedPlan}
 use Rattle.mixed_text.specs.MixedIn.{IsSpelledBy, mixed_in}
 use Rattle.mixed_text.specs.VerdictText.{mixed_verdict_text}
 use Rattle.mixed_text.specs.Written.{written_mixed}

@@ -4,15 +4,15 @@ use Rattle.std.specs.List.{All}
 use Rattle.ev_model.specs.Network.{Network}
 use Rattle.job_frame.specs.declared.status.Status.{Status}
 use Rattle.job_frame.specs.declared.status.Status.TheVariants as status
-use Rattle.job_steps.specs.declared.answer.Ended.{Ended}
-use Rattle.job_steps.specs.declared.answer.Ended.TheVariants.{Refused, Memory}
+use Rattle.job_frame.specs.declared.answer.Ended.{Ended}
+use Rattle.job_frame.specs.declared.answer.Ended.TheVariants.{Refused, Memory}
 use Rattle.certificate_parts.specs.declared.cert_text.CertText.{CertText}
 use Rattle.mixed_model.specs.Accepted.{IsMixedAccepted}
 use Rattle.mixed_model.specs.Truth.{IsTrueProof}
 use Rattle.mixed_model.specs.declared.proof.MixedProof.{MixedProof}
 use Rattle.mixed_model.specs.declared.proof.MixedRoute.{MixedRoute}
 use Rattle.mixed_model.specs.declared.verdict.MixedVerdict.TheVariants as verdict
-use Rattle.mixed_plan.specs.MixedReading.{mixed_plan_in}
+use Rattle.mixed_model.specs.MixedReading.{mixed_plan_in}
 use Rattle.mixed_text.specs.MixedIn.{mixed_in}
 use Rattle.plan_writer.specs.declared.refusal.Refusal.TheVariants as refusal
 use Rattle.route_plan.specs.declared.text.plan_text.PlanText.{PlanText}

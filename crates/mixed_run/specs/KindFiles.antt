@@ -5,11 +5,11 @@ use Rattle.std.specs.List.{All}
 use Rattle.certificate_parts.specs.Ranges.{customer_count}
 use Rattle.ev_model.specs.Network.{IsNetwork, Network}
 use Rattle.job_frame.specs.Task.{Read}
-use Rattle.job_steps.specs.Caps.{file_read}
+use Rattle.job_frame.specs.Caps.{file_read}
 use Rattle.instance_reader.specs.Instance.{most_customers}
-use Rattle.job_steps.specs.LimitedNetwork.{HasNetwork, IsNetworkRefused}
+use Rattle.job_frame.specs.LimitedNetwork.{HasNetwork, IsNetworkRefused}
 use Rattle.mixed_model.specs.Kinds.{AreKinds, first_of}
-use Rattle.mixed_plan.specs.Agreement.{IsFirstApart}
+use Rattle.mixed_model.specs.Agreement.{IsFirstApart}
 use Rattle.plan_writer.specs.RefusalText.{IsRule, refusal_text}
 use Rattle.plan_writer.specs.declared.refusal.Refusal.TheVariants as refusal
 use Rattle.report_lines.specs.Lines.{number_line}

@@ -16,7 +16,7 @@ use Rattle.mixed_model.specs.declared.proof.MixedProof.{MixedProof}
 use Rattle.mixed_model.specs.declared.proof.MixedRoot.{MixedRoot}
 use Rattle.mixed_model.specs.declared.proof.MixedRoot.TheVariants as root
 use Rattle.mixed_model.specs.declared.proof.MixedRoute.{MixedRoute}
-use Rattle.mixed_plan.specs.MixedTexts.{mixed_plan_text}
+use Rattle.mixed_model.specs.MixedTexts.{mixed_plan_text}
 use Rattle.mixed_text.specs.MixedTexts.{mixed_text}
 use Rattle.mixed_text.specs.Written.{written_mixed}
 use Rattle.plan_writer.specs.FleetText.{IsExactLine, fleet_text}

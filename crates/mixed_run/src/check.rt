@@ -4,11 +4,11 @@ ghost use Rattle.std.specs.Prelude.{◌≡◌, ◌≤◌, IfErr, IfOk, List, Opt
 ghost use Rattle.certificate_parts.specs.Ranges.{customer_count};
 ghost use Rattle.job_frame.specs.Finds.{Finds};
 ghost use Rattle.job_frame.specs.Task.{AreRead, AreReadUpTo};
-ghost use Rattle.job_steps.specs.Caps.{most_bytes};
+ghost use Rattle.job_frame.specs.Caps.{most_bytes};
 ghost use Rattle.instance_reader.specs.Instance.{most_customers};
-ghost use Rattle.job_steps.specs.Ended.{IsRuleOrMemory};
+ghost use Rattle.job_frame.specs.Ended.{IsRuleOrMemory};
 ghost use Rattle.mixed_model.specs.Kinds.{AreKinds, first_of, most_kinds};
-ghost use Rattle.mixed_plan.specs.MixedTexts.{SpellsMixedPlan};
+ghost use Rattle.mixed_model.specs.MixedTexts.{SpellsMixedPlan};
 ghost use Rattle.mixed_run.specs.CheckMixedAnswer.{HasPlan, check_mixed_task};
 ghost use Rattle.command_line.specs.JobValue.{IsMixedJob, mixed_value};
 ghost use Rattle.mixed_run.specs.Judged.{AreKnown, IsPlanEnded};
@@ -20,10 +20,8 @@ use crate::refusal::{Halt, refuse_mixed_job};
 use command_line::MixedWords;
 use ev_outside::{Shelf, ShelfFault};
 use instance_reader::Instance;
-use job_frame::{Found, read_file};
-use job_steps::{Ended, MOST_BYTES, MOST_CERTIFICATE_BYTES, refuse_job};
-use mixed_model::MixedRoute;
-use mixed_plan::{PlanText, read_mixed_plan};
+use job_frame::{Ended, Found, MOST_BYTES, MOST_CERTIFICATE_BYTES, read_file, refuse_job};
+use mixed_model::{MixedRoute, PlanText, read_mixed_plan};
 use plan_writer::Refusal;
 use std::alloc::{AllocError, Global};
 

@@ -17,8 +17,7 @@ use crate::refusal::{Halt, refuse_mixed_job};
 use command_line::MixedWords;
 use ev_outside::{Shelf, ShelfFault};
 use instance_reader::Instance;
-use job_frame::Found;
-use job_steps::ScaleWatcher;
+use job_frame::{Found, ScaleWatcher};
 use mixed_fleet::RoundWatcher;
 use std::alloc::{AllocError, Global};
 

@@ -4,18 +4,15 @@ ghost use Rattle.std.specs.Prelude.{◌≡◌, ◌≤◌, ◌++◌, IfErr, IfOk,
 ghost use Rattle.certificate_parts.specs.Ranges.{customer_count};
 ghost use Rattle.job_frame.specs.Task.{IsAnswered};
 ghost use Rattle.instance_reader.specs.Instance.{most_customers};
-ghost use Rattle.job_steps.specs.Ended.{IsRuleOrMemory};
+ghost use Rattle.job_frame.specs.Ended.{IsRuleOrMemory};
 ghost use Rattle.mixed_model.specs.Kinds.{AreKinds, first_of};
 ghost use Rattle.mixed_model.specs.Ranges.{MixedFits};
 ghost use Rattle.mixed_run.specs.CheckMixedAnswer.{BreaksFirst, CheckMixedAnswers, HasPlan, HasProof, IsValid, judgement_text};
 ghost use Rattle.mixed_run.specs.Judged.{AreKnown, HasLines, IsJudgementOf, IsProofEnded, judged_status};
 
 use instance_reader::Instance;
-use job_frame::{Answer, Status};
-use job_steps::{Ended, refuse};
-use mixed_check::check_mixed;
-use mixed_model::{MixedProof, MixedRoute, MixedVerdict};
-use mixed_plan::{PlanFault, check_mixed_plan};
+use job_frame::{Answer, Ended, Status, refuse};
+use mixed_model::{MixedProof, MixedRoute, MixedVerdict, PlanFault, check_mixed, check_mixed_plan};
 use mixed_text::{CertText, push_mixed_verdict, read_mixed};
 use plan_writer::{Judgement, Refusal, push_check_report};
 use std::alloc::{AllocError, Global};

@@ -15,9 +15,8 @@ ghost use Rattle.job_frame.specs.Task.{AreRead};
 use crate::refusal::{Halt, MixedRefusal};
 use ev_outside::{Shelf, ShelfFault};
 use instance_reader::{Instance, MOST_CUSTOMERS};
-use job_frame::read_file;
-use job_steps::{Ended, MOST_BYTES, limited_instance};
-use mixed_plan::kinds_agree;
+use job_frame::{Ended, MOST_BYTES, limited_instance, read_file};
+use mixed_model::kinds_agree;
 use plan_writer::Refusal;
 use std::alloc::Global;
 

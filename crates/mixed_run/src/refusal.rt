@@ -4,9 +4,8 @@ ghost use Rattle.std.specs.Prelude.{◌≡◌, [], IfErr, IfOk};
 ghost use Rattle.mixed_run.specs.KindFiles.{IsMixedRule, mixed_refusal_text};
 
 use ev_outside::ShelfFault;
-use job_frame::{Answer, Found, Status};
-use job_steps::refuse;
-use mixed_plan::push_kinds_refusal;
+use job_frame::{Answer, Found, Status, refuse};
+use mixed_model::push_kinds_refusal;
 use plan_writer::Refusal;
 use std::alloc::{AllocError, Global};
 

@@ -5,9 +5,9 @@ use Rattle.std.proofs.lemmas.List.Elements.{All-head, All-tail}
 use Rattle.ev_model.specs.Network.{IsNetwork, Network}
 use Rattle.ev_text.specs.Texts.{StandsUnlessLonger, joined_texts}
 use Rattle.ev_text.proofs.ReadingLaws.{Reads}
-use Rattle.text_records.proofs.Lines.{loose_length, own_length}
-use Rattle.text_records.proofs.Numbers.{Anything, upto}
-use Rattle.text_records.proofs.Records.{parts-behind, parts-last, parts-none, parts-own, parts-then, reads-record}
+use Rattle.ev_text.proofs.Lines.{loose_length, own_length}
+use Rattle.ev_text.proofs.Numbers.{Anything, upto}
+use Rattle.ev_text.proofs.Records.{parts-behind, parts-last, parts-none, parts-own, parts-then, reads-record}
 use Rattle.route_plan.specs.Limits.{greatest_number}
 use Rattle.certificate_parts.specs.Limits.{most_items}
 use Rattle.certificate_parts.specs.Texts.{label_text}

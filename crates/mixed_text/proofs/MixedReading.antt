@@ -4,8 +4,8 @@ use Rattle.std.specs.List.{All}
 use Rattle.ev_model.specs.Network.{IsNetwork, Network}
 use Rattle.ev_text.specs.Texts.{StandsUnlessLonger}
 use Rattle.ev_text.proofs.ReadingLaws.{Reads}
-use Rattle.text_records.proofs.Numbers.{Anything, upto}
-use Rattle.text_records.proofs.Records.{parts-behind, parts-last, parts-then, reads-record}
+use Rattle.ev_text.proofs.Numbers.{Anything, upto}
+use Rattle.ev_text.proofs.Records.{parts-behind, parts-last, parts-then, reads-record}
 use Rattle.certificate_parts.specs.Limits.{greatest_weight}
 use Rattle.certificate_parts.specs.Texts.{bound_text, prices_text}
 use Rattle.certificate_parts.specs.Written.{WrittenLabel}

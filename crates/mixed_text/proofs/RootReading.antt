@@ -6,10 +6,10 @@ use Rattle.ev_text.specs.Readers.{so_many}
 use Rattle.ev_text.specs.Texts.{AreLooseRun, AreRun, StandsUnlessLonger, joined_texts}
 use Rattle.ev_text.proofs.ReadingLaws.{Reads}
 use Rattle.ev_text.proofs.RunLaws.{reads-so_many}
-use Rattle.text_records.proofs.Choices.{parts-either, reads-choice}
-use Rattle.text_records.proofs.Lines.{loose_length, own_length}
-use Rattle.text_records.proofs.Numbers.{Anything, ranged, upto}
-use Rattle.text_records.proofs.Records.{parts-behind, parts-last, parts-none, parts-own, parts-then, reads-record}
+use Rattle.ev_text.proofs.Choices.{parts-either, reads-choice}
+use Rattle.ev_text.proofs.Lines.{loose_length, own_length}
+use Rattle.ev_text.proofs.Numbers.{Anything, ranged, upto}
+use Rattle.ev_text.proofs.Records.{parts-behind, parts-last, parts-none, parts-own, parts-then, reads-record}
 use Rattle.certificate_parts.specs.Limits.{greatest_weight, most_items}
 use Rattle.certificate_parts.specs.Ranges.{customer_count}
 use Rattle.certificate_parts.specs.Texts.{basis_text}

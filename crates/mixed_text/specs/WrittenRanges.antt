@@ -5,7 +5,7 @@ use Rattle.std.specs.Prelude.{◌≡◌, ℕ, ◌≤◌, List, [], ◌∷◌, le
 use Rattle.std.specs.List.{All}
 use Rattle.ev_model.specs.Network.{Network}
 use Rattle.ev_text.specs.Texts.{AreLooseRun, AreRun}
-use Rattle.text_records.specs.Numbers.{Keeping}
+use Rattle.ev_text.specs.Numbers.{Keeping}
 use Rattle.certificate_parts.specs.Limits.{greatest_weight, most_items}
 use Rattle.certificate_parts.specs.Ranges.{IsPrice, customer_count}
 use Rattle.certificate_parts.specs.Written.{WrittenLabel}

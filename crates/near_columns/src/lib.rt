@@ -6,6 +6,7 @@
 
 mod clock;
 mod closing;
+mod diving;
 mod ground;
 mod growing;
 mod keeping;
@@ -23,7 +24,11 @@ mod starting;
 mod strengthening;
 mod trips;
 mod values;
+mod watcher;
 mod whole;
 
 pub use clock::{GapClock, NoClock};
 pub use near_found::{NearFound, search_near};
+pub use orders::NearOrder;
+pub use trips::fastest_plan;
+pub use watcher::{RoundsProgress, RoundsWatcher};

@@ -1,10 +1,11 @@
 //! The search for a near proof.
 
 use crate::clock::{GapClock, NoClock};
-use crate::orders::Orders;
+use crate::orders::{NearOrder, Orders};
 use crate::proving::proof_of;
 use crate::rounds::{Outcome, Rounds};
 use crate::starting::first_rounds;
+use crate::watcher::RoundsWatcher;
 use crate::whole::settle_prices;
 use instance_reader::{Instance, MOST_CUSTOMERS};
 use near_proof::NearProof;
@@ -18,8 +19,10 @@ const MOST_LACKING: i64 = 1 << 16;
 pub struct NearFound {
     /// A proof that may be accepted.
     pub proof: Option<NearProof>,
-    /// Routes of which a plan may be made: each the nodes of different customers, in order.
-    pub orders: Vec<Vec<usize>>,
+    /// Routes of which plans may be made, no two of them with the same customers.
+    pub orders: Vec<NearOrder>,
+    /// Routes that may make plans together, plan by plan: no two of a plan serve the same customer.
+    pub dives: Vec<Vec<NearOrder>>,
 }
 
 /// Looks for a near proof with a high bound, and for routes of which a good plan may be made.
@@ -31,16 +34,17 @@ pub struct NearFound {
 ///
 /// The clock stops rounds and the search for routes for plans, but neither the first rounds, of
 /// quick searches alone, nor what makes a proof of the prices at hand.
-pub fn search_near<C: GapClock>(
+pub fn search_near<C: GapClock, W: RoundsWatcher>(
     alloc: Global,
     inst: &Instance,
     clock: &mut C,
+    watcher: &mut W,
 ) -> Result<NearFound, AllocError> {
     if inst.customers().len() > MOST_CUSTOMERS {
         return Ok(nothing(alloc));
     }
     let mut rounds = first_rounds(alloc, inst)?;
-    let is_settled = rounds.make(alloc, inst, clock)?;
+    let is_settled = rounds.make(alloc, inst, clock, watcher)?;
     rounds.found(alloc, inst, is_settled, clock)
 }
 
@@ -49,20 +53,22 @@ fn nothing(alloc: Global) -> NearFound {
     NearFound {
         proof: None,
         orders: Vec::new(alloc),
+        dives: Vec::new(alloc),
     }
 }
 
 impl Rounds {
     /// Makes all rounds, and makes the prices whole. Whether they are such that no near route earns
     /// by them.
-    fn make<C: GapClock>(
+    fn make<C: GapClock, W: RoundsWatcher>(
         &mut self,
         alloc: Global,
         inst: &Instance,
         clock: &mut C,
+        watcher: &mut W,
     ) -> Result<bool, AllocError> {
-        self.open(alloc, inst)?;
-        let outcome = self.run(alloc, inst, clock)?;
+        self.open(alloc, inst, watcher)?;
+        let outcome = self.run(alloc, inst, clock, watcher)?;
         self.settle(alloc, inst, outcome)
     }
 
@@ -82,32 +88,25 @@ impl Rounds {
 
     /// What was found by all rounds.
     fn found<C: GapClock>(
-        &self,
+        mut self,
         alloc: Global,
         inst: &Instance,
         is_settled: bool,
         clock: &mut C,
     ) -> Result<NearFound, AllocError> {
-        let orders = self.orders(alloc, inst, is_settled, clock)?;
         let proof = self.proof(alloc, inst, is_settled)?;
-        Ok(NearFound { proof, orders })
-    }
-
-    /// Routes for plans.
-    fn orders<C: GapClock>(
-        &self,
-        alloc: Global,
-        inst: &Instance,
-        is_settled: bool,
-        clock: &mut C,
-    ) -> Result<Vec<Vec<usize>>, AllocError> {
         let mut orders = Orders::new(alloc);
         if is_settled {
-            orders.add_optimum(alloc, self)?;
+            orders.add_optimum(alloc, &self)?;
             orders.add_cheap(alloc, inst, &self.pricing, clock)?;
         }
-        orders.add_pool(alloc, self)?;
-        Ok(orders.into_all())
+        let dives = self.dives(alloc, inst, clock)?;
+        orders.add_pool(alloc, &self)?;
+        Ok(NearFound {
+            proof,
+            orders: orders.into_all(),
+            dives,
+        })
     }
 
     /// A proof by prices that are settled.

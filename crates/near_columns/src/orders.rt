@@ -4,6 +4,7 @@ use crate::clock::GapClock;
 use crate::ground::Ground;
 use crate::labels::Care;
 use crate::memory::Memory;
+use crate::number::{signed, unsigned};
 use crate::rest_table::sum_of;
 use crate::rounds::Rounds;
 use crate::routes::Route;
@@ -12,22 +13,46 @@ use instance_reader::Instance;
 use std::alloc::{AllocError, Global};
 
 /// So many are answered at the most.
-const MOST_ORDERS: usize = 4_000;
+const MOST_ORDERS: usize = 24_000;
 
 /// So many near routes are looked for at the most.
-const MOST_FOUND: usize = 20_000;
+const MOST_FOUND: usize = 100_000;
 
-/// By such a part of the bound they may take more than they earn: one of so many.
-const SLACK_PART: i64 = 100;
+/// By so many hundredths of the bound a customer they may take more than they earn: routes of a
+/// good plan share what it costs beyond the bound.
+const SLACK: i64 = 60;
 
 /// A column stands in the optimum that is taken to more than this, in units of 2^-32.
 const LEAST_AMOUNT: i64 = 4295;
 
-/// Orders of customers, by their nodes, one a set of customers.
+/// An order of customers for a route.
+#[derive(Drop)]
+pub struct NearOrder {
+    /// The nodes of different customers, in order.
+    pub nodes: Vec<usize>,
+    /// What a route takes that serves them so, in scaled time.
+    pub time: u64,
+}
+
+/// Orders of customers, one a set of customers.
 #[derive(Drop)]
 pub(crate) struct Orders {
-    all: Vec<Vec<usize>>,
+    all: Vec<NearOrder>,
     sets: Vec<Memory>,
+}
+
+impl NearOrder {
+    /// The order of a route.
+    pub(crate) fn of(
+        alloc: Global,
+        ground: &Ground,
+        route: &Route,
+    ) -> Result<NearOrder, AllocError> {
+        Ok(NearOrder {
+            nodes: route.nodes(alloc, ground)?,
+            time: unsigned(route.time),
+        })
+    }
 }
 
 impl Orders {
@@ -39,7 +64,7 @@ impl Orders {
     }
 
     /// The orders.
-    pub(crate) fn into_all(self) -> Vec<Vec<usize>> {
+    pub(crate) fn into_all(self) -> Vec<NearOrder> {
         let Orders { all, sets: _ } = self;
         all
     }
@@ -53,7 +78,7 @@ impl Orders {
             return Ok(());
         }
         self.sets.push(route.served)?;
-        self.all.push(route.nodes(alloc, ground)?)?;
+        self.all.push(NearOrder::of(alloc, ground, route)?)?;
         Ok(())
     }
 
@@ -85,7 +110,7 @@ impl Orders {
     ) -> Result<(), AllocError> {
         let ground = &pricing.ground;
         let aim = Aim {
-            slack: sum_of(&pricing.prices) / SLACK_PART,
+            slack: slack_of(&pricing.prices),
             care: Care::Exact,
             enough: MOST_FOUND,
         };
@@ -100,4 +125,11 @@ impl Orders {
         }
         Ok(())
     }
+}
+
+/// How much more than they earn routes may take.
+fn slack_of(prices: &[i64]) -> i64 {
+    let parts = signed(prices.len() as u64).saturating_mul(100);
+    let slack = sum_of(prices).saturating_mul(SLACK).checked_div(parts);
+    slack.unwrap_or(0)
 }

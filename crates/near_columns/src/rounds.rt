@@ -3,9 +3,11 @@
 use crate::clock::{GapClock, NoClock};
 use crate::growing::grow;
 use crate::labels::Care;
-use crate::number::unsigned;
+use crate::number::{put, unsigned};
+use crate::rest_table::sum_of;
 use crate::routes::Route;
 use crate::search::{Aim, End, Pricing, Question, Search};
+use crate::watcher::{RoundsProgress, RoundsWatcher};
 use cover_prices::Cover;
 use instance_reader::Instance;
 use std::alloc::{AllocError, Global};
@@ -47,16 +49,23 @@ pub(crate) struct Rounds {
     pub(crate) cover: Cover,
     /// The routes of the columns.
     pub(crate) pool: Vec<Route>,
+    /// What it costs to cover a customer without a route.
+    pub(crate) dearest: u64,
+    /// How many rounds were made.
+    count: u64,
 }
 
 impl Rounds {
     /// No route is known. Covering a customer without one costs so much.
     pub(crate) fn new(alloc: Global, pricing: Pricing, dearest: i64) -> Result<Rounds, AllocError> {
-        let cover = Cover::new(alloc, pricing.ground.customers, unsigned(dearest))?;
+        let dearest = unsigned(dearest);
+        let cover = Cover::new(alloc, pricing.ground.customers, dearest)?;
         Ok(Rounds {
             pricing,
             cover,
             pool: Vec::new(alloc),
+            dearest,
+            count: 0,
         })
     }
 
@@ -70,9 +79,15 @@ impl Rounds {
 
     /// Makes rounds of quick searches until they find no route: before that the prices aren't worth
     /// much.
-    pub(crate) fn open(&mut self, alloc: Global, inst: &Instance) -> Result<(), AllocError> {
+    pub(crate) fn open<W: RoundsWatcher>(
+        &mut self,
+        alloc: Global,
+        inst: &Instance,
+        watcher: &mut W,
+    ) -> Result<(), AllocError> {
         for _ in 0..MOST_ROUNDS {
             self.find_prices(alloc)?;
+            self.tell(watcher);
             match self.take_by(alloc, inst, Care::Quick, &mut NoClock)? {
                 Some(0) | None => break,
                 Some(_) => {}
@@ -82,14 +97,15 @@ impl Rounds {
     }
 
     /// Makes rounds until no near route earns and no near set grows.
-    pub(crate) fn run<C: GapClock>(
+    pub(crate) fn run<C: GapClock, W: RoundsWatcher>(
         &mut self,
         alloc: Global,
         inst: &Instance,
         clock: &mut C,
+        watcher: &mut W,
     ) -> Result<Outcome, AllocError> {
         for _ in 0..MOST_GROWTHS {
-            if self.close(alloc, inst, clock)? == Outcome::Stopped {
+            if self.close(alloc, inst, clock, watcher)? == Outcome::Stopped {
                 return Ok(Outcome::Stopped);
             }
             let grown = self.grow_sets();
@@ -102,14 +118,16 @@ impl Rounds {
     }
 
     /// Makes rounds until no near route earns.
-    fn close<C: GapClock>(
+    fn close<C: GapClock, W: RoundsWatcher>(
         &mut self,
         alloc: Global,
         inst: &Instance,
         clock: &mut C,
+        watcher: &mut W,
     ) -> Result<Outcome, AllocError> {
         for _ in 0..MOST_ROUNDS {
             self.find_prices(alloc)?;
+            self.tell(watcher);
             match self.round(alloc, inst, clock)? {
                 Round::Found => {}
                 Round::GivenUp => return Ok(Outcome::Stopped),
@@ -124,11 +142,26 @@ impl Rounds {
         Ok(Outcome::Stopped)
     }
 
-    /// Finds prices for the pool, and makes the table by them.
-    fn find_prices(&mut self, alloc: Global) -> Result<(), AllocError> {
+    /// Tells how far the rounds are.
+    fn tell<W: RoundsWatcher>(&mut self, watcher: &mut W) {
+        self.count = self.count.saturating_add(1);
+        watcher.watch_rounds(RoundsProgress {
+            rounds: self.count,
+            routes: self.pool.len() as u64,
+            prices: unsigned(sum_of(&self.pricing.prices)),
+        });
+    }
+
+    /// Finds prices for the pool, and makes the table by them. Who isn't served any more has none.
+    pub(crate) fn find_prices(&mut self, alloc: Global) -> Result<(), AllocError> {
         self.cover.solve(alloc)?;
         for (own, price) in self.pricing.prices.iter_mut().zip(self.cover.prices()) {
             *own = (*price).max(0);
+        }
+        for customer in 0..self.pricing.ground.customers {
+            if self.pricing.settled.has(customer) {
+                put(&mut self.pricing.prices, customer, 0);
+            }
         }
         self.pricing.make_table(alloc)
     }
@@ -151,7 +184,7 @@ impl Rounds {
     }
 
     /// Takes the routes that earn into the pool. How many; `None` where the search was given up.
-    fn take_by<C: GapClock>(
+    pub(crate) fn take_by<C: GapClock>(
         &mut self,
         alloc: Global,
         inst: &Instance,

@@ -27,6 +27,8 @@ pub(crate) struct Pricing {
     pub(crate) prices: Vec<i64>,
     /// By which what can't earn is left out.
     pub(crate) table: Option<RestTable>,
+    /// Who isn't served any more.
+    pub(crate) settled: Memory,
 }
 
 /// What a search aims at.
@@ -122,7 +124,7 @@ impl Question<'_, '_> {
         if !self.ground().is_customer(to) {
             return Some((from.memory, from.earned));
         }
-        if from.memory.has(to) {
+        if from.memory.has(to) || self.pricing.settled.has(to) {
             return None;
         }
         let memory = after_service(from.memory, &self.pricing.sets, to);

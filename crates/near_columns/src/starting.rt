@@ -11,7 +11,7 @@ use crate::routes::Route;
 use crate::search::Pricing;
 use crate::trips::{fastest_plan, time_of};
 use instance_reader::Instance;
-use near_check::near_sets;
+use near_proof::near_sets;
 use std::alloc::{AllocError, Global};
 
 /// So many others stand in a near set at first.
@@ -32,6 +32,7 @@ pub(crate) fn first_rounds(alloc: Global, inst: &Instance) -> Result<Rounds, All
         sets,
         prices: vec![in alloc; 0; ground.customers]?,
         table: None,
+        settled: Memory::empty(),
         ground,
     };
     let mut rounds = Rounds::new(alloc, pricing, dearest)?;

@@ -8,8 +8,9 @@ use instance_reader::Instance;
 use route_plan::{RoutePlan, walk};
 use std::alloc::{AllocError, Global};
 
-/// A fastest plan that serves customers at these nodes in this order, if there is one.
-pub(crate) fn fastest_plan(
+/// A fastest plan that serves customers at these nodes in this order, if there is one. Nothing is
+/// promised of it; the only `Err` is want of memory.
+pub fn fastest_plan(
     alloc: Global,
     inst: &Instance,
     inner: &[usize],

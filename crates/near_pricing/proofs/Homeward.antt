@@ -26,7 +26,7 @@ use Rattle.near_proof.specs.Routes.{KeepsMemory}
 use Rattle.near_proof.specs.States.{near_at}
 use Rattle.near_proof.specs.Terms.{earned_by, price_of, remembered}
 use Rattle.near_proof.specs.declared.proof.NearLabel.{NearLabel}
-use Rattle.near_check.proofs.Members.{keeps_same, remembered_is}
+use Rattle.near_proof.proofs.Members.{keeps_same, remembered_is}
 use Rattle.near_pricing.specs.Better.{HasBetter}
 use Rattle.near_pricing.specs.Questions.{most_price, Question}
 use Rattle.near_pricing.specs.Steps.{ComesBy, IsStart, IsStep, Serves, Visits}

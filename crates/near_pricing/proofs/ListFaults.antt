@@ -5,7 +5,7 @@ use Rattle.std.proofs.lemmas.Option.{none-some, same_Some, slice_get_within}
 use Rattle.ev_model.specs.Network.{node_count}
 use Rattle.index_links.specs.Queue.{HasPair}
 use Rattle.label_pool.proofs.Elements.{appended_cases}
-use Rattle.near_check.specs.Faults.{IsFault, Judged}
+use Rattle.near_proof.specs.Faults.{IsFault, Judged}
 use Rattle.near_proof.specs.Broken.{at_home, at_step, EarnsHome}
 use Rattle.near_proof.specs.declared.proof.NearLabel.{NearLabel}
 use Rattle.near_pricing.specs.Placed.{CanStep}

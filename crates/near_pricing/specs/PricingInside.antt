@@ -1,5 +1,5 @@
 -- What contracts see of a question of pricing.
-use Rattle.near_check.specs.Faults.{terms_in}
+use Rattle.near_proof.specs.Faults.{terms_in}
 use Rattle.near_pricing.specs.Questions.{IsQuestion, Question}
 use Rattle.near_pricing.specs.declared.asked.Pricing.TheInside.{Inside}
 

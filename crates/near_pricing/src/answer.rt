@@ -18,8 +18,7 @@ use completion_bounds::Completion;
 use customer_sets::CustSet;
 use ev_list::Listed;
 use instance_reader::Instance;
-use near_check::NearTerms;
-use near_proof::NearLabel;
+use near_proof::{NearLabel, NearTerms};
 use std::alloc::{AllocError, Global};
 
 /// A list is mended so often at the most, where a table tells what can still earn.

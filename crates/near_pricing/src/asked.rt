@@ -3,15 +3,14 @@
 ghost use Rattle.std.specs.Prelude.{◌≡◌, ◌≤◌, IfOk, length};
 ghost use Rattle.std.specs.List.{All};
 ghost use Rattle.instance_reader.specs.Instance.{customer_nodes, most_customers};
-ghost use Rattle.near_check.specs.Faults.{TellsFault, terms_in};
+ghost use Rattle.near_proof.specs.Faults.{TellsFault, terms_in};
 ghost use Rattle.near_proof.specs.Ranges.{NearLabelFits, SetsFit};
 ghost use Rattle.near_pricing.specs.Questions.{IsQuestion, most_price};
 
+use crate::hopeless_labels;
 use completion_bounds::Completion;
 use instance_reader::Instance;
-use near_check::{LabelFault, NearTerms, first_fault};
-use near_hopeless::hopeless_labels;
-use near_proof::NearLabel;
+use near_proof::{LabelFault, NearLabel, NearTerms, first_fault};
 use std::alloc::{AllocError, Global};
 use std::marker::Model;
 

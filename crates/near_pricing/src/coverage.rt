@@ -10,8 +10,7 @@ use crate::asked::Pricing;
 use crate::found::Tree;
 use crate::groups::{Brief, Detail, Gap, Group};
 use dominance::LabelValue;
-use near_check::margin;
-use near_proof::NearLabel;
+use near_proof::{NearLabel, margin};
 
 /// When a label may make another needless that is at the same node.
 #[derive(Clone, Copy, Debug, PartialEq, Eq)]

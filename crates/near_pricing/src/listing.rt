@@ -14,8 +14,7 @@ ghost use Rattle.near_proof.specs.Ranges.{AreAmong, NearLabelFits};
 
 use crate::asked::Pricing;
 use crate::steps::{Target, target_at, values_at};
-use near_check::LabelFault;
-use near_proof::NearLabel;
+use near_proof::{LabelFault, NearLabel};
 use piece_fn::PieceFn;
 use std::alloc::{AllocError, Global};
 

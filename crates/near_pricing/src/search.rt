@@ -2,7 +2,7 @@
 
 ghost use Rattle.std.specs.Prelude.{All, ◌≡◌, ◌<◌, ◌≤◌, IfOk, IfSome, OnOk, Some, length, slice_get};
 ghost use Rattle.ev_model.specs.Network.{node_count};
-ghost use Rattle.near_check.specs.Faults.{IsFault, TellsFault};
+ghost use Rattle.near_proof.specs.Faults.{IsFault, TellsFault};
 ghost use Rattle.near_proof.specs.Broken.{EarnsHome, at_home, at_step};
 ghost use Rattle.near_proof.specs.Ranges.{NearLabelFits};
 ghost use Rattle.charge_curve.specs.Points.{ArePoints};
@@ -22,8 +22,7 @@ use completion_bounds::Completion;
 use customer_sets::CustSet;
 use dominance::LabelValue;
 use index_links::IndexHeap;
-use near_check::{LabelFault, earns_at_home};
-use near_proof::NearLabel;
+use near_proof::{LabelFault, NearLabel, earns_at_home};
 use piece_fn::PieceFn;
 use route_plan::RoutePlan;
 use std::alloc::{AllocError, Global};

@@ -9,8 +9,7 @@ ghost use Rattle.near_pricing.specs.Steps.{IsLeft, Leads, with_value};
 use crate::asked::Pricing;
 use customer_sets::CustSet;
 use label_steps::{arrival, departures};
-use near_check::remembered;
-use near_proof::NearLabel;
+use near_proof::{NearLabel, remembered};
 use piece_fn::PieceFn;
 use std::alloc::{AllocError, Global};
 

@@ -1,5 +1,5 @@
 pub mod Memories
-pub mod Steps
+pub mod NearSteps
 pub mod Rests
 pub mod Sound
 pub mod Fleets
@@ -7,3 +7,15 @@ pub mod Raised
 pub mod Fits
 pub mod Truths
 pub mod Rules
+pub mod MoreStops
+pub mod Options
+pub mod EntryLists
+pub mod CoveredStates
+pub mod LabelSteps
+pub mod StationSteps
+pub mod HomeSteps
+pub mod Members
+pub mod TightRoutes
+pub mod NearMembers
+pub mod Told
+pub mod Verdicts

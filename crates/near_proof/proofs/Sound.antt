@@ -23,7 +23,7 @@ use Rattle.near_proof.specs.Terms.{earned_by, Terms}
 use Rattle.near_proof.specs.Truth.{NearRoutesPay}
 use Rattle.near_proof.specs.declared.proof.NearLabel.{NearLabel}
 use Rattle.near_proof.proofs.Rests.{IsRest, own_pays, own_rest, own_step, Pays, via_pays, via_rest, via_step}
-use Rattle.near_proof.proofs.Steps.{customer_step, home_step, station_step}
+use Rattle.near_proof.proofs.NearSteps.{customer_step, home_step, station_step}
 
 took : (p : ℤ) (w t u : ℕ) → p ≤ℤ pos (w * t) → t ≤ u → (pos 0 +ℤ p) ≤ℤ pos (w * u)
 took p w t u paid le =

@@ -9,3 +9,10 @@ pub mod Broken
 pub mod Ranges
 pub mod Verdicts
 pub mod Truth
+pub mod Links
+pub mod Targets
+pub mod AskedInside
+pub mod Faults
+pub mod Judging
+pub mod NearSets
+pub mod Members

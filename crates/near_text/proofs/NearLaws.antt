@@ -7,7 +7,7 @@ use Rattle.ev_text.specs.Texts.{IsLonger, StandsUnlessLonger}
 use Rattle.ev_text.proofs.ReadingLaws.{Reads}
 use Rattle.ev_text.proofs.Results.{Ok-injective}
 use Rattle.ev_text.proofs.WholeReads.{ranged-spells}
-use Rattle.text_records.proofs.Numbers.{Anything}
+use Rattle.ev_text.proofs.Numbers.{Anything}
 use Rattle.certificate_parts.specs.Limits.{most_bytes}
 use Rattle.certificate_parts.specs.Ranges.{customer_count}
 use Rattle.certificate_parts.specs.Versions.{version_line}

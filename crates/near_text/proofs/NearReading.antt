@@ -5,10 +5,10 @@ use Rattle.ev_model.specs.Network.{Network, scaled_limit}
 use Rattle.ev_text.specs.Texts.{AllFrom, StandsUnlessLonger, joined_texts}
 use Rattle.ev_text.proofs.ReadingLaws.{Reads}
 use Rattle.std.proofs.lemmas.List.Elements.{All-cons, All-head, All-nil, All-tail}
-use Rattle.text_records.specs.Numbers.{UpTo}
-use Rattle.text_records.proofs.Lines.{loose_length, own_length}
-use Rattle.text_records.proofs.Numbers.{Anything, upto}
-use Rattle.text_records.proofs.Records.{parts-behind, parts-last, parts-then, reads-record}
+use Rattle.ev_text.specs.Numbers.{UpTo}
+use Rattle.ev_text.proofs.Lines.{loose_length, own_length}
+use Rattle.ev_text.proofs.Numbers.{Anything, upto}
+use Rattle.ev_text.proofs.Records.{parts-behind, parts-last, parts-then, reads-record}
 use Rattle.route_plan.specs.declared.plan.RoutePlan.{RoutePlan}
 use Rattle.certificate_parts.specs.Limits.{most_items}
 use Rattle.certificate_parts.specs.Ranges.{customer_count}

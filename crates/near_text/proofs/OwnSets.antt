@@ -16,8 +16,8 @@ use Rattle.ev_text.proofs.Mended.{IsMended, behind, mended-behind, mended-here, 
 use Rattle.ev_text.proofs.ReadingLaws.{Reads, Takes, reads-moves}
 use Rattle.ev_text.proofs.Readings.{TakesWord-from_word_at, word_read}
 use Rattle.ev_text.proofs.Results.{Err-ne-Ok, Ok-injective, and_then-ok, fault_of_two, no_bytes}
-use Rattle.text_records.specs.Numbers.{UpTo}
-use Rattle.text_records.proofs.Numbers.{Anything, NoDigit, number_is_no_mark, ranged}
+use Rattle.ev_text.specs.Numbers.{UpTo}
+use Rattle.ev_text.proofs.Numbers.{Anything, NoDigit, number_is_no_mark, ranged}
 use Rattle.route_plan.specs.Limits.{greatest_number}
 use Rattle.certificate_parts.specs.Reading.{customer_at, is_above, is_customer_node}
 use Rattle.certificate_parts.specs.Texts.{set_text}

@@ -8,10 +8,10 @@ use Rattle.ev_text.proofs.ListLaws.{cons_text}
 use Rattle.ev_text.proofs.MarkedLaws.{ended_text}
 use Rattle.ev_text.proofs.ReadingLaws.{Reads}
 use Rattle.ev_text.proofs.RunLaws.{ConsBehind, reads-many, reads-so_many}
-use Rattle.text_records.specs.Numbers.{UpTo}
-use Rattle.text_records.proofs.Lines.{reads-line}
-use Rattle.text_records.proofs.Numbers.{Anything, ranged, upto}
-use Rattle.text_records.proofs.Records.{parts-behind, parts-last, parts-own, parts-then, reads-record}
+use Rattle.ev_text.specs.Numbers.{UpTo}
+use Rattle.ev_text.proofs.Lines.{reads-line}
+use Rattle.ev_text.proofs.Numbers.{Anything, ranged, upto}
+use Rattle.ev_text.proofs.Records.{parts-behind, parts-last, parts-own, parts-then, reads-record}
 use Rattle.std.proofs.lemmas.List.Elements.{All-nil}
 use Rattle.route_plan.specs.Limits.{greatest_number}
 use Rattle.certificate_parts.specs.Limits.{greatest_bound}

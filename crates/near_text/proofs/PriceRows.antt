@@ -5,7 +5,7 @@ use Rattle.ev_model.specs.Network.{Network}
 use Rattle.ev_text.specs.Scans.{whole_at, word_at}
 use Rattle.ev_text.specs.declared.TextFault.{TextFault}
 use Rattle.ev_text.proofs.RunLoops.{IsRowTo, row-breaks, row-ends, row-goes_on, row-no_end, row-no_mark}
-use Rattle.text_records.specs.Numbers.{UpTo}
+use Rattle.ev_text.specs.Numbers.{UpTo}
 use Rattle.certificate_parts.specs.Ranges.{customer_count}
 use Rattle.near_proof.specs.Ranges.{greatest_near_price}
 use Rattle.near_text.specs.Reading.{price_at, price_row, prices_at}

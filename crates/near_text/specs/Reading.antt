@@ -5,7 +5,7 @@ use Rattle.ev_model.specs.Network.{Network, node_count}
 use Rattle.ev_text.specs.Readers.{Reader, answer, behind_word, exactly_from, many_from, optional_at, so_many, then_reads}
 use Rattle.ev_text.specs.Scans.{and_then, rest_of, whole_at}
 use Rattle.ev_text.specs.declared.TextFault.TheVariants.{TooLarge, End}
-use Rattle.text_records.specs.Lines.{line_of}
+use Rattle.ev_text.specs.Lines.{line_of}
 use Rattle.route_plan.specs.declared.plan.RoutePlan.{RoutePlan}
 use Rattle.certificate_parts.specs.Limits.{greatest_bound, most_items}
 use Rattle.certificate_parts.specs.Ranges.{customer_count}

@@ -6,7 +6,7 @@ use Rattle.std.specs.List.{All}
 use Rattle.customer_sets.specs.CustSet.{has}
 use Rattle.ev_model.specs.Network.{Network, node_count}
 use Rattle.ev_text.specs.Texts.{AreLooseRun, AreRun, ConsLoose}
-use Rattle.text_records.specs.Numbers.{Keeping, UpTo}
+use Rattle.ev_text.specs.Numbers.{Keeping, UpTo}
 use Rattle.route_plan.specs.Limits.{greatest_number}
 use Rattle.certificate_parts.specs.Limits.{greatest_bound, most_items}
 use Rattle.certificate_parts.specs.Ranges.{ColumnFits, customer_count}

@@ -16,7 +16,7 @@ use Rattle.fleet_model.specs.Places.{customer_number, numbers_of}
 use Rattle.fleet_model.proofs.Counts.{number_less}
 use Rattle.fleet_model.proofs.Numbers.{counted}
 use Rattle.instance_reader.specs.Instance.{customer_nodes, most_customers}
-use Rattle.near_check.specs.NearSets.{AreNearSets, sooner_count}
+use Rattle.near_proof.specs.NearSets.{AreNearSets, sooner_count}
 use Rattle.near_proof.specs.Accepted.{IsAccepted, IsTight}
 use Rattle.near_proof.specs.Ranges.{AreAmong, NearFits, SetsFit}
 use Rattle.near_proof.specs.Terms.{price_total}

@@ -2,7 +2,7 @@
 use Rattle.std.specs.Prelude.{◌≡◌, ◌↔◌, ℕ, ◌<◌, IfSome, None}
 use Rattle.ev_model.specs.Network.{Network}
 use Rattle.fleet_model.specs.Places.{customer_count}
-use Rattle.near_check.specs.NearSets.{AreNearSets}
+use Rattle.near_proof.specs.NearSets.{AreNearSets}
 use Rattle.near_proof.specs.Accepted.{IsAccepted}
 use Rattle.near_proof.specs.Ranges.{NearFits}
 use Rattle.near_proof.specs.Truth.{IsTrue}

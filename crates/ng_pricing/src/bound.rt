@@ -13,14 +13,12 @@ use crate::watcher::{Nobody, PriceWatcher};
 use customer_sets::CustSet;
 use ev_list::Listed;
 use instance_reader::Instance;
-use near_check::near_sets;
-use near_proof::NearProof;
-use near_services::price_total;
+use near_proof::{NearProof, near_sets, price_total};
 use std::alloc::{AllocError, Global};
 
-/// A proof of a lower bound on the cost of fleet plans, one that is accepted, and whose text is read
-/// as it where it isn't too long; its near sets are those of [`crate::near_sets`], with `near` other
-/// customers.
+/// A proof of a lower bound on the cost of fleet plans, one that is accepted, and whose text is
+/// read as it where it isn't too long; its near sets are those of [`crate::near_sets`], with `near`
+/// other customers.
 ///
 /// The bound is `None` exactly where some customer stands on no near route: then there is no fleet
 /// plan. Else it is the sum of the prices, which are fixed customer by customer, in rising order:

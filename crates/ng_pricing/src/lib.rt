@@ -14,8 +14,7 @@ mod watcher;
 
 pub use bound::{near_bound, near_bound_watched};
 pub use laws::routes_of_fleet_plans_are_near_routes;
-pub use near_check::{check_near, near_sets};
 pub use near_pricing::{NearPriced, Prices, near_price};
-pub use near_proof::{NearLabel, NearProof, NearVerdict};
+pub use near_proof::{NearLabel, NearProof, NearVerdict, check_near, near_sets};
 pub use near_text::{CertText, push_near, push_near_bound, push_near_verdict, read_near};
 pub use watcher::{PriceProgress, PriceWatcher};

@@ -8,7 +8,7 @@ ghost use Rattle.ng_pricing.specs.Met.{IsAllowed, IsLimit, IsMeasured, Pays};
 
 use ev_list::Listed;
 use instance_reader::Instance;
-use near_services::{earned_by, numbers_of, times_in};
+use near_proof::{earned_by, numbers_of, times_in};
 use route_plan::RoutePlan;
 use std::alloc::{AllocError, Global};
 

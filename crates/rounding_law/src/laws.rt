@@ -9,8 +9,7 @@ ghost use Rattle.ev_model.specs.Plan.{IsPlanIn};
 ghost use Rattle.ev_model.specs.Route.{FollowsRoute};
 ghost use Rattle.ev_model.specs.Time.{time_of};
 ghost use Rattle.ev_model.specs.declared.Stop.{Stop};
-ghost use Rattle.rounding_law.specs.Rounding.{IsRounded, PaysNoPlugTime};
-ghost use Rattle.rounding_law.specs.Rounding.{rounded_plan, rounded_time};
+ghost use Rattle.rounding_law.specs.Rounding.{IsRounded, PaysNoPlugTime, rounded_plan, rounded_time};
 ghost use Rattle.rounding_law.specs.Sums.{sum_below};
 
 /// A level of `z` kths, rounded down after each offset below `k`: the whole levels add up to `z`.

@@ -13,7 +13,7 @@ use Rattle.ev_model.specs.Network.{IsNetwork, Network, node_count}
 use Rattle.plan_check.specs.FleetRules.{IsCustomer}
 use Rattle.route_plan.specs.PlanTexts.{FitsFile, FitsText}
 use Rattle.route_plan.specs.declared.plan.RoutePlan.{RoutePlan}
-use Rattle.feasible_texts.proofs.PlanRanges.{feasible_fits}
+use Rattle.route_plan.proofs.PlanRanges.{feasible_fits}
 use Rattle.route_improve.specs.Arranged.{first_or_depot}
 use Rattle.route_improve.specs.Finished.{ArePlansOf}
 use Rattle.route_improve.specs.Orders.{orders_of}

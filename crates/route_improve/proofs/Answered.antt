@@ -13,9 +13,9 @@ use Rattle.ev_model.specs.Fleet.{cost_of, times_in}
 use Rattle.ev_model.specs.Network.{IsNetwork, Network}
 use Rattle.plan_check.specs.FleetRules.{IsCustomer, stops_of}
 use Rattle.route_plan.specs.declared.plan.RoutePlan.{RoutePlan}
-use Rattle.route_improve.specs.Arranged.{AreArranged, AreSettled, are_served, first_node, first_or_depot}
+use Rattle.route_improve.specs.Arranged.{AreArranged, are_served, first_node, first_or_depot}
 use Rattle.route_improve.specs.Finished.{ArePlansOf, IsPlanOf}
-use Rattle.route_improve.specs.Improved.{IsFastestForOrder, IsImproved}
+use Rattle.route_improve.specs.Improved.{IsFastestForOrder, IsImproved, IsOrderly}
 use Rattle.route_improve.specs.Moves.{IsSettled, has_customer}
 use Rattle.route_improve.specs.Orders.{orders_of, route_over}
 use Rattle.route_improve.specs.Routes.{AreRoutes, AreSettledTo, IsOrder, cost_of_routes, lists_of, stands_in}
@@ -166,9 +166,9 @@ front_part g front empty P all = λ k d within.
     subst P (get_or_append_left front (empty ∷ []) d k within) (all k d long)
 
 -- what the routes in front have, of routes with one more behind them
-module _ (g : Network) (routes before settled_routes : List Route) (plans : List RoutePlan) (is : AreSettled g routes settled_routes) (arranged : AreArranged before settled_routes) (plans_are : ArePlansOf g (are_served settled_routes) plans) where
+module _ (g : Network) (before better : List Route) (plans : List RoutePlan) (are : AreRoutes g better) (arranged : AreArranged before better) (plans_are : ArePlansOf g (are_served better) plans) where
   all_are : AreRoutes g (arranged.front ++ arranged.empty ∷ [])
-  all_are = subst (AreRoutes g) arranged.is is.routes_are
+  all_are = subst (AreRoutes g) arranged.is are
 
   served_are : All IsServed arranged.front
   served_are = All-permutation IsServed (are_served before) arranged.front arranged.same (all_served before)
@@ -193,19 +193,29 @@ module _ (g : Network) (routes before settled_routes : List Route) (plans : List
   rising : IsStrictlyIncreasing (map first_or_depot (lists_of arranged.front))
   rising = firsts_rise g arranged.front served_are customers_are once_are arranged.empty arranged.order
 
-  pub plan_is_improved : IsNetwork g → IsImproved g plans
-  plan_is_improved network = record {
+  pub plan_is_orderly : IsNetwork g → IsOrderly g plans
+  plan_is_orderly network = record {
     fleet = plans_fleet g arranged.front plans customers_are served_are once_are front_plans;
     order = subst (λ l. IsStrictlyIncreasing (map first_or_depot l)) (sym orders_are) rising;
     fastest = fastest_all g arranged.front plans customers_are front_plans;
-    settled = subst (IsSettled g) (sym orders_are)
-        (settled g arranged.front arranged.empty arranged.none arranged.no_time all_are (subst (λ (l : List Route). AreSettledTo g l (length l)) arranged.is is.settled_are));
     text = fits_file g arranged.front plans network served_are customers_are rising orders_are front_plans;
   }
 
-  pub plan_costs : cost_of g 1 (stops_of plans) ≤ cost_of_routes routes
+  pub plan_is_improved : IsNetwork g → AreSettledTo g better (length better) → IsImproved g plans
+  plan_is_improved network none_helps =
+      let orderly = plan_is_orderly network in
+      record {
+        fleet = orderly.fleet;
+        order = orderly.order;
+        fastest = orderly.fastest;
+        settled = subst (IsSettled g) (sym orders_are)
+            (settled g arranged.front arranged.empty arranged.none arranged.no_time all_are (subst (λ (l : List Route). AreSettledTo g l (length l)) arranged.is none_helps));
+        text = orderly.text;
+      }
+
+  pub plan_costs : cost_of g 1 (stops_of plans) ≡ cost_of_routes better
   plan_costs =
       let plan = plans_cost g arranged.front plans served_are (least_front g arranged.front arranged.empty arranged.none arranged.no_time all_are) front_plans in
       let front = cost_all g arranged.front arranged.empty arranged.none arranged.no_time in
       let same = ap cost_of_routes arranged.is in
-      omega (arith, plan, front, same, is.no_more)
+      omega (arith, plan, front, same)

@@ -28,6 +28,12 @@ pub record AreArranged (routes arranged : List Route) : Type 0 where
   pub same : IsPermutation (are_served routes) front
   pub order : IsNonDecreasingBy first_node front
 
+-- routes made of others, in order; they don't cost more
+pub record AreOrderly (g : Network) (routes better : List Route) : Type 0 where
+  pub routes_are : AreRoutes g better
+  pub no_more : cost_of_routes better ≤ cost_of_routes routes
+  pub arranged : (before : List Route) × AreArranged before better
+
 -- routes made of others that no move makes cheaper; they don't cost more
 pub record AreSettled (g : Network) (routes settled : List Route) : Type 0 where
   pub routes_are : AreRoutes g settled

@@ -23,6 +23,14 @@ abbrev pub IsFastestForOrder : Network → RoutePlan → Type 0
 IsFastestForOrder g p = IsFastest g (route_over (customers_of g p.stops)) g.capacity p.stops
 
 -- a fleet plan that may be written as text, its routes in rising order of their first customers and
+-- each fastest for its order
+pub record IsOrderly (g : Network) (routes : List RoutePlan) : Type 0 where
+  pub fleet : IsFleetPlan g 1 (stops_of routes)
+  pub order : IsStrictlyIncreasing (map first_or_depot (orders_of g routes))
+  pub fastest : All (IsFastestForOrder g) routes
+  pub text : FitsFile (Some (record { routes = routes }))
+
+-- a fleet plan that may be written as text, its routes in rising order of their first customers and
 -- each fastest for its order, that no move of single customers makes cheaper
 pub record IsImproved (g : Network) (routes : List RoutePlan) : Type 0 where
   pub fleet : IsFleetPlan g 1 (stops_of routes)

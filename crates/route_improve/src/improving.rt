@@ -115,7 +115,7 @@ fn settled_plan<W: MoveWatcher>(
     // are small.
     let _nodes = inst.nodes();
     let mut course = Course::new(watcher, routes.as_slice());
-    join_routes(alloc, inst, pricer, &mut routes, &mut course)?;
+    join_routes(alloc, inst, pricer, &mut routes, &mut course, u64::MAX)?;
     let settled = settle(alloc, pricer, routes, &mut course)?;
     plan_of(alloc, inst, &settled)
 }

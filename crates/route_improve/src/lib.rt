@@ -13,8 +13,10 @@ mod route;
 mod savings;
 mod settling;
 mod watcher;
+mod within;
 
 pub use improving::{Improved, improve, improve_watched};
 pub use plan_check::{LargeFault, check_large};
 pub use report::{push_alone, push_improved};
 pub use watcher::{MoveProgress, MoveWatcher};
+pub use within::improve_within;

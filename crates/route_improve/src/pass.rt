@@ -92,7 +92,7 @@ fn improve_pair(
 
 /// Looks at the moves of the customer at place `i` of route `a` to and with the places of route `b`
 /// up to the first that is cheaper.
-fn improve_customer(
+pub(crate) fn improve_customer(
     alloc: Global,
     pricer: &mut Pricer,
     routes: &mut Vec<Route>,

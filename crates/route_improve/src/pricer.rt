@@ -22,6 +22,9 @@ pub(crate) struct Pricer<'a> {
     bounds: RouteBounds<'a>,
     /// What was charged, by the order of the customers: the least time, or that there is none.
     known: IndexMap<Vec<usize>, Option<u64>>,
+    /// How much work was done: a customer looked at is one unit, and charging an order of n
+    /// customers takes n squared. No time that is told rests on it.
+    work: u64,
 }
 
 impl<'a> Model for Pricer<'a> {
@@ -47,7 +50,14 @@ impl<'a> Pricer<'a> {
             inst,
             bounds,
             known,
+            work: 0,
         })
+    }
+
+    /// How much work was done, in customers looked at; charging an order of n customers takes as
+    /// much as looking at n squared. It is for choices, and nothing is promised of it.
+    pub(crate) fn work(&self) -> u64 {
+        self.work
     }
 
     /// The least times of two orders; `None` exactly where one has none, or where together they are
@@ -66,6 +76,8 @@ impl<'a> Pricer<'a> {
             (AreNoLess self.old first.now second.now than)
             (AreLess self.old first.now second.now than)) }
     {
+        let customers = (first.len() as u64).saturating_add(second.len() as u64);
+        self.work = self.work.saturating_add(customers);
         if self.lower(first).saturating_add(self.lower(second)) >= than {
             return Ok(None);
         }
@@ -117,6 +129,10 @@ impl<'a> Pricer<'a> {
         if let Some(time) = recall(self.inst, &self.known, order) {
             return Ok(time);
         }
+        let customers = order.len() as u64;
+        self.work = self
+            .work
+            .saturating_add(customers.saturating_mul(customers));
         let time = charge(alloc, self.inst, order)?;
         remember(alloc, self.inst, &mut self.known, order, time)?;
         Ok(time)

@@ -21,13 +21,15 @@ struct Saving {
     time: u64,
 }
 
-/// Joins routes where that is cheaper, each pair of customers tried at most once.
+/// Joins routes where that is cheaper, each pair of customers tried at most once, until so much
+/// work was done.
 pub(crate) fn join_routes<W: MoveWatcher>(
     alloc: Global,
     inst: &Instance,
     pricer: &mut Pricer,
     routes: &mut Vec<Route>,
     course: &mut Course<'_, W>,
+    work: u64,
 ) -> Result<(), AllocError>
     requires { AreRoutes pricer.old routes.old.items }
     ensures network { pricer.new ≡ pricer.old }
@@ -36,6 +38,9 @@ pub(crate) fn join_routes<W: MoveWatcher>(
 {
     let savings = savings_of(alloc, inst)?;
     for saving in savings {
+        if pricer.work() >= work {
+            return Ok(());
+        }
         if join(alloc, pricer, routes, &saving)? {
             course.moved(routes);
         }

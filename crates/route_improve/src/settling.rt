@@ -34,7 +34,7 @@ pub(crate) fn settle<W: MoveWatcher>(
 
 /// The routes with customers in rising order of their first ones, and one without customers behind
 /// them.
-fn arranged(alloc: Global, routes: Vec<Route>) -> Result<Vec<Route>, AllocError>
+pub(crate) fn arranged(alloc: Global, routes: Vec<Route>) -> Result<Vec<Route>, AllocError>
     ensures { IfOk result (λ arranged. AreArranged routes.items arranged.items) }
 {
     let mut served = served(alloc, routes)?;

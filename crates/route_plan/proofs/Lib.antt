@@ -10,3 +10,4 @@ pub mod PlanReaders
 pub mod PlanWriting
 pub mod PlanLoops
 pub mod PlanLaws
+pub mod PlanRanges

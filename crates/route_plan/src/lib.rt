@@ -1,6 +1,7 @@
-//! Plans of one vehicle and of a fleet, and the routes that they follow.
+//! Plans of one vehicle and of a fleet, the routes that they follow, and their texts.
 #![tactic(auto)]
 
+mod feasible;
 mod laws;
 mod plan;
 mod route;
@@ -9,6 +10,7 @@ mod walking;
 mod walks;
 
 pub use ev_model::Stop;
+pub use feasible::a_feasible_plan_fits_a_text;
 pub use laws::{
     feasible_plans_are_walked, route_word_faults_are_first, unbroken_nodes_are_routes,
     words_spell_routes,

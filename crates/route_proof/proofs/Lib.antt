@@ -2,3 +2,16 @@ pub mod Better
 pub mod Ranges
 pub mod HomeBounds
 pub mod Rules
+pub mod Options
+pub mod Entries
+pub mod EntryLooks
+pub mod FollowedRoutes
+pub mod LabelSteps
+pub mod LabelEnds
+pub mod Early
+pub mod StartState
+pub mod Faults
+pub mod PartReading
+pub mod ProofReading
+pub mod ProofLaws
+pub mod WholeReading

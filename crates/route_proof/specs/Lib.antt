@@ -3,3 +3,16 @@ pub mod Closed
 pub mod Broken
 pub mod Ranges
 pub mod Verdicts
+pub mod Questions
+pub mod Links
+pub mod Inside
+pub mod Asking
+pub mod Tellings
+pub mod Faults
+pub mod Following
+pub mod Ends
+pub mod ProofTexts
+pub mod Reading
+pub mod TextRanges
+pub mod ProofIn
+pub mod VerdictText

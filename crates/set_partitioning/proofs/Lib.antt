@@ -1,0 +1,2 @@
+pub mod FirstCustomers
+pub mod RouteOrders

@@ -1,8 +1,8 @@
 //! The search against a plain enumeration, on instances that are drawn.
 
 use crate::told::{Told, judged};
-use drawn_fleets::{instance_text, least_cost};
 use instance_reader::{Instance, read_instance};
+use level_table::{instance_text, least_cost};
 use std::alloc::Global;
 use std::process::Abort;
 

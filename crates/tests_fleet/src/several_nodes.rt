@@ -1,8 +1,8 @@
 //! A search over several nodes: how many it takes.
 
 use crate::told::judged;
-use drawn_fleets::instance_text;
 use instance_reader::read_instance;
+use level_table::instance_text;
 use std::alloc::Global;
 
 /// Ten customers and two stations, drawn as Montoya and others do (2017), half of the customers in
@@ -47,4 +47,14 @@ fn the_first_node_finds_a_plan_where_none_was_held(rt: HostRuntime) {
     let text = instance_text(alloc, 26, 8, 0).expect(&rt, "memory");
     let cost = Some(438);
     assert_eq!(rt; planned(alloc, text.as_str(), 1), Some((cost, cost, 1)));
+}
+
+/// Eight drawn customers. Of the routes that were met at the root none make a plan below 402: one
+/// customer has to be moved between two of them. The search goes on for no other plan.
+#[test]
+fn moves_make_the_plan_of_the_first_node_cheaper(rt: HostRuntime) {
+    let alloc = rt.alloc();
+    let text = instance_text(alloc, 18, 8, 0).expect(&rt, "memory");
+    let (cost, bound) = (Some(396), Some(389));
+    assert_eq!(rt; planned(alloc, text.as_str(), 1), Some((cost, bound, 1)));
 }

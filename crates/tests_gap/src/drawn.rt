@@ -1,10 +1,10 @@
 //! Plans and bounds against a plain enumeration, on instances that are drawn.
 
 use crate::files::{run_with, shelf_with};
-use drawn_fleets::{instance_text, least_cost};
 use evgap_run::{Never, Nobody, Status};
 use gap_search::{GapOutcome, Improved, close_gap};
 use instance_reader::{Instance, read_instance};
+use level_table::{instance_text, least_cost};
 use plan_check::check_large;
 use std::alloc::Global;
 use std::process::Abort;

@@ -4,3 +4,5 @@
 
 #[cfg(test)]
 mod covers;
+#[cfg(test)]
+mod found;

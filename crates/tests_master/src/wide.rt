@@ -5,9 +5,9 @@ ghost use Rattle.std.specs.Prelude.{◌<◌, All};
 
 use crate::sets::set_of;
 use customer_sets::CustSet;
+use master_simplex::{ListedRoute, is_too_wide};
 use std::alloc::{AllocError, Global};
 use std::process::Abort;
-use wide_bases::{ListedRoute, is_too_wide};
 
 /// The route of the customers whose bits are 1.
 fn route_of(bits: u64, time: u64) -> ListedRoute {

@@ -150,19 +150,19 @@ fn a_message_names_the_cause(rt: HostRuntime) -> Result<(), AllocError> {
     for (message, want) in [
         (
             Message::at(Status::Fault.code(), Some(failure)),
-            "evroute: absent.json: No such file or directory (os error 2)",
+            "absent.json: No such file or directory (os error 2)",
         ),
         (
             Message::at(Status::Fault.code(), None),
-            "evroute: a file or the output failed",
+            "a file or the output failed",
         ),
         (
             Message::at(Status::Memory.code(), Some(failure)),
-            "evroute: out of memory",
+            "out of memory",
         ),
         (
             Some(Message::Words(cause)),
-            "evroute: the words can't be had: No such file or directory (os error 2)",
+            "the words can't be had: No such file or directory (os error 2)",
         ),
     ] {
         let text = text_of(alloc, message)?;

@@ -20,6 +20,7 @@ impl Shelf for LongFiles {
       files = None;
       failed_reads = λ name. 0;
       failed_writes = λ name. 0;
+      asked = None;
     } };
 
     fn read(&mut self, name: &str, most: usize, into: &mut Vec<u8>) -> Result<(), ShelfFault> {

@@ -50,17 +50,14 @@ fn a_failing_file_of_the_system_is_named(rt: HostRuntime) {
     for &(line, told) in &[
         (
             "fixed /nowhere/instance.json 0,1,0",
-            "evroute: /nowhere/instance.json: No such file or directory (os error 2)\n",
+            "/nowhere/instance.json: No such file or directory (os error 2)\n",
         ),
-        (
-            "fixed / 0,1,0",
-            "evroute: /: Is a directory (os error 21)\n",
-        ),
+        ("fixed / 0,1,0", "/: Is a directory (os error 21)\n"),
         (
             "convert /proc/sys/kernel/pid_max /dev/full --time-digits 0 --energy-digits 0",
-            "evroute: /dev/full: No space left on device (os error 28)\n",
+            "/dev/full: No space left on device (os error 28)\n",
         ),
-        ("make 1 1 0 /", "evroute: /: Is a directory (os error 21)\n"),
+        ("make 1 1 0 /", "/: Is a directory (os error 21)\n"),
     ] {
         let words = words_of(alloc, line).expect(&rt, "memory");
         let ended = run_on_system(&rt, Ok(words));
@@ -73,9 +70,9 @@ fn a_failing_file_of_the_system_is_named(rt: HostRuntime) {
 fn words_that_cant_be_had_have_their_own_status(rt: HostRuntime) {
     let (code, told) = run_on_system(&rt, Err(Error::from(ErrorKind::InvalidData)));
     assert_eq!(rt; code, ExitCode::from(7));
-    let want = "evroute: the words can't be had: invalid data\n";
+    let want = "the words can't be had: invalid data\n";
     assert_eq!(rt; told.as_str(), want);
     let (code, told) = run_on_system(&rt, Err(Error::from(AllocError)));
     assert_eq!(rt; code, ExitCode::from(5));
-    assert_eq!(rt; told.as_str(), "evroute: out of memory\n");
+    assert_eq!(rt; told.as_str(), "out of memory\n");
 }

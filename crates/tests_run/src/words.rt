@@ -421,9 +421,9 @@ fn the_most_memory_is_read(rt: HostRuntime) {
 fn the_most_memory_is_told(rt: HostRuntime) {
     let alloc = rt.alloc();
     for &(kilobytes, want) in &[
-        (1_263_616, "evroute: out of memory after 1,234 MB"),
-        (3072, "evroute: out of memory after 3 MB"),
-        (1_024_000, "evroute: out of memory after 1,000 MB"),
+        (1_263_616, "out of memory after 1,234 MB"),
+        (3072, "out of memory after 3 MB"),
+        (1_024_000, "out of memory after 1,000 MB"),
     ] {
         let told = format!(in alloc; "{}", OutOfMemory { kilobytes }).expect(&rt, "memory");
         assert_eq!(rt; told.as_str(), want);

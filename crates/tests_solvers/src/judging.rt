@@ -14,8 +14,8 @@ use fixed_certificate::{RouteLabel, RouteProof, prove_route, push_proof, read_pr
 use instance_reader::Instance;
 use piece_fn::PieceFn;
 use rand_pcg::Pcg32;
-use route_judge::first_fault;
 use route_plan::{RoutePlan, read_route, walk};
+use route_proof::first_fault;
 use std::alloc::{AllocError, Global};
 use std::process::Abort;
 use worked_instances::{HOME_LEVEL, ONE_STATION, PLUG_TIME, RESERVE};

@@ -3,7 +3,7 @@
 
 use fixed_certificate::RouteLabel;
 use instance_reader::Instance;
-use route_judge::LabelFault;
+use route_proof::LabelFault;
 
 /// A vehicle about to leave a node: how much of the route it has passed, its level and its time.
 #[derive(Clone, Copy)]

@@ -1,8 +1,7 @@
 //! Texts of near proofs that are read, judged and written, and the near sets of an instance.
 
 use instance_reader::read_instance;
-use near_check::{check_near, near_sets};
-use near_proof::{NearProof, NearVerdict};
+use near_proof::{NearProof, NearVerdict, check_near, near_sets};
 use near_text::{CertText, push_near, push_near_bound, push_near_verdict, read_near};
 use std::alloc::Global;
 use std::process::Abort;

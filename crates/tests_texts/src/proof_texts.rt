@@ -2,9 +2,8 @@
 //! the lines of a verdict.
 
 use instance_reader::{Instance, read_instance};
-use proof_text::{CertText, push_proof, push_route_verdict, read_proof};
 use route_plan::{WalkFault, read_route};
-use route_proof::{RouteProof, RouteVerdict};
+use route_proof::{CertText, RouteProof, RouteVerdict, push_proof, push_route_verdict, read_proof};
 use std::alloc::Global;
 use std::process::Abort;
 use worked_instances::ONE_STATION;

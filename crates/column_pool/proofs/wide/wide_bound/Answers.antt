@@ -8,7 +8,7 @@ use Rattle.price_loop.specs.declared.rising.Risen.{Risen}
 use Rattle.route_plan.specs.declared.plan.RoutePlan.{RoutePlan}
 use Rattle.bound_certificate.specs.Limits.{most_items}
 use Rattle.certificate_parts.specs.declared.entry.BasisEntry.{BasisEntry}
-use Rattle.listed_bases.specs.Entries.{entry_of}
+use Rattle.bound_certificate.specs.Entries.{entry_of}
 use Rattle.column_pool.specs.Nodes.{Node, node_problem}
 use Rattle.column_pool.specs.TooWide.{IsWideAt}
 use Rattle.column_pool.proofs.Raised.{prices_risen, section_nowhere, section_risen}

@@ -1,6 +1,6 @@
 use Rattle.std.proofs.Common.{◌≡◌, IfOk, codes, subst}
 use Rattle.clap.specs.Words.{app_of, with_rule}
-use Rattle.command_line.specs.Command.{option_rule}
+use Rattle.call_words.specs.Command.{option_rule}
 use Rattle.command_line.proofs.arguments.with_digits.Goals as goal
 
 pub returns : goal.returns

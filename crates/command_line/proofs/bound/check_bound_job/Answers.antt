@@ -1,7 +1,7 @@
 use Rattle.std.proofs.Common.{rules, arith}
 use Rattle.std.proofs.lemmas.Grind.{common_steps}
 use Rattle.command_line.proofs.Counts.{no_check_bound}
-use Rattle.command_line.specs.Matches.{rows_in}
+use Rattle.call_words.specs.Matches.{rows_in}
 use Rattle.command_line.proofs.bound.check_bound_job.Goals as goal
 
 pub returns-in_default : goal.returns-in_default

@@ -13,4 +13,5 @@ loop-at-preserved g c = record {
   takes = subst (λ (xs : List ℕ). g.S.Stream.takes c.args.stream.now xs c.write.new.self) (next_pieces c.args.bytes.now c.loop-at.at c.in-Ok.count) (g.met.S.Stream.more c.args.stream.now c.loop-at.stream c.write.new.self _ _ c.loop-at.invariant.takes c.in-Ok.ensures.takes);
   within = within-rest c.args.bytes.now c.loop-at.at c.in-Ok.count c.loop-at.invariant.within c.in-Ok.ensures.some.0;
   stays = c.in-Ok.ensures.counts ∙ c.loop-at.invariant.stays;
+  asked = c.in-Ok.ensures.asked ∙ c.loop-at.invariant.asked;
 }

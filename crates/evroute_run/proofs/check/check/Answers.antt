@@ -3,7 +3,8 @@ use Rattle.std.proofs.lemmas.Grind.{common_steps}
 use Rattle.std.specs.Prelude.{string_bytes}
 use Rattle.command_line.specs.Words.{CheckJob, check_job_of}
 use Rattle.evroute_run.proofs.CheckFinds.{refused_early}
-use Rattle.evroute_run.specs.FleetNetwork.{HasFleetNetwork}
+use Rattle.evroute_run.proofs.Endings.{check_at_instance}
+use Rattle.fleet_steps.specs.FleetNetwork.{HasFleetNetwork}
 use Rattle.job_frame.proofs.BehindReads.{finds_behind, finds_refused, first_fails}
 use Rattle.job_frame.proofs.FileReads.{named_read, read_still}
 use Rattle.evroute_run.proofs.check.check.Goals as goal
@@ -28,7 +29,7 @@ returns-in-Err-Refused g c =
     let bytes = c.in-Ok.bytes.items in
     let read = named_read _ _ _ _ _ c.as_str.ensures.value c.in-Ok.ensures.bytes in
     let line = refused_early job before.files bytes c.as_slice.result.now c.in-Err-Refused.field-0 c.in-Err-Refused.refusal
-    read c.as_slice.ensures.value c.in-Err-Refused.field-0-is c.in-Err-Refused.ensures.check in
+    read c.as_slice.ensures.value c.in-Err-Refused.field-0-is (λ plan_bytes cert_bytes. check_at_instance w.limit c.as_slice.result.now plan_bytes cert_bytes c.in-Err-Refused.field-0 c.in-Err-Refused.ensures.ended) in
     finds_refused line c.refuse_job.ensures.status c.refuse_job.ensures.text c.refuse_job.ensures.files c.refuse_job.ensures.memory
     c.in-Ok.ensures.stays c.in-Ok.ensures.falls c.in-Ok.ensures.files
 

@@ -4,6 +4,7 @@ use Rattle.std.specs.Option.{option_map}
 use Rattle.std.specs.Prelude.{string_bytes}
 use Rattle.command_line.specs.Words.{CheckJob, check_job_of}
 use Rattle.evroute_run.proofs.CheckFinds.{plan_fails, refused_by_plan}
+use Rattle.evroute_run.proofs.Endings.{check_at_plan}
 use Rattle.job_frame.proofs.BehindReads.{finds_behind, finds_refused, read_fails}
 use Rattle.job_frame.proofs.FileReads.{named_read, read_still}
 use Rattle.route_plan.specs.PlanTexts.{SpellsFleetPlan}
@@ -37,7 +38,8 @@ returns-in-Err-Refused g c = λ bytes read fleet.
     let plan_bytes = c.in-Ok.bytes.items in
     let read_plan = named_read _ _ _ _ _ c.as_str.ensures.value c.in-Ok.ensures.bytes in
     let line = refused_by_plan job before.files bytes plan_bytes c.as_slice.result.now c.in-Err-Refused.field-0 c.in-Err-Refused.refusal
-    read read_plan c.as_slice.ensures.value c.in-Err-Refused.field-0-is (λ cert_bytes. c.in-Err-Refused.ensures.ended w.limit bytes cert_bytes c.args.inst.now fleet) in
+    read read_plan c.as_slice.ensures.value c.in-Err-Refused.field-0-is
+    (λ cert_bytes. check_at_plan w.limit bytes c.as_slice.result.now cert_bytes c.args.inst.now c.in-Err-Refused.field-0 fleet c.in-Err-Refused.ensures.rule c.in-Err-Refused.ensures.ended) in
     finds_refused line c.refuse_job.ensures.status c.refuse_job.ensures.text c.refuse_job.ensures.files c.refuse_job.ensures.memory
     c.in-Ok.ensures.stays c.in-Ok.ensures.falls c.in-Ok.ensures.files
 

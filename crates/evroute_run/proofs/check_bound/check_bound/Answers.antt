@@ -3,7 +3,7 @@ use Rattle.std.proofs.lemmas.Grind.{common_steps}
 use Rattle.std.specs.Prelude.{string_bytes}
 use Rattle.command_line.specs.Words.{BoundCheckJob, bound_check_job_of}
 use Rattle.evroute_run.proofs.CheckBoundFinds.{refused_early}
-use Rattle.evroute_run.specs.FleetNetwork.{HasFleetNetwork}
+use Rattle.fleet_steps.specs.FleetNetwork.{HasFleetNetwork}
 use Rattle.job_frame.proofs.BehindReads.{finds_behind, finds_refused, first_fails}
 use Rattle.job_frame.proofs.FileReads.{named_read, read_still}
 use Rattle.evroute_run.proofs.check_bound.check_bound.Goals as goal

@@ -1,4 +1,5 @@
 use Rattle.evroute_run.proofs.CheckBoundFinds.{refused_answers}
+use Rattle.evroute_run.proofs.Endings.{check_bound_at_proof}
 use Rattle.evroute_run.proofs.check_bound.judge_text.Goals as goal
 
 pub returns-in-Ok-clause-answers : goal.returns-in-Ok-clause-answers
@@ -8,4 +9,4 @@ returns-in-Ok-clause-answers c = λ limit file fleet.
 pub returns-in-Err-Refused-clause-answers : goal.returns-in-Err-Refused-clause-answers
 returns-in-Err-Refused-clause-answers c = λ limit file fleet.
     refused_answers limit file c.args.bytes.now c.in-Err-Refused.field-0 c.in-Err-Refused.refusal c.refuse.result
-    c.in-Err-Refused.field-0-is (c.in-Err-Refused.ensures.ended limit file fleet) c.refuse.ensures.status c.refuse.ensures.text
+    c.in-Err-Refused.field-0-is (check_bound_at_proof limit file c.args.bytes.now c.args.inst.now c.in-Err-Refused.field-0 fleet c.in-Err-Refused.ensures.rule c.in-Err-Refused.ensures.ended) c.refuse.ensures.status c.refuse.ensures.text

@@ -3,7 +3,7 @@ use Rattle.std.proofs.lemmas.Grind.{common_steps}
 use Rattle.std.specs.Prelude.{string_bytes}
 use Rattle.command_line.specs.Words.{ImproveJob, improve_job_of}
 use Rattle.evroute_run.proofs.ImproveFinds.{refused_at_instance}
-use Rattle.job_steps.specs.LimitedNetwork.{HasNetwork}
+use Rattle.job_frame.specs.LimitedNetwork.{HasNetwork}
 use Rattle.job_frame.proofs.BehindReads.{finds_behind, finds_refused, first_fails}
 use Rattle.job_frame.proofs.FileReads.{named_read, read_still}
 use Rattle.evroute_run.proofs.improve.improve.Goals as goal

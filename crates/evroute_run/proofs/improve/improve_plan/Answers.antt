@@ -1,7 +1,7 @@
 use Rattle.std.proofs.Common.{subst}
 use Rattle.std.specs.Option.{option_map}
 use Rattle.evroute_run.proofs.ImproveFinds.{puts_broken}
-use Rattle.evroute_run.specs.ImproveAnswer.{IsUnfit}
+use Rattle.fleet_steps.specs.PlanFile.{IsUnfit}
 use Rattle.plan_check.specs.declared.fault.LargeFault.{LargeFault}
 use Rattle.evroute_run.proofs.improve.improve_plan.Goals as goal
 

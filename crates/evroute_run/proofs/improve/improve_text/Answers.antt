@@ -1,4 +1,5 @@
 use Rattle.std.proofs.Common.{Option, subst, sym}
+use Rattle.evroute_run.proofs.Endings.{improve_at_plan}
 use Rattle.evroute_run.proofs.ImproveFinds.{puts_refusal}
 use Rattle.route_plan.specs.PlanTexts.{SpellsFleetPlan}
 use Rattle.route_plan.specs.declared.plan.FleetPlan.{FleetPlan}
@@ -12,5 +13,5 @@ returns-in-Ok-improve_plan-clause-answers g c = λ limit file network.
 pub returns-in-Err-Refused-clause-answers : goal.returns-in-Err-Refused-clause-answers
 returns-in-Err-Refused-clause-answers g c = λ limit file network.
     puts_refusal limit c.args.outfile.now file c.args.bytes.now c.in-Err-Refused.field-0 c.in-Err-Refused.refusal c.refuse_job.result
-    c.in-Err-Refused.field-0-is (c.in-Err-Refused.ensures.improve limit file c.args.inst.now network)
+    c.in-Err-Refused.field-0-is (improve_at_plan limit file c.args.bytes.now c.args.inst.now c.in-Err-Refused.field-0 network c.in-Err-Refused.ensures.rule c.in-Err-Refused.ensures.ended)
     c.refuse_job.ensures.status c.refuse_job.ensures.files c.refuse_job.ensures.text

@@ -34,7 +34,7 @@ returns-in-Err-Failed-clause-job g c =
     let within : HasNoInstance job → ⊥ = λ none. ok_is_no_error ((c.in-Ok.ensures.range).1 none) in
     performs_unwritten (make_task job) (make_lawful job) before after (g.K.Sink.state c.args.out.now) (made_file job ∷ []) (within, refl)
     (at_once_fails (made_file job ∷ []) (made_file job) [] before after c.as_str.result.now refl c.as_str.ensures.value
-    (c.in-Err-Failed.ensures.failed (search rules)) c.in-Err-Failed.ensures.others)
+    (c.in-Err-Failed.ensures.failed (search rules), c.in-Err-Failed.ensures.asked) c.in-Err-Failed.ensures.others)
 
 pub returns-in-Err-Range-clause-job : goal.returns-in-Err-Range-clause-job
 returns-in-Err-Range-clause-job g c =

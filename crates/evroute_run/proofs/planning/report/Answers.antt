@@ -1,7 +1,7 @@
 use Rattle.std.proofs.Common.{Option, subst, arith}
 use Rattle.std.proofs.lemmas.Grind.{common_steps}
 use Rattle.evroute_run.proofs.SearchReports.{are_outcomes, held_breaks_none}
-use Rattle.evroute_run.specs.CheckAnswer.{BreaksFirst, IsValid}
+use Rattle.fleet_steps.specs.PlanFile.{BreaksFirst, IsValid}
 use Rattle.route_plan.specs.declared.plan.FleetPlan.{FleetPlan}
 use Rattle.evroute_run.proofs.planning.report.Goals as goal
 

@@ -1,5 +1,5 @@
 use Rattle.std.proofs.Common.{rules}
-use Rattle.command_line.specs.Matches.{rows_in}
+use Rattle.call_words.specs.Matches.{rows_in}
 use Rattle.gap_words.proofs.NamedJobs.{no_check}
 use Rattle.gap_words.proofs.jobs.check_job.Goals as goal
 

@@ -29,7 +29,7 @@ pub returns-in-Err-clause-failed : goal.returns-in-Err-clause-failed
 returns-in-Err-clause-failed g t c = λ is.
     at_once_fails (map written_by c.args.files.now) (written_by c.file-item.result) (map written_by (take (length c.args.files.now - 1) (drop 1 c.args.files.now)))
     (g.S.Shelf.state c.args.shelf.now) (g.S.Shelf.state c.write.new.self) c.as_str.result.now
-    (written_in c.args.files.now c.file-item.result c.in-len1-up.len_at_least c.file-item.is) c.as_str.ensures.value (c.in-Err.ensures.failed is) c.in-Err.ensures.others
+    (written_in c.args.files.now c.file-item.result c.in-len1-up.len_at_least c.file-item.is) c.as_str.ensures.value (c.in-Err.ensures.failed is, c.in-Err.ensures.asked) c.in-Err.ensures.others
 
 pub returns-in-Err-clause-memory : goal.returns-in-Err-clause-memory
 returns-in-Err-clause-memory g t c = λ is.

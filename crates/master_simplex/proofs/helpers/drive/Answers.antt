@@ -2,7 +2,7 @@ use Rattle.std.proofs.Common.{◌<◌, arith, rules, get_or, ◌+◌}
 use Rattle.master_table.specs.Tableau.{size}
 use Rattle.master_table.specs.Pivoting.{IsPivotOf}
 use Rattle.master_simplex.specs.Phase.{IsDriven}
-use Rattle.master_simplex.proofs.Starts.{driven_after, driven_same, on_ok}
+use Rattle.master_simplex.proofs.HelperStarts.{driven_after, driven_same, on_ok}
 use Rattle.master_simplex.proofs.helpers.drive.Goals as goal
 
 pub returns-in_default-clause-driven : goal.returns-in_default-clause-driven

@@ -1,6 +1,6 @@
 use Rattle.std.proofs.Common.{◌≡◌, rules, sym, subst}
 use Rattle.master_simplex.specs.Phase.{IsPhase}
-use Rattle.master_simplex.proofs.Starts.{start}
+use Rattle.master_simplex.proofs.HelperStarts.{start}
 use Rattle.master_simplex.proofs.Tables.{then_reached}
 use Rattle.master_simplex.proofs.method.bring_cost_down.Goals as goal
 

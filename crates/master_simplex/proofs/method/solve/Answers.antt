@@ -1,7 +1,7 @@
 use Rattle.std.proofs.Common.{◌+◌, pos, ◌≤ℤ◌, rules, arith}
 use Rattle.std.proofs.lemmas.Grind.{common_steps}
 use Rattle.master_table.specs.Tableau.{row_at, size}
-use Rattle.master_simplex.proofs.Starts.{driven}
+use Rattle.master_simplex.proofs.HelperStarts.{driven}
 use Rattle.master_simplex.proofs.Tables.{then_reached}
 use Rattle.master_simplex.proofs.method.solve.Goals as goal
 

@@ -3,7 +3,7 @@ use Rattle.master_table.specs.Tableau.{entry_at, size}
 use Rattle.master_table.specs.Pivoting.{IsPivotOf}
 use Rattle.master_simplex.specs.Phase.{AreBasic}
 use Rattle.master_simplex.proofs.Returns.{basic_after, basic_same, some_added_row}
-use Rattle.master_simplex.proofs.Starts.{on_ok}
+use Rattle.master_simplex.proofs.HelperStarts.{on_ok}
 use Rattle.master_simplex.proofs.restore.bring_back.Goals as goal
 
 pub returns-in_default-clause-basic : goal.returns-in_default-clause-basic

@@ -1,7 +1,7 @@
 use Rattle.std.proofs.Common.{◌∙◌, List, ap, map, subst, sym}
 use Rattle.piece_fn.specs.declared.label.Label.{Label}
 use Rattle.pricing.specs.declared.priced.PricedRoute.{PricedRoute}
-use Rattle.mixed_plan.proofs.KindNumbers.{kind_is}
+use Rattle.mixed_model.proofs.KindNumbers.{kind_is}
 use Rattle.mixed_model.specs.Kinds.{network_of}
 use Rattle.mixed_fleet.specs.Problem.{IsClosedList}
 use Rattle.mixed_fleet.specs.Searched.{searched_of}

@@ -3,7 +3,7 @@ use Rattle.std.specs.List.Sorted.{IsStrictlyIncreasing}
 use Rattle.instance_reader.specs.Instance.{customer_nodes}
 use Rattle.mixed_model.specs.Kinds.{first_of}
 use Rattle.mixed_model.specs.declared.proof.MixedRoute.{MixedRoute}
-use Rattle.mixed_plan.proofs.KindNumbers.{kind_is}
+use Rattle.mixed_model.proofs.KindNumbers.{kind_is}
 use Rattle.mixed_fleet.specs.Plans.{CostsNoMoreThanOwn, IsHeld}
 use Rattle.mixed_fleet.specs.declared.searched.Searched.{Searched}
 use Rattle.mixed_fleet.proofs.OwnPlan.{least_held, own_costs, own_lacks}

@@ -2,7 +2,7 @@ use Rattle.std.proofs.Common.{◌≡◌, ◌∙◌, ◌+◌, Option, arith, subs
 use Rattle.ev_model.specs.Network.{is_customer, Network}
 use Rattle.mixed_model.specs.Kinds.{first_of, network_of}
 use Rattle.mixed_model.proofs.AgreeingNetworks.{same_customer}
-use Rattle.mixed_plan.proofs.KindNumbers.{kind_is}
+use Rattle.mixed_model.proofs.KindNumbers.{kind_is}
 use Rattle.mixed_fleet.specs.Own.{IsLeastBelow, IsOwnBy}
 use Rattle.mixed_fleet.specs.declared.searched.Searched.{Searched}
 use Rattle.mixed_fleet.proofs.Once.{agrees_at}

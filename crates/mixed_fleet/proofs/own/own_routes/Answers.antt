@@ -6,7 +6,7 @@ use Rattle.std.proofs.lemmas.List.Elements.{All-push}
 use Rattle.ev_model.specs.Network.{Network}
 use Rattle.instance_reader.specs.Instance.{customer_nodes}
 use Rattle.mixed_model.specs.Kinds.{first_of}
-use Rattle.mixed_plan.proofs.KindNumbers.{kind_is}
+use Rattle.mixed_model.proofs.KindNumbers.{kind_is}
 use Rattle.mixed_fleet.specs.Own.{AreOwnOf, IsLeastBelow}
 use Rattle.mixed_fleet.specs.Searched.{IsSearched}
 use Rattle.mixed_fleet.specs.declared.own.OwnRoutes.{OwnRoutes}

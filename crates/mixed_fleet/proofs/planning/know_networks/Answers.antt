@@ -3,7 +3,7 @@ use Rattle.std.proofs.lemmas.Bool.{cases_lt}
 use Rattle.std.proofs.lemmas.List.Elements.{All-from_get_or}
 use Rattle.ev_model.specs.Network.{IsNetwork}
 use Rattle.mixed_model.specs.Kinds.{network_of, no_network}
-use Rattle.mixed_plan.proofs.KindNumbers.{kind_is}
+use Rattle.mixed_model.proofs.KindNumbers.{kind_is}
 use Rattle.mixed_fleet.proofs.planning.know_networks.Goals as goal
 
 pub loop-inst-preserved : goal.loop-inst-preserved

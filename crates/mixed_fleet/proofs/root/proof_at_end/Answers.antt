@@ -8,7 +8,7 @@ use Rattle.certificate_parts.specs.Limits.{most_items}
 use Rattle.mixed_model.specs.Kinds.{first_of}
 use Rattle.mixed_model.specs.declared.proof.MixedRoot.TheVariants.{Exact}
 use Rattle.mixed_model.specs.declared.proof.MixedShare.{MixedShare}
-use Rattle.mixed_plan.proofs.KindNumbers.{kind_is}
+use Rattle.mixed_model.proofs.KindNumbers.{kind_is}
 use Rattle.mixed_fleet.specs.Roots.{IsRightRoot}
 use Rattle.price_loop.specs.Columns.{HasRoute}
 use Rattle.mixed_fleet.specs.Shares.{share_at}

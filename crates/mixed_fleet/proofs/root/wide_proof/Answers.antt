@@ -10,7 +10,7 @@ use Rattle.price_loop.specs.Rising.{IsRisen}
 use Rattle.price_loop.specs.declared.rising.Risen.{Risen}
 use Rattle.mixed_model.specs.Kinds.{first_of}
 use Rattle.mixed_model.specs.declared.proof.MixedRoute.{MixedRoute}
-use Rattle.mixed_plan.proofs.KindNumbers.{kind_is}
+use Rattle.mixed_model.proofs.KindNumbers.{kind_is}
 use Rattle.mixed_fleet.specs.Problem.{problem_of}
 use Rattle.mixed_fleet.specs.declared.searched.Searched.{Searched}
 use Rattle.mixed_fleet.proofs.Ends.{nowhere_sum, rising_root, rising_sum}

@@ -4,7 +4,7 @@ use Rattle.std.specs.List.{All}
 use Rattle.std.proofs.lemmas.Result.{IfOk-weaker}
 use Rattle.pricing.specs.declared.priced.PricedRoute.{PricedRoute}
 use Rattle.price_loop.specs.Problems.{IsEarning}
-use Rattle.mixed_plan.proofs.KindNumbers.{kind_is}
+use Rattle.mixed_model.proofs.KindNumbers.{kind_is}
 use Rattle.mixed_fleet.specs.Problem.{problem_of}
 use Rattle.mixed_fleet.specs.Searched.{searched_of}
 use Rattle.mixed_fleet.specs.declared.searched.Searched.{Searched}

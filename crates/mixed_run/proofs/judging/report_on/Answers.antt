@@ -1,6 +1,6 @@
 use Rattle.std.proofs.Common.{arith}
 use Rattle.std.specs.Option.{option_map}
-use Rattle.mixed_plan.proofs.KindNumbers.{kind_is}
+use Rattle.mixed_model.proofs.KindNumbers.{kind_is}
 use Rattle.mixed_run.proofs.AcceptedAnswers.{report_answers}
 use Rattle.mixed_run.proofs.judging.report_on.Goals as goal
 

@@ -1,7 +1,7 @@
 use Rattle.std.proofs.Common.{◌∙◌, List, Option, ap}
 use Rattle.std.specs.Option.{option_map}
 use Rattle.mixed_model.specs.declared.proof.MixedRoute.{MixedRoute}
-use Rattle.mixed_plan.specs.MixedTexts.{mixed_plan_text}
+use Rattle.mixed_model.specs.MixedTexts.{mixed_plan_text}
 use Rattle.mixed_run.proofs.Found.{appended, is_found}
 use Rattle.mixed_text.specs.MixedTexts.{mixed_text}
 use Rattle.mixed_text.specs.Written.{written_mixed}

@@ -4,7 +4,7 @@ use Rattle.std.specs.Prelude.{MatchOption}
 use Rattle.ev_model.specs.Fastest.{HasNoPlan, IsFastest}
 use Rattle.ev_model.specs.Network.{Network}
 use Rattle.route_plan.specs.declared.plan.RoutePlan.{RoutePlan}
-use Rattle.feasible_texts.proofs.PlanRanges.{feasible_fits}
+use Rattle.route_plan.proofs.PlanRanges.{feasible_fits}
 use Rattle.near_pricing.proofs.StartLabels.{fastest_better}
 use Rattle.near_pricing.proofs.route.fastest_in.Goals as goal
 

@@ -27,17 +27,20 @@ settle-requires g c = subst (λ (h : Network). AreRoutes h c.join_routes.new.rou
 
 pub returns-clause-improved : goal.returns-clause-improved
 returns-clause-improved g c =
+    let is = settled_are g (goal.at.returns-clause-improved g c).In_ok-settled in
     kept_by c.plan_of.result _ _ (λ (plan : FleetPlan) plans.
-    plan_is_improved c.args.inst.now c.args.routes.items (settled_are g (goal.at.returns-clause-improved g c).In_ok-settled).arranged.0 c.in_ok-settled.settled.items plan.routes (settled_are g (goal.at.returns-clause-improved g c).In_ok-settled)
-    (settled_are g (goal.at.returns-clause-improved g c).In_ok-settled).arranged.1 (subst (λ (rs : List Route). ArePlansOf c.args.inst.now (are_served rs) plan.routes) c.deref.ensures.value plans)
-    c.nodes-nodes.ensures.network)
+    plan_is_improved c.args.inst.now is.arranged.0 c.in_ok-settled.settled.items plan.routes is.routes_are is.arranged.1
+    (subst (λ (rs : List Route). ArePlansOf c.args.inst.now (are_served rs) plan.routes) c.deref.ensures.value plans)
+    c.nodes-nodes.ensures.network is.settled_are)
     c.plan_of.ensures
 
 pub returns-clause-no_more : goal.returns-clause-no_more
 returns-clause-no_more g c =
+    let is = settled_are g (goal.at.returns-clause-no_more g c).In_ok-settled in
     kept_by c.plan_of.result _ _ (λ (plan : FleetPlan) plans.
-    plan_costs c.args.inst.now c.args.routes.items (settled_are g (goal.at.returns-clause-no_more g c).In_ok-settled).arranged.0 c.in_ok-settled.settled.items plan.routes (settled_are g (goal.at.returns-clause-no_more g c).In_ok-settled)
-    (settled_are g (goal.at.returns-clause-no_more g c).In_ok-settled).arranged.1 (subst (λ (rs : List Route). ArePlansOf c.args.inst.now (are_served rs) plan.routes) c.deref.ensures.value plans))
+    let costs = plan_costs c.args.inst.now is.arranged.0 c.in_ok-settled.settled.items plan.routes is.routes_are is.arranged.1
+    (subst (λ (rs : List Route). ArePlansOf c.args.inst.now (are_served rs) plan.routes) c.deref.ensures.value plans) in
+    omega (arith, costs, is.no_more))
     c.plan_of.ensures
 
 pub plan_of-requires : goal.plan_of-requires

@@ -25,5 +25,8 @@ returns-clause-grown c = (whole c).grown
 pub returns-clause-reached : goal.returns-clause-reached
 returns-clause-reached c = (whole c).reached
 
+pub returns-clause-only : goal.returns-clause-only
+returns-clause-only c = (whole c).only
+
 pub add-requires-clause-parent : goal.add-requires-clause-parent
 add-requires-clause-parent = grind (arith, elements)

@@ -1,4 +1,4 @@
-use Rattle.std.proofs.Common.{◌≡◌, ◌≤◌, ℕ, List, Some, length}
+use Rattle.std.proofs.Common.{◌≡◌, ◌≤◌, ◌⊎◌, ℕ, List, Some, length}
 use Rattle.std.specs.Prelude.{slice_get}
 use Rattle.frvcp_labels.specs.Full.{AreFull}
 use Rattle.frvcp_labels.specs.Search.{IsGrown, IsSoundPool, Reached}
@@ -11,6 +11,7 @@ invariant-loop-value l = record {
   pool : IsSoundPool l.self l.pool;
   full : AreFull l.self l.pool.labels l.full;
   grown : IsGrown l.initial.pool.labels l.pool.labels;
+  only : (v : Leaving) → Reached l.pool.labels v → Reached l.initial.pool.labels v ⊎ ((k : ℕ) × (w : List (ℕ × ℕ)) × (slice_get l.initial.values.items k ≡ Some w) × Holds (state_at l.passed l.to k w) v);
   same : (k : ℕ) (w : List (ℕ × ℕ)) → slice_get l.values.items k ≡ Some w → slice_get l.initial.values.items k ≡ Some w;
   reached : (k : ℕ) (w : List (ℕ × ℕ)) → length l.values.items ≤ k → slice_get l.initial.values.items k ≡ Some w → (v : Leaving) → Holds (state_at l.passed l.to k w) v → Reached l.pool.labels v;
 }

@@ -3,6 +3,7 @@ use Rattle.std.proofs.lemmas.Grind.{common_steps}
 use Rattle.label_pool.specs.Labels.{Labels}
 use Rattle.route_steps.specs.Trips.{IsTrip, Journey}
 use Rattle.route_steps.specs.declared.state.State.{State}
+use Rattle.frvcp_labels.proofs.ChargedStates.{charged_start}
 use Rattle.frvcp_labels.proofs.FullBattery.{none_full}
 use Rattle.frvcp_labels.proofs.SearchTurns.{begun, start_sound}
 use Rattle.frvcp_labels.proofs.trip.Trip.begin.Goals as goal
@@ -26,3 +27,6 @@ add_noted-requires-clause-pool = grind (arith, common_steps)
 
 pub returns-clause-full : goal.returns-clause-full
 returns-clause-full = grind (arith, common_steps)
+
+pub returns-clause-charged : goal.returns-clause-charged
+returns-clause-charged c = charged_start c.args.self.now c.in_ok-pool.pool.labels c.add_noted.new.pool.labels c.point.result (ap (λ (p : Labels State). p.labels) c.in_ok-pool.ensures) c.in_ok-add_noted.ensures.only

@@ -4,7 +4,7 @@ use Rattle.label_pool.specs.Labels.{Labels}
 use Rattle.frvcp_labels.specs.Full.{AreFull}
 use Rattle.frvcp_labels.specs.Search.{IsSoundPool}
 use Rattle.route_steps.specs.declared.state.State.{State}
-use Rattle.frvcp_labels.proofs.TakenLabels.{is_taken, taken_falls, taken_full, taken_home, taken_inside, taken_on_way, taken_sound, taken_turn}
+use Rattle.frvcp_labels.proofs.TakenLabels.{is_taken, taken_charged, taken_falls, taken_full, taken_home, taken_inside, taken_on_way, taken_sound, taken_turn}
 use Rattle.frvcp_labels.proofs.trip.Trip.first_home.Goals as goal
 
 pub value-requires : goal.value-requires
@@ -31,6 +31,7 @@ pub loop-i-preserved : goal.loop-i-preserved
 loop-i-preserved c = record {
   pool = c.in_ok-spread.ensures.pool;
   full = c.in_ok-spread.ensures.full;
+  charged = c.in_ok-spread.ensures.charged;
   spread = taken_turn c.args.self.now c.loop-i.pool c.take_in_time.new.pool c.in-Some.i (is_taken c.loop-i.pool c.take_in_time.new.pool c.take_in_time.result c.in-Some.i c.in-Some.is c.take_in_time.ensures.next) c.spread.new.pool c.loop-i.invariant.spread c.in_ok-spread.ensures.grown
       (taken_on_way c.args.self.now c.loop-i.pool c.take_in_time.new.pool c.in-Some.i (is_taken c.loop-i.pool c.take_in_time.new.pool c.take_in_time.result c.in-Some.i c.in-Some.is c.take_in_time.ensures.next) c.value.result.now c.end.result c.loop-i.invariant.pool c.end.ensures.value c.if-value-end.false c.value.ensures) c.in_ok-spread.ensures.spreads;
 }
@@ -47,6 +48,9 @@ returns-clause-home c = (c.take_in_time.ensures.none (subst (λ (o : Option ℕ)
 
 pub spread-requires-clause-full : goal.spread-requires-clause-full
 spread-requires-clause-full c = taken_full c.args.self.now c.loop-i.pool c.take_in_time.new.pool c.in-Some.i (is_taken c.loop-i.pool c.take_in_time.new.pool c.take_in_time.result c.in-Some.i c.in-Some.is c.take_in_time.ensures.next) c.loop-i.full c.loop-i.invariant.full
+
+pub spread-requires-clause-charged : goal.spread-requires-clause-charged
+spread-requires-clause-charged c = taken_charged c.args.self.now c.loop-i.pool c.take_in_time.new.pool c.in-Some.i (is_taken c.loop-i.pool c.take_in_time.new.pool c.take_in_time.result c.in-Some.i c.in-Some.is c.take_in_time.ensures.next) c.loop-i.invariant.charged
 
 pub returns-then-value-end-clause-full : goal.returns-then-value-end-clause-full
 returns-then-value-end-clause-full c = taken_full c.args.self.now c.loop-i.pool c.take_in_time.new.pool c.in-Some.i (is_taken c.loop-i.pool c.take_in_time.new.pool c.take_in_time.result c.in-Some.i c.in-Some.is c.take_in_time.ensures.next) c.loop-i.full c.loop-i.invariant.full

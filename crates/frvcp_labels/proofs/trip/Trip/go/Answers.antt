@@ -5,9 +5,11 @@ use Rattle.label_pool.proofs.Elements.{element_at}
 use Rattle.route_steps.specs.Trips.{Journey}
 use Rattle.dominance.specs.LevelTimes.{IsLevel}
 use Rattle.piece_fn.specs.PieceFn.{level_times}
-use Rattle.route_steps.specs.Steps.{AreSteps, CoverStops, MayGo, StandsAt}
+use Rattle.route_steps.specs.Steps.{AreSteps, CoverStops, IsSoundState, MayGo, StandsAt}
 use Rattle.route_steps.specs.declared.state.State.{State}
 use Rattle.ev_model.specs.Network.{node_count}
+use Rattle.frvcp_labels.specs.Search.{SpreadsTo}
+use Rattle.frvcp_labels.proofs.ChargedStates.{was_spreads}
 use Rattle.frvcp_labels.proofs.FullBattery.{label_spreads, may_within}
 use Rattle.frvcp_labels.proofs.SearchTurns.{covers_spread}
 use Rattle.frvcp_labels.proofs.trip.Trip.go.Goals as goal
@@ -53,6 +55,28 @@ pub add_all-requires-clause-steps : goal.add_all-requires-clause-steps
 add_all-requires-clause-steps c label here =
     subst (λ (s : State). AreSteps c.args.self.now.network c.args.self.now.route s c.args.passed c.args.to c.in_ok-values.values.items) (c.value-from.ensures label here)
     (subst (λ (j : Journey). AreSteps j.network j.route c.value-from.result.now c.args.passed c.args.to c.in_ok-values.values.items) c.self.view_is (c.in_ok-values.ensures.steps c.value-from.result.now (stands c.value-from.result.now)))
+
+pub add_all-requires-clause-covers : goal.add_all-requires-clause-covers
+add_all-requires-clause-covers c label here =
+    subst (λ (s : State). CoverStops c.args.self.now.network c.args.self.now.route s c.args.passed c.args.to c.in_ok-values.values.items) (c.value-from.ensures label here)
+    (subst (λ (j : Journey). CoverStops j.network j.route c.value-from.result.now c.args.passed c.args.to c.in_ok-values.values.items) c.self.view_is (c.in_ok-values.ensures.covers c.value-from.result.now (stands c.value-from.result.now)))
+
+pub were_there-requires-clause-from : goal.were_there-requires-clause-from
+were_there-requires-clause-from c =
+    let label = element_at c.args.pool.now.labels c.args.i c.requires.from in
+    subst (λ (s : State). IsSoundState c.args.self.now.network c.args.self.now.route s) (sym (c.value-from.ensures label.0 label.1)) (c.requires.pool.labels c.args.i label.0 label.1).state
+
+pub were_there-requires-clause-next : goal.were_there-requires-clause-next
+were_there-requires-clause-next c =
+    let label = element_at c.args.pool.now.labels c.args.i c.requires.from in
+    subst (λ (s : State). MayGo c.args.self.now.network c.args.self.now.route s.passed c.args.passed c.args.to) (sym (c.value-from.ensures label.0 label.1)) (c.requires.next label.0 label.1)
+
+pub returns-then-branch-clause-spreads : goal.returns-then-branch-clause-spreads
+returns-then-branch-clause-spreads c label here =
+    subst (λ (s : State). SpreadsTo c.args.self.now c.args.pool.now.labels s c.args.passed c.args.to) (c.value-from.ensures label here)
+    (was_spreads c.args.self.now c.args.pool.now.labels c.value-from.result.now c.args.passed c.args.to c.requires.pool.trip
+    (subst (λ (s : State). MayGo c.args.self.now.network c.args.self.now.route s.passed c.args.passed c.args.to) (sym (c.value-from.ensures label here)) (c.requires.next label here)) c.requires.charged
+    (c.in_ok-were_there.ensures c.if-branch.true))
 
 pub returns-clause-spreads : goal.returns-clause-spreads
 returns-clause-spreads c =

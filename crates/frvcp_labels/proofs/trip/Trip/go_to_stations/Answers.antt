@@ -10,6 +10,7 @@ pub loop-station-init : goal.loop-station-init
 loop-station-init c = record {
   pool = c.requires.pool;
   full = c.requires.full;
+  charged = c.requires.charged;
   grown = grown_same c.args.pool.now.labels;
   below = spreads_none c.args.self.now c.args.pool.now.labels c.args.pool.now.labels c.args.i c.args.passed;
 }
@@ -28,6 +29,7 @@ pub loop-station-preserved : goal.loop-station-preserved
 loop-station-preserved c = record {
   pool = c.in_ok-go.ensures.pool;
   full = c.in_ok-go.ensures.full;
+  charged = c.in_ok-go.ensures.charged;
   grown = grown_on c.args.pool.now.labels c.loop-station.pool.labels c.go.new.pool.labels c.loop-station.invariant.grown c.in_ok-go.ensures.grown;
   below = spreads_more c.args.self.now c.args.pool.now.labels c.loop-station.pool.labels c.go.new.pool.labels c.args.i c.args.passed c.loop-station.station-index _ c.loop-station.invariant.grown c.in_ok-go.ensures.grown
       (ap (λ xs. slice_index xs c.loop-station.station-index) (c.self.invariant.are_stations ∙ ap (λ (j : Journey). stations j.network) c.self.view_is))

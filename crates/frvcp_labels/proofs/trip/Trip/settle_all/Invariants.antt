@@ -1,4 +1,5 @@
 use Rattle.std.proofs.Common.{◌-◌, ◌^◌}
+use Rattle.frvcp_labels.specs.Charged.{AreCharged}
 use Rattle.frvcp_labels.specs.Full.{AreFull}
 use Rattle.frvcp_labels.specs.Search.{IsSoundPool, IsSpreadOnWay, settled_count}
 use Rattle.route_steps.specs.Ways.{begin}
@@ -8,6 +9,7 @@ abbrev pub invariant-loop-i : goal.invariant-loop-i
 invariant-loop-i l = record {
   pool : IsSoundPool l.self l.pool;
   full : AreFull l.self l.pool.labels l.full;
+  charged : AreCharged l.self l.pool.labels;
   spread : IsSpreadOnWay l.self l.pool.labels (begin l.self.start);
 }
 

@@ -2,7 +2,7 @@ use Rattle.std.proofs.Common.{◌≡◌, ◌∙◌, ◌<◌, ◌≤◌, ℕ, ap,
 use Rattle.std.proofs.lemmas.Option.{same_Some}
 use Rattle.ev_model.specs.Network.{Network, node_count}
 use Rattle.fleet_model.specs.Labels.{IsLevel}
-use Rattle.near_check.specs.Judging.{TellsHome}
+use Rattle.near_proof.specs.Judging.{TellsHome}
 use Rattle.near_proof.specs.Broken.{EarnsHome}
 use Rattle.near_proof.specs.States.{label_of}
 use Rattle.near_proof.specs.Terms.{Terms}

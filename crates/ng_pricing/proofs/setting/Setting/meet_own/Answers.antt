@@ -2,7 +2,7 @@ use Rattle.std.proofs.Common.{List, [], ◌∷◌, ℕ, Option, subst, sym, arit
 use Rattle.std.proofs.lemmas.Grind.{common_steps}
 use Rattle.std.specs.Prelude.{MatchOption}
 use Rattle.ev_model.specs.Fastest.{HasNoPlan, IsFastest}
-use Rattle.feasible_texts.proofs.PlanRanges.{feasible_fits}
+use Rattle.route_plan.proofs.PlanRanges.{feasible_fits}
 use Rattle.route_plan.specs.declared.plan.RoutePlan.{RoutePlan}
 use Rattle.ng_pricing.specs.Met.{AreMet}
 use Rattle.ng_pricing.specs.declared.met.MetRoute.{MetRoute}

@@ -1,0 +1,4 @@
+pub mod Found
+pub mod Listed
+pub mod NumberWords
+pub mod Refused

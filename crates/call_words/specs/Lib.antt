@@ -1,0 +1,4 @@
+pub mod Command
+pub mod Matches
+pub mod Names
+pub mod Numbers

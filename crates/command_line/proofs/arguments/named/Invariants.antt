@@ -1,7 +1,0 @@
-use Rattle.std.proofs.Common.{◌≡◌, map, take, string_bytes}
-use Rattle.clap.specs.Walk.{texts}
-use Rattle.command_line.specs.Words.{named}
-use Rattle.command_line.proofs.arguments.named.Given as goal
-
-abbrev pub invariant-loop-word : goal.invariant-loop-word
-invariant-loop-word l = texts l.all.items ≡ named (map string_bytes (take l.word-index l.words))

@@ -1,0 +1,158 @@
+//! Who tells people how far a search is.
+
+use evgap_run::{
+    GapProgress, GapWatcher, MoveProgress, MoveWatcher, PriceProgress, PriceWatcher,
+    RoundsProgress, RoundsWatcher, ScaleWatcher,
+};
+use job_listeners::Pace;
+use std::fmt::{self, Display, Formatter};
+use std::io::Eprint;
+use std::rt::Clock;
+
+/// Tells people on standard error how far a search is, a line at a time: the first 3 seconds behind
+/// its beginning, and none within a second of another. Nothing is told, and nothing else changes,
+/// where the clock or standard error fails.
+#[derive(Drop)]
+pub(crate) struct ToldGap<'a, R: Clock + Eprint> {
+    rt: &'a R,
+    /// When the next line is due, where any is told.
+    pace: Option<Pace>,
+    denominator: u64,
+    /// What is held, once a plan is.
+    held: Option<GapProgress>,
+}
+
+impl<'a, R: Clock + Eprint> ToldGap<'a, R> {
+    /// What begins now is told, where it is wanted.
+    pub(crate) fn new(rt: &'a R, is_wanted: bool) -> Self {
+        let pace = match rt.monotonic() {
+            Ok(now) if is_wanted => Some(Pace::beginning(now)),
+            _ => None,
+        };
+        ToldGap {
+            rt,
+            pace,
+            denominator: 1,
+            held: None,
+        }
+    }
+
+    /// Whether a line is due now.
+    fn is_due(&mut self) -> bool {
+        let Some(pace) = &mut self.pace else {
+            return false;
+        };
+        match self.rt.monotonic() {
+            Ok(now) => pace.is_due(now),
+            Err(_) => false,
+        }
+    }
+
+    /// What is held, as a line ends.
+    fn held(&self) -> HeldWords {
+        HeldWords {
+            held: self.held,
+            denominator: self.denominator,
+        }
+    }
+}
+
+impl<'a, R: Clock + Eprint> MoveWatcher for ToldGap<'a, R> {
+    fn watch_moves(&mut self, progress: MoveProgress) {
+        if self.is_due() {
+            let MoveProgress { moves, cost } = progress;
+            let denominator = self.denominator;
+            let held = self.held();
+            let _ = eprintln!(self.rt; "evgap: moves {moves}, cost {cost}/{denominator}{held}");
+        }
+    }
+}
+
+impl<'a, R: Clock + Eprint> RoundsWatcher for ToldGap<'a, R> {
+    fn watch_rounds(&mut self, progress: RoundsProgress) {
+        if self.is_due() {
+            let RoundsProgress {
+                rounds,
+                routes,
+                prices,
+            } = progress;
+            let denominator = self.denominator;
+            let held = self.held();
+            let _ = eprintln!(self.rt;
+                "evgap: rounds {rounds}, routes {routes}, prices {prices}/{denominator}{held}"
+            );
+        }
+    }
+}
+
+impl<'a, R: Clock + Eprint> PriceWatcher for ToldGap<'a, R> {
+    fn watch_prices(&mut self, progress: PriceProgress) {
+        if self.is_due() {
+            let PriceProgress {
+                customers,
+                fixed,
+                bound,
+            } = progress;
+            let denominator = self.denominator;
+            let held = self.held();
+            let _ = eprintln!(self.rt;
+                "evgap: prices {fixed} of {customers}, bound {bound}/{denominator}{held}"
+            );
+        }
+    }
+}
+
+impl<'a, R: Clock + Eprint> GapWatcher for ToldGap<'a, R> {
+    fn watch_gap(&mut self, progress: GapProgress) {
+        self.held = Some(progress);
+        if self.is_due() {
+            let held = self.held();
+            let _ = eprintln!(self.rt; "evgap: plans{held}");
+        }
+    }
+}
+
+impl<'a, R: Clock + Eprint> ScaleWatcher for ToldGap<'a, R> {
+    fn begin(&mut self, denominator: u64) {
+        self.denominator = denominator;
+    }
+}
+
+/// What is held: the bound, where it is known, the plan's cost, and how far apart they are.
+#[derive(Clone, Copy, Drop)]
+struct HeldWords {
+    held: Option<GapProgress>,
+    denominator: u64,
+}
+
+impl Display for HeldWords {
+    fn fmt<W: fmt::Write>(&self, f: &mut Formatter<W>) -> fmt::Result {
+        let Some(GapProgress { cost, bound }) = self.held else {
+            return Ok(());
+        };
+        let denominator = self.denominator;
+        let Some(bound) = bound else {
+            return write!(f, ", plan held {cost}/{denominator}");
+        };
+        write!(
+            f,
+            ", bound {bound}/{denominator}, plan held {cost}/{denominator}"
+        )?;
+        match hundredths(cost, bound) {
+            Some(gap) => write!(f, ", gap {}.{:02} %", gap / 100, gap % 100),
+            None => Ok(()),
+        }
+    }
+}
+
+/// By how much of the bound a cost is above it, in hundredths of a percent and rounded up; `None`
+/// for a bound of 0 and past 128 bits.
+fn hundredths(cost: u128, bound: u128) -> Option<u128> {
+    let apart = cost.saturating_sub(bound).checked_mul(10_000)?;
+    let gap = apart.checked_div(bound)?;
+    if gap.checked_mul(bound)? < apart {
+        gap.checked_add(1)
+    } else {
+        Some(gap)
+    }
+}

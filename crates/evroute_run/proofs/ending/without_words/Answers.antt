@@ -1,9 +1,0 @@
-use Rattle.std.proofs.Common.{arith}
-use Rattle.std.proofs.lemmas.Grind.{common_steps}
-use Rattle.evroute_run.proofs.ending.without_words.Goals as goal
-
-pub returns-else-eq-clause-memory : goal.returns-else-eq-clause-memory
-returns-else-eq-clause-memory = grind (arith, common_steps)
-
-pub returns-then-eq-clause-memory : goal.returns-then-eq-clause-memory
-returns-then-eq-clause-memory = grind (arith, common_steps)

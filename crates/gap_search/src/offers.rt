@@ -1,0 +1,186 @@
+//! Routes of which plans are made.
+
+use crate::watcher::GapProgress;
+use customer_sets::CustSet;
+use instance_reader::Instance;
+use near_columns::NearOrder;
+use near_proof::NearProof;
+use route_plan::{FleetPlan, RoutePlan, walk};
+use std::alloc::{AllocError, Global};
+
+/// A route of which plans are made.
+#[derive(Drop)]
+pub(crate) struct Offer {
+    /// The nodes of its customers, in order.
+    pub(crate) nodes: Vec<usize>,
+    /// Whom it serves.
+    pub(crate) served: CustSet,
+    /// What it takes, in scaled time.
+    pub(crate) time: u64,
+}
+
+/// The routes of which plans are made, and what customers are worth by a proof. Nothing is promised
+/// of them.
+#[derive(Drop)]
+pub(crate) struct Offers<'i> {
+    pub(crate) inst: &'i Instance,
+    /// The prices of the customers, by number, times the weight.
+    pub(crate) prices: Vec<i128>,
+    pub(crate) weight: u64,
+    /// What no plan costs less than.
+    bound: Option<u128>,
+    pub(crate) all: Vec<Offer>,
+}
+
+impl<'i> Offers<'i> {
+    /// No route yet.
+    pub(crate) fn new(
+        alloc: Global,
+        inst: &'i Instance,
+        proof: &NearProof,
+    ) -> Result<Offers<'i>, AllocError> {
+        let mut prices = Vec::new(alloc);
+        for price in proof.prices.as_slice() {
+            prices.push(i128::from(*price))?;
+        }
+        Ok(Offers {
+            inst,
+            prices,
+            weight: proof.weight,
+            bound: proof.bound,
+            all: Vec::new(alloc),
+        })
+    }
+
+    /// Adds routes. Their places.
+    pub(crate) fn add_orders(
+        &mut self,
+        alloc: Global,
+        orders: Vec<NearOrder>,
+    ) -> Result<Vec<usize>, AllocError> {
+        let mut places = Vec::with_capacity(alloc, orders.len())?;
+        for order in orders {
+            places.push(self.add(order.nodes, order.time)?)?;
+        }
+        Ok(places)
+    }
+
+    /// Adds the routes of a plan. Their places.
+    pub(crate) fn add_plan(
+        &mut self,
+        alloc: Global,
+        plan: &FleetPlan,
+    ) -> Result<Vec<usize>, AllocError> {
+        let mut places = Vec::with_capacity(alloc, plan.routes.len())?;
+        for route in plan.routes.as_slice() {
+            let nodes = customers_of(alloc, self.inst, route)?;
+            places.push(self.add(nodes, time_of(self.inst, route))?)?;
+        }
+        Ok(places)
+    }
+
+    /// How far a plan that is held is from the bound.
+    pub(crate) fn progress(&self, held: &FleetPlan) -> GapProgress {
+        GapProgress {
+            cost: cost_of_plan(self.inst, held),
+            bound: self.bound,
+        }
+    }
+
+    /// Adds a route. Its place.
+    fn add(&mut self, nodes: Vec<usize>, time: u64) -> Result<usize, AllocError> {
+        let served = served_by(self.inst, &nodes);
+        self.all.push(Offer {
+            nodes,
+            served,
+            time,
+        })?;
+        Ok(self.all.len().saturating_sub(1))
+    }
+
+    /// What the routes at these places take together.
+    pub(crate) fn cost_of(&self, places: &[usize]) -> u128 {
+        let mut cost: u128 = 0;
+        for place in places {
+            if let Some(offer) = self.all.get(*place) {
+                cost = cost.saturating_add(u128::from(offer.time));
+            }
+        }
+        cost
+    }
+
+    /// Whom the routes at these places serve.
+    pub(crate) fn served_by(&self, places: &[usize]) -> CustSet {
+        let mut served = CustSet::empty();
+        for place in places {
+            if let Some(offer) = self.all.get(*place) {
+                served = or(served, offer.served);
+            }
+        }
+        served
+    }
+}
+
+/// The nodes of the customers of a route, in order.
+fn customers_of(
+    alloc: Global,
+    inst: &Instance,
+    route: &RoutePlan,
+) -> Result<Vec<usize>, AllocError> {
+    let mut nodes = Vec::new(alloc);
+    for stop in route.stops.as_slice() {
+        if !stop.via && number_of(inst, stop.node).is_some() {
+            nodes.push(stop.node)?;
+        }
+    }
+    Ok(nodes)
+}
+
+/// What a plan costs, for those who watch.
+pub(crate) fn cost_of_plan(inst: &Instance, plan: &FleetPlan) -> u128 {
+    let mut cost: u128 = 0;
+    for route in plan.routes.as_slice() {
+        cost = cost.saturating_add(u128::from(time_of(inst, route)));
+    }
+    cost
+}
+
+/// The scaled time of a route, the greatest number where it can't be driven.
+fn time_of(inst: &Instance, route: &RoutePlan) -> u64 {
+    match walk(inst, inst.max_q(), route.stops.as_slice()) {
+        Ok(end) => end.time,
+        Err(_) => u64::MAX,
+    }
+}
+
+/// The number of the customer at a node, below 128.
+pub(crate) fn number_of(inst: &Instance, node: usize) -> Option<usize> {
+    if node >= inst.nodes() {
+        return None;
+    }
+    inst.customer_number(node).filter(|number| *number < 128)
+}
+
+/// The customers at these nodes.
+fn served_by(inst: &Instance, nodes: &[usize]) -> CustSet {
+    let mut served = CustSet::empty();
+    for node in nodes {
+        if let Some(number) = number_of(inst, *node) {
+            if number < 128 {
+                served = served.with(number);
+            }
+        }
+    }
+    served
+}
+
+/// Those in either set.
+fn or(one: CustSet, other: CustSet) -> CustSet {
+    let mut both = one;
+    for number in 0..128 {
+        if other.has(number) {
+            both = both.with(number);
+        }
+    }
+    both
+}

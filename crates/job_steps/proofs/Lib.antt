@@ -1,2 +1,0 @@
-pub mod ReadRules
-pub mod LimitedNetworks

@@ -1,4 +1,0 @@
-pub mod OneProof
-pub mod Rules
-pub mod KindRoutes
-pub mod Roots

@@ -1,7 +1,0 @@
-use Rattle.std.proofs.Common.{take}
-use Rattle.std.specs.List.{AllZip}
-use Rattle.mixed_check.specs.Tellings.{IsListedIn}
-use Rattle.mixed_check.proofs.routes.listed_routes.Given as goal
-
-abbrev pub invariant-loop-column : goal.invariant-loop-column
-invariant-loop-column l = AllZip (IsListedIn l.kinds) (take l.column-index l.columns) l.routes.items

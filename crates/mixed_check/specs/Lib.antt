@@ -1,2 +1,0 @@
-pub mod OneKind
-pub mod Tellings

@@ -1,5 +1,0 @@
-use Rattle.mixed_plan.proofs.KindNumbers.{AgreeTo}
-use Rattle.mixed_plan.proofs.agreement.kinds_agree.Given as goal
-
-abbrev pub invariant-loop-kind : goal.invariant-loop-kind
-invariant-loop-kind l = AgreeTo l.kinds l.kind

@@ -1,5 +1,0 @@
-use Rattle.mixed_plan.proofs.TextLaws.{plan_is_spelled}
-use Rattle.mixed_plan.proofs.text.laws.texts_spell_mixed_plans.Goals as goal
-
-pub returns : goal.returns
-returns c = λ kinds bytes plan some few. plan_is_spelled kinds some few bytes plan

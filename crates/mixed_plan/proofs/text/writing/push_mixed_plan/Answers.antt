@@ -1,6 +1,0 @@
-use Rattle.std.proofs.Common.{arith}
-use Rattle.std.proofs.lemmas.Grind.{common_steps}
-use Rattle.mixed_plan.proofs.text.writing.push_mixed_plan.Goals as goal
-
-pub returns-in-None-clause-ok : goal.returns-in-None-clause-ok
-returns-in-None-clause-ok = grind (arith, common_steps)

@@ -1,6 +1,0 @@
-use Rattle.std.proofs.Common.{arith}
-use Rattle.std.proofs.lemmas.Grind.{common_steps}
-use Rattle.mixed_plan.proofs.text.writing.push_routes.Goals as goal
-
-pub returns-clause-ok : goal.returns-clause-ok
-returns-clause-ok = grind (arith, common_steps)

@@ -1,4 +1,0 @@
-pub mod Agreement
-pub mod MixedRules
-pub mod MixedTexts
-pub mod MixedReading

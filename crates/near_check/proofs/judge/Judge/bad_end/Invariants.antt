@@ -1,6 +1,0 @@
-use Rattle.near_check.proofs.Told.{FreeBefore}
-use Rattle.near_check.specs.Judging.{judged}
-use Rattle.near_check.proofs.judge.Judge.bad_end.Given as goal
-
-abbrev pub invariant-loop-number : goal.invariant-loop-number
-invariant-loop-number l = FreeBefore l.self.inst.now (judged l.self) l.number

@@ -1,6 +1,0 @@
-use Rattle.std.proofs.Common.{arith}
-use Rattle.std.proofs.lemmas.Grind.{common_steps}
-use Rattle.near_services.proofs.earnings.earned_by.Goals as goal
-
-pub loop-customer-preserved : goal.loop-customer-preserved
-loop-customer-preserved = grind (arith, common_steps)

@@ -1,4 +1,0 @@
-pub mod PartReading
-pub mod ProofReading
-pub mod ProofLaws
-pub mod WholeReading

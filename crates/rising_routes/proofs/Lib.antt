@@ -1,2 +1,0 @@
-pub mod FirstCustomers
-pub mod RouteOrders

@@ -1,9 +1,0 @@
-pub mod Options
-pub mod Entries
-pub mod EntryLooks
-pub mod FollowedRoutes
-pub mod LabelSteps
-pub mod LabelEnds
-pub mod Early
-pub mod StartState
-pub mod Faults

@@ -1,4 +1,0 @@
-pub mod Records
-pub mod Choices
-pub mod Numbers
-pub mod Lines

@@ -1,9 +1,0 @@
-mod Moves
-mod Dependence
-mod Within
-mod FollowingHelpers
-mod Exchange
-mod ShareWeights
-mod Reached
-mod StartSteps
-mod HelperTables

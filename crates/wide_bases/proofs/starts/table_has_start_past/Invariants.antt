@@ -1,5 +1,0 @@
-use Rattle.wide_bases.proofs.StartSteps.{IsGoing}
-use Rattle.wide_bases.proofs.starts.table_has_start_past.Given as goal
-
-abbrev pub invariant-loop-col : goal.invariant-loop-col
-invariant-loop-col l = IsGoing l.initial.t l.t l.entries l.col-index l.taken
