@@ -1,0 +1,4 @@
+pub mod ViewFinds
+pub mod ViewLaw
+pub mod Performed
+pub mod Shown

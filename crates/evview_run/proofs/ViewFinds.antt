@@ -1,0 +1,206 @@
+-- What is found, and which of the reads failed.
+use Rattle.std.specs.Borrow.{Bor}
+use Rattle.std.specs.Option.{option_map}
+use Rattle.std.proofs.Common.{◌≡◌, ◌≢◌, ◌⊎◌, ℕ, ◌≤◌, List, [], ◌∷◌, ◌++◌, Global, Option, None, Some, Result, Ok, Err, IfOk, IfSome, String, ap, inl, inr, map, refl, string_bytes, subst, sym}
+use Rattle.ev_model.specs.Fleet.{IsFleetPlan}
+use Rattle.ev_model.specs.Network.{Network}
+use Rattle.ev_outside.specs.Shelf.{Files, ShelfState}
+use Rattle.fleet_steps.specs.PlanFile.{BreaksFirst, IsPlanEnded, IsValid}
+use Rattle.job_frame.proofs.BehindReads.{IsFoundFor, no_write}
+use Rattle.job_frame.proofs.FileReads.{some_read}
+use Rattle.job_frame.specs.Faults.{FailsReading, HasFailedRead}
+use Rattle.job_frame.specs.Finds.{written_by}
+use Rattle.job_frame.specs.Task.{Answers, AreReadUpTo, IsAnswered}
+use Rattle.job_frame.specs.Writes.{AreDifferent, Written}
+use Rattle.job_frame.specs.declared.found.Found.{Found}
+use Rattle.job_frame.specs.declared.status.Status.{Status}
+use Rattle.job_frame.specs.declared.status.Status.TheVariants as status
+use Rattle.job_frame.specs.Caps.{file_read, most_bytes}
+use Rattle.job_frame.specs.Ended.{IsNetworkEnded, IsRuleOrMemory}
+use Rattle.job_frame.specs.LimitedNetwork.{HasNetwork, IsNetworkRefused}
+use Rattle.job_frame.specs.declared.answer.Ended.{Ended}
+use Rattle.job_frame.specs.declared.answer.Ended.TheVariants.{Refused}
+use Rattle.plan_check.specs.FleetRules.{stops_of}
+use Rattle.plan_check.specs.declared.fault.PlanFault.{PlanFault}
+use Rattle.plan_writer.specs.CheckText.{check_text}
+use Rattle.plan_writer.specs.RefusalText.{IsRule, refusal_text}
+use Rattle.plan_writer.specs.declared.check.Judgement.TheVariants as judgement
+use Rattle.plan_writer.specs.declared.refusal.Refusal.{Refusal}
+use Rattle.plan_writer.specs.declared.refusal.Refusal.TheVariants as refusal
+use Rattle.route_plan.specs.declared.plan.FleetPlan.{FleetPlan}
+use Rattle.schedule_texts.specs.JsonTexts.{json_text}
+use Rattle.schedule_texts.specs.Pictures.{picture_text}
+use Rattle.schedule_texts.specs.Tables.{table_text}
+use Rattle.view_words.specs.JobValue.{IsJob, job_value}
+use Rattle.view_words.specs.Words.{ViewPlan}
+use Rattle.view_words.specs.declared.Job.{Job}
+use Rattle.evview_run.specs.ViewAnswer.{HasPlan, HasRoute, IsTextRefused, PutsNoRoute, PutsRefusal, ViewAnswers, file_of, no_route_text, route_count, shown_of, view_task}
+
+-- a plan that costs something is a fleet plan
+pub plan_is_fleet : (g : Network) (plan : Option (Bor FleetPlan)) (cost : Option ℕ) → IsValid g (option_map (λ p. p.now) plan) cost → IfSome plan (λ p. IsFleetPlan g 1 (stops_of p.now.routes))
+plan_is_fleet g None cost valid = tt
+plan_is_fleet g (Some p) cost valid = valid.0
+
+module _ (job : ViewPlan) (bytes plan_bytes : List ℕ) where
+  by_status : (f : Found) (s : Status) → f.answer.status ≡ s → ViewAnswers job bytes plan_bytes s (map written_by f.files.items) f.answer.text.items
+      → ViewAnswers job bytes plan_bytes f.answer.status (map written_by f.files.items) f.answer.text.items
+  by_status f s is answers = subst (λ (x : Status). ViewAnswers job bytes plan_bytes x (map written_by f.files.items) f.answer.text.items) (sym is) answers
+
+  -- a schedule, with the files that are asked for
+  pub puts_schedule : {E : Type 0} (g : Network) (plan : Option FleetPlan) (cost : Option ℕ) (made : Result Found E) → HasPlan job.limit bytes plan_bytes g plan → IsValid g plan cost → HasRoute job.route plan
+      → IfOk made (λ f. f.answer.status ≡ status.Done)
+      → IfOk made (λ f. map written_by f.files.items ≡ file_of job.svg (picture_text (shown_of g job.route plan)) ++ file_of job.json (json_text (shown_of g job.route plan)))
+      → IfOk made (λ f. f.answer.text.items ≡ table_text job.exact (shown_of g job.route plan))
+      → IfOk made (λ f. ViewAnswers job bytes plan_bytes f.answer.status (map written_by f.files.items) f.answer.text.items)
+  puts_schedule {E} g plan cost (Err e) has valid route answered files text = tt
+  puts_schedule {E} g plan cost (Ok f) has valid route answered files text =
+      by_status f status.Done answered (record {
+        files = record { network = g; plan = plan; has = has };
+        cost = cost;
+        valid = valid;
+        route = route;
+        shown = shown_of g job.route plan;
+        is = refl;
+        written = files;
+        text_is = text;
+      })
+
+  -- the first rule that the plan breaks
+  pub puts_broken : {E : Type 0} (g : Network) (plan : Option FleetPlan) (fault : PlanFault) (made : Result Found E) → HasPlan job.limit bytes plan_bytes g plan → HasRoute job.route plan → BreaksFirst g plan fault
+      → IfOk made (λ f. f.answer.status ≡ status.Negative) → IfOk made (λ f. map written_by f.files.items ≡ [])
+      → IfOk made (λ f. f.answer.text.items ≡ check_text g.denominator (judgement.Plan fault))
+      → IfOk made (λ f. ViewAnswers job bytes plan_bytes f.answer.status (map written_by f.files.items) f.answer.text.items)
+  puts_broken {E} g plan fault (Err e) has route broken answered files text = tt
+  puts_broken {E} g plan fault (Ok f) has route broken answered files text =
+      by_status f status.Negative answered
+      (record { files = record { network = g; plan = plan; has = has }; route = route; fault = fault; broken = broken; none = files; text_is = text })
+
+  -- the line of a route that isn't there
+  pub puts_no_route : {E : Type 0} (g : Network) (plan : Option FleetPlan) (number : ℕ) (made : Result Found E) → HasPlan job.limit bytes plan_bytes g plan → job.route ≡ Some number → route_count plan ≤ number
+      → IfOk made (λ f. f.answer.status ≡ status.Refused) → IfOk made (λ f. map written_by f.files.items ≡ [])
+      → IfOk made (λ f. f.answer.text.items ≡ no_route_text number)
+      → IfOk made (λ f. ViewAnswers job bytes plan_bytes f.answer.status (map written_by f.files.items) f.answer.text.items)
+  puts_no_route {E} g plan number (Err e) has asked past answered files text = tt
+  puts_no_route {E} g plan number (Ok f) has asked past answered files text =
+      by_status f status.Refused answered
+      (inr (record { files = record { network = g; plan = plan; has = has }; number = number; asked = asked; past = past; none = files; text_is = text }))
+
+  -- the line of a refusal
+  refused_so : {E : Type 0} (r : Refusal) (made : Result Found E) → IsRule r → IsTextRefused job.limit bytes plan_bytes r → IfOk made (λ f. f.answer.status ≡ status.Refused)
+      → IfOk made (λ f. f.files.items ≡ []) → IfOk made (λ f. f.answer.text.items ≡ refusal_text r)
+      → IfOk made (λ f. ViewAnswers job bytes plan_bytes f.answer.status (map written_by f.files.items) f.answer.text.items)
+  refused_so {E} r (Err e) rule refused answered files text = tt
+  refused_so {E} r (Ok f) rule refused answered files text =
+      by_status f status.Refused answered (inl (record { refusal = r; rule = rule; refused = refused; none = ap (λ fs. map written_by fs) files; text_is = text }))
+
+rule_of : (ended : Ended) (r : Refusal) → ended ≡ Refused r → IsRuleOrMemory ended → IsRule r
+rule_of ended r is rule = subst (λ (e : Ended). IsRuleOrMemory e) is rule
+
+plan_rule : (limit : Option ℕ) (bytes plan_bytes : List ℕ) (g : Network) (r : Refusal) → HasNetwork limit bytes g → IsPlanEnded plan_bytes (Refused r) → IsTextRefused limit bytes plan_bytes r
+plan_rule limit bytes plan_bytes g r network (fault, is, first) =
+    subst (λ (x : Refusal). IsTextRefused limit bytes plan_bytes x) (sym is) (g, network, first)
+
+-- the first broken rule of the plan's text
+pub puts_refusal : {E : Type 0} (job : ViewPlan) (bytes plan_bytes : List ℕ) (g : Network) (ended : Ended) (r : Refusal) (made : Result Found E) → HasNetwork job.limit bytes g → ended ≡ Refused r
+    → IsRuleOrMemory ended → IsPlanEnded plan_bytes ended
+    → IfOk made (λ f. f.answer.status ≡ status.Refused) → IfOk made (λ f. f.files.items ≡ []) → IfOk made (λ f. f.answer.text.items ≡ refusal_text r)
+    → IfOk made (λ f. ViewAnswers job bytes plan_bytes f.answer.status (map written_by f.files.items) f.answer.text.items)
+puts_refusal {E} job bytes plan_bytes g ended r made network is rule refused answered files text =
+    let first = subst (λ (e : Ended). IsPlanEnded plan_bytes e) is refused in
+    refused_so job bytes plan_bytes r made (rule_of ended r is rule) (plan_rule job.limit bytes plan_bytes g r network first) answered files text
+
+-- ---- what the bytes of both files answer
+
+-- the two files that are written have different names
+abbrev pub DifferIfBoth : Option (List ℕ) → Option (List ℕ) → Type 0
+DifferIfBoth svg json = IfSome svg (λ s. IfSome json (λ j. s ≢ j))
+
+pub job_differs : (w : Job) → IsJob w → DifferIfBoth (job_value w).svg (job_value w).json
+job_differs w is = by w.svg w.json is
+  where
+    by : (svg json : Option (String Global)) → IfSome svg (λ s. IfSome json (λ j. string_bytes s ≢ string_bytes j))
+        → DifferIfBoth (option_map (λ s. string_bytes s) svg) (option_map (λ s. string_bytes s) json)
+    by None json is = tt
+    by (Some svg) None is = tt
+    by (Some svg) (Some json) is = is
+
+files_differ : (svg json : Option (List ℕ)) (picture schedule : List ℕ) (ws : List Written) → DifferIfBoth svg json → ws ≡ file_of svg picture ++ file_of json schedule → AreDifferent ws
+files_differ svg json picture schedule ws differ is = subst (λ (xs : List Written). AreDifferent xs) (sym is) (by svg json differ)
+  where
+    by : (svg json : Option (List ℕ)) → DifferIfBoth svg json → AreDifferent (file_of svg picture ++ file_of json schedule)
+    by None None differ = tt
+    by None (Some json) differ = (tt, tt)
+    by (Some svg) None differ = (tt, tt)
+    by (Some svg) (Some json) differ = ((differ, tt), (tt, tt))
+
+refused_writes : (job : ViewPlan) (bytes plan_bytes : List ℕ) (ws : List Written) (text : List ℕ)
+    → PutsRefusal job bytes plan_bytes ws text ⊎ PutsNoRoute job bytes plan_bytes ws text → AreDifferent ws
+refused_writes job bytes plan_bytes ws text (inl p) = no_write ws p.none
+refused_writes job bytes plan_bytes ws text (inr p) = no_write ws p.none
+
+answer_is_plain : (job : ViewPlan) (bytes plan_bytes : List ℕ) (s : Status) (ws : List Written) (text : List ℕ) → DifferIfBoth job.svg job.json → ViewAnswers job bytes plan_bytes s ws text → IsAnswered s × AreDifferent ws
+answer_is_plain job bytes plan_bytes status.Done ws text differ p = (tt, files_differ job.svg job.json (picture_text p.shown) (json_text p.shown) ws differ p.written)
+answer_is_plain job bytes plan_bytes status.Negative ws text differ p = (tt, no_write ws p.none)
+answer_is_plain job bytes plan_bytes status.Refused ws text differ p = (tt, refused_writes job bytes plan_bytes ws text p)
+answer_is_plain job bytes plan_bytes status.Words ws text differ p = absurd p
+answer_is_plain job bytes plan_bytes status.Fault ws text differ p = absurd p
+answer_is_plain job bytes plan_bytes status.Memory ws text differ p = absurd p
+answer_is_plain job bytes plan_bytes status.Stopped ws text differ p = absurd p
+
+pub view_found : {E : Type 0} (job : ViewPlan) (files : Option Files) (bytes plan_bytes given : List ℕ) (made : Result Found E) → DifferIfBoth job.svg job.json
+    → AreReadUpTo most_bytes files job.file bytes → AreReadUpTo most_bytes files job.plan plan_bytes → given ≡ plan_bytes
+    → IfOk made (λ f. ViewAnswers job bytes given f.answer.status (map written_by f.files.items) f.answer.text.items)
+    → IfOk made (λ f. IsFoundFor (view_task job) files f)
+view_found {E} job files bytes plan_bytes given (Err e) differ read read_plan same answers = tt
+view_found {E} job files bytes plan_bytes given (Ok f) differ read read_plan same answers =
+    let ws = map written_by f.files.items in
+    let plain = answer_is_plain job bytes given f.answer.status ws f.answer.text.items differ answers in
+    record {
+      answered = plain.0;
+      answers = record {
+        bytes = bytes ∷ plan_bytes ∷ [];
+        read = (read, (read_plan, tt));
+        answer = subst (λ (bs : List ℕ). ViewAnswers job bytes bs f.answer.status ws f.answer.text.items) same answers;
+      };
+      different = plain.1;
+    }
+
+-- a rule of the instance is broken whatever the plan holds
+early_rule : (limit : Option ℕ) (bytes plan_bytes : List ℕ) (r : Refusal) → IsNetworkRefused limit bytes r → IsTextRefused limit bytes plan_bytes r
+early_rule limit bytes plan_bytes (refusal.Instance e) is = is
+early_rule limit bytes plan_bytes (refusal.Limit given) is = is
+early_rule limit bytes plan_bytes (refusal.Customers count) is = absurd is
+early_rule limit bytes plan_bytes (refusal.Charge level) is = absurd is
+early_rule limit bytes plan_bytes (refusal.Route e) is = absurd is
+early_rule limit bytes plan_bytes (refusal.Plan e) is = absurd is
+early_rule limit bytes plan_bytes (refusal.Certificate e) is = absurd is
+early_rule limit bytes plan_bytes (refusal.Literal e) is = absurd is
+early_rule limit bytes plan_bytes refusal.Maker is = absurd is
+
+-- a refusal before the plan is read is the answer whatever the plan holds
+pub refused_early : (job : ViewPlan) (files : Option Files) (bytes given : List ℕ) (ended : Ended) (r : Refusal) → AreReadUpTo most_bytes files job.file bytes → given ≡ bytes → ended ≡ Refused r
+    → IsNetworkEnded job.limit given ended → Answers (view_task job) files (record { status = status.Refused; writes = []; text = refusal_text r })
+refused_early job files bytes given ended r read same is refused =
+    let plan = some_read most_bytes files job.plan in
+    let here = subst (λ (bs : List ℕ). IsNetworkEnded job.limit bs ended) same refused in
+    let first : IsRule r × IsNetworkRefused job.limit bytes r = subst (λ (e : Ended). IsNetworkEnded job.limit bytes e) is here in
+    record {
+      bytes = bytes ∷ plan.0 ∷ [];
+      read = (read, (plan.1, tt));
+      answer = inl (record { refusal = r; rule = first.0; refused = early_rule job.limit bytes plan.0 r first.1; none = refl; text_is = refl });
+    }
+
+-- ---- a read that failed
+
+pub plan_fails : (job : ViewPlan) (before after : ShelfState) (bytes : List ℕ) (g : Network) → AreReadUpTo most_bytes before.files job.file bytes → HasNetwork job.limit bytes g
+    → HasFailedRead before after job.plan → FailsReading (view_task job) before after
+plan_fails job before after bytes g read network failed = record {
+  first = file_read job.file ∷ [];
+  read = file_read job.plan;
+  rest = [];
+  are = refl;
+  bytes = bytes ∷ [];
+  are_read = (read, tt);
+  goes_on = (g, network);
+  failed = failed;
+}

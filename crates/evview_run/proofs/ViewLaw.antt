@@ -1,0 +1,108 @@
+-- The causes of the statuses exclude each other.
+use Rattle.std.proofs.Common.{◌≡◌, ◌∙◌, ◌⊎◌, ℕ, ◌<◌, ◌≤◌, List, [], ◌∷◌, Option, Some, inl, inr, arith, subst, sym}
+use Rattle.ev_model.specs.Network.{Network}
+use Rattle.ev_text.proofs.Results.{Err-ne-Ok}
+use Rattle.fleet_steps.proofs.Plans.{same_plan, valid_breaks_none}
+use Rattle.fleet_steps.specs.PlanFile.{BreaksFirst}
+use Rattle.job_frame.proofs.OneStatus.{ExcludeEachOther, IsPlain, lawful, nothing_excludes}
+use Rattle.job_frame.proofs.Performed.{IsLawful}
+use Rattle.job_frame.specs.Task.{Outcome}
+use Rattle.job_frame.specs.Writes.{Written}
+use Rattle.job_frame.specs.declared.status.Status.{Status}
+use Rattle.job_frame.specs.declared.status.Status.TheVariants as status
+use Rattle.job_frame.proofs.LimitedNetworks.{one_limited, refused_has_none}
+use Rattle.plan_writer.specs.RefusalText.{IsRule}
+use Rattle.plan_writer.specs.declared.refusal.Refusal.{Refusal}
+use Rattle.plan_writer.specs.declared.refusal.Refusal.TheVariants as refusal
+use Rattle.route_plan.proofs.PlanLaws.{fleet_plan_is_spelled}
+use Rattle.route_plan.specs.declared.plan.FleetPlan.{FleetPlan}
+use Rattle.view_words.specs.Words.{ViewPlan}
+use Rattle.evview_run.specs.ViewAnswer.{HasRoute, HoldsPlan, IsTextRefused, PutsBrokenPlan, PutsNoRoute, PutsRefusal, PutsSchedule, ViewAnswers, route_count, view_answers, view_task}
+
+module _ (limit : Option ℕ) (bytes plan_bytes : List ℕ) where
+  -- what the files hold breaks no rule of a text
+  refused_holds_not : (h : HoldsPlan limit bytes plan_bytes) (r : Refusal) → IsRule r → IsTextRefused limit bytes plan_bytes r → ⊥
+  refused_holds_not h (refusal.Instance e) rule first = refused_has_none limit bytes (refusal.Instance e) h.network rule first h.has.network
+  refused_holds_not h (refusal.Limit given) rule past = refused_has_none limit bytes (refusal.Limit given) h.network rule past h.has.network
+  refused_holds_not h (refusal.Plan e) rule (g, other, fault) =
+      Err-ne-Ok e h.plan (sym fault ∙ (fleet_plan_is_spelled plan_bytes h.plan).1 h.has.spelled)
+  refused_holds_not h (refusal.Customers count) rule is = absurd is
+  refused_holds_not h (refusal.Certificate e) rule is = absurd is
+  refused_holds_not h (refusal.Charge level) rule is = absurd is
+  refused_holds_not h (refusal.Route e) rule is = absurd is
+  refused_holds_not h (refusal.Literal e) rule is = absurd is
+  refused_holds_not h refusal.Maker rule is = absurd is
+
+  same_network : (h other : HoldsPlan limit bytes plan_bytes) → other.network ≡ h.network
+  same_network h other = one_limited limit bytes other.network h.network other.has.network h.has.network
+
+  same_held : (h other : HoldsPlan limit bytes plan_bytes) → other.plan ≡ h.plan
+  same_held h other = same_plan plan_bytes other.plan h.plan other.has.spelled h.has.spelled
+
+-- a route that is there isn't past the last one
+there_or_past : (route : Option ℕ) (number : ℕ) (plan : Option FleetPlan) → HasRoute route plan → route ≡ Some number → route_count plan ≤ number → ⊥
+there_or_past route number plan there asked past =
+    let here : number < route_count plan = subst (λ (r : Option ℕ). HasRoute r plan) asked there in
+    omega (arith, here, past)
+
+module _ (job : ViewPlan) (bytes plan_bytes : List ℕ) where
+  -- a plan whose schedule is shown breaks no rule
+  shown_is_unbroken : (ws vs : List Written) (text other : List ℕ) → PutsSchedule job bytes plan_bytes ws text → PutsBrokenPlan job bytes plan_bytes vs other → ⊥
+  shown_is_unbroken ws vs text other p q =
+      let there : BreaksFirst p.files.network q.files.plan q.fault =
+      subst (λ (g : Network). BreaksFirst g q.files.plan q.fault) (same_network job.limit bytes plan_bytes p.files q.files) q.broken in
+      let here : BreaksFirst p.files.network p.files.plan q.fault =
+      subst (λ (plan : Option FleetPlan). BreaksFirst p.files.network plan q.fault) (same_held job.limit bytes plan_bytes p.files q.files) there in
+      valid_breaks_none p.files.network p.files.plan p.cost q.fault p.valid here
+
+  -- what the files hold, with the route that is asked for, is refused by no rule
+  held_is_not_refused : (h : HoldsPlan job.limit bytes plan_bytes) (ws : List Written) (text : List ℕ) → HasRoute job.route h.plan
+      → PutsRefusal job bytes plan_bytes ws text ⊎ PutsNoRoute job bytes plan_bytes ws text → ⊥
+  held_is_not_refused h ws text route (inl p) = refused_holds_not job.limit bytes plan_bytes h p.refusal p.rule p.refused
+  held_is_not_refused h ws text route (inr p) =
+      let past : route_count h.plan ≤ p.number = subst (λ (plan : Option FleetPlan). route_count plan ≤ p.number) (same_held job.limit bytes plan_bytes h p.files) p.past in
+      there_or_past job.route p.number h.plan route p.asked past
+
+-- ---- the causes
+
+ViewCause : ViewPlan → List ℕ → List ℕ → Status → Type 0
+ViewCause job bytes plan_bytes s = (ws : List Written) × ((text : List ℕ) × ViewAnswers job bytes plan_bytes s ws text)
+
+answered : (job : ViewPlan) (bytes plan_bytes : List ℕ) (s : Status) → ViewCause job bytes plan_bytes s → IsPlain s
+unfolding ViewCause
+answered job bytes plan_bytes status.Done p = tt
+answered job bytes plan_bytes status.Negative p = tt
+answered job bytes plan_bytes status.Refused p = tt
+answered job bytes plan_bytes status.Words p = absurd p.1.1
+answered job bytes plan_bytes status.Fault p = absurd p.1.1
+answered job bytes plan_bytes status.Memory p = absurd p.1.1
+answered job bytes plan_bytes status.Stopped p = absurd p.1.1
+
+exclude : (job : ViewPlan) (bytes plan_bytes : List ℕ) → ExcludeEachOther (ViewCause job bytes plan_bytes)
+unfolding ViewCause
+exclude job bytes plan_bytes = record {
+  answered = answered job bytes plan_bytes;
+  done_negative = λ p q. shown_is_unbroken job bytes plan_bytes p.0 q.0 p.1.0 q.1.0 p.1.1 q.1.1;
+  done_refused = λ p q. held_is_not_refused job bytes plan_bytes p.1.1.files q.0 q.1.0 p.1.1.route q.1.1;
+  negative_refused = λ p q. held_is_not_refused job bytes plan_bytes p.1.1.files q.0 q.1.0 p.1.1.route q.1.1;
+}
+
+abbrev cause : ViewPlan → List (List ℕ) → Status → Type 0
+cause job (bytes ∷ plan_bytes ∷ []) s = ViewCause job bytes plan_bytes s
+cause job other s = ⊥
+
+has : (job : ViewPlan) (bytes : List (List ℕ)) (o : Outcome) → view_answers job bytes o → cause job bytes o.status
+unfolding ViewCause
+has job (bytes ∷ plan_bytes ∷ []) o is = (o.writes, (o.text, is))
+has job [] o is = absurd is
+has job (bytes ∷ []) o is = absurd is
+has job (bytes ∷ plan_bytes ∷ more ∷ others) o is = absurd is
+
+each : (job : ViewPlan) (bytes : List (List ℕ)) → ExcludeEachOther (cause job bytes)
+each job (bytes ∷ plan_bytes ∷ []) = exclude job bytes plan_bytes
+each job [] = nothing_excludes
+each job (bytes ∷ []) = nothing_excludes
+each job (bytes ∷ plan_bytes ∷ more ∷ others) = nothing_excludes
+
+pub view_lawful : (job : ViewPlan) → IsLawful (view_task job)
+view_lawful job = lawful (view_task job) (cause job) (has job) (each job)

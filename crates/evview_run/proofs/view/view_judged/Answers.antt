@@ -1,0 +1,22 @@
+use Rattle.std.proofs.Common.{subst}
+use Rattle.std.specs.Option.{option_map}
+use Rattle.evview_run.proofs.ViewFinds.{plan_is_fleet, puts_broken, puts_schedule}
+use Rattle.fleet_steps.specs.PlanFile.{IsUnfit}
+use Rattle.plan_check.specs.declared.fault.LargeFault.{LargeFault}
+use Rattle.view_words.specs.JobValue.{job_value}
+use Rattle.evview_run.proofs.view.view_judged.Goals as goal
+
+pub show-requires-clause-fleet : goal.show-requires-clause-fleet
+show-requires-clause-fleet c = plan_is_fleet c.args.inst.now c.args.plan c.in-Ok._cost c.in-Ok.ensures.ok
+
+pub returns-in-Ok : goal.returns-in-Ok
+returns-in-Ok c = λ file plan_bytes has.
+    puts_schedule (job_value c.args.job.now) file plan_bytes c.args.inst.now (option_map (λ p. p.now) c.args.plan) c.in-Ok._cost c.show.result
+    has c.in-Ok.ensures.ok c.requires.route c.show.ensures.status c.show.ensures.files c.show.ensures.text
+
+pub returns-in-Err-Plan : goal.returns-in-Err-Plan
+returns-in-Err-Plan c = λ file plan_bytes has.
+    let plan = option_map (λ p. p.now) c.args.plan in
+    let broken = subst (λ (fault : LargeFault). IsUnfit c.args.inst.now plan fault) c.in-Err-Plan.field-0-is c.in-Err-Plan.ensures.fault in
+    puts_broken (job_value c.args.job.now) file plan_bytes c.args.inst.now plan c.in-Err-Plan.fault c.reject.result
+    has c.requires.route broken c.reject.ensures.status c.reject.ensures.files c.reject.ensures.text

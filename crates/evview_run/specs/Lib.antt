@@ -1,0 +1,3 @@
+pub mod ViewAnswer
+pub mod Run
+pub mod Ending

@@ -1,0 +1,153 @@
+-- What is written and put for the bytes of an instance and of a plan file.
+use Rattle.std.specs.Prelude.{◌≡◌, ℕ, ◌<◌, ◌≤◌, ◌⊎◌, List, [], ◌∷◌, ◌++◌, Option, None, Some, Err, codes, decimal, length}
+use Rattle.ev_model.specs.Network.{Network}
+use Rattle.fleet_steps.specs.PlanFile.{BreaksFirst, IsValid}
+use Rattle.instance_reader.specs.Faults.{IsFirstFault}
+use Rattle.job_frame.specs.Task.{Outcome, Task}
+use Rattle.job_frame.specs.Writes.{Written}
+use Rattle.job_frame.specs.declared.status.Status.{Status}
+use Rattle.job_frame.specs.declared.status.Status.TheVariants as status
+use Rattle.job_frame.specs.Caps.{file_read}
+use Rattle.job_frame.specs.LimitedNetwork.{HasNetwork, IsPastLimit}
+use Rattle.plan_check.specs.FleetRules.{stops_of}
+use Rattle.plan_check.specs.declared.fault.PlanFault.{PlanFault}
+use Rattle.plan_schedule.specs.Schedules.{only, schedule_of}
+use Rattle.plan_schedule.specs.declared.schedule.Schedule.{Schedule}
+use Rattle.plan_writer.specs.CheckText.{check_text}
+use Rattle.plan_writer.specs.RefusalText.{IsRule, refusal_text}
+use Rattle.plan_writer.specs.declared.check.Judgement.TheVariants as judgement
+use Rattle.plan_writer.specs.declared.refusal.Refusal.{Refusal}
+use Rattle.plan_writer.specs.declared.refusal.Refusal.TheVariants as refusal
+use Rattle.route_plan.specs.PlanReading.{fleet_plan_in}
+use Rattle.route_plan.specs.PlanTexts.{SpellsFleetPlan}
+use Rattle.route_plan.specs.declared.plan.FleetPlan.{FleetPlan}
+use Rattle.schedule_texts.specs.JsonTexts.{json_text}
+use Rattle.schedule_texts.specs.Pictures.{picture_text}
+use Rattle.schedule_texts.specs.Tables.{table_text}
+use Rattle.view_words.specs.Words.{ViewPlan}
+
+-- the bytes of the instance and of the plan file break no rule: g is the network, and the file
+-- holds the plan or says that there is none
+pub record HasPlan (limit : Option ℕ) (bytes plan_bytes : List ℕ)
+    (g : Network) (plan : Option FleetPlan) : Type 0 where
+  pub network : HasNetwork limit bytes g
+  pub spelled : SpellsFleetPlan plan_bytes plan
+
+-- no rule of a text is broken: what the two files hold
+pub record HoldsPlan (limit : Option ℕ) (bytes plan_bytes : List ℕ) : Type 0 where
+  pub network : Network
+  pub plan : Option FleetPlan
+  pub has : HasPlan limit bytes plan_bytes network plan
+
+-- the first broken rule: of the instance, the limit, the plan's text
+abbrev pub IsTextRefused : Option ℕ → List ℕ → List ℕ → Refusal → Type 0
+IsTextRefused limit bytes plan_bytes (refusal.Instance fault) = IsFirstFault bytes fault
+IsTextRefused limit bytes plan_bytes (refusal.Limit given) = IsPastLimit limit bytes given
+IsTextRefused limit bytes plan_bytes (refusal.Plan fault) =
+    (g : Network) × HasNetwork limit bytes g × (fleet_plan_in plan_bytes ≡ Err fault)
+IsTextRefused limit bytes plan_bytes other = ⊥
+
+-- how many routes there are
+abbrev pub route_count : Option FleetPlan → ℕ
+route_count None = 0
+route_count (Some plan) = length plan.routes
+
+-- the one route that is asked for, where one is, is there
+abbrev pub HasRoute : Option ℕ → Option FleetPlan → Type 0
+HasRoute None plan = Unit {0}
+HasRoute (Some number) plan = number < route_count plan
+
+-- the line of a route that isn't there
+abbrev pub no_route_text : ℕ → List ℕ
+no_route_text number = codes "refused number " ++ decimal number ++ 10 ∷ []
+
+-- a file that is written, where it has a name
+abbrev pub file_of : Option (List ℕ) → List ℕ → List Written
+file_of None bytes = []
+file_of (Some name) bytes = record { name = name; bytes = bytes } ∷ []
+
+-- the schedule of all routes, or of one of them
+abbrev pub part_of : Schedule → Option ℕ → Schedule
+part_of whole None = whole
+part_of whole (Some number) = only whole number
+
+-- what is shown: the schedule of the plan, or of the one route that is asked for
+abbrev pub shown_of : Network → Option ℕ → Option FleetPlan → Option Schedule
+shown_of g route None = None
+shown_of g route (Some plan) = Some (part_of (schedule_of g (stops_of plan.routes)) route)
+
+-- The plan is a fleet plan, or there is none, and the one route that is asked for is there. Its
+-- schedule is put as tables, behind the files that are asked for, with its pictures and with it as
+-- JSON.
+pub record PutsSchedule (job : ViewPlan) (bytes plan_bytes : List ℕ)
+    (ws : List Written) (text : List ℕ) : Type 0 where
+  pub files : HoldsPlan job.limit bytes plan_bytes
+  pub cost : Option ℕ
+  pub valid : IsValid files.network files.plan cost
+  pub route : HasRoute job.route files.plan
+  pub shown : Option Schedule
+  pub is : shown ≡ shown_of files.network job.route files.plan
+  pub written : ws
+      ≡ file_of job.svg (picture_text shown) ++ file_of job.json (json_text shown)
+  pub text_is : text ≡ table_text job.exact shown
+
+-- the first rule that the plan breaks is put, and nothing is written
+pub record PutsBrokenPlan (job : ViewPlan) (bytes plan_bytes : List ℕ)
+    (ws : List Written) (text : List ℕ) : Type 0 where
+  pub files : HoldsPlan job.limit bytes plan_bytes
+  pub route : HasRoute job.route files.plan
+  pub fault : PlanFault
+  pub broken : BreaksFirst files.network files.plan fault
+  pub none : ws ≡ []
+  pub text_is : text ≡ check_text files.network.denominator (judgement.Plan fault)
+
+-- the first broken rule of the instance, the limit or the plan's text is put, and nothing is
+-- written
+pub record PutsRefusal (job : ViewPlan) (bytes plan_bytes : List ℕ)
+    (ws : List Written) (text : List ℕ) : Type 0 where
+  pub refusal : Refusal
+  pub rule : IsRule refusal
+  pub refused : IsTextRefused job.limit bytes plan_bytes refusal
+  pub none : ws ≡ []
+  pub text_is : text ≡ refusal_text refusal
+
+-- no rule of a text is broken, and the route that is asked for isn't there; that is put, and
+-- nothing is written
+pub record PutsNoRoute (job : ViewPlan) (bytes plan_bytes : List ℕ)
+    (ws : List Written) (text : List ℕ) : Type 0 where
+  pub files : HoldsPlan job.limit bytes plan_bytes
+  pub number : ℕ
+  pub asked : job.route ≡ Some number
+  pub past : route_count files.plan ≤ number
+  pub none : ws ≡ []
+  pub text_is : text ≡ no_route_text number
+
+-- the files and the text that belong to a status
+abbrev pub ViewAnswers : ViewPlan → List ℕ → List ℕ → Status → List Written → List ℕ → Type 0
+ViewAnswers job bytes plan_bytes status.Done ws text = PutsSchedule job bytes plan_bytes ws text
+ViewAnswers job bytes plan_bytes status.Negative ws text = PutsBrokenPlan job bytes plan_bytes ws text
+ViewAnswers job bytes plan_bytes status.Refused ws text =
+    PutsRefusal job bytes plan_bytes ws text ⊎ PutsNoRoute job bytes plan_bytes ws text
+ViewAnswers job bytes plan_bytes other ws text = ⊥
+
+-- two files are read
+abbrev pub view_answers : ViewPlan → List (List ℕ) → Outcome → Type 0
+view_answers job (bytes ∷ plan_bytes ∷ []) o =
+    ViewAnswers job bytes plan_bytes o.status o.writes o.text
+view_answers job other o = ⊥
+
+-- the plan is read where no rule of the instance is broken
+abbrev pub view_goes_on : ViewPlan → List (List ℕ) → Type 0
+view_goes_on job [] = Unit {0}
+view_goes_on job (bytes ∷ []) = (g : Network) × HasNetwork job.limit bytes g
+view_goes_on job other = ⊥
+
+abbrev pub view_task : ViewPlan → Task
+view_task job = record {
+  reads = file_read job.file ∷ file_read job.plan ∷ [];
+  goes_on = view_goes_on job;
+  answers = view_answers job;
+  writes_first = λ ws. ⊥;
+  is_open = ⊥;
+  has_budget = ⊥;
+}

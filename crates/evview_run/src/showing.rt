@@ -1,0 +1,126 @@
+//! The schedule of a plan, and the texts by which it is shown.
+
+ghost use Rattle.std.specs.Prelude.{◌≡◌, ◌<◌, ◌++◌, IfOk, IfSome, OnOk, Some, length, map, option_map, string_bytes};
+ghost use Rattle.ev_model.specs.Fleet.{IsFleetPlan};
+ghost use Rattle.evview_run.specs.ViewAnswer.{HasRoute, file_of, part_of, shown_of};
+ghost use Rattle.job_frame.specs.Finds.{written_by};
+ghost use Rattle.plan_check.specs.FleetRules.{stops_of};
+ghost use Rattle.plan_schedule.specs.Schedules.{IsTimed};
+ghost use Rattle.route_plan.specs.PlanTexts.{FitsFile};
+ghost use Rattle.schedule_texts.specs.JsonTexts.{json_text};
+ghost use Rattle.schedule_texts.specs.Options.{AreTimed};
+ghost use Rattle.schedule_texts.specs.Pictures.{picture_text};
+ghost use Rattle.schedule_texts.specs.Tables.{table_text};
+ghost use Rattle.view_words.specs.JobValue.{job_value};
+
+use instance_reader::Instance;
+use job_frame::{Answer, Found, NewFile, Status};
+use plan_schedule::{Schedule, only_route, schedule_plan};
+use route_plan::FleetPlan;
+use schedule_texts::{schedule_json, schedule_picture, schedule_table};
+use std::alloc::{AllocError, Global};
+use view_words::Job;
+
+/// What is found for a fleet plan, or for none, with the one route that is asked for: its tables,
+/// and the files that are asked for.
+pub fn show(
+    alloc: Global,
+    inst: &Instance,
+    plan: Option<&FleetPlan>,
+    job: &Job,
+) -> Result<Found, AllocError>
+    requires fleet { IfSome plan (λ p. IsFleetPlan inst.now 1 (stops_of p.now.routes)) }
+    requires text { FitsFile (option_map (λ p. p.now) plan) }
+    requires route { HasRoute job.now.route (option_map (λ p. p.now) plan) }
+    ensures status { IfOk result (λ f. f.answer.status ≡ Status.Done) }
+    ensures files { IfOk result (λ f. map written_by f.files.items
+        ≡ file_of (job_value job.now).svg
+        (picture_text (shown_of inst.now job.now.route (option_map (λ p. p.now) plan.entry)))
+        ++ file_of (job_value job.now).json
+        (json_text (shown_of inst.now job.now.route (option_map (λ p. p.now) plan.entry)))) }
+    ensures text { IfOk result (λ f. f.answer.text.items ≡ table_text job.now.exact
+        (shown_of inst.now job.now.route (option_map (λ p. p.now) plan.entry))) }
+{
+    let shown = shown(alloc, inst, plan, job.route)?;
+    let text = schedule_table(alloc, shown.as_ref(), job.exact)?;
+    let mut files = Vec::new(alloc);
+    push_picture(alloc, &mut files, &job.svg, shown.as_ref())?;
+    push_json(alloc, &mut files, &job.json, shown.as_ref())?;
+    let answer = Answer {
+        status: Status::Done,
+        text,
+    };
+    Ok(Found { answer, files })
+}
+
+/// The schedule of a plan, or of the one route that is asked for; `None` where there is no plan.
+fn shown(
+    alloc: Global,
+    inst: &Instance,
+    plan: Option<&FleetPlan>,
+    route: Option<u64>,
+) -> Result<Option<Schedule>, AllocError>
+    requires fleet { IfSome plan (λ p. IsFleetPlan inst.now 1 (stops_of p.now.routes)) }
+    requires text { FitsFile (option_map (λ p. p.now) plan) }
+    requires route { HasRoute route (option_map (λ p. p.now) plan) }
+    ensures shown { IfOk result
+        (λ s. s ≡ shown_of inst.now route (option_map (λ p. p.now) plan.entry)) }
+    ensures timed { IfOk result AreTimed }
+{
+    let Some(plan) = plan else {
+        return Ok(None);
+    };
+    let whole = schedule_plan(alloc, inst, plan)?;
+    Ok(part_of(whole, route))
+}
+
+/// The schedule of all routes, or of one of them.
+fn part_of(whole: Schedule, route: Option<u64>) -> Option<Schedule>
+    requires { IfSome route (λ number. number < length whole.routes) }
+    ensures value { result ≡ Some (part_of whole route) }
+    ensures timed { IsTimed whole → IfSome result IsTimed }
+{
+    match route {
+        Some(number) => only_route(whole, number as usize),
+        None => Some(whole),
+    }
+}
+
+/// Appends the file with the pictures, where it has a name.
+fn push_picture(
+    alloc: Global,
+    files: &mut Vec<NewFile>,
+    name: &Option<String>,
+    shown: Option<&Schedule>,
+) -> Result<(), AllocError>
+    requires { AreTimed (option_map (λ s. s.now) shown) }
+    ensures { OnOk result (map written_by files.new.items ≡ map written_by files.old.items
+        ++ file_of (option_map (λ s. string_bytes s) name.now)
+        (picture_text (option_map (λ s. s.now) shown.entry))) }
+{
+    let Some(name) = name else {
+        return Ok(());
+    };
+    let bytes = schedule_picture(alloc, shown)?;
+    files.push(NewFile::new(alloc, name.as_str(), bytes)?)?;
+    Ok(())
+}
+
+/// Appends the file with the schedule as JSON, where it has a name.
+fn push_json(
+    alloc: Global,
+    files: &mut Vec<NewFile>,
+    name: &Option<String>,
+    shown: Option<&Schedule>,
+) -> Result<(), AllocError>
+    ensures { OnOk result (map written_by files.new.items ≡ map written_by files.old.items
+        ++ file_of (option_map (λ s. string_bytes s) name.now)
+        (json_text (option_map (λ s. s.now) shown.entry))) }
+{
+    let Some(name) = name else {
+        return Ok(());
+    };
+    let bytes = schedule_json(alloc, shown)?;
+    files.push(NewFile::new(alloc, name.as_str(), bytes)?)?;
+    Ok(())
+}

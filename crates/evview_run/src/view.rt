@@ -1,0 +1,180 @@
+//! What is found for the words: the instance and the plan of their files are read, the plan is
+//! judged, and its schedule is shown.
+
+ghost use Rattle.std.specs.Prelude.{◌≡◌, ◌≤◌, [], IfErr, IfOk, IfSome, IsNone, List, Option, Some, map, option_map, ℕ};
+ghost use Rattle.evview_run.specs.ViewAnswer.{HasPlan, HasRoute, ViewAnswers, no_route_text, route_count, view_task};
+ghost use Rattle.job_frame.specs.Finds.{Finds, written_by};
+ghost use Rattle.job_frame.specs.Task.{AreReadUpTo};
+ghost use Rattle.job_frame.specs.Caps.{most_bytes};
+ghost use Rattle.job_frame.specs.LimitedNetwork.{HasNetwork};
+ghost use Rattle.plan_writer.specs.CheckText.{check_text};
+ghost use Rattle.plan_writer.specs.declared.check.Judgement.TheVariants as judgement;
+ghost use Rattle.route_plan.specs.PlanTexts.{FitsFile};
+ghost use Rattle.view_words.specs.JobValue.{IsJob, job_value};
+
+use crate::showing::show;
+use ev_outside::{Shelf, ShelfFault};
+use fleet_steps::{cost_of, plan_of};
+use instance_reader::Instance;
+use job_frame::{
+    Answer, Ended, Found, MOST_BYTES, Status, limited_instance, read_file, refuse_job,
+};
+use plan_check::{LargeFault, PlanFault};
+use plan_writer::{Judgement, push_check_report};
+use report_lines::{push_numbered, push_word};
+use route_plan::FleetPlan;
+use std::alloc::{AllocError, Global};
+use view_words::Job;
+
+/// What is found for the words: the instance is read, then the plan; and then this is judged and
+/// shown.
+pub fn view<S: Shelf>(alloc: Global, job: &Job, shelf: &mut S) -> Result<Found, ShelfFault>
+    requires { IsJob job.now }
+    ensures { Finds (view_task (job_value job.now)) (S.state shelf.old) (S.state shelf.new) result }
+{
+    let bytes = match read_file(alloc, job.file.as_str(), MOST_BYTES, shelf) {
+        Ok(bytes) => bytes,
+        Err(fault) => return Err(fault),
+    };
+    match limited_instance(alloc, bytes.as_slice(), job.limit) {
+        Ok(inst) => view_on(alloc, &inst, job, shelf),
+        Err(Ended::Refused(refusal)) => refuse_job(alloc, refusal),
+        Err(Ended::Memory) => Err(ShelfFault::Memory),
+    }
+}
+
+/// What is found on the instance of its file: the plan is read, judged and shown.
+fn view_on<S: Shelf>(
+    alloc: Global,
+    inst: &Instance,
+    job: &Job,
+    shelf: &mut S,
+) -> Result<Found, ShelfFault>
+    requires { IsJob job.now }
+    ensures { (bytes : List ℕ)
+        → AreReadUpTo most_bytes (S.state shelf.old).files (job_value job.now).file bytes
+        → HasNetwork job.now.limit bytes inst.now
+        → Finds (view_task (job_value job.now)) (S.state shelf.old) (S.state shelf.new) result }
+{
+    let bytes = match read_file(alloc, job.plan.as_str(), MOST_BYTES, shelf) {
+        Ok(bytes) => bytes,
+        Err(fault) => return Err(fault),
+    };
+    view_text(alloc, inst, bytes.as_slice(), job)
+}
+
+/// What is found for the bytes of a plan file: the plan is read, judged and shown.
+fn view_text(alloc: Global, inst: &Instance, bytes: &[u8], job: &Job) -> Result<Found, ShelfFault>
+    ensures answers { (file : List ℕ) → HasNetwork job.now.limit file inst.now
+        → IfOk result (λ f. ViewAnswers (job_value job.now) file bytes.now
+        f.answer.status (map written_by f.files.items) f.answer.text.items) }
+    ensures memory { IfErr result (λ fault. fault ≡ ShelfFault.Memory) }
+{
+    match plan_of(alloc, bytes) {
+        Ok(plan) => match view_plan(alloc, inst, plan.as_ref(), job) {
+            Ok(found) => Ok(found),
+            Err(AllocError) => Err(ShelfFault::Memory),
+        },
+        Err(Ended::Refused(refusal)) => refuse_job(alloc, refusal),
+        Err(Ended::Memory) => Err(ShelfFault::Memory),
+    }
+}
+
+/// What is found for a plan, or for none: the one route that is asked for has to be there.
+fn view_plan(
+    alloc: Global,
+    inst: &Instance,
+    plan: Option<&FleetPlan>,
+    job: &Job,
+) -> Result<Found, AllocError>
+    requires { FitsFile (option_map (λ p. p.now) plan) }
+    ensures { (file plan_bytes : List ℕ)
+        → HasPlan job.now.limit file plan_bytes inst.now (option_map (λ p. p.now) plan.entry)
+        → IfOk result (λ f. ViewAnswers (job_value job.now) file plan_bytes
+        f.answer.status (map written_by f.files.items) f.answer.text.items) }
+{
+    match missing_route(plan, job.route) {
+        Some(number) => refuse_route(alloc, number),
+        None => view_judged(alloc, inst, plan, job),
+    }
+}
+
+/// The number of the one route that is asked for, where there is no such route.
+fn missing_route(plan: Option<&FleetPlan>, route: Option<u64>) -> Option<u64>
+    ensures past { IfSome result (λ number. (route ≡ Some number)
+        × (route_count (option_map (λ p. p.now) plan.entry) ≤ number)) }
+    ensures there { IsNone result → HasRoute route (option_map (λ p. p.now) plan.entry) }
+{
+    let Some(number) = route else {
+        return None;
+    };
+    if number < route_count(plan) {
+        return None;
+    }
+    Some(number)
+}
+
+/// How many routes there are.
+fn route_count(plan: Option<&FleetPlan>) -> u64
+    ensures { result ≡ route_count (option_map (λ p. p.now) plan.entry) }
+{
+    match plan {
+        Some(plan) => plan.routes.len() as u64,
+        None => 0,
+    }
+}
+
+/// The line of a route that isn't there.
+fn refuse_route(alloc: Global, number: u64) -> Result<Found, AllocError>
+    ensures status { IfOk result (λ f. f.answer.status ≡ Status.Refused) }
+    ensures files { IfOk result (λ f. map written_by f.files.items ≡ []) }
+    ensures text { IfOk result (λ f. f.answer.text.items ≡ no_route_text number) }
+{
+    let mut text = Vec::new(alloc);
+    push_numbered(alloc, &mut text, b"refused number ", u128::from(number))?;
+    push_word(&mut text, b"\n")?;
+    Ok(without_schedule(alloc, Status::Refused, text))
+}
+
+/// What is found for a plan, or for none, with the one route that is asked for: it is judged and
+/// shown.
+fn view_judged(
+    alloc: Global,
+    inst: &Instance,
+    plan: Option<&FleetPlan>,
+    job: &Job,
+) -> Result<Found, AllocError>
+    requires text { FitsFile (option_map (λ p. p.now) plan) }
+    requires route { HasRoute job.now.route (option_map (λ p. p.now) plan) }
+    ensures { (file plan_bytes : List ℕ)
+        → HasPlan job.now.limit file plan_bytes inst.now (option_map (λ p. p.now) plan.entry)
+        → IfOk result (λ f. ViewAnswers (job_value job.now) file plan_bytes
+        f.answer.status (map written_by f.files.items) f.answer.text.items) }
+{
+    match cost_of(alloc, inst, plan) {
+        Ok(_cost) => show(alloc, inst, plan, job),
+        Err(LargeFault::Plan { fault }) => reject(alloc, inst, fault),
+        Err(LargeFault::Memory) => Err(AllocError),
+    }
+}
+
+/// The line of the first rule that a plan breaks.
+fn reject(alloc: Global, inst: &Instance, fault: PlanFault) -> Result<Found, AllocError>
+    ensures status { IfOk result (λ f. f.answer.status ≡ Status.Negative) }
+    ensures files { IfOk result (λ f. map written_by f.files.items ≡ []) }
+    ensures text { IfOk result (λ f. f.answer.text.items
+        ≡ check_text inst.now.denominator (judgement.Plan fault)) }
+{
+    let mut text = Vec::new(alloc);
+    push_check_report(alloc, &mut text, inst, &Judgement::Plan(fault))?;
+    Ok(without_schedule(alloc, Status::Negative, text))
+}
+
+/// A text that says why no schedule is shown.
+fn without_schedule(alloc: Global, status: Status, text: Vec<u8>) -> Found
+    ensures status { result.answer.status ≡ status }
+    ensures files { map written_by result.files.items ≡ [] }
+    ensures text { result.answer.text ≡ text }
+{
+    Found::alone(alloc, Answer { status, text })
+}

@@ -1,0 +1,4 @@
+pub mod GoesOn
+pub mod Sums
+pub mod RouteTimes
+pub mod RoutesInTurn

@@ -1,0 +1,4 @@
+pub mod Visits
+pub mod Levels
+pub mod Totals
+pub mod Schedules

@@ -1,0 +1,46 @@
+-- The timetable of a plan.
+use Rattle.std.specs.Prelude.{ℕ, ◌+◌, ◌^◌, ◌≤◌, List, [], ◌∷◌, drop, take}
+use Rattle.ev_model.specs.Network.{Network}
+use Rattle.ev_model.specs.declared.Stop.{Stop}
+use Rattle.plan_schedule.specs.Levels.{line_of}
+use Rattle.plan_schedule.specs.Totals.{AreRouteSums, plan_totals, route_totals}
+use Rattle.plan_schedule.specs.Visits.{visits_of}
+use Rattle.plan_schedule.specs.declared.schedule.RouteSchedule.{RouteSchedule}
+use Rattle.plan_schedule.specs.declared.schedule.Schedule.{Schedule}
+
+-- the timetable of the route with this number
+abbrev pub route_schedule : Network → ℕ → List Stop → RouteSchedule
+route_schedule g number stops = record {
+  number = number;
+  visits = visits_of g stops;
+  line = line_of g (visits_of g stops);
+  totals = route_totals (visits_of g stops);
+}
+
+-- the timetables of routes, of which the first has this number
+abbrev pub route_schedules : Network → ℕ → List (List Stop) → List RouteSchedule
+route_schedules g number [] = []
+route_schedules g number (stops ∷ plans) =
+    route_schedule g number stops ∷ route_schedules g (number + 1) plans
+
+-- the timetable of a plan of a vehicle a route
+abbrev pub schedule_of : Network → List (List Stop) → Schedule
+schedule_of g plans = record {
+  denominator = g.denominator;
+  full = g.capacity;
+  reserve = g.reserve;
+  home = g.home_level;
+  routes = route_schedules g 0 plans;
+  totals = plan_totals (route_schedules g 0 plans);
+}
+
+-- one route alone, beside the totals of the whole plan
+abbrev pub only : Schedule → ℕ → Schedule
+only s route = record s { routes = take 1 (drop route s.routes) }
+
+-- its denominator is one of an instance
+abbrev pub IsTimed : Schedule → Type 0
+IsTimed s = (1 ≤ s.denominator) × (s.denominator ≤ 10 ^ 9)
+
+abbrev pub HasSmallTotals : RouteSchedule → Type 0
+HasSmallTotals r = AreRouteSums r.totals

@@ -1,0 +1,74 @@
+-- Numbers that the program holds.
+use Rattle.std.proofs.Common.{◌≡◌, ℕ, ◌+◌, ◌*◌, ◌/◌, ◌%◌, ◌^◌, ◌<◌, ◌≤◌, inl, inr, sym, subst, arith}
+use Rattle.std.proofs.Math.Nat.{div-le_self, div-mul-le_self, div-one, mod-lt, mod-one, mul-le-mul}
+use Rattle.std.proofs.lemmas.Bool.{cases_lt}
+use Rattle.schedule_texts.specs.Decimals.{part_of}
+
+-- hundredths of what is left above whole units
+pub part_small : (d x : ℕ) → 1 ≤ d → d < 2 ^ 64 → part_of d x < 2 ^ 73
+part_small d x some small =
+    let rest : x % d < d = mod-lt x some in
+    let most : part_of d x ≤ x % d * 200 + d = div-le_self (x % d * 200 + d) (2 * d) in
+    omega (arith, rest, most)
+
+fits_one : (x : ℕ) → x < 2 ^ 128 → x / 1 + part_of 1 x / 100 < 2 ^ 128
+fits_one x small = rw (div-one x, mod-one x) (omega (arith, small))
+
+fits_more : (d x : ℕ) → 2 ≤ d → d < 2 ^ 64 → x < 2 ^ 128 → x / d + part_of d x / 100 < 2 ^ 128
+fits_more d x two small fits =
+    let same : x / d ≤ x / d = omega arith in
+    let halves : x / d * 2 ≤ x / d * d = mul-le-mul same two in
+    let whole : x / d * d ≤ x = div-mul-le_self x d in
+    let some : 1 ≤ d = omega (arith, two) in
+    let part = part_small d x some small in
+    let less : part_of d x / 100 ≤ part_of d x = div-le_self (part_of d x) 100 in
+    omega (arith, halves, whole, part, less, fits)
+
+-- a whole number and what hundredths carry
+pub whole_fits : (d x : ℕ) → 1 ≤ d → d < 2 ^ 64 → x < 2 ^ 128 → x / d + part_of d x / 100 < 2 ^ 128
+whole_fits d x some small fits = elim (cases_lt 1 d) [
+  | inl more ↦ fits_more d x (omega (arith, more)) small fits
+  | inr one ↦ let is : 1 ≡ d = omega (arith, one, some) in subst (λ n. x / n + part_of n x / 100 < 2 ^ 128) is (fits_one x fits)
+]
+
+-- the marks of an axis stand within its span
+pub mark_within : (number step span : ℕ) → number < span / step + 1 → number * step ≤ span
+mark_within number step span below =
+    let up_to : number ≤ span / step = omega (arith, below) in
+    let same : step ≤ step = omega arith in
+    let most : number * step ≤ span / step * step = mul-le-mul up_to same in
+    let whole : span / step * step ≤ span = div-mul-le_self span step in
+    omega (arith, most, whole)
+
+pub mark_fits : (h d : ℕ) → h < 2 ^ 71 → d ≤ 10 ^ 9 → h * d < 2 ^ 102
+mark_fits h d small few =
+    let up_to : h ≤ 2 ^ 71 = omega (arith, small) in
+    let most : h * d ≤ 2 ^ 71 * 10 ^ 9 = mul-le-mul up_to few in
+    omega (arith, most)
+
+pub mark_small : (h d : ℕ) → h < 2 ^ 71 → d ≤ 10 ^ 9 → h * d / 100 < 2 ^ 102
+mark_small h d small few =
+    let most = mark_fits h d small few in
+    let less : h * d / 100 ≤ h * d = div-le_self (h * d) 100 in
+    omega (arith, most, less)
+
+pub span_small : (latest d : ℕ) → latest < 2 ^ 64 → latest * 100 / d < 2 ^ 71
+span_small latest d small =
+    let less : latest * 100 / d ≤ latest * 100 = div-le_self (latest * 100) d in
+    omega (arith, less, small)
+
+pub x_fits : (time width : ℕ) → time < 2 ^ 102 → width ≤ 32000 → time * width < 2 ^ 118
+x_fits time width small narrow =
+    let up_to : time ≤ 2 ^ 102 = omega (arith, small) in
+    let most : time * width ≤ 2 ^ 102 * 32000 = mul-le-mul up_to narrow in
+    omega (arith, most)
+
+pub x_small : (time width latest : ℕ) → time < 2 ^ 102 → width ≤ 32000 → time * width / latest < 2 ^ 118
+x_small time width latest small narrow =
+    let most = x_fits time width small narrow in
+    let less : time * width / latest ≤ time * width = div-le_self (time * width) latest in
+    omega (arith, most, less)
+
+pub ruleset x_sizes = (x_fits, x_small)
+
+pub ruleset mark_sizes = (mark_fits, mark_small)

@@ -1,0 +1,25 @@
+use Rattle.std.proofs.Common.{◌≡◌, ◌∙◌, ℕ, ◌++◌, ◌+◌, ◌-◌, ◌*◌, ◌/◌, List, ap, codes, decimal}
+use Rattle.schedule_texts.specs.Axes.{mark_open}
+use Rattle.schedule_texts.proofs.Joined.{join}
+use Rattle.schedule_texts.proofs.picture.axis.open_mark.Goals as goal
+
+pub returns : goal.returns
+unfolding mark_open
+returns c =
+    let x = c.args.out.now.items in
+    let a1 : List ℕ = codes "<path class='g' d='M" ++ decimal c.args.x in
+    let y1 = c.push_numbered.new.out.items in
+    let a2 : List ℕ = codes " 600v1600'/><path class='a' d='M" ++ decimal c.args.x in
+    let y2 = c.push_numbered-2.new.out.items in
+    let a3 : List ℕ = codes " 2200v50'/>\n<text class='c' x='" ++ decimal c.args.x in
+    let y3 = c.push_numbered-3.new.out.items in
+    let a4 : List ℕ = codes "' y='2390'>" in
+    let y4 = c.push_word.new.out.items in
+    let e1 : y1 ≡ x ++ a1 = c.in_ok-push_numbered.ensures.ok in
+    let e2 : y2 ≡ y1 ++ a2 = c.in_ok-push_numbered-2.ensures.ok in
+    let e3 : y3 ≡ y2 ++ a3 = c.in_ok-push_numbered-3.ensures.ok in
+    let e4 : y4 ≡ y3 ++ a4 = c.in_ok-push_word.ensures.ok in
+    let t2 = join x y1 y2 (a1) a2 e1 e2 in
+    let t3 = join x y2 y3 (a1 ++ a2) a3 t2 e3 in
+    let t4 = join x y3 y4 (a1 ++ a2 ++ a3) a4 t3 e4 in
+    t4

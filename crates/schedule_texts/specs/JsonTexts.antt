@@ -1,0 +1,83 @@
+-- The timetable as one JSON text. Times are scaled.
+use Rattle.std.specs.Prelude.{ℕ, ◌+◌, ◌++◌, Bool, List, [], ◌∷◌, Option, None, Some, codes, decimal, nat_lt, if◌then◌else◌}
+use Rattle.plan_schedule.specs.declared.schedule.PlaceKind.{PlaceKind}
+use Rattle.plan_schedule.specs.declared.schedule.PlaceKind.TheVariants.{Depot, Customer, Station}
+use Rattle.plan_schedule.specs.declared.schedule.RouteSchedule.{RouteSchedule}
+use Rattle.plan_schedule.specs.declared.schedule.Schedule.{Schedule}
+use Rattle.plan_schedule.specs.declared.schedule.Totals.{Totals}
+use Rattle.plan_schedule.specs.declared.schedule.Visit.{Visit}
+
+-- a name with its number, behind what parts it from others
+abbrev pub field : List ℕ → ℕ → List ℕ
+field name number = name ++ decimal number
+
+-- what stands in front of an item at a position: a comma, unless it is the first, and the end of a line
+abbrev pub mark : ℕ → List ℕ
+mark at = if nat_lt 0 at then codes ",\n" else codes "\n"
+
+-- items, parted by commas, of which the first has this position
+abbrev pub items_from : {A : Type 0} → (A → List ℕ) → ℕ → List A → List ℕ
+items_from text at [] = []
+items_from text at (a ∷ others) = mark at ++ text a ++ items_from text (at + 1) others
+
+abbrev pub kind_field : PlaceKind → List ℕ
+kind_field Depot = codes ",\"kind\":\"depot\""
+kind_field Customer = codes ",\"kind\":\"customer\""
+kind_field Station = codes ",\"kind\":\"station\""
+
+abbrev pub inserted_field : Bool → List ℕ
+inserted_field inserted =
+    if inserted then codes ",\"inserted\":true" else codes ",\"inserted\":false"
+
+-- the visit of a stop: how it was come to, and when
+unfoldable pub way_fields : Visit → List ℕ
+way_fields v =
+    field (codes ",\"energy\":") v.energy ++ field (codes ",\"driving\":") v.driving
+    ++ field (codes ",\"arrival\":") v.arrival ++ field (codes ",\"level\":") v.level
+
+-- what happens there, until the vehicle leaves
+unfoldable pub stay_fields : Visit → List ℕ
+stay_fields v =
+    field (codes ",\"service\":") v.service ++ field (codes ",\"plugging\":") v.plugging
+    ++ field (codes ",\"charging\":") v.charging ++ field (codes ",\"charged\":") v.charged
+    ++ field (codes ",\"level_left\":") v.level_left
+    ++ field (codes ",\"leaving\":") v.leaving
+
+-- where a stop is
+unfoldable pub place_fields : Visit → List ℕ
+place_fields v =
+    field (codes "{\"node\":") v.node ++ kind_field v.kind ++ inserted_field v.inserted
+
+abbrev pub visit_text : Visit → List ℕ
+visit_text v = place_fields v ++ way_fields v ++ stay_fields v ++ codes "}"
+
+-- the sums of a route or of a plan
+unfoldable pub totals_text : Totals → List ℕ
+totals_text t =
+    field (codes "{\"time\":") t.time ++ field (codes ",\"driving\":") t.driving
+    ++ field (codes ",\"serving\":") t.serving ++ field (codes ",\"plugging\":") t.plugging
+    ++ field (codes ",\"charging\":") t.charging
+    ++ field (codes ",\"energy_driven\":") t.energy_driven
+    ++ field (codes ",\"energy_charged\":") t.energy_charged
+    ++ field (codes ",\"stops\":") t.stops ++ codes "}"
+
+unfoldable pub route_text : RouteSchedule → List ℕ
+route_text r =
+    field (codes "{\"route\":") r.number ++ codes ",\"stops\":["
+    ++ items_from visit_text 0 r.visits ++ codes "],\"totals\":" ++ totals_text r.totals
+    ++ codes "}"
+
+-- what stands of a plan behind the format
+unfoldable pub schedule_text : Schedule → List ℕ
+schedule_text s =
+    field (codes "\"denominator\":") s.denominator ++ field (codes ",\"full\":") s.full
+    ++ field (codes ",\"reserve\":") s.reserve ++ field (codes ",\"home\":") s.home
+    ++ codes ",\"routes\":[" ++ items_from route_text 0 s.routes ++ codes "],\"totals\":"
+    ++ totals_text s.totals ++ codes "}\n"
+
+abbrev pub behind_format : Option Schedule → List ℕ
+behind_format None = codes "\"routes\":null}\n"
+behind_format (Some s) = schedule_text s
+
+abbrev pub json_text : Option Schedule → List ℕ
+json_text schedule = codes "{\"format\":\"evview schedule 1\"," ++ behind_format schedule

@@ -1,0 +1,13 @@
+pub mod Options
+pub mod Decimals
+pub mod Latest
+pub mod Tables
+pub mod JsonTexts
+pub mod Scales
+pub mod Axes
+pub mod Frames
+pub mod LevelLines
+pub mod Names
+pub mod Shapes
+pub mod Panels
+pub mod Pictures

@@ -1,0 +1,35 @@
+-- Where times and levels stand in a panel. Lengths are in tenths of a pixel.
+use Rattle.std.specs.Prelude.{ℕ, ◌+◌, ◌-◌, ◌*◌, ◌/◌, ◌<◌, ◌≤◌, ◌^◌, List, [], ◌∷◌, length, max, min}
+use Rattle.plan_schedule.specs.declared.schedule.RouteSchedule.{RouteSchedule}
+use Rattle.plan_schedule.specs.declared.schedule.Schedule.{Schedule}
+use Rattle.schedule_texts.specs.Latest.{latest_of}
+use Rattle.schedule_texts.specs.declared.picture.scale.Scale.{Scale}
+
+-- the most stops of a route
+abbrev pub most_stops : ℕ → List RouteSchedule → ℕ
+most_stops most [] = most
+most_stops most (r ∷ rs) = most_stops (max most (length r.visits)) rs
+
+-- a picture is as wide as the most stops of a route ask for, from 800 to 3200 pixels; all panels have the same times
+abbrev pub scale_of : Schedule → Scale
+scale_of s = record {
+  width = 200 * min (max (most_stops 0 s.routes) 40) 160;
+  latest = latest_of 0 s.routes;
+  full = s.full;
+  denominator = s.denominator;
+}
+
+-- the numbers of a scale are those of an instance
+pub record IsScale (scale : Scale) : Type 0 where
+  pub wide : 8000 ≤ scale.width
+  pub narrow : scale.width ≤ 32000
+  pub some_denominator : 1 ≤ scale.denominator
+  pub small_denominator : scale.denominator ≤ 10 ^ 9
+
+-- where a scaled time stands, from the left: the latest at the right end
+abbrev pub x_at : Scale → ℕ → ℕ
+x_at scale time = 1200 + time * scale.width / max scale.latest 1
+
+-- where a level stands, from the top of the panel: a full battery at the top of its axis, an empty one at its bottom
+abbrev pub y_at : Scale → ℕ → ℕ
+y_at scale level = 2200 - level * 1600 / max scale.full 1

@@ -1,0 +1,106 @@
+-- The timetable as a table.
+use Rattle.std.specs.Prelude.{ℕ, ◌+◌, ◌++◌, Bool, List, [], ◌∷◌, Option, None, Some, codes, decimal, length, max, nat_lt, if◌then◌else◌}
+use Rattle.ev_text.specs.Texts.{joined_texts}
+use Rattle.report_lines.specs.Lines.{number_line}
+use Rattle.plan_schedule.specs.declared.schedule.PlaceKind.{PlaceKind}
+use Rattle.plan_schedule.specs.declared.schedule.PlaceKind.TheVariants.{Depot, Customer, Station}
+use Rattle.plan_schedule.specs.declared.schedule.RouteSchedule.{RouteSchedule}
+use Rattle.plan_schedule.specs.declared.schedule.Schedule.{Schedule}
+use Rattle.plan_schedule.specs.declared.schedule.Totals.{Totals}
+use Rattle.plan_schedule.specs.declared.schedule.Visit.{Visit}
+use Rattle.schedule_texts.specs.Decimals.{cell, time_text}
+use Rattle.schedule_texts.specs.Latest.{latest_of}
+use Rattle.schedule_texts.specs.declared.table.Columns.{Columns}
+
+-- columns of times are as wide as the latest time and nine places at least, those of levels as a full battery and five
+abbrev pub columns_of : Bool → Schedule → Columns
+columns_of exact s = record {
+  exact = exact;
+  denominator = s.denominator;
+  time = max (length (time_text exact s.denominator (latest_of 0 s.routes))) 9;
+  level = max (length (decimal s.full)) 5;
+}
+
+abbrev pub number_cell : ℕ → ℕ → List ℕ
+number_cell width number = cell width (decimal number)
+
+abbrev pub time_cell : Columns → ℕ → List ℕ
+time_cell c time = cell c.time (time_text c.exact c.denominator time)
+
+-- what a node is, behind two spaces, eight places wide
+abbrev pub kind_cell : PlaceKind → List ℕ
+kind_cell Depot = codes "  depot   "
+kind_cell Customer = codes "  customer"
+kind_cell Station = codes "  station "
+
+-- the time to plug in, and the levels from which and to which is charged
+unfoldable pub charge_cells : Columns → Visit → List ℕ
+charge_cells c v =
+    if nat_lt 0 v.charged
+    then time_cell c v.plugging ++ number_cell c.level v.level ++ number_cell c.level v.level_left
+    else cell c.time (codes "-") ++ cell c.level (codes "-") ++ cell c.level (codes "-")
+
+-- the heads of the columns
+unfoldable pub header_text : Columns → List ℕ
+header_text c =
+    codes "  stop  node  what    " ++ cell c.time (codes "arrival")
+    ++ cell c.level (codes "level") ++ cell c.time (codes "plug time")
+    ++ cell c.level (codes "from") ++ cell c.level (codes "to")
+    ++ cell c.time (codes "leaving") ++ codes "\n"
+
+-- where a visit is
+unfoldable pub place_cells : ℕ → Visit → List ℕ
+place_cells at v = number_cell 4 at ++ number_cell 4 v.node ++ kind_cell v.kind
+
+-- when, and with which levels
+unfoldable pub stay_cells : Columns → Visit → List ℕ
+stay_cells c v =
+    time_cell c v.arrival ++ number_cell c.level v.level ++ charge_cells c v
+    ++ time_cell c v.leaving
+
+-- the row of a visit
+abbrev pub row_text : Columns → ℕ → Visit → List ℕ
+row_text c at v = place_cells at v ++ stay_cells c v ++ codes "\n"
+
+-- the rows of visits, of which the first has this position
+abbrev pub rows_text : Columns → ℕ → List Visit → List ℕ
+rows_text c at [] = []
+rows_text c at (v ∷ vs) = row_text c at v ++ rows_text c (at + 1) vs
+
+-- a word and a sum of times
+abbrev pub sum_text : Columns → List ℕ → ℕ → List ℕ
+sum_text c word time = word ++ time_text c.exact c.denominator time
+
+-- the sums of times of a route or of a plan
+unfoldable pub times_text : Columns → Totals → List ℕ
+times_text c t =
+    sum_text c (codes "time ") t.time ++ sum_text c (codes ", driving ") t.driving
+    ++ sum_text c (codes ", serving ") t.serving
+    ++ sum_text c (codes ", plugging in ") t.plugging
+    ++ sum_text c (codes ", charging ") t.charging
+
+-- the sums of energies, how many stops there are, and the end of the line
+unfoldable pub energies_text : Totals → List ℕ
+energies_text t =
+    (codes ", energy driven " ++ decimal t.energy_driven)
+    ++ (codes ", energy charged " ++ decimal t.energy_charged)
+    ++ number_line (codes ", stops ") t.stops
+
+abbrev pub sums_text : Columns → Totals → List ℕ
+sums_text c t = times_text c t ++ energies_text t
+
+-- the lines of a route
+unfoldable pub route_text : Columns → RouteSchedule → List ℕ
+route_text c r =
+    number_line (codes "route ") r.number ++ header_text c ++ rows_text c 0 r.visits
+    ++ (codes "total of route " ++ decimal r.number) ++ codes ": " ++ sums_text c r.totals
+    ++ codes "\n"
+
+-- the lines of routes, and of the whole plan
+unfoldable pub plan_text : Columns → Schedule → List ℕ
+plan_text c s =
+    joined_texts (route_text c) s.routes ++ codes "total of the plan: " ++ sums_text c s.totals
+
+abbrev pub table_text : Bool → Option Schedule → List ℕ
+table_text exact None = codes "no plan\n"
+table_text exact (Some s) = plan_text (columns_of exact s) s

@@ -1,0 +1,168 @@
+//! The timetable as one JSON text.
+
+ghost use Rattle.std.specs.Prelude.{◌≡◌, ◌++◌, OnOk, IfOk, option_map};
+ghost use Rattle.schedule_texts.specs.JsonTexts.{inserted_field, items_from, json_text, kind_field, mark, place_fields, route_text, schedule_text, stay_fields, totals_text, visit_text, way_fields};
+
+use plan_schedule::{PlaceKind, RouteSchedule, Schedule, Totals, Visit};
+use report_lines::{push_numbered, push_word};
+use std::alloc::{AllocError, Global};
+
+/// The timetable as one JSON text, as `docs/schedule.md` has it: times are scaled, whole numbers
+/// over the denominator. Without a plan its routes are `null`. The only refusal is want of memory.
+pub fn schedule_json(alloc: Global, schedule: Option<&Schedule>) -> Result<Vec<u8>, AllocError>
+    ensures { IfOk result
+        (λ text. text.items ≡ json_text (option_map (λ s. s.now) schedule.entry)) }
+{
+    let mut out = Vec::new(alloc);
+    out.extend_from_slice(b"{\"format\":\"evview schedule 1\",")?;
+    match schedule {
+        Some(schedule) => push_schedule(alloc, &mut out, schedule)?,
+        None => out.extend_from_slice(b"\"routes\":null}\n")?,
+    }
+    Ok(out)
+}
+
+/// Appends what stands of a plan behind the format.
+fn push_schedule(alloc: Global, out: &mut Vec<u8>, schedule: &Schedule) -> Result<(), AllocError>
+    ensures { OnOk result (out.new.items ≡ out.old.items ++ schedule_text schedule.now) }
+{
+    push_numbered(
+        alloc,
+        out,
+        b"\"denominator\":",
+        schedule.denominator as u128,
+    )?;
+    push_numbered(alloc, out, b",\"full\":", schedule.full as u128)?;
+    push_numbered(alloc, out, b",\"reserve\":", schedule.reserve as u128)?;
+    push_numbered(alloc, out, b",\"home\":", schedule.home as u128)?;
+    push_word(out, b",\"routes\":[")?;
+    push_routes(alloc, out, schedule.routes.as_slice())?;
+    push_word(out, b"],\"totals\":")?;
+    push_totals(alloc, out, &schedule.totals)?;
+    push_word(out, b"}\n")?;
+    Ok(())
+}
+
+/// Appends routes, parted by commas.
+fn push_routes(alloc: Global, out: &mut Vec<u8>, routes: &[RouteSchedule]) -> Result<(), AllocError>
+    ensures { OnOk result (out.new.items ≡ out.old.items ++ items_from route_text 0 routes.now) }
+{
+    for (at, route) in routes.iter().enumerate() {
+        out.extend_from_slice(mark(at))?;
+        push_route(alloc, out, route)?;
+    }
+    Ok(())
+}
+
+/// What stands in front of an item: a comma, unless it is the first, and the end of a line.
+fn mark(at: usize) -> &'static [u8]
+    ensures { result.now ≡ mark at }
+{
+    if at > 0 { b",\n" } else { b"\n" }
+}
+
+/// Appends a route.
+fn push_route(alloc: Global, out: &mut Vec<u8>, route: &RouteSchedule) -> Result<(), AllocError>
+    ensures { OnOk result (out.new.items ≡ out.old.items ++ route_text route.now) }
+{
+    push_numbered(alloc, out, b"{\"route\":", route.number as u128)?;
+    push_word(out, b",\"stops\":[")?;
+    push_visits(alloc, out, route.visits.as_slice())?;
+    push_word(out, b"],\"totals\":")?;
+    push_totals(alloc, out, &route.totals)?;
+    push_word(out, b"}")?;
+    Ok(())
+}
+
+/// Appends visits, parted by commas.
+fn push_visits(alloc: Global, out: &mut Vec<u8>, visits: &[Visit]) -> Result<(), AllocError>
+    ensures { OnOk result (out.new.items ≡ out.old.items ++ items_from visit_text 0 visits.now) }
+{
+    for (at, visit) in visits.iter().enumerate() {
+        out.extend_from_slice(mark(at))?;
+        push_visit(alloc, out, visit)?;
+    }
+    Ok(())
+}
+
+/// Appends a visit.
+fn push_visit(alloc: Global, out: &mut Vec<u8>, visit: &Visit) -> Result<(), AllocError>
+    ensures { OnOk result (out.new.items ≡ out.old.items ++ visit_text visit.now) }
+{
+    push_place(alloc, out, visit)?;
+    push_way(alloc, out, visit)?;
+    push_stay(alloc, out, visit)?;
+    out.extend_from_slice(b"}")
+}
+
+/// Appends where a stop is.
+#[tactic(auto, unfolding(crate::specs::JsonTexts::place_fields))]
+fn push_place(alloc: Global, out: &mut Vec<u8>, visit: &Visit) -> Result<(), AllocError>
+    ensures { OnOk result (out.new.items ≡ out.old.items ++ place_fields visit.now) }
+{
+    push_numbered(alloc, out, b"{\"node\":", visit.node as u128)?;
+    out.extend_from_slice(kind_field(visit.kind))?;
+    out.extend_from_slice(inserted_field(visit.inserted))
+}
+
+/// Appends how a stop was come to, and when.
+fn push_way(alloc: Global, out: &mut Vec<u8>, visit: &Visit) -> Result<(), AllocError>
+    ensures { OnOk result (out.new.items ≡ out.old.items ++ way_fields visit.now) }
+{
+    push_numbered(alloc, out, b",\"energy\":", visit.energy as u128)?;
+    push_numbered(alloc, out, b",\"driving\":", visit.driving as u128)?;
+    push_numbered(alloc, out, b",\"arrival\":", visit.arrival as u128)?;
+    push_numbered(alloc, out, b",\"level\":", visit.level as u128)?;
+    Ok(())
+}
+
+/// Appends what happens at a stop, until the vehicle leaves.
+fn push_stay(alloc: Global, out: &mut Vec<u8>, visit: &Visit) -> Result<(), AllocError>
+    ensures { OnOk result (out.new.items ≡ out.old.items ++ stay_fields visit.now) }
+{
+    push_numbered(alloc, out, b",\"service\":", visit.service as u128)?;
+    push_numbered(alloc, out, b",\"plugging\":", visit.plugging as u128)?;
+    push_numbered(alloc, out, b",\"charging\":", visit.charging as u128)?;
+    push_numbered(alloc, out, b",\"charged\":", visit.charged as u128)?;
+    push_numbered(alloc, out, b",\"level_left\":", visit.level_left as u128)?;
+    push_numbered(alloc, out, b",\"leaving\":", visit.leaving as u128)?;
+    Ok(())
+}
+
+/// The field of what a node is.
+fn kind_field(kind: PlaceKind) -> &'static [u8]
+    ensures { result.now ≡ kind_field kind }
+{
+    match kind {
+        PlaceKind::Depot => b",\"kind\":\"depot\"",
+        PlaceKind::Customer => b",\"kind\":\"customer\"",
+        PlaceKind::Station => b",\"kind\":\"station\"",
+    }
+}
+
+/// The field of whether a stop was inserted.
+fn inserted_field(inserted: bool) -> &'static [u8]
+    ensures { result.now ≡ inserted_field inserted }
+{
+    if inserted {
+        b",\"inserted\":true"
+    } else {
+        b",\"inserted\":false"
+    }
+}
+
+/// Appends the sums of a route or of a plan.
+fn push_totals(alloc: Global, out: &mut Vec<u8>, totals: &Totals) -> Result<(), AllocError>
+    ensures { OnOk result (out.new.items ≡ out.old.items ++ totals_text totals.now) }
+{
+    push_numbered(alloc, out, b"{\"time\":", totals.time)?;
+    push_numbered(alloc, out, b",\"driving\":", totals.driving)?;
+    push_numbered(alloc, out, b",\"serving\":", totals.serving)?;
+    push_numbered(alloc, out, b",\"plugging\":", totals.plugging)?;
+    push_numbered(alloc, out, b",\"charging\":", totals.charging)?;
+    push_numbered(alloc, out, b",\"energy_driven\":", totals.energy_driven)?;
+    push_numbered(alloc, out, b",\"energy_charged\":", totals.energy_charged)?;
+    push_numbered(alloc, out, b",\"stops\":", totals.stops)?;
+    push_word(out, b"}")?;
+    Ok(())
+}

@@ -1,0 +1,109 @@
+//! The panel of a route.
+
+ghost use Rattle.std.specs.Prelude.{◌≡◌, ◌≤◌, ◌++◌, OnOk};
+ghost use Rattle.schedule_texts.specs.Panels.{heading_text, panel_text, panels_text, placed_text};
+ghost use Rattle.schedule_texts.specs.Scales.{IsScale};
+
+use crate::decimals::push_decimal;
+use crate::picture::axis::push_axis;
+use crate::picture::frame::push_frame;
+use crate::picture::line::{push_bends, push_line};
+use crate::picture::names::push_names;
+use crate::picture::scale::Scale;
+use crate::picture::stops::push_stops;
+use plan_schedule::RouteSchedule;
+use report_lines::{push_numbered, push_word};
+use std::alloc::{AllocError, Global};
+
+/// Appends the panels of routes, one below the other.
+pub(crate) fn push_panels(
+    alloc: Global,
+    out: &mut Vec<u8>,
+    scale: Scale,
+    reserve: u64,
+    routes: &[RouteSchedule],
+) -> Result<(), AllocError>
+    requires { IsScale scale }
+    ensures { OnOk result
+        (out.new.items ≡ out.old.items ++ panels_text scale reserve 0 routes.now) }
+{
+    for (at, route) in routes.iter().enumerate() {
+        push_placed(alloc, out, scale, reserve, at, route)?;
+    }
+    Ok(())
+}
+
+/// Appends the panel with this number from above.
+fn push_placed(
+    alloc: Global,
+    out: &mut Vec<u8>,
+    scale: Scale,
+    reserve: u64,
+    at: usize,
+    route: &RouteSchedule,
+) -> Result<(), AllocError>
+    requires { IsScale scale }
+    ensures { OnOk result
+        (out.new.items ≡ out.old.items ++ placed_text scale reserve at route.now) }
+{
+    push_numbered(
+        alloc,
+        out,
+        b"<g transform='translate(0,",
+        at as u128 * 2800 + 900,
+    )?;
+    push_word(out, b")'>\n")?;
+    push_panel(alloc, out, scale, reserve, route)?;
+    push_word(out, b"</g>\n")?;
+    Ok(())
+}
+
+/// Appends what stands in the panel of a route.
+fn push_panel(
+    alloc: Global,
+    out: &mut Vec<u8>,
+    scale: Scale,
+    reserve: u64,
+    route: &RouteSchedule,
+) -> Result<(), AllocError>
+    requires { IsScale scale }
+    ensures { OnOk result (out.new.items ≡ out.old.items ++ panel_text scale reserve route.now) }
+{
+    push_heading(alloc, out, scale.denominator, route)?;
+    push_axis(alloc, out, scale)?;
+    push_frame(alloc, out, scale, reserve)?;
+    push_names(alloc, out, scale, route.visits.as_slice())?;
+    push_line(alloc, out, scale, route.line.as_slice())?;
+    push_bends(alloc, out, scale, route.line.as_slice())?;
+    push_stops(alloc, out, scale, route.visits.as_slice())?;
+    Ok(())
+}
+
+/// Appends the heading of a route.
+fn push_heading(
+    alloc: Global,
+    out: &mut Vec<u8>,
+    denominator: u64,
+    route: &RouteSchedule,
+) -> Result<(), AllocError>
+    requires { 1 ≤ denominator }
+    ensures { OnOk result (out.new.items ≡ out.old.items ++ heading_text denominator route.now) }
+{
+    push_numbered(
+        alloc,
+        out,
+        b"<text class='h' x='1200' y='200'>route ",
+        route.number as u128,
+    )?;
+    push_numbered(alloc, out, b": stops ", route.totals.stops)?;
+    push_word(out, b", time ")?;
+    push_decimal(alloc, out, denominator, route.totals.time)?;
+    push_numbered(
+        alloc,
+        out,
+        b", energy charged ",
+        route.totals.energy_charged,
+    )?;
+    push_word(out, b"</text>\n")?;
+    Ok(())
+}

@@ -1,0 +1,69 @@
+//! Where times and levels stand in a panel.
+
+ghost use Rattle.std.specs.Prelude.{◌≡◌, ◌≤◌, ◌<◌, ◌^◌};
+ghost use Rattle.plan_schedule.specs.Schedules.{IsTimed};
+ghost use Rattle.schedule_texts.specs.Scales.{IsScale, most_stops, scale_of, x_at, y_at};
+
+use crate::latest::latest_of;
+use plan_schedule::{RouteSchedule, Schedule};
+
+/// The scale of a picture.
+#[derive(Clone, Copy)]
+pub(crate) struct Scale {
+    /// How wide a panel is between its axes.
+    pub width: u64,
+    /// The scaled time at its right end; 0 where no vehicle drives.
+    pub latest: u64,
+    /// The level of a full battery.
+    pub full: u64,
+    /// The number by which times are scaled.
+    pub denominator: u64,
+}
+
+/// The scale of the picture of a plan: all panels have the same times, and the more stops a route
+/// has, the wider they are, from 800 to 3200 pixels.
+pub(crate) fn scale_of(schedule: &Schedule) -> Scale
+    requires { IsTimed schedule.now }
+    ensures value { result ≡ scale_of schedule.now }
+    ensures scale { IsScale result }
+{
+    let routes = schedule.routes.as_slice();
+    let stops = most_stops(routes).clamp(40, 160) as u64;
+    Scale {
+        width: 200 * stops,
+        latest: latest_of(routes),
+        full: schedule.full,
+        denominator: schedule.denominator,
+    }
+}
+
+/// The most stops of a route.
+fn most_stops(routes: &[RouteSchedule]) -> usize
+    ensures { result ≡ most_stops 0 routes.now }
+{
+    let mut most = 0;
+    for route in routes {
+        most = most.max(route.visits.len());
+    }
+    most
+}
+
+/// Where a scaled time stands, from the left.
+#[tactic(auto, using(crate::proofs::Sizes::x_sizes))]
+pub(crate) fn x_at(scale: Scale, time: u128) -> u128
+    requires wide { scale.width ≤ 32000 }
+    requires small { time < 2 ^ 102 }
+    ensures value { result ≡ x_at scale time }
+    ensures small { result < 2 ^ 120 }
+{
+    1200 + time * scale.width as u128 / scale.latest.max(1) as u128
+}
+
+/// Where a level stands, from the top of the panel.
+pub(crate) fn y_at(scale: Scale, level: u64) -> u128
+    ensures value { result ≡ y_at scale level }
+    ensures within { result ≤ 2200 }
+{
+    let height = level as u128 * 1600 / scale.full.max(1) as u128;
+    2200_u128.saturating_sub(height)
+}

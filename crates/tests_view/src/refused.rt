@@ -1,0 +1,175 @@
+//! What is put where a rule is broken, and that nothing is written then.
+
+use crate::files::{assert_file, assert_run, run_with, shelf_with};
+use evview_run::Status;
+use worked_instances::{NO_STATION, ONE_STATION, TWO_CUSTOMERS};
+
+/// The plan of the one customer with a station on the way.
+const BY_STATION: &str = "evroute plan 1\nroutes 1\nroute 0 v2+1 1 0\n";
+
+/// A plan of the one customer without a station.
+const OUT: &str = "evroute plan 1\nroutes 1\nroute 0 1 0\n";
+
+/// A plan file that holds no plan.
+const NONE: &str = "evroute plan 1\nnone\n";
+
+#[test]
+fn the_first_broken_rule_is_put_and_nothing_is_written(rt: HostRuntime) {
+    let alloc = rt.alloc();
+    for &(line, instance, plan, status, put) in &[
+        (
+            "P A --svg S --json J",
+            ONE_STATION,
+            BY_STATION,
+            Status::Refused,
+            "refused instance 2\n",
+        ),
+        (
+            "A P --svg S --json J --limit 1000000000000000000",
+            ONE_STATION,
+            BY_STATION,
+            Status::Refused,
+            "refused limit 1000000000000000000\n",
+        ),
+        (
+            "A A --svg S",
+            ONE_STATION,
+            BY_STATION,
+            Status::Words,
+            "evview FILE PLAN [--limit N] [--route N] [--exact] [--svg OUT] [--json OUT]\n",
+        ),
+        (
+            "A P --svg S --json J",
+            ONE_STATION,
+            "evroute plan 1\nroutes 01\nroute 0 1 0\n",
+            Status::Refused,
+            "refused plan 1 at 22\n",
+        ),
+        (
+            "A P --svg S --json J",
+            ONE_STATION,
+            "evroute plan 1\nroutes 1\nroute 0 1000000001 0\n",
+            Status::Refused,
+            "refused plan 2 at 32\n",
+        ),
+        (
+            "A P --svg S --json J",
+            ONE_STATION,
+            "evroute plan 2\nnone\n",
+            Status::Refused,
+            "refused plan 3 at 0\n",
+        ),
+        (
+            "A P --svg S --json J",
+            ONE_STATION,
+            "evroute plan 1\nroutes 1\nroute 0 1 0",
+            Status::Refused,
+            "refused plan 4 at 35\n",
+        ),
+        (
+            "A P --svg S --json J --route 1",
+            ONE_STATION,
+            BY_STATION,
+            Status::Refused,
+            "refused number 1\n",
+        ),
+        (
+            "A P --svg S --json J --route 1",
+            ONE_STATION,
+            OUT,
+            Status::Refused,
+            "refused number 1\n",
+        ),
+        (
+            "A P --svg S --json J --route 0",
+            ONE_STATION,
+            NONE,
+            Status::Refused,
+            "refused number 0\n",
+        ),
+        (
+            "A P --svg S --json J",
+            ONE_STATION,
+            OUT,
+            Status::Negative,
+            "rejected plan 1 route 0 walk 4 at 2\n",
+        ),
+        (
+            "A P --svg S --json J --limit 21",
+            ONE_STATION,
+            BY_STATION,
+            Status::Negative,
+            "rejected plan 1 route 0 walk 7 at 3\n",
+        ),
+        (
+            "A P --svg S --json J --route 0",
+            NO_STATION,
+            "evroute plan 1\nroutes 2\nroute 0 1 0\nroute 0 1 0\n",
+            Status::Negative,
+            "rejected plan 2 customer 1\n",
+        ),
+        (
+            "A P --svg S --json J",
+            TWO_CUSTOMERS,
+            OUT,
+            Status::Negative,
+            "rejected plan 3 customer 2\n",
+        ),
+        (
+            "A P --svg S --json J --route 0",
+            ONE_STATION,
+            "evroute plan 1\nroutes 2\nroute 0 v2+1 1 0\nroute 0 v2 0\n",
+            Status::Negative,
+            "rejected plan 4 route 1\n",
+        ),
+        (
+            "A P --svg S --json J",
+            ONE_STATION,
+            "evroute plan 1\nroutes 1\nroute 0 2+1 1 0\n",
+            Status::Negative,
+            "rejected plan 5 route 0 at 1\n",
+        ),
+        (
+            "B P --svg S --json J",
+            ONE_STATION,
+            BY_STATION,
+            Status::Fault,
+            "",
+        ),
+        (
+            "A B --svg S --json J",
+            ONE_STATION,
+            BY_STATION,
+            Status::Fault,
+            "",
+        ),
+    ] {
+        let mut shelf = shelf_with(alloc, instance, plan, &[]).expect(&rt, "memory");
+        assert_run(&rt, alloc, line, &mut shelf, status, put);
+        assert_file(&rt, &shelf, "S", None);
+        assert_file(&rt, &shelf, "J", None);
+    }
+}
+
+#[test]
+fn a_call_that_fails_is_a_fault(rt: HostRuntime) {
+    let alloc = rt.alloc();
+    for failing in 0..4 {
+        let mut shelf = shelf_with(alloc, ONE_STATION, BY_STATION, &[failing]).expect(
+            &rt, "memory",
+        );
+        let line = "A P --svg S --json J";
+        let ended = run_with(alloc, line, &mut shelf, &[]).expect(&rt, "memory");
+        assert_eq!(rt; ended.0, Status::Fault, "{failing}");
+        assert!(rt; ended.1.is_empty(), "{failing}");
+    }
+}
+
+#[test]
+fn an_output_that_fails_is_a_fault_behind_both_files(rt: HostRuntime) {
+    let alloc = rt.alloc();
+    let mut shelf = shelf_with(alloc, ONE_STATION, BY_STATION, &[]).expect(&rt, "memory");
+    let ended = run_with(alloc, "A P --svg S --json J", &mut shelf, &[0]).expect(&rt, "memory");
+    assert_eq!(rt; ended.0, Status::Fault);
+    assert!(rt; shelf.get("S").is_some() && shelf.get("J").is_some());
+}

@@ -1,0 +1,142 @@
+//! What is put and written of plans.
+
+use crate::files::{assert_file, assert_run, run_with, shelf_with};
+use evview_run::Status;
+use std::alloc::Global;
+use worked_instances::{DEPOT_ALONE, NO_STATION, ONE_STATION, PLUG_TIME, TWO_CUSTOMERS};
+
+/// The plan of the one customer with a station on the way.
+const BY_STATION: &str = "evroute plan 1\nroutes 1\nroute 0 v2+1 1 0\n";
+
+/// A plan of no routes.
+const EMPTY: &str = "evroute plan 1\nroutes 0\n";
+
+/// A plan file that holds no plan.
+const NONE: &str = "evroute plan 1\nnone\n";
+
+/// A route for each of two customers.
+const OUT_AND_BACK: &str = "evroute plan 1\nroutes 2\nroute 0 2 0\nroute 0 1 0\n";
+
+#[test]
+fn the_schedule_is_put_as_tables(rt: HostRuntime) {
+    let alloc = rt.alloc();
+    for &(line, instance, plan, put) in &[
+        (
+            "A P",
+            ONE_STATION,
+            BY_STATION,
+            "route 0\n  stop  node  what        arrival  level  plug time   from     to    leaving\n     0     0  depot          0.00     10          -      -      -       0.00\n     1     2  station        8.00      7       0.00      7      8       8.50\n     2     1  customer      11.50      6          -      -      -      11.50\n     3     0  depot         21.50      0          -      -      -      21.50\ntotal of route 0: time 21.50, driving 21.00, serving 0.00, plugging in 0.00, charging 0.50, energy driven 11, energy charged 1, stops 4\n\ntotal of the plan: time 21.50, driving 21.00, serving 0.00, plugging in 0.00, charging 0.50, energy driven 11, energy charged 1, stops 4\n",
+        ),
+        (
+            "A P --exact",
+            PLUG_TIME,
+            BY_STATION,
+            "route 0\n  stop  node  what        arrival  level  plug time   from     to    leaving\n     0     0  depot           0/2     10          -      -      -        0/2\n     1     2  station        16/2      7        2/2      7      8       19/2\n     2     1  customer       25/2      6          -      -      -       25/2\n     3     0  depot          45/2      0          -      -      -       45/2\ntotal of route 0: time 45/2, driving 42/2, serving 0/2, plugging in 2/2, charging 1/2, energy driven 11, energy charged 1, stops 4\n\ntotal of the plan: time 45/2, driving 42/2, serving 0/2, plugging in 2/2, charging 1/2, energy driven 11, energy charged 1, stops 4\n",
+        ),
+        (
+            "A P --route 1 --exact",
+            TWO_CUSTOMERS,
+            OUT_AND_BACK,
+            "route 1\n  stop  node  what        arrival  level  plug time   from     to    leaving\n     0     0  depot           0/1     10          -      -      -        0/1\n     1     1  customer        4/1      9          -      -      -        4/1\n     2     0  depot           8/1      8          -      -      -        8/1\ntotal of route 1: time 8/1, driving 8/1, serving 0/1, plugging in 0/1, charging 0/1, energy driven 2, energy charged 0, stops 3\n\ntotal of the plan: time 16/1, driving 16/1, serving 0/1, plugging in 0/1, charging 0/1, energy driven 4, energy charged 0, stops 6\n",
+        ),
+        (
+            "A P",
+            DEPOT_ALONE,
+            EMPTY,
+            "total of the plan: time 0.00, driving 0.00, serving 0.00, plugging in 0.00, charging 0.00, energy driven 0, energy charged 0, stops 0\n",
+        ),
+        ("A P --exact", NO_STATION, NONE, "no plan\n"),
+    ] {
+        let mut shelf = shelf_with(alloc, instance, plan, &[]).expect(&rt, "memory");
+        assert_run(&rt, alloc, line, &mut shelf, Status::Done, put);
+    }
+}
+
+#[test]
+fn a_wider_limit_shows_a_plan_that_needs_it(rt: HostRuntime) {
+    let alloc = rt.alloc();
+    let narrow = NO_STATION
+        .replacen(alloc, "{", "{\"t_max\":7,", 1)
+        .expect(&rt, "memory");
+    for &(line, status) in &[("A P", Status::Negative), ("A P --limit 8", Status::Done)] {
+        let plan = "evroute plan 1\nroutes 1\nroute 0 1 0\n";
+        let mut shelf = shelf_with(alloc, narrow.as_str(), plan, &[]).expect(&rt, "memory");
+        let ended = run_with(alloc, line, &mut shelf, &[]).expect(&rt, "memory");
+        assert_eq!(rt; ended.0, status, "{line}");
+    }
+}
+
+/// The text of JSON that is written for words, or the empty text.
+fn json_of(alloc: Global, line: &str, instance: &str, plan: &str) -> Option<String> {
+    let mut shelf = shelf_with(alloc, instance, plan, &[]).ok()?;
+    let _ = run_with(alloc, line, &mut shelf, &[]).ok()?;
+    let bytes = shelf.get("J").unwrap_or(b"");
+    String::from_utf8(Vec::from_slice(alloc, bytes).ok()?).ok()
+}
+
+#[test]
+fn the_schedule_is_written_as_json(rt: HostRuntime) {
+    let alloc = rt.alloc();
+    for &(line, instance, plan, want) in &[
+        (
+            "A P --json J",
+            NO_STATION,
+            "evroute plan 1\nroutes 1\nroute 0 1 0\n",
+            "{\"format\":\"evview schedule 1\",\"denominator\":1,\"full\":10,\"reserve\":0,\"home\":0,\"routes\":[\n{\"route\":0,\"stops\":[\n{\"node\":0,\"kind\":\"depot\",\"inserted\":false,\"energy\":0,\"driving\":0,\"arrival\":0,\"level\":10,\"service\":0,\"plugging\":0,\"charging\":0,\"charged\":0,\"level_left\":10,\"leaving\":0},\n{\"node\":1,\"kind\":\"customer\",\"inserted\":false,\"energy\":1,\"driving\":4,\"arrival\":4,\"level\":9,\"service\":0,\"plugging\":0,\"charging\":0,\"charged\":0,\"level_left\":9,\"leaving\":4},\n{\"node\":0,\"kind\":\"depot\",\"inserted\":false,\"energy\":1,\"driving\":4,\"arrival\":8,\"level\":8,\"service\":0,\"plugging\":0,\"charging\":0,\"charged\":0,\"level_left\":8,\"leaving\":8}],\"totals\":{\"time\":8,\"driving\":8,\"serving\":0,\"plugging\":0,\"charging\":0,\"energy_driven\":2,\"energy_charged\":0,\"stops\":3}}],\"totals\":{\"time\":8,\"driving\":8,\"serving\":0,\"plugging\":0,\"charging\":0,\"energy_driven\":2,\"energy_charged\":0,\"stops\":3}}\n",
+        ),
+        (
+            "A P --svg S --json=J",
+            NO_STATION,
+            NONE,
+            "{\"format\":\"evview schedule 1\",\"routes\":null}\n",
+        ),
+        (
+            "A P --json J",
+            DEPOT_ALONE,
+            EMPTY,
+            "{\"format\":\"evview schedule 1\",\"denominator\":1,\"full\":10,\"reserve\":0,\"home\":0,\"routes\":[],\"totals\":{\"time\":0,\"driving\":0,\"serving\":0,\"plugging\":0,\"charging\":0,\"energy_driven\":0,\"energy_charged\":0,\"stops\":0}}\n",
+        ),
+    ] {
+        let json = json_of(alloc, line, instance, plan);
+        let told = json.as_ref().map(|text| text.as_str()).unwrap_or("");
+        assert_eq!(rt; told, want, "{line}");
+    }
+}
+
+#[test]
+fn each_file_holds_its_own_text(rt: HostRuntime) {
+    let alloc = rt.alloc();
+    for &(instance, plan) in &[
+        (ONE_STATION, BY_STATION),
+        (TWO_CUSTOMERS, OUT_AND_BACK),
+        (DEPOT_ALONE, EMPTY),
+        (NO_STATION, NONE),
+    ] {
+        let mut shelf = shelf_with(alloc, instance, plan, &[]).expect(&rt, "memory");
+        let line = "A P --svg S --json J";
+        let ended = run_with(alloc, line, &mut shelf, &[]).expect(&rt, "memory");
+        assert_eq!(rt; ended.0, Status::Done, "{plan}");
+        let (svg, json) = (shelf.get("S").unwrap_or(b""), shelf.get("J").unwrap_or(b""));
+        assert!(rt;
+            svg.starts_with(b"<svg ") && svg.ends_with(b"</svg>\n"),
+            "{plan}"
+        );
+        assert!(rt; json.starts_with(b"{\"format\":"), "{plan}");
+    }
+}
+
+#[test]
+fn only_what_is_asked_for_is_written(rt: HostRuntime) {
+    let alloc = rt.alloc();
+    for &(line, svg, json) in &[
+        ("A P", false, false),
+        ("A P --svg S", true, false),
+        ("A P --json J", false, true),
+    ] {
+        let mut shelf = shelf_with(alloc, ONE_STATION, BY_STATION, &[]).expect(&rt, "memory");
+        let _ = run_with(alloc, line, &mut shelf, &[]).expect(&rt, "memory");
+        assert_eq!(rt; shelf.get("S").is_some(), svg, "{line}");
+        assert_eq!(rt; shelf.get("J").is_some(), json, "{line}");
+        assert_file(&rt, &shelf, "P", Some(BY_STATION));
+    }
+}

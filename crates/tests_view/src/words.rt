@@ -1,0 +1,65 @@
+//! The words of the program.
+
+use crate::files::words_of;
+use std::alloc::Global;
+use view_words::{Job, job_words, usage};
+
+/// The name of a file, or a dash where there is none.
+fn name_or_dash(name: &Option<String>) -> &str {
+    match name {
+        Some(name) => name.as_str(),
+        None => "-",
+    }
+}
+
+/// The job in short: its limit and its route, or 0 where there is none, whether times are shown as
+/// they are scaled, and the files that are written.
+fn told(alloc: Global, job: &Job) -> Option<String> {
+    let limit = job.limit.unwrap_or(0);
+    let route = job.route.unwrap_or(0);
+    let exact = job.exact;
+    let svg = name_or_dash(&job.svg);
+    let json = name_or_dash(&job.json);
+    format!(in alloc; "{limit} {route} {exact} {svg} {json}").ok()
+}
+
+/// What the words of a line name, in short; `None` where they name no job.
+fn named(alloc: Global, line: &str) -> Option<String> {
+    let words = words_of(alloc, line).ok()?;
+    let job = job_words(alloc, words.as_slice()).ok()??;
+    told(alloc, &job)
+}
+
+#[test]
+fn words_name_a_job_or_none(rt: HostRuntime) {
+    let alloc = rt.alloc();
+    for &(line, want) in &[
+        ("A P", "0 0 false - -"),
+        ("A P --limit 5 --route 7", "5 7 false - -"),
+        ("--exact A --route=0 P", "0 0 true - -"),
+        ("A P --svg S", "0 0 false S -"),
+        ("A --json J P --svg=S --exact", "0 0 true S J"),
+        (
+            "A P --limit 1000000000000000000",
+            "1000000000000000000 0 false - -",
+        ),
+        ("A", ""),
+        ("A P Q", ""),
+        ("A A", ""),
+        ("A P --svg P", ""),
+        ("A P --json A", ""),
+        ("A P --svg S --json S", ""),
+        ("A P --limit 1000000000000000001", ""),
+        ("A P --route 01", ""),
+        ("A P --route -1", ""),
+        ("A P --exact --exact", ""),
+        ("A P --exact=1", ""),
+        ("A P --seconds 1", ""),
+        ("--help", ""),
+    ] {
+        let named = named(alloc, line);
+        let told = named.as_ref().map(|text| text.as_str()).unwrap_or("");
+        assert_eq!(rt; told, want, "{line}");
+    }
+    assert!(rt; usage().starts_with("evview FILE PLAN "));
+}

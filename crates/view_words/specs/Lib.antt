@@ -1,0 +1,4 @@
+pub mod Command
+pub mod Words
+pub mod JobValue
+pub mod Usage

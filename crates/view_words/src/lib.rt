@@ -1,0 +1,62 @@
+//! The words of `evview`, and the job that they name.
+#![tactic(auto)]
+
+ghost use Rattle.std.specs.Prelude.{◌≡◌, [], None, Ok, IfOk, IfSome, map, option_map, string_bytes};
+ghost use Rattle.view_words.specs.JobValue.{IsJob, job_value};
+ghost use Rattle.view_words.specs.Usage.{usage_text};
+ghost use Rattle.view_words.specs.Words.{job_of};
+
+mod arguments;
+mod jobs;
+
+use arguments::{PROGRAM, found_in};
+use call_words::named;
+use jobs::job_in;
+use std::alloc::{AllocError, Global};
+
+/// The job of showing a plan: the file of the instance, another one with the plan, the limit on the
+/// time of each route in place of the instance's, in units of time, the number of the one route
+/// that is shown, counted from 0, whether times are shown as they are scaled, and the files into
+/// which the pictures and the schedule are written.
+#[derive(Drop)]
+pub struct Job {
+    pub file: String,
+    pub plan: String,
+    pub limit: Option<u64>,
+    pub route: Option<u64>,
+    pub exact: bool,
+    pub svg: Option<String>,
+    pub json: Option<String>,
+}
+
+/// The job of the words, which stand behind the program's name, read by one `clap` command: `FILE
+/// PLAN [--limit N] [--route N] [--exact] [--svg OUT] [--json OUT]`. `None` comes exactly where the
+/// words are no such job.
+///
+/// Options stand anywhere before a word `--`, each at most once; the value is the next word or
+/// follows a `=`. A name that begins with `-` and has more behind it is given after `--`. Numbers
+/// are written without leading zeros, and are at most 10^18. The names of files are different
+/// texts. No words at all are no job, and take no memory.
+pub fn job_words(alloc: Global, words: &[String]) -> Result<Option<Job>, AllocError>
+    ensures job { IfOk result
+        (λ job. option_map job_value job ≡ job_of (map string_bytes words.now)) }
+    ensures is { IfOk result (λ job. IfSome job IsJob) }
+    ensures no_words { words.now ≡ [] → result ≡ Ok None }
+{
+    if words.is_empty() {
+        return Ok(None);
+    }
+    let named = named(alloc, PROGRAM, words)?;
+    match found_in(alloc, named.as_slice()) {
+        Ok(Some(matches)) => job_in(alloc, &matches),
+        Ok(None) => Ok(None),
+        Err(AllocError) => Err(AllocError),
+    }
+}
+
+/// The usage text: how the program is called.
+pub fn usage() -> &'static str
+    ensures { result.now ≡ usage_text }
+{
+    "evview FILE PLAN [--limit N] [--route N] [--exact] [--svg OUT] [--json OUT]\n"
+}
