@@ -5,6 +5,8 @@
 #[cfg(test)]
 mod files;
 #[cfg(test)]
+mod pictures;
+#[cfg(test)]
 mod refused;
 #[cfg(test)]
 mod shown;
