@@ -1,6 +1,5 @@
 pub mod Options
 pub mod Margins
-pub mod EntryLists
 pub mod CoveredStates
 pub mod LabelSteps
 pub mod StationSteps

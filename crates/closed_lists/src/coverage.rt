@@ -11,11 +11,12 @@ ghost use Rattle.closed_lists.specs.Links.{IsEntry};
 ghost use Rattle.closed_lists.specs.Looking.{Misses};
 ghost use Rattle.closed_lists.specs.Targets.{state_of};
 
-use crate::links::{Entry, first, is_in_time};
+use crate::links::{Kept, key_of};
 use crate::paid::{is_too_dear, margin};
 use crate::places::{BLOCK, TRIES, mark};
 use crate::question::Question;
 use customer_sets::CustSet;
+use label_index::{Entry, first, is_in_time};
 use label_steps::Covering;
 use piece_fn::{Label, PieceFn};
 use std::marker::Model;
@@ -39,7 +40,7 @@ pub(crate) struct Asked<'a> {
     question: &'a Question<'a>,
     target: &'a Target,
     /// The key of labels at the target's node after its customer.
-    key: usize,
+    key: u128,
     /// The mark of such labels with the target's set.
     mark: u64,
 }
@@ -63,7 +64,7 @@ impl Question<'_> {
         requires paid { unsigned_abs target.now.paid ≤ 2 ^ 92 }
         ensures { result ≡ record { question = self.now; target = target.now } }
     {
-        let key = target.last * self.inst.nodes() + target.node;
+        let key = key_of(self.inst.nodes(), target.last, target.node);
         Asked {
             question: self,
             target,
@@ -201,7 +202,7 @@ impl Asked<'_> {
 
     /// The same by the label of an entry, which is at the same node after the same customer and has
     /// a time that is no later than the state's.
-    fn reach_of(&self, entry: &Entry, value: &PieceFn, level: u64, time: u64) -> Option<u64>
+    fn reach_of(&self, entry: &Entry<Kept>, value: &PieceFn, level: u64, time: u64) -> Option<u64>
         requires entry { IsEntry (node_count self.now.question.network) self.now.question.prices
             self.now.question.labels entry.now }
         requires last { (d : Label) →
@@ -213,27 +214,27 @@ impl Asked<'_> {
         requires level { IsLevel (level_times value.now) level }
         requires time { time ≡ time_at (level_times value.now) level }
         requires early { entry.now.time ≤ time }
-        requires own { unsigned_abs entry.now.paid ≤ 2 ^ 91 }
+        requires own { unsigned_abs entry.now.rest.paid ≤ 2 ^ 91 }
         ensures some { IfSome result
             (IsCoveredTo (covers self.now) (level_times value.now) level) }
         ensures none { IfNone result
             (Misses self.now.question (state_of self.now.target value.now level) entry.now) }
     {
-        if !entry.set.is_subset(self.target.set) {
+        if !entry.rest.set.is_subset(self.target.set) {
             return None;
         }
         let weight = self.question.weight();
-        if is_too_dear(weight, time - entry.time, entry.paid, self.target.paid) {
+        if is_too_dear(weight, time - entry.time, entry.rest.paid, self.target.paid) {
             return None;
         }
-        match margin(weight, entry.paid, self.target.paid) {
+        match margin(weight, entry.rest.paid, self.target.paid) {
             Some(extra) => self.label_of(entry).value.reach(value, extra, level),
             None => None,
         }
     }
 
     /// The label of an entry.
-    fn label_of(&self, entry: &Entry) -> &Label
+    fn label_of(&self, entry: &Entry<Kept>) -> &Label
         requires { entry.now.number < length self.now.question.labels }
         ensures { (d : Label) →
             result.now ≡ slice_index_or self.now.question.labels entry.now.number d }

@@ -2,9 +2,10 @@
 //! then those whose sets are within it and that no other makes needless. What is answered never
 //! rests on this choice, so nothing is said of it.
 
-use crate::links::Entry;
+use crate::links::Kept;
 use customer_sets::CustSet;
 use dominance::Covers;
+use label_index::Entry;
 use piece_fn::Label;
 use std::alloc::{AllocError, Global};
 
@@ -64,7 +65,7 @@ impl Places {
     pub(crate) fn new(
         alloc: Global,
         customers: usize,
-        entries: &[Entry],
+        entries: &[Entry<Kept>],
         labels: &[Label],
     ) -> Result<Places, AllocError> {
         let count = entries.len().saturating_mul(2).saturating_add(1);
@@ -79,14 +80,17 @@ impl Places {
         for (at, entry) in entries.iter().enumerate() {
             places.begin(entry.key, at)?;
             if places.keep(entries, labels, at) {
-                places.stand(entry.set, at);
+                places.stand(entry.rest.set, at);
             }
         }
         Ok(places)
     }
 
     /// Says that the entries with a key begin at a place or before it.
-    fn begin(&mut self, key: usize, at: usize) -> Result<(), AllocError> {
+    fn begin(&mut self, key: u128, at: usize) -> Result<(), AllocError> {
+        let Ok(key) = usize::try_from(key) else {
+            return Ok(());
+        };
         if self.firsts.len() <= key {
             self.firsts.resize(key.saturating_add(1), at)?;
         }
@@ -128,8 +132,8 @@ impl Places {
     }
 
     /// The place of the first entry with a key, if there is one.
-    pub(crate) fn first(&self, key: usize) -> Option<usize> {
-        self.firsts.get(key).copied()
+    pub(crate) fn first(&self, key: u128) -> Option<usize> {
+        self.firsts.get(usize::try_from(key).ok()?).copied()
     }
 
     /// The entries of a block that aren't needless and whose sets are within one, as bits.
@@ -147,7 +151,7 @@ impl Places {
     }
 
     /// Puts an entry into its slot, and answers whether it isn't needless.
-    fn keep(&mut self, entries: &[Entry], labels: &[Label], at: usize) -> bool {
+    fn keep(&mut self, entries: &[Entry<Kept>], labels: &[Label], at: usize) -> bool {
         match self.room_for(entries, labels, at) {
             Room::Slot { slot, mark } => {
                 if let Some(free) = self.slots.get_mut(slot) {
@@ -164,11 +168,11 @@ impl Places {
     }
 
     /// The first free slot for an entry, unless it is needless.
-    fn room_for(&self, entries: &[Entry], labels: &[Label], at: usize) -> Room {
+    fn room_for(&self, entries: &[Entry<Kept>], labels: &[Label], at: usize) -> Room {
         let Some(entry) = entries.get(at) else {
             return Room::Full;
         };
-        let mark = mark(entry.key, self.marks(entry.set));
+        let mark = mark(entry.key, self.marks(entry.rest.set));
         for tried in 0..TRIES {
             let Some(slot) = slot_of(self.slots.len(), mark, tried) else {
                 return Room::Full;
@@ -193,8 +197,8 @@ pub(crate) fn mark_of(customer: usize) -> u64 {
 }
 
 /// A number for a key and the marks of a set.
-pub(crate) fn mark(key: usize, marks: u64) -> u64 {
-    (key as u64 ^ marks).wrapping_mul(0x9E37_79B9_7F4A_7C15)
+pub(crate) fn mark(key: u128, marks: u64) -> u64 {
+    ((key % (1 << 64)) as u64 ^ marks).wrapping_mul(0x9E37_79B9_7F4A_7C15)
 }
 
 /// A part of a mark.
@@ -213,11 +217,16 @@ fn slot_of(slots: usize, mark: u64, tried: usize) -> Option<usize> {
 }
 
 /// Whether the entry at a place has the key and the set of another, and covers what it covers.
-fn makes_needless(entries: &[Entry], labels: &[Label], at: usize, other: &Entry) -> bool {
+fn makes_needless(
+    entries: &[Entry<Kept>],
+    labels: &[Label],
+    at: usize,
+    other: &Entry<Kept>,
+) -> bool {
     let Some(entry) = entries.get(at) else {
         return false;
     };
-    if entry.key != other.key || entry.set != other.set {
+    if entry.key != other.key || entry.rest.set != other.rest.set {
         return false;
     }
     match (labels.get(entry.number), labels.get(other.number)) {

@@ -11,11 +11,12 @@ ghost use Rattle.closed_lists.specs.Links.{AreEntries};
 ghost use Rattle.closed_lists.specs.Sections.{IsLabelOf};
 ghost use Rattle.closed_lists.specs.Questions.{IsQuestion};
 
-use crate::links::{Entry, entries};
+use crate::links::{ByNodes, Kept};
 use crate::paid::price_sum;
 use crate::places::Places;
 use customer_sets::Pairs;
 use instance_reader::Instance;
+use label_index::{Entry, entries};
 use piece_fn::Label;
 use std::alloc::{AllocError, Global};
 use std::marker::Model;
@@ -31,7 +32,7 @@ pub struct Question<'a> {
     pub(crate) weight: u64,
     pub(crate) prices: &'a [i128],
     pub(crate) labels: &'a [Label],
-    pub(crate) entries: Vec<Entry>,
+    pub(crate) entries: Vec<Entry<Kept>>,
     pub(crate) places: Places,
 }
 
@@ -71,7 +72,11 @@ impl<'a> Question<'a> {
           labels = labels.now;
         }) }
     {
-        let entries = entries(alloc, inst, prices, labels)?;
+        let indexing = ByNodes {
+            nodes: inst.nodes(),
+            prices,
+        };
+        let entries = entries(alloc, &indexing, labels)?;
         let places = Places::new(alloc, prices.len(), entries.as_slice(), labels)?;
         Ok(Question {
             inst,
@@ -136,7 +141,7 @@ impl<'a> Question<'a> {
     }
 
     /// The entries of the labels.
-    pub(crate) fn entries(&self) -> &[Entry]
+    pub(crate) fn entries(&self) -> &[Entry<Kept>]
         ensures are { AreEntries (node_count self.now.network) self.now.prices self.now.labels
             result.now }
         ensures labels { All (IsLabelOf self.now.network) self.now.labels }

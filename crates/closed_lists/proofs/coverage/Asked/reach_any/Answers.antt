@@ -2,7 +2,8 @@ use Rattle.std.proofs.Common.{◌≡◌, ◌+◌, ◌*◌, ◌<◌, subst, true,
 use Rattle.std.specs.List.{All}
 use Rattle.ev_model.specs.Network.{node_count}
 use Rattle.closed_lists.specs.Asking.{Asking}
-use Rattle.closed_lists.specs.Links.{AreEntries, TellsTime}
+use Rattle.closed_lists.specs.Links.{AreEntries}
+use Rattle.label_index.specs.Entries.{TellsTime}
 use Rattle.closed_lists.specs.Sections.{IsLabelOf}
 use Rattle.closed_lists.specs.Targets.{state_of}
 use Rattle.closed_lists.proofs.CoveredStates.{IsCandidate, candidate, left_first, left_next, left_nothing}
