@@ -9,7 +9,6 @@ pub mod Truths
 pub mod Rules
 pub mod MoreStops
 pub mod Options
-pub mod EntryLists
 pub mod CoveredStates
 pub mod LabelSteps
 pub mod StationSteps

@@ -8,10 +8,10 @@ ghost use Rattle.near_proof.specs.Links.{AreEntries};
 ghost use Rattle.near_proof.specs.Targets.{covers_by};
 
 use crate::NearLabel;
-use crate::links::{Entry, first, is_in_time};
 use crate::margins::margin;
 use customer_sets::CustSet;
 use dominance::LabelValue;
+use label_index::{Entry, first, is_in_time};
 use label_steps::Covering;
 use piece_fn::PieceFn;
 use std::marker::Model;
@@ -34,7 +34,7 @@ pub(crate) struct Target {
 pub(crate) struct Asked<'a> {
     weight: u64,
     labels: &'a [NearLabel],
-    entries: &'a [Entry],
+    entries: &'a [Entry<()>],
     target: Target,
 }
 
@@ -54,7 +54,7 @@ impl<'a> Asked<'a> {
     pub(crate) fn new(
         weight: u64,
         labels: &'a [NearLabel],
-        entries: &'a [Entry],
+        entries: &'a [Entry<()>],
         target: Target,
     ) -> Asked<'a>
         requires weight { weight ≤ 1 }
@@ -81,9 +81,10 @@ impl Covering for Asked<'_> {
             return None;
         };
         let (entries, labels) = (self.entries, self.labels);
-        let begin = first(entries, self.target.node);
+        let key = self.target.node as u128;
+        let begin = first(entries, key);
         let mut at = begin;
-        while is_in_time(entries, at, self.target.node, time) {
+        while is_in_time(entries, at, key, time) {
             let label = &labels[entries[at].number];
             match reach_by(label, self.weight, &self.target, value, level, time) {
                 Some(to) => return Some(to),

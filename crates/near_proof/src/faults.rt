@@ -10,9 +10,10 @@ ghost use Rattle.near_proof.specs.Judging.{IsJudge, TellsBadEnd, TellsBadStep, j
 use crate::NearLabel;
 use crate::ends::earns_at_home;
 use crate::judge::Judge;
-use crate::links::entries;
+use crate::links::ByNode;
 use customer_sets::CustSet;
 use instance_reader::Instance;
+use label_index::entries;
 use std::alloc::{AllocError, Global};
 
 /// What near routes are judged by.
@@ -62,7 +63,7 @@ pub fn first_fault(
       labels = labels.now;
     })) }
 {
-    let entries = entries(alloc, labels)?;
+    let entries = entries(alloc, &ByNode, labels)?;
     let judge = Judge {
         inst,
         terms,

@@ -6,8 +6,8 @@ ghost use Rattle.near_proof.specs.Judging.{IsJudge};
 use crate::NearLabel;
 use crate::coverage::{Asked, Target};
 use crate::faults::NearTerms;
-use crate::links::Entry;
 use instance_reader::Instance;
+use label_index::Entry;
 
 /// Labels on an instance, with their entries and what near routes are judged by.
 #[derive(Clone, Copy)]
@@ -15,7 +15,7 @@ pub(crate) struct Judge<'a> {
     pub(crate) inst: &'a Instance,
     pub(crate) terms: NearTerms<'a>,
     pub(crate) labels: &'a [NearLabel],
-    pub(crate) entries: &'a [Entry],
+    pub(crate) entries: &'a [Entry<()>],
 }
 
 impl<'a> Judge<'a> {

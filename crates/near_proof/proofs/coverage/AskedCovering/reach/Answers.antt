@@ -4,7 +4,7 @@ use Rattle.dominance.specs.LevelTimes.{time_at}
 use Rattle.piece_fn.specs.PieceFn.{level_times}
 use Rattle.label_steps.specs.Covering.{IsCoveredTo}
 use Rattle.near_proof.specs.Covered.{IsNearCovered}
-use Rattle.near_proof.specs.Links.{TellsTime}
+use Rattle.label_index.specs.Entries.{TellsTime}
 use Rattle.near_proof.specs.Targets.{Asking, covers, covers_by, state_at}
 use Rattle.near_proof.proofs.CoveredStates.{contains_of, covered_by_one, left_first, left_next, left_nothing, misses_of}
 use Rattle.near_proof.proofs.coverage.AskedCovering.reach.Goals as goal
@@ -18,7 +18,7 @@ pub returns-in-Some-reach_by-clause-some : goal.returns-in-Some-reach_by-clause-
 returns-in-Some-reach_by-clause-some c =
     let tells = subst (λ b. TellsTime c.self.inside.entries.now c.loop-entries.at c.self.inside.target.node c.in-Some.time b) c.loop-entries-test.true c.is_in_time.ensures in
     let a : Asking = record { weight = c.self.inside.weight; labels = c.self.inside.labels.now; target = c.self.inside.target } in
-    let inside = contains_of c.self.inside.labels.now c.self.inside.entries.now c.self.invariant.entries c.loop-entries.at (record { node = 0; time = 0; number = 0 }) c.index-labels-entries.result tells.0 c.index-labels-entries.is in
+    let inside = contains_of c.self.inside.labels.now c.self.inside.entries.now c.self.invariant.entries c.loop-entries.at (record { key = 0; time = 0; number = 0; rest = tt }) c.index-labels-entries.result tells.0 c.index-labels-entries.is in
     subst (λ (q : Asking). IsCoveredTo (covers q) (level_times c.args.value.now) c.args.level c.in-Some-reach_by.to) c.self.view_is
     (covered_by_one a c.index-labels-entries.result c.args.value.now c.args.level c.in-Some-reach_by.to inside c.in-Some-reach_by.ensures.some)
 
@@ -27,8 +27,8 @@ loop-entries-preserved c =
     let tells = subst (λ b. TellsTime c.self.inside.entries.now c.loop-entries.at c.self.inside.target.node c.in-Some.time b) c.loop-entries-test.true c.is_in_time.ensures in
     let b = state_at c.self.inside.target c.args.level c.in-Some.time in
     let none = subst (λ t. covers_by c.self.inside.weight c.index-labels-entries.result c.self.inside.target c.args.level t → ⊥) (sym c.in-Some.ensures.some.1) c.in-None.ensures.none in
-    left_next c.self.inside.weight c.self.inside.labels.now b c.self.inside.entries.now c.self.invariant.entries c.first-begin.result c.loop-entries.at (record { node = 0; time = 0; number = 0 }) tells.0
-    (misses_of c.self.inside.weight c.self.inside.labels.now b c.self.inside.entries.now c.self.invariant.entries c.loop-entries.at (record { node = 0; time = 0; number = 0 }) c.index-labels-entries.result tells.0 c.index-labels-entries.is none) c.loop-entries.invariant
+    left_next c.self.inside.weight c.self.inside.labels.now b c.self.inside.entries.now c.self.invariant.entries c.first-begin.result c.loop-entries.at (record { key = 0; time = 0; number = 0; rest = tt }) tells.0
+    (misses_of c.self.inside.weight c.self.inside.labels.now b c.self.inside.entries.now c.self.invariant.entries c.loop-entries.at (record { key = 0; time = 0; number = 0; rest = tt }) c.index-labels-entries.result tells.0 c.index-labels-entries.is none) c.loop-entries.invariant
 
 pub returns-clause-none : goal.returns-clause-none
 returns-clause-none c =
