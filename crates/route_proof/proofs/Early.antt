@@ -17,7 +17,7 @@ use Rattle.route_proof.proofs.Rules.{label_at}
 use Rattle.route_proof.specs.Asking.{vehicle}
 use Rattle.route_proof.specs.Questions.{Question}
 use Rattle.route_proof.specs.Tellings.{Misses}
-use Rattle.route_proof.proofs.Entries.{least_time}
+use Rattle.label_index.proofs.EntryLists.{least_time}
 use Rattle.route_proof.proofs.LabelSteps.{passed_is}
 
 -- a label at a place with a level by a time covers the vehicle with that level at that time

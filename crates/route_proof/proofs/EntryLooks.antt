@@ -1,8 +1,7 @@
 -- Entries that were looked at, one after another, for a label that covers a vehicle.
-use Rattle.std.proofs.Common.{◌≡◌, ◌≢◌, ◌∙◌, ℕ, ◌<◌, ◌≤◌, List, Some, length, refl, sym, ap, subst, arith, inl, inr, false}
+use Rattle.std.proofs.Common.{◌≡◌, ◌≢◌, ◌∙◌, ℕ, ◌<◌, ◌≤◌, List, Some, length, refl, sym, ap, subst, arith, false}
 use Rattle.std.specs.Prelude.{slice_get, slice_index_or}
-use Rattle.std.proofs.lemmas.Bool.{cases_eq, cases_lt}
-use Rattle.std.proofs.lemmas.Option.{slice_get_read}
+use Rattle.std.proofs.lemmas.Option.{get_or_from_slice_get, slice_get_read}
 use Rattle.charge_curve.specs.Points.{ArePoints, last_level}
 use Rattle.dominance.specs.LevelTimes.{IsLevel, time_at}
 use Rattle.label_steps.specs.Covering.{IsCoveredTo}
@@ -14,10 +13,12 @@ use Rattle.route_proof.specs.Covered.{Covers, IsCovered}
 use Rattle.route_proof.specs.declared.proof.RouteLabel.{RouteLabel}
 use Rattle.route_proof.proofs.Rules.{label_at}
 use Rattle.route_proof.specs.Asking.{covers}
-use Rattle.route_proof.specs.Links.{AreEntries, IsEntry, TellsTime, key_of}
+use Rattle.route_proof.specs.Links.{AreEntries, IsEntry, keeps_nothing, key_of, label_key, points_of}
 use Rattle.route_proof.specs.Questions.{Question}
-use Rattle.route_proof.specs.declared.links.Entry.{Entry}
-use Rattle.route_proof.proofs.Entries.{later_time}
+use Rattle.label_index.specs.Entries.{IsEntryOf, TellsTime}
+use Rattle.label_index.specs.declared.entry.Entry.{Entry}
+use Rattle.label_index.proofs.EntryLists.{later_time}
+use Rattle.label_index.proofs.Looks.{IsLeft as IsLeftBy, left_first as left_first_by, left_nothing as left_nothing_by}
 
 -- the vehicles of the value up to a level are covered by a label that reaches so far
 pub reach_covers : (q : Question) (p : Place) (value : List (ℕ × ℕ)) (n : ℕ) (l : RouteLabel) (level to : ℕ) → slice_get q.labels n ≡ Some l → l.passed ≡ p.passed → l.node ≡ p.node → IsReach (level_times l.value) (level_times value) 0 level to
@@ -43,52 +44,40 @@ past_bar q p value level last are is same past =
     }
 
 -- the label of an entry does not cover the vehicle
-abbrev pub Misses : List RouteLabel → Leaving → ℕ → Type 0
-Misses labels v number = (l : RouteLabel) → slice_get labels number ≡ Some l → Covers l v → ⊥
+abbrev pub Misses : List RouteLabel → Leaving → Entry (Unit {0}) → Type 0
+Misses labels v e = (l : RouteLabel) → slice_get labels e.number ≡ Some l → Covers l v → ⊥
 
--- the label of an entry with another key is at another place
-other_key : (nodes : ℕ) (labels : List RouteLabel) (v : Leaving) (e : Entry) → IsEntry nodes labels e → e.key ≢ key_of nodes v.passed v.node → Misses labels v e.number
-other_key nodes labels v e is apart l here covers =
-    let passed : l.passed ≡ v.passed = covers.passed in
-    let node : l.node ≡ v.node = covers.node in
-    let same : key_of nodes l.passed l.node ≡ key_of nodes v.passed v.node = ap (λ k. key_of nodes k l.node) passed ∙ ap (λ k. key_of nodes v.passed k) node in
-    apart ((is.told l here).key ∙ same)
-
--- the label of an entry whose time is later than the vehicle's covers nothing so early
-too_late : (nodes : ℕ) (labels : List RouteLabel) (v : Leaving) (e : Entry) → IsEntry nodes labels e → v.time < e.time → Misses labels v e.number
-too_late nodes labels v e is late l here covers =
-    let r = covers.reaches in
-    let first = (is.told l here).earliest r.0 r.1 in
-    omega (arith, first, late, r.2.1)
+-- what an entry tells of its label
+tells : (nodes : ℕ) (labels : List RouteLabel) (e : Entry (Unit {0})) (l : RouteLabel) → IsEntry nodes labels e → slice_get labels e.number ≡ Some l → IsEntryOf (label_key nodes l) (level_times l.value) (keeps_nothing l) e
+tells nodes labels e l is here = subst (λ (k : RouteLabel). IsEntryOf (label_key nodes k) (level_times (points_of k)) (keeps_nothing k) e) (get_or_from_slice_get labels e.number l l here) (is.told l)
 
 -- the entries from a place on are left to be looked at: none of the labels of the others covers the vehicle
-pub record IsLeft (labels : List RouteLabel) (v : Leaving) (entries : List Entry) (begin at : ℕ) : Type 0 where
-  pub from : begin ≤ at
-  pub within : at ≤ length entries
-  pub passed : (i : ℕ) (d : Entry) → i < at → Misses labels v (slice_index_or entries i d).number
+abbrev pub IsLeft : List RouteLabel → Leaving → List (Entry (Unit {0})) → ℕ → ℕ → Type 0
+IsLeft labels v = IsLeftBy (Misses labels v)
 
-module _ (nodes : ℕ) (labels : List RouteLabel) (v : Leaving) (entries : List Entry) (are : AreEntries nodes labels entries) (key : ℕ) (is : key ≡ key_of nodes v.passed v.node) where
-  pub left_nothing : (begin at : ℕ) → ((i : ℕ) (d : Entry) → begin ≤ i → i < length entries → key ≤ (slice_index_or entries i d).key) → TellsTime entries at key v.time false → IsLeft labels v entries begin at → IsCovered labels v → ⊥
-  left_nothing begin at behind ends left covered =
-      let l = covered.0 in
-      let has = are.every covered.1.0 covered.1.1 in
-      let less = has.1.1 in
-      let value : slice_index_or entries has.1.0 has.0 ≡ has.0 = has.1.2 in
-      let known : IsEntry nodes labels has.0 = subst (λ (f : Entry). IsEntry nodes labels f) value (are.each has.1.0 has.0 less) in
-      let number : slice_get labels has.0.number ≡ Some l = ap (λ k. slice_get labels k) has.2 ∙ slice_get_read labels (length labels) covered.1.0 l refl covered.1.1 (sym covered.1.2) in
-      elim (cases_lt has.1.0 at) [
-        | inl before ↦ subst (λ (f : Entry). Misses labels v f.number) value (left.passed has.1.0 has.0 before) l number covered.2
-        | inr after ↦ elim (cases_eq has.0.key key) [
-          | inl same ↦
-              let inside : at < length entries = omega (arith, after, less) in
-              let low = behind at has.0 left.from inside in
-              let up = are.order.keys at has.1.0 has.0 after less in
-              let its : (slice_index_or entries has.1.0 has.0).key ≡ has.0.key = ap (λ (f : Entry). f.key) value in
-              let when : (slice_index_or entries has.1.0 has.0).time ≡ has.0.time = ap (λ (f : Entry). f.time) value in
-              let here : (slice_index_or entries at has.0).key ≡ key = omega (arith, low, up, its, same) in
-              let late = ends has.0 inside here in
-              let times = are.order.times at has.1.0 has.0 after less (omega (arith, here, its, same)) in
-              too_late nodes labels v has.0 known (omega (arith, late, times, when)) l number covered.2
-          | inr other ↦ other_key nodes labels v has.0 known (λ other_is. other (other_is ∙ sym is)) l number covered.2
-        ]
-      ]
+module _ (nodes : ℕ) (labels : List RouteLabel) (v : Leaving) (key : ℕ) (is : key ≡ key_of nodes v.passed v.node) where
+  -- the label of an entry with another key is at another place
+  other_key : (e : Entry (Unit {0})) → IsEntry nodes labels e → e.key ≢ key → Misses labels v e
+  other_key e known apart l here covers =
+      let passed : l.passed ≡ v.passed = covers.passed in
+      let node : l.node ≡ v.node = covers.node in
+      let same : key_of nodes l.passed l.node ≡ key_of nodes v.passed v.node = ap (λ k. key_of nodes k l.node) passed ∙ ap (λ k. key_of nodes v.passed k) node in
+      apart ((tells nodes labels e l known here).key ∙ same ∙ sym is)
+
+  -- the label of an entry whose time is later than the vehicle's covers nothing so early
+  too_late : (e : Entry (Unit {0})) → IsEntry nodes labels e → v.time < e.time → Misses labels v e
+  too_late e known late l here covers =
+      let r = covers.reaches in
+      let first = (tells nodes labels e l known here).earliest r.0 r.1 in
+      omega (arith, first, late, r.2.1)
+
+  module _ (entries : List (Entry (Unit {0}))) (are : AreEntries nodes labels entries) where
+    pub left_first : (begin : ℕ) → begin ≤ length entries → ((i : ℕ) (d : Entry (Unit {0})) → i < begin → (slice_index_or entries i d).key < key) → IsLeft labels v entries begin begin
+    left_first = left_first_by (label_key nodes) points_of keeps_nothing labels (Misses labels v) key v.time other_key too_late entries are
+
+    pub left_nothing : (begin at : ℕ) → ((i : ℕ) (d : Entry (Unit {0})) → begin ≤ i → i < length entries → key ≤ (slice_index_or entries i d).key) → TellsTime entries at key v.time false → IsLeft labels v entries begin at → IsCovered labels v → ⊥
+    left_nothing begin at behind ends left covered =
+        let l = covered.0 in
+        let has = are.every covered.1.0 covered.1.1 in
+        let number : slice_get labels has.0.number ≡ Some l = ap (λ k. slice_get labels k) has.2 ∙ slice_get_read labels (length labels) covered.1.0 l refl covered.1.1 (sym covered.1.2) in
+        left_nothing_by (label_key nodes) points_of keeps_nothing labels (Misses labels v) key v.time other_key too_late entries are begin at behind ends left has.0 has.1 l number covered.2

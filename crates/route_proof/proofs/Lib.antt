@@ -3,7 +3,6 @@ pub mod Ranges
 pub mod HomeBounds
 pub mod Rules
 pub mod Options
-pub mod Entries
 pub mod EntryLooks
 pub mod FollowedRoutes
 pub mod LabelSteps

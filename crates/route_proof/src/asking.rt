@@ -10,7 +10,8 @@ ghost use Rattle.route_proof.specs.declared.proof.RouteLabel.{RouteLabel};
 ghost use Rattle.route_proof.specs.Asking.{covers, vehicle};
 
 use crate::judged::Judged;
-use crate::links::{first, is_in_time, key_of};
+use crate::links::key_of;
+use label_index::{first, is_in_time};
 use label_steps::Covering;
 use piece_fn::PieceFn;
 use route_steps::Place;

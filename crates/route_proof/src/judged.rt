@@ -9,8 +9,9 @@ ghost use Rattle.route_proof.specs.Links.{AreEntries};
 ghost use Rattle.route_proof.specs.Questions.{IsQuestion};
 
 use crate::RouteLabel;
-use crate::links::{Entry, entries, entries_at, key_of};
+use crate::links::{ByPlace, entries_at, key_of};
 use instance_reader::Instance;
+use label_index::{Entry, entries};
 use route_steps::Place;
 use std::alloc::{AllocError, Global};
 use std::marker::Model;
@@ -24,9 +25,9 @@ pub(crate) struct Judged<'a> {
     start: u64,
     bar: u64,
     labels: &'a [RouteLabel],
-    entries: Vec<Entry>,
+    entries: Vec<Entry<()>>,
     /// Of the labels with a full battery.
-    full: Vec<Entry>,
+    full: Vec<Entry<()>>,
 }
 
 impl<'a> Model for Judged<'a> {
@@ -58,7 +59,10 @@ impl<'a> Judged<'a> {
           labels = labels.now;
         }) }
     {
-        let entries = entries(alloc, inst.nodes(), labels)?;
+        let places = ByPlace {
+            nodes: inst.nodes(),
+        };
+        let entries = entries(alloc, &places, labels)?;
         let full = entries_at(alloc, inst.nodes(), inst.max_q(), labels)?;
         Ok(Judged {
             inst,
@@ -135,7 +139,7 @@ impl<'a> Judged<'a> {
     }
 
     /// The entries of the labels.
-    pub(crate) fn entries(&self) -> &[Entry]
+    pub(crate) fn entries(&self) -> &[Entry<()>]
         ensures { AreEntries (node_count self.now.journey.network) self.now.labels result.now }
     {
         self.entries.as_slice()
