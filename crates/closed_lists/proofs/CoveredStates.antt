@@ -3,7 +3,7 @@ use Rattle.std.proofs.Common.{◌≡◌, ◌≢◌, ◌∙◌, ℕ, ◌+◌, ◌
 use Rattle.std.specs.List.{All, Contains}
 use Rattle.std.specs.Prelude.{slice_index, slice_index_or}
 use Rattle.std.proofs.lemmas.Int.{ints}
-use Rattle.std.proofs.lemmas.List.{get_or_default, get_or-map, length-map}
+use Rattle.std.proofs.lemmas.List.{get_or-map, length-map}
 use Rattle.std.proofs.Math.Nat.{mul-add-div_right, mul_comm, mul-le-mul_left, div-eq_of_lt}
 use Rattle.customer_sets.specs.CustSet.{IsWithin}
 use Rattle.dominance.specs.Coverage.{Reaches}
@@ -16,7 +16,7 @@ use Rattle.fleet_model.specs.Prices.{price_sum}
 use Rattle.fleet_model.proofs.Margins.{covers_by_margin, earlier}
 use Rattle.piece_fn.specs.PieceFn.{IsReach, level_times}
 use Rattle.piece_fn.specs.declared.label.Label.{Label}
-use Rattle.closed_lists.specs.Links.{AreEntries, IsEntry, IsEntryOf, IsKept, key_of, label_key, points_of}
+use Rattle.closed_lists.specs.Links.{AreEntries, IsEntry, IsEntryOf, IsKept, label_key, points_of}
 use Rattle.closed_lists.specs.Looking.{Misses}
 use Rattle.closed_lists.specs.declared.links.Kept.{Kept}
 use Rattle.label_index.specs.Entries.{TellsTime}

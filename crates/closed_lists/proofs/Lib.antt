@@ -1,4 +1,3 @@
-pub mod Options
 pub mod Margins
 pub mod CoveredStates
 pub mod LabelSteps

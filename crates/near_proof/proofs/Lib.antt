@@ -8,7 +8,6 @@ pub mod Fits
 pub mod Truths
 pub mod Rules
 pub mod MoreStops
-pub mod Options
 pub mod CoveredStates
 pub mod LabelSteps
 pub mod StationSteps

@@ -2,7 +2,6 @@ pub mod Better
 pub mod Ranges
 pub mod HomeBounds
 pub mod Rules
-pub mod Options
 pub mod EntryLooks
 pub mod FollowedRoutes
 pub mod LabelSteps

@@ -4,7 +4,7 @@ use Rattle.fleet_model.specs.ClosedList.{IsClosed}
 use Rattle.closed_lists.specs.Questions.{Question, section}
 use Rattle.closed_lists.specs.Verdicts.{HasNoBadEnd, IsFirstEnd, IsTold}
 use Rattle.closed_lists.proofs.Faults.{end_told, is_closed, step_told}
-use Rattle.closed_lists.proofs.Options.{err_map, ok_map}
+use Rattle.label_index.proofs.Options.{err_map, ok_map}
 use Rattle.closed_lists.proofs.check.check_closed.Goals as goal
 
 pub returns-clause-broken : goal.returns-clause-broken

@@ -3,7 +3,7 @@ use Rattle.near_proof.specs.Truth.{IsTrue as IsTrueProof}
 use Rattle.near_proof.specs.Verdicts.{IsVerdict}
 use Rattle.near_proof.specs.declared.verdict.NearVerdict.TheVariants.{Accepted}
 use Rattle.near_proof.proofs.Truths.{is_true}
-use Rattle.near_proof.proofs.Options.{ok_map}
+use Rattle.label_index.proofs.Options.{ok_map}
 use Rattle.near_proof.proofs.check.check_near.Goals as goal
 
 pub returns-clause-shows : goal.returns-clause-shows

@@ -3,7 +3,7 @@ use Rattle.std.specs.Prelude.{IsTrue}
 use Rattle.fleet_model.proofs.Numbers.{numbered}
 use Rattle.near_proof.specs.Accepted.{HasTight}
 use Rattle.near_proof.specs.Judging.{TellsTight}
-use Rattle.near_proof.proofs.Options.{ok_map}
+use Rattle.label_index.proofs.Options.{ok_map}
 use Rattle.near_proof.proofs.Verdicts.{settled}
 use Rattle.near_proof.proofs.check.is_settled.Goals as goal
 

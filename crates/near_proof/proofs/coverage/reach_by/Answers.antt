@@ -6,7 +6,7 @@ use Rattle.piece_fn.specs.PieceFn.{IsReach, level_times}
 use Rattle.label_steps.specs.Covering.{IsCoveredTo}
 use Rattle.near_proof.specs.Targets.{covers_by}
 use Rattle.near_proof.proofs.CoveredStates.{pays_not, reach_covers, reaches_not}
-use Rattle.near_proof.proofs.Options.{none_map, some_map}
+use Rattle.label_index.proofs.Options.{none_map, some_map}
 use Rattle.near_proof.proofs.coverage.reach_by.Goals as goal
 
 pub returns-in-Some-clause-some : goal.returns-in-Some-clause-some

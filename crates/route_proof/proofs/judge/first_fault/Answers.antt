@@ -4,7 +4,7 @@ use Rattle.route_proof.specs.Faults.{TellsEnds, TellsLabels, TellsStart, TellsSt
 use Rattle.route_proof.specs.Questions.{Question}
 use Rattle.route_proof.specs.declared.fault.LabelFault.{LabelFault}
 use Rattle.route_proof.proofs.Faults.{end_told, step_told}
-use Rattle.route_proof.proofs.Options.{ok_map}
+use Rattle.label_index.proofs.Options.{ok_map}
 use Rattle.route_proof.proofs.judge.first_fault.Goals as goal
 
 pub returns-in-Some : goal.returns-in-Some

@@ -19,7 +19,7 @@ use Rattle.label_steps.specs.Covering.{IsCoveredTo}
 use Rattle.closed_lists.specs.Asking.{Asking, covers}
 use Rattle.closed_lists.specs.Targets.{state_of}
 use Rattle.closed_lists.proofs.CoveredStates.{entry_tells, in_section, pays_not, reach_covers, reaches_not, too_dear}
-use Rattle.closed_lists.proofs.Options.{none_map, some_map}
+use Rattle.label_index.proofs.Options.{none_map, some_map}
 use Rattle.closed_lists.proofs.coverage.Asked.reach_of.Goals as goal
 
 pub returns-then-is_too_dear-clause-none : goal.returns-then-is_too_dear-clause-none

@@ -2,7 +2,7 @@ use Rattle.label_steps.specs.Covering.{IsCoveredTo}
 use Rattle.piece_fn.specs.PieceFn.{IsReach, level_times}
 use Rattle.route_proof.specs.Asking.{covers}
 use Rattle.route_proof.proofs.EntryLooks.{reach_covers}
-use Rattle.route_proof.proofs.Options.{some_map}
+use Rattle.label_index.proofs.Options.{some_map}
 use Rattle.route_proof.proofs.asking.Asked.reach_by.Goals as goal
 
 pub returns-clause-some : goal.returns-clause-some
