@@ -156,7 +156,7 @@ module _ (g : Network) (tree : SearchTree) (c : Certificate) (held : Option Held
     ]
 
     abbrev pub answered : Outcome
-    answered = record { plan = plan_at held; certificate = c; nodes = length c.sections; stopped = stopped }
+    answered = record { plan = plan_at held; cost = cost_at held; certificate = c; nodes = length c.sections; stopped = stopped }
 
     stops : IsStoppedWell budget (cost_at held) c.bound answered
     stops = record {
@@ -180,6 +180,7 @@ module _ (g : Network) (tree : SearchTree) (c : Certificate) (held : Option Held
       rising = rises g c.sections c.root shows;
       at_root = bound_at_root g tree c (cost_at held) is.floor is.standing sound is.customers is.is is.found lines least;
       plan = held_plan held may;
+      cost = sym (cost_of_held g held may);
       own = own_plan g held may own;
       at_shares = subst (λ x. TakesShares g (shares_in c.root) x) (sym (cost_of_held g held may)) taken;
       whole = subst (λ x. All (IsNoDearer g x) c.sections) (sym (cost_of_held g held may)) whole;

@@ -53,6 +53,7 @@ pub record IsOutcome (g : Network) (budget : Option ℕ) (o : Outcome) : Type 0 
   -- the bound is not below that of the first section
   pub at_root : IsNotAbove o.certificate.sections o.certificate.bound 0
   pub plan : IfSome o.plan (IsHeld g)
+  pub cost : o.cost ≡ cost_held g o.plan
   pub own : CostsNoMoreThanOwn g o.plan
   -- it costs no more than the fleet plan that whole shares of the root are, or whole shares that showed the bound of any section
   pub at_shares : TakesShares g (shares_in o.certificate.root) (cost_held g o.plan)

@@ -47,10 +47,12 @@ pub(crate) fn outcome_of(
     let lines = tree.lines(alloc)?;
     let bound = least_bound(sections.as_slice(), lines.as_slice());
     let nodes = sections.len() as u64;
-    let stopped = differ(cost_of(&held), bound);
+    let cost = cost_of(&held);
+    let stopped = differ(cost, bound);
     know_sections(sections.as_slice());
     Ok(Outcome {
         plan: plan_of(held),
+        cost,
         certificate: Certificate {
             bound,
             root,

@@ -8,6 +8,8 @@ use route_plan::FleetPlan;
 pub struct Outcome {
     /// The cheapest plan that was found, its routes in rising order of their first customers.
     pub plan: Option<FleetPlan>,
+    /// Its scaled cost.
+    pub cost: Option<u128>,
     /// What shows that no fleet plan costs less than its bound.
     pub certificate: Certificate,
     /// Of how many nodes of the tree the bound was found.

@@ -24,15 +24,13 @@ use Rattle.ev_fleet.specs.declared.outcome.Outcome.{Outcome}
 use Rattle.ev_model.specs.Network.{IsNetwork, Network}
 use Rattle.fleet_model.specs.Prices.{sum_of}
 use Rattle.fleet_model.specs.Section.{Section as PricedSection}
-use Rattle.plan_check.proofs.FleetPlans.{fleet_plan_keeps}
 use Rattle.plan_check.specs.FleetRules.{stops_of}
-use Rattle.plan_check.specs.declared.fault.PlanFault.{PlanFault}
 use Rattle.plan_writer.specs.FleetText.{AreOutcomes, IsExactLine, IsLowestLine, StandsBeside, StandsBesideRoot, fleet_text}
 use Rattle.plan_writer.specs.declared.fleet.RootLine.{RootLine}
 use Rattle.plan_writer.specs.declared.fleet.RootLine.TheVariants as line
 use Rattle.route_plan.specs.PlanTexts.{FitsFile, fleet_plan_text}
 use Rattle.route_plan.specs.declared.plan.FleetPlan.{FleetPlan}
-use Rattle.fleet_steps.specs.PlanFile.{BreaksFirst, IsValid}
+use Rattle.fleet_steps.specs.PlanFile.{IsValid}
 use Rattle.evroute_run.specs.FleetAnswer.{IsFound, IsReadBack, TellsKind, TellsRootOf, outcomes_of, search_status}
 use Rattle.job_frame.specs.declared.status.Status.{Status}
 use Rattle.evroute_run.proofs.AcceptedCertificates.{is_bound_of_cost}
@@ -40,19 +38,14 @@ use Rattle.evroute_run.proofs.SearchStatus.{status_tells}
 
 -- ---- the cost of the plan that is held
 
-pub valid_cost : (g : Network) (plan : Option FleetPlan) (cost : Option ℕ) → IsValid g plan cost → cost ≡ cost_held g plan
-valid_cost g None cost valid = valid
-valid_cost g (Some p) cost valid = valid.1
-
 -- a plan that is held is valid
 pub held_is_valid : (g : Network) (plan : Option FleetPlan) → IfSome plan (IsHeld g) → IsValid g plan (cost_held g plan)
 held_is_valid g None held = refl
 held_is_valid g (Some p) held = (held.fleet, refl)
 
--- a plan that is held breaks no rule
-pub held_breaks_none : (g : Network) (plan : Option FleetPlan) (fault : PlanFault) → IfSome plan (IsHeld g) → BreaksFirst g plan fault → ⊥
-held_breaks_none g None fault held broken = broken
-held_breaks_none g (Some plan) fault held broken = fleet_plan_keeps g plan.routes held.fleet fault broken.broken
+-- so the cost that the search answers is that of a valid plan
+pub found_is_valid : (g : Network) (budget : Option ℕ) (o : Outcome) → IsOutcome g budget o → IsValid g o.plan o.cost
+found_is_valid g budget o is = subst (λ (cost : Option ℕ). IsValid g o.plan cost) (sym is.cost) (held_is_valid g o.plan is.plan)
 
 pub stands_beside : (g : Network) (plan : Option FleetPlan) (cost bound : Option ℕ) → IsValid g plan cost → IsTrueBound g bound → StandsBeside cost bound
 stands_beside g plan None None valid true_bound = tt
@@ -135,24 +128,25 @@ held_fits g None held = tt
 held_fits g (Some p) held = held.text
 
 -- what is reported stands together
-pub are_outcomes : (g : Network) (budget : Option ℕ) (o : Outcome) (cost stopped : Option ℕ) (told : RootLine) → IsNetwork g → IsOutcome g budget o → IsValid g o.plan cost
-    → TellsRootOf g o.certificate told → IsLowestLine told → AreOutcomes (record { cost = cost; bound = o.certificate.bound; root = told; stopped = stopped })
-are_outcomes g budget o cost stopped told network is valid tells low =
+pub are_outcomes : (g : Network) (budget : Option ℕ) (o : Outcome) (stopped : Option ℕ) (told : RootLine) → IsNetwork g → IsOutcome g budget o
+    → TellsRootOf g o.certificate told → IsLowestLine told → AreOutcomes (record { cost = o.cost; bound = o.certificate.bound; root = told; stopped = stopped })
+are_outcomes g budget o stopped told network is tells low =
+    let valid = found_is_valid g budget o is in
     let bound = true_bound g o.certificate network is.fits is.accepted in
     record {
-      bound = is_bound_of_cost g o.plan cost o.certificate.bound valid bound;
-      beside = stands_beside g o.plan cost o.certificate.bound valid bound;
+      bound = is_bound_of_cost g o.plan o.cost o.certificate.bound valid bound;
+      beside = stands_beside g o.plan o.cost o.certificate.bound valid bound;
       root = root_shows g budget o told is tells;
       lowest = low;
     }
 
 -- the report that was written is that of the search
-pub report_of_search : (g : Network) (o : Outcome) (cost stopped : Option ℕ) (told : RootLine) (text : List ℕ) → IsValid g o.plan cost →
-    stopped ≡ (if o.stopped then Some o.nodes else None) → text ≡ fleet_text g.denominator (record { cost = cost; bound = o.certificate.bound; root = told; stopped = stopped })
+pub report_of_search : (g : Network) (budget : Option ℕ) (o : Outcome) (stopped : Option ℕ) (told : RootLine) (text : List ℕ) → IsOutcome g budget o →
+    stopped ≡ (if o.stopped then Some o.nodes else None) → text ≡ fleet_text g.denominator (record { cost = o.cost; bound = o.certificate.bound; root = told; stopped = stopped })
     → text ≡ fleet_text g.denominator (outcomes_of g o told)
-report_of_search g o cost stopped told text valid looked is =
+report_of_search g budget o stopped told text outcome looked is =
     is
-    ∙ ap (λ (c : Option ℕ). fleet_text g.denominator (record { cost = c; bound = o.certificate.bound; root = told; stopped = stopped })) (valid_cost g o.plan cost valid)
+    ∙ ap (λ (c : Option ℕ). fleet_text g.denominator (record { cost = c; bound = o.certificate.bound; root = told; stopped = stopped })) outcome.cost
     ∙ ap (λ (n : Option ℕ). fleet_text g.denominator (record { cost = cost_held g o.plan; bound = o.certificate.bound; root = told; stopped = n })) looked
 
 -- what was appended to nothing

@@ -105,7 +105,7 @@ fn judge(
 }
 
 /// The cost of a fleet plan, or none where there is none.
-pub fn cost_of(inst: &Instance, plan: Option<&FleetPlan>) -> Result<Option<u128>, PlanFault>
+fn cost_of(inst: &Instance, plan: Option<&FleetPlan>) -> Result<Option<u128>, PlanFault>
     requires { customer_count inst.now ≤ most_customers }
     ensures ok { IfOk result (IsValid inst.now (option_map (λ p. p.now) plan.entry)) }
     ensures fault { IfErr result (BreaksFirst inst.now (option_map (λ p. p.now) plan.entry)) }

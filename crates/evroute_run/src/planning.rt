@@ -12,7 +12,6 @@ ghost use Rattle.fleet_model.specs.Prices.{sum_of};
 ghost use Rattle.instance_reader.specs.Instance.{most_customers};
 ghost use Rattle.plan_writer.specs.FleetText.{IsExactLine, IsLowestLine, fleet_text};
 
-use crate::judging::cost_of;
 use crate::watcher::JobWatcher;
 use bound_certificate::{
     Certificate, Root, Section, push_certificate, written_certificates_are_read,
@@ -76,12 +75,8 @@ fn report(alloc: Global, inst: &Instance, outcome: &Outcome) -> Result<Answer, A
         × (a.text.items ≡ fleet_text inst.now.denominator
         (outcomes_of inst.now outcome.now told))) }
 {
-    let Ok(cost) = cost_of(inst, outcome.plan.as_ref()) else {
-        // A plan that is held breaks no rule.
-        unreachable!()
-    };
     let outcomes = Outcomes {
-        cost,
+        cost: outcome.cost,
         bound: outcome.certificate.bound,
         root: root_line(inst, &outcome.certificate),
         stopped: looked_at(outcome),

@@ -8,6 +8,7 @@ mod Wides
 mod Best
 mod OwnRoutes
 mod OwnPlan
+mod HeldPlans
 mod Ends
 mod RouteOrders
 mod Firsts

@@ -8,10 +8,13 @@ use Rattle.mixed_model.specs.declared.proof.MixedProof.{MixedProof}
 use Rattle.mixed_model.specs.declared.proof.MixedRoot.{MixedRoot}
 use Rattle.mixed_model.specs.declared.proof.MixedRoot.TheVariants as root
 use Rattle.mixed_model.specs.declared.proof.MixedRoute.{MixedRoute}
+use Rattle.mixed_fleet.specs.Held.{cost_at, MayHold, routes_at}
 use Rattle.mixed_fleet.specs.Outcome.{CostsAtLeast, IsOutcome, MeetsWhereWhole}
 use Rattle.mixed_fleet.specs.Plans.{cost_of_routes, CostsNoMoreThanOwn, IsHeld}
 use Rattle.mixed_fleet.specs.Proofs.{IsBestProof}
 use Rattle.mixed_fleet.specs.Whole.{HasParts, IsAtBound}
+use Rattle.mixed_fleet.specs.declared.held.Held.{Held}
+use Rattle.mixed_fleet.proofs.HeldPlans.{held_cost, held_plan}
 use Rattle.mixed_fleet.proofs.OwnPlan.{own_plan}
 
 module _ (kinds : List Network) where
@@ -40,19 +43,21 @@ module _ (kinds : List Network) where
   whole_meets bound routes (root.Exact over shares) same = λ whole. (routes, refl, same)
   whole_meets bound routes (root.Wide columns basis) same = tt
 
-  pub whole_outcome : (p : MixedProof) (routes : List MixedRoute) → IsBestProof kinds p → IsAtBound kinds p routes → IsOutcome kinds (record { plan = Some routes; proof = p })
+  pub whole_outcome : (p : MixedProof) (routes : List MixedRoute) → IsBestProof kinds p → IsAtBound kinds p routes → IsOutcome kinds (record { plan = Some routes; cost = p.bound; proof = p })
   whole_outcome p routes best at = record {
     proof_is = best;
     held = at.held;
+    cost = at.cost;
     above = at_least p.bound routes best.truth.bound at.held;
     own = bound_own p.bound routes best.truth.bound at.cost;
     whole = whole_meets p.bound routes p.root at.cost;
   }
 
-  pub own_outcome : (p : MixedProof) (plan : Option (List MixedRoute)) → IsBestProof kinds p → IfSome plan (IsHeld kinds) → CostsNoMoreThanOwn kinds plan → HasParts p.root → IsOutcome kinds (record { plan = plan; proof = p })
-  own_outcome p plan best held own parts = record {
+  pub own_outcome : (p : MixedProof) (h : Option Held) → IsBestProof kinds p → MayHold kinds h → CostsNoMoreThanOwn kinds (routes_at h) → HasParts p.root → IsOutcome kinds (record { plan = routes_at h; cost = cost_at h; proof = p })
+  own_outcome p h best may own parts = let plan = routes_at h in let held = held_plan kinds h may in record {
     proof_is = best;
     held = held;
+    cost = held_cost kinds h may;
     above = held_at_least p.bound plan best.truth.bound held;
     own = own;
     whole = parts_meet p.bound plan p.root parts;

@@ -11,3 +11,4 @@ pub mod Plans
 pub mod Whole
 pub mod Outcome
 pub mod Gathered
+pub mod Held

@@ -4,7 +4,7 @@ use Rattle.ev_model.specs.Network.{Network}
 use Rattle.mixed_model.specs.declared.proof.MixedRoot.{MixedRoot}
 use Rattle.mixed_model.specs.declared.proof.MixedRoot.TheVariants as root
 use Rattle.mixed_model.specs.declared.proof.MixedRoute.{MixedRoute}
-use Rattle.mixed_fleet.specs.Plans.{cost_of_routes, CostsNoMoreThanOwn, IsHeld}
+use Rattle.mixed_fleet.specs.Plans.{cost_held, cost_of_routes, CostsNoMoreThanOwn, IsHeld}
 use Rattle.mixed_fleet.specs.Proofs.{IsBestProof}
 use Rattle.mixed_fleet.specs.Whole.{AreWhole}
 use Rattle.mixed_fleet.specs.declared.outcome.MixedOutcome.{MixedOutcome}
@@ -30,6 +30,7 @@ MeetsWhereWhole kinds bound plan (root.Wide columns basis) = Unit {0}
 pub record IsOutcome (kinds : List Network) (o : MixedOutcome) : Type 0 where
   pub proof_is : IsBestProof kinds o.proof
   pub held : IfSome o.plan (IsHeld kinds)
+  pub cost : o.cost ≡ cost_held kinds o.plan
   pub above : IfSome o.plan (CostsAtLeast kinds o.proof.bound)
   pub own : CostsNoMoreThanOwn kinds o.plan
   pub whole : MeetsWhereWhole kinds o.proof.bound o.plan o.proof.root

@@ -1,5 +1,5 @@
 -- Plans that are held.
-use Rattle.std.specs.Prelude.{◌≡◌, ℕ, ◌*◌, ◌≤◌, List, Option, Some, length, map}
+use Rattle.std.specs.Prelude.{◌≡◌, ℕ, ◌*◌, ◌≤◌, List, None, Option, Some, length, map}
 use Rattle.std.specs.List.Sorted.{IsStrictlyIncreasing}
 use Rattle.ev_model.specs.Network.{Network}
 use Rattle.instance_reader.specs.Instance.{customer_nodes}
@@ -18,6 +18,10 @@ first_customer kinds r = first_customer_of (first_of kinds) r.plan.stops
 -- the scaled cost of a plan, in whole units of charge
 abbrev pub cost_of_routes : List Network → List MixedRoute → ℕ
 cost_of_routes kinds routes = mixed_cost kinds 1 (kind_plans routes)
+
+abbrev pub cost_held : List Network → Option (List MixedRoute) → Option ℕ
+cost_held kinds None = None
+cost_held kinds (Some routes) = Some (cost_of_routes kinds routes)
 
 -- a plan of a fleet of these kinds with its routes in rising order of their first customers, which
 -- may be written as text

@@ -1,5 +1,6 @@
 -- Routes of vehicles of some kind, as they are searched for.
 use Rattle.std.specs.Prelude.{◌≡◌, ℕ, List, map}
+use Rattle.std.specs.List.{sum_by}
 use Rattle.ev_model.specs.Network.{Network}
 use Rattle.ev_model.specs.Time.{time_of}
 use Rattle.fleet_model.specs.Places.{customer_number, numbers_of}
@@ -15,6 +16,10 @@ pub record IsSearched (kinds : List Network) (r : Searched) : Type 0 where
   pub route : IsKindRoute kinds 1 (kind_plan r.route)
   pub numbers : r.numbers ≡ numbers_of (network_of kinds r.route.kind) r.route.plan.stops
   pub time : r.time ≡ time_in kinds 1 (kind_plan r.route)
+
+-- the sum of the times of routes
+abbrev pub total_time : List Searched → ℕ
+total_time routes = sum_by (λ (r : Searched). r.time) routes
 
 -- a plan of a vehicle of a kind, with the numbers of the customers at these nodes, and its time
 abbrev pub searched_of : Network → ℕ → List ℕ → RoutePlan → Searched

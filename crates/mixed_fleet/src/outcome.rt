@@ -9,6 +9,8 @@ use mixed_model::{MixedProof, MixedRoute};
 pub struct MixedOutcome {
     /// The cheapest plan that was found, its routes in rising order of their first customers.
     pub plan: Option<Listed<MixedRoute>>,
+    /// Its scaled cost.
+    pub cost: Option<u128>,
     /// What shows that no plan costs less than its bound.
     pub proof: MixedProof,
 }

@@ -1,18 +1,18 @@
 //! A plan out of the routes that were met in the price loop, which serve each customer once (set
 //! partitioning).
 
-ghost use Rattle.std.specs.Prelude.{◌≡◌, ◌<◌, IfOk, IfSome, length};
+ghost use Rattle.std.specs.Prelude.{◌≡◌, ◌<◌, IfOk, length};
 ghost use Rattle.std.specs.List.{All};
 ghost use Rattle.mixed_fleet.specs.Fleets.{AreFleetKinds};
-ghost use Rattle.mixed_fleet.specs.Plans.{CostsNoMoreThanOwn, IsHeld};
+ghost use Rattle.mixed_fleet.specs.Held.{MayHold, routes_at};
+ghost use Rattle.mixed_fleet.specs.Plans.{CostsNoMoreThanOwn};
 ghost use Rattle.mixed_fleet.specs.Searched.{IsSearched};
 
-use crate::held::cheaper;
+use crate::held::{Held, cheaper, cost_of};
 use crate::listed::copy_of_route;
 use crate::searched::Searched;
-use ev_list::Listed;
 use instance_reader::Instance;
-use mixed_model::{MixedProof, MixedRoute, check_mixed_plan};
+use mixed_model::{MixedProof, MixedRoute};
 use set_partitioning::{Candidate, find_partition, room_below};
 use std::alloc::{AllocError, Global};
 
@@ -24,19 +24,18 @@ const LOOKS: u64 = 20_000_000;
 pub(crate) fn with_met(
     alloc: Global,
     kinds: &[Instance],
-    held: Option<Listed<MixedRoute>>,
+    held: Option<Held>,
     proof: &MixedProof,
     met: &[Searched],
-) -> Result<Option<Listed<MixedRoute>>, AllocError>
+) -> Result<Option<Held>, AllocError>
     requires fleet { AreFleetKinds kinds.now }
     requires met { All (IsSearched kinds.now) met.now }
-    requires held { IfSome held (IsHeld kinds.now) }
-    requires own { CostsNoMoreThanOwn kinds.now held }
-    ensures held { IfOk result (λ plan. IfSome plan (IsHeld kinds.now)) }
-    ensures own { IfOk result (CostsNoMoreThanOwn kinds.now) }
+    requires held { MayHold kinds.now held }
+    requires own { CostsNoMoreThanOwn kinds.now (routes_at held) }
+    ensures held { IfOk result (MayHold kinds.now) }
+    ensures own { IfOk result (λ held. CostsNoMoreThanOwn kinds.now (routes_at held)) }
 {
-    let cost = cost_of(kinds, &held);
-    let room = room_below(cost, proof.weight, proof.prices.as_slice());
+    let room = room_below(cost_of(&held), proof.weight, proof.prices.as_slice());
     if room < i128::from(proof.weight) {
         return Ok(held);
     }
@@ -47,17 +46,6 @@ pub(crate) fn with_met(
     };
     let routes = routes_at(alloc, kinds, met, &places)?;
     Ok(cheaper(kinds, held, routes))
-}
-
-/// The cost of the plan that is held.
-fn cost_of(kinds: &[Instance], held: &Option<Listed<MixedRoute>>) -> Option<u128>
-    requires fleet { AreFleetKinds kinds.now }
-    requires held { IfSome held.now (IsHeld kinds.now) }
-{
-    let Some(routes) = held else {
-        return None;
-    };
-    check_mixed_plan(kinds, routes.as_slice()).ok()
 }
 
 /// The routes that were met, by place: whom each serves, and as its excess its time times the

@@ -1,18 +1,19 @@
 //! Planning a fleet of several kinds of vehicles.
 
-ghost use Rattle.std.specs.Prelude.{◌≤◌, IfOk, IfSome, length, MatchOption};
+ghost use Rattle.std.specs.Prelude.{◌≤◌, IfOk, length, MatchOption};
 ghost use Rattle.std.specs.List.{All};
 ghost use Rattle.ev_model.specs.Network.{IsNetwork};
 ghost use Rattle.instance_reader.specs.Instance.{customer_nodes, most_customers};
 ghost use Rattle.mixed_model.specs.Kinds.{AreKinds, first_of};
 ghost use Rattle.mixed_fleet.specs.Fleets.{AreFleetKinds};
+ghost use Rattle.mixed_fleet.specs.Held.{MayHold, routes_at};
 ghost use Rattle.mixed_fleet.specs.Outcome.{IsOutcome};
-ghost use Rattle.mixed_fleet.specs.Plans.{CostsNoMoreThanOwn, IsHeld};
+ghost use Rattle.mixed_fleet.specs.Plans.{CostsNoMoreThanOwn};
 ghost use Rattle.mixed_fleet.specs.Proofs.{IsBestProof};
 ghost use Rattle.mixed_fleet.specs.Whole.{HasParts, IsAtBound};
 
 use crate::greedy::greedy_routes;
-use crate::held::{cheaper, own_plan};
+use crate::held::{Held, cheaper, cost_of, own_plan, routes_of};
 use crate::listed::columns_of;
 use crate::outcome::MixedOutcome;
 use crate::own::own_routes;
@@ -77,22 +78,27 @@ fn know_networks(kinds: &[Instance])
 /// The outcome: the plan of whole shares, which costs least, or else the plan that is held.
 fn outcome_of(
     kinds: &[Instance],
-    held: Option<Listed<MixedRoute>>,
+    held: Option<Held>,
     whole: Option<Listed<MixedRoute>>,
     proof: MixedProof,
 ) -> MixedOutcome
     requires fleet { AreFleetKinds kinds.now }
     requires proof { IsBestProof kinds.now proof }
-    requires held { IfSome held (IsHeld kinds.now) }
-    requires own { CostsNoMoreThanOwn kinds.now held }
+    requires held { MayHold kinds.now held }
+    requires own { CostsNoMoreThanOwn kinds.now (routes_at held) }
     requires whole { MatchOption whole (HasParts proof.root) (IsAtBound kinds.now proof) }
     ensures { IsOutcome kinds.now result }
 {
     match whole {
         Some(routes) => MixedOutcome {
             plan: Some(routes),
+            cost: proof.bound,
             proof,
         },
-        None => MixedOutcome { plan: held, proof },
+        None => MixedOutcome {
+            cost: cost_of(&held),
+            plan: routes_of(held),
+            proof,
+        },
     }
 }

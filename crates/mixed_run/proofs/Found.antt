@@ -7,7 +7,7 @@ use Rattle.fleet_model.specs.Prices.{sum_of}
 use Rattle.job_frame.specs.declared.status.Status.{Status}
 use Rattle.job_frame.specs.declared.status.Status.TheVariants as status
 use Rattle.mixed_fleet.specs.Outcome.{IsOutcome}
-use Rattle.mixed_fleet.specs.Plans.{IsHeld}
+use Rattle.mixed_fleet.specs.Plans.{cost_held, IsHeld}
 use Rattle.mixed_fleet.specs.Proofs.{IsBestProof, IsRootOf}
 use Rattle.mixed_fleet.specs.declared.outcome.MixedOutcome.{MixedOutcome}
 use Rattle.mixed_model.specs.Accepted.{RootHolds}
@@ -20,15 +20,13 @@ use Rattle.mixed_model.specs.declared.proof.MixedRoot.{MixedRoot}
 use Rattle.mixed_model.specs.declared.proof.MixedRoot.TheVariants as root
 use Rattle.mixed_model.specs.declared.proof.MixedRoute.{MixedRoute}
 use Rattle.mixed_model.specs.declared.proof.MixedShare.{MixedShare}
-use Rattle.mixed_model.specs.MixedRules.{IsBroken}
 use Rattle.mixed_model.specs.MixedTexts.{FitsMixedPlan, FitsRoute, mixed_plan_text}
 use Rattle.mixed_run.specs.Judged.{AreKnown}
 use Rattle.mixed_run.proofs.AcceptedAnswers.{is_bound_of_cost}
-use Rattle.mixed_run.specs.CheckMixedAnswer.{BreaksFirst, IsValid}
-use Rattle.mixed_run.specs.MixedAnswer.{IsMixedFound, IsReadBack, TellsRoot, cost_held, mixed_status, outcomes_of}
+use Rattle.mixed_run.specs.CheckMixedAnswer.{IsValid}
+use Rattle.mixed_run.specs.MixedAnswer.{IsMixedFound, IsReadBack, TellsRoot, mixed_status, outcomes_of}
 use Rattle.mixed_text.specs.MixedTexts.{mixed_text}
 use Rattle.mixed_text.specs.Written.{written_mixed}
-use Rattle.plan_check.specs.declared.fault.PlanFault.{PlanFault}
 use Rattle.plan_writer.specs.FleetText.{AreOutcomes, IsExactLine, IsLowestLine, StandsBeside, StandsBesideRoot, fleet_text}
 use Rattle.plan_writer.specs.declared.fleet.RootLine.{RootLine}
 use Rattle.plan_writer.specs.declared.fleet.RootLine.TheVariants as line
@@ -48,14 +46,9 @@ pub held_fits : (kinds : List Network) (plan : Option (List MixedRoute)) → IfS
 held_fits kinds None held = tt
 held_fits kinds (Some routes) held = held.text
 
--- a plan that is held breaks no rule
-abbrev pub BreakNone : Type 0
-BreakNone = (kinds : List Network) (plan : List MixedRoute) → All (λ r. r.kind < length kinds) plan →
-    IsMixedPlan kinds 1 (kind_plans plan) ↔ ((fault : PlanFault) → IsBroken kinds plan fault → ⊥)
-
-pub held_breaks_none : BreakNone → (kinds : List Network) (plan : Option (List MixedRoute)) (fault : PlanFault) → IfSome plan (IsHeld kinds) → BreaksFirst kinds plan fault → ⊥
-held_breaks_none law kinds None fault held broken = broken
-held_breaks_none law kinds (Some plan) fault held broken = (law kinds plan (held_is_known kinds (Some plan) held)).0 held.plan fault broken.broken
+-- so the cost that the search answers is that of a valid plan
+found_is_valid : (kinds : List Network) (o : MixedOutcome) → IsOutcome kinds o → IsValid kinds o.plan o.cost
+found_is_valid kinds o is = subst (λ (cost : Option ℕ). IsValid kinds o.plan cost) (sym is.cost) (held_is_valid kinds o.plan is.held)
 
 stands_beside : (kinds : List Network) (plan : Option (List MixedRoute)) (cost bound : Option ℕ) → IsValid kinds plan cost → IsTrueBound kinds bound → StandsBeside cost bound
 stands_beside kinds plan None None valid truth = tt
@@ -89,11 +82,11 @@ root_weight kinds p over shares best is = (subst (λ (r : MixedRoot). RootHolds 
 
 -- ---- the report
 
-pub are_outcomes : (kinds : List Network) (o : MixedOutcome) (cost : Option ℕ) (told : RootLine) → IsOutcome kinds o → IsValid kinds o.plan cost →
-    TellsRoot kinds o.proof o.proof.root told → IsLowestLine told → AreOutcomes (record { cost = cost; bound = o.proof.bound; root = told; stopped = None })
-are_outcomes kinds o cost told is valid tells lowest = record {
-  bound = is_bound_of_cost kinds o.plan cost o.proof.bound valid is.proof_is.truth.bound;
-  beside = stands_beside kinds o.plan cost o.proof.bound valid is.proof_is.truth.bound;
+pub are_outcomes : (kinds : List Network) (o : MixedOutcome) (told : RootLine) → IsOutcome kinds o →
+    TellsRoot kinds o.proof o.proof.root told → IsLowestLine told → AreOutcomes (record { cost = o.cost; bound = o.proof.bound; root = told; stopped = None })
+are_outcomes kinds o told is tells lowest = record {
+  bound = is_bound_of_cost kinds o.plan o.cost o.proof.bound (found_is_valid kinds o is) is.proof_is.truth.bound;
+  beside = stands_beside kinds o.plan o.cost o.proof.bound (found_is_valid kinds o is) is.proof_is.truth.bound;
   root = shows kinds o.proof o.proof.root told o.proof.bound refl is.proof_is.root_is tells;
   lowest = lowest;
 }

@@ -14,12 +14,13 @@ use Rattle.job_frame.specs.Writes.{AreDifferent, Written}
 use Rattle.job_frame.specs.declared.status.Status.{Status}
 use Rattle.job_frame.specs.declared.status.Status.TheVariants as status
 use Rattle.job_frame.specs.Caps.{file_read}
+use Rattle.mixed_fleet.specs.Plans.{cost_held}
 use Rattle.mixed_run.proofs.Different.{first_differ}
 use Rattle.mixed_run.proofs.Found.{held_fits, held_is_valid}
 use Rattle.mixed_run.specs.CheckMixedAnswer.{HasProof}
 use Rattle.mixed_run.specs.KindFiles.{HasKinds, IsKindsRefused, kind_reads, mixed_refusal_text}
 use Rattle.mixed_run.specs.KindReading.{AreRefused, FailsFile}
-use Rattle.mixed_run.specs.MixedAnswer.{AcceptsMixed, cost_held, IsMixedFound, MixedAnswers, PutsMixedFound, mixed_status, mixed_task}
+use Rattle.mixed_run.specs.MixedAnswer.{AcceptsMixed, IsMixedFound, MixedAnswers, PutsMixedFound, mixed_status, mixed_task}
 use Rattle.mixed_run.specs.declared.refusal.MixedRefusal.{MixedRefusal}
 
 pub file_fails : (job : MixedJob) (before after : ShelfState) → FailsFile job.limit job.files before after → FailsReading (mixed_task job) before after

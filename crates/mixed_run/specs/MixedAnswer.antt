@@ -8,14 +8,13 @@ use Rattle.job_frame.specs.Writes.{Written}
 use Rattle.job_frame.specs.declared.status.Status.{Status}
 use Rattle.job_frame.specs.declared.status.Status.TheVariants as status
 use Rattle.mixed_fleet.specs.Outcome.{IsOutcome}
-use Rattle.mixed_fleet.specs.Plans.{cost_of_routes}
+use Rattle.mixed_fleet.specs.Plans.{cost_held}
 use Rattle.mixed_fleet.specs.declared.outcome.MixedOutcome.{MixedOutcome}
 use Rattle.mixed_model.specs.Kinds.{first_of}
 use Rattle.mixed_model.specs.Truth.{IsLeastCost, IsTrueBound}
 use Rattle.mixed_model.specs.declared.proof.MixedProof.{MixedProof}
 use Rattle.mixed_model.specs.declared.proof.MixedRoot.{MixedRoot}
 use Rattle.mixed_model.specs.declared.proof.MixedRoot.TheVariants as root
-use Rattle.mixed_model.specs.declared.proof.MixedRoute.{MixedRoute}
 use Rattle.mixed_model.specs.MixedTexts.{mixed_plan_text}
 use Rattle.mixed_text.specs.MixedTexts.{mixed_text}
 use Rattle.mixed_text.specs.Written.{written_mixed}
@@ -39,10 +38,6 @@ TellsRoot kinds p (root.Exact over shares) told =
     IsLeastCost kinds p.weight p.prices
     × IsExactLine (sum_of p.prices) (p.weight * (first_of kinds).denominator) told
 TellsRoot kinds p (root.Wide columns basis) told = told ≡ line.Wide
-
-abbrev pub cost_held : List Network → Option (List MixedRoute) → Option ℕ
-cost_held kinds None = None
-cost_held kinds (Some routes) = Some (cost_of_routes kinds routes)
 
 -- the status of a search with this bound: there is no plan, or the search did what it was asked for
 abbrev pub mixed_status : Option ℕ → Status

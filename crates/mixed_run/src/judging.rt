@@ -123,7 +123,7 @@ fn judge(
 }
 
 /// The cost of a plan, or none where there is none.
-pub fn cost_of(kinds: &[Instance], plan: Option<&[MixedRoute]>) -> Result<Option<u128>, PlanFault>
+fn cost_of(kinds: &[Instance], plan: Option<&[MixedRoute]>) -> Result<Option<u128>, PlanFault>
     requires kinds { AreKinds kinds.now }
     requires few { customer_count (first_of kinds.now) ≤ most_customers }
     requires known { AreKnown kinds.now (option_map (λ p. p.now) plan) }

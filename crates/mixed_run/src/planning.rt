@@ -14,13 +14,12 @@ ghost use Rattle.mixed_run.specs.MixedAnswer.{IsMixedFound, IsReadBack, TellsRoo
 ghost use Rattle.plan_writer.specs.FleetText.{IsLowestLine, fleet_text};
 ghost use Rattle.plan_writer.specs.declared.fleet.RootLine.{RootLine};
 
-use crate::judging::cost_of;
 use certificate_check::price_total;
 use ev_list::Listed;
 use instance_reader::Instance;
 use job_frame::{Answer, Planned, ScaleWatcher, Status};
 use mixed_fleet::{MixedOutcome, RoundWatcher, plan_mixed_watched};
-use mixed_model::{MixedProof, MixedRoot, MixedRoute, mixed_plans_break_no_rule, push_mixed_plan};
+use mixed_model::{MixedProof, MixedRoot, MixedRoute, push_mixed_plan};
 use mixed_text::{push_mixed, written_mixed_proofs_are_read};
 use plan_writer::{Outcomes, RootLine, push_fleet_report};
 use std::alloc::{AllocError, Global};
@@ -80,13 +79,8 @@ fn report(alloc: Global, kinds: &[Instance], outcome: &MixedOutcome) -> Result<A
         × (a.text.items ≡ fleet_text (first_of kinds.now).denominator
         (outcomes_of kinds.now outcome.now told))) }
 {
-    let Ok(cost) = cost_of(kinds, held_routes(&outcome.plan)) else {
-        // A plan that is held breaks no rule.
-        mixed_plans_break_no_rule();
-        unreachable!()
-    };
     let outcomes = Outcomes {
-        cost,
+        cost: outcome.cost,
         bound: outcome.proof.bound,
         root: root_line(kinds, &outcome.proof),
         stopped: None,

@@ -20,7 +20,8 @@ use std::alloc::Global;
 
 /// What planning answers of these kinds, and what the plan that is held costs, `None` inside where
 /// none is held. `None` where the kinds aren't those of a fleet, memory was refused, a judge
-/// refuses the plan or the proof, or a text of theirs is another one once it is read and written.
+/// refuses the plan or the proof, the cost that is answered is another one, or a text of theirs is
+/// another one once it is read and written.
 pub(crate) fn judged(alloc: Global, kinds: &[Instance]) -> Option<(MixedOutcome, Option<u128>)> {
     if !are_of_a_fleet(kinds) {
         return None;
@@ -33,6 +34,9 @@ pub(crate) fn judged(alloc: Global, kinds: &[Instance]) -> Option<(MixedOutcome,
         Some(plan) => Some(cost_of(alloc, kinds, plan.as_slice())?),
         None => None,
     };
+    if outcome.cost != cost {
+        return None;
+    }
     Some((outcome, cost))
 }
 

@@ -33,8 +33,8 @@ fn budget_of(nodes: u64) -> Option<u64>
     if nodes == 0 { None } else { Some(nodes) }
 }
 
-/// What a search with this budget answers, where the plan is one of a fleet and the certificate is
-/// accepted.
+/// What a search with this budget answers, where the plan is one of a fleet, of the cost that is
+/// answered, and the certificate is accepted.
 pub(crate) fn judged(alloc: Global, inst: &Instance, nodes: u64) -> Option<Told> {
     if inst.customers().len() > 128 {
         return None;
@@ -46,6 +46,9 @@ pub(crate) fn judged(alloc: Global, inst: &Instance, nodes: u64) -> Option<Told>
         Some(plan) => Some(check_fleet(inst, plan).ok()?),
         None => None,
     };
+    if outcome.cost != cost {
+        return None;
+    }
     let Ok(Verdict::Accepted) = check_certificate(alloc, inst, &outcome.certificate) else {
         return None;
     };

@@ -34,8 +34,8 @@ returns c = λ budget within ended.
     let count : c.len-nodes.result ≡ length s.sections.items = omega (arith, len) in
     let nodes : c.len-nodes.result ≡ length certificate.sections = subst (λ xs. c.len-nodes.result ≡ length xs) same count in
     let many : length certificate.sections ≤ most_items = omega (arith, nodes) in
-    let other : IsTrue stopped → cost ≢ bound = subst (λ x. IsTrue stopped → x ≢ bound) c.cost_of.ensures c.differ-stopped.ensures.other in
-    let equal : stopped ≡ false → cost ≡ bound = subst (λ x. stopped ≡ false → x ≡ bound) c.cost_of.ensures c.differ-stopped.ensures.same in
+    let other : IsTrue stopped → cost ≢ bound = subst (λ x. IsTrue stopped → x ≢ bound) c.cost_of-cost.ensures c.differ-stopped.ensures.other in
+    let equal : stopped ≡ false → cost ≡ bound = subst (λ x. stopped ≡ false → x ≡ bound) c.cost_of-cost.ensures c.differ-stopped.ensures.same in
     let inside : IsWithin budget (length certificate.sections) = subst (λ xs. IsWithin budget (length xs)) same within in
     let at_end : IsUsedUp budget (length certificate.sections) ⊎ IsDone s.tree.nodes cost = subst (λ xs. IsUsedUp budget (length xs) ⊎ IsDone s.tree.nodes cost) same ended in
     let kept : All IsKept certificate.sections = subst (λ xs. All IsKept xs) (c.as_slice-3.ensures.value ∙ same) c.know_sections.ensures in
@@ -43,9 +43,11 @@ returns c = λ budget within ended.
     is_outcome g s.tree certificate s.held c.requires.few c.nodes-nodes.ensures.network (c.accepted_bounds_are_true.ensures g certificate c.nodes-nodes.ensures.network)
     is c.requires.searching.held c.requires.searching.own c.in_ok-lines.ensures.tree shows lines walk c.least_bound-bound.ensures.small many whole c.requires.taken
     budget stopped other equal inside at_end kept in
-    let counted : IsOutcome g budget (record { plan = plan_at s.held; certificate = certificate; nodes = c.len-nodes.result; stopped = stopped }) =
-    subst (λ n. IsOutcome g budget (record { plan = plan_at s.held; certificate = certificate; nodes = n; stopped = stopped })) (sym nodes) outcome in
-    subst (λ p. IsOutcome g budget (record { plan = p; certificate = certificate; nodes = c.len-nodes.result; stopped = stopped })) (sym c.plan_of.ensures) counted
+    let counted : IsOutcome g budget (record { plan = plan_at s.held; cost = cost; certificate = certificate; nodes = c.len-nodes.result; stopped = stopped }) =
+    subst (λ n. IsOutcome g budget (record { plan = plan_at s.held; cost = cost; certificate = certificate; nodes = n; stopped = stopped })) (sym nodes) outcome in
+    let costed : IsOutcome g budget (record { plan = plan_at s.held; cost = c.cost_of-cost.result; certificate = certificate; nodes = c.len-nodes.result; stopped = stopped }) =
+    subst (λ x. IsOutcome g budget (record { plan = plan_at s.held; cost = x; certificate = certificate; nodes = c.len-nodes.result; stopped = stopped })) (sym c.cost_of-cost.ensures) counted in
+    subst (λ p. IsOutcome g budget (record { plan = p; cost = c.cost_of-cost.result; certificate = certificate; nodes = c.len-nodes.result; stopped = stopped })) (sym c.plan_of.ensures) costed
 
 pub least_bound-bound-requires-clause-sums : goal.least_bound-bound-requires-clause-sums
 least_bound-bound-requires-clause-sums c =

@@ -1,6 +1,8 @@
-use Rattle.std.proofs.Common.{List, Option, subst}
+use Rattle.std.proofs.Common.{ℕ, List, Option, subst, sym}
 use Rattle.std.specs.Prelude.{MatchOption}
 use Rattle.mixed_model.specs.declared.proof.MixedRoute.{MixedRoute}
+use Rattle.mixed_fleet.specs.Held.{cost_at, routes_at}
+use Rattle.mixed_fleet.specs.Outcome.{IsOutcome}
 use Rattle.mixed_fleet.specs.Whole.{HasParts, IsAtBound}
 use Rattle.mixed_fleet.proofs.Outcomes.{own_outcome, whole_outcome}
 use Rattle.mixed_fleet.proofs.planning.outcome_of.Goals as goal
@@ -13,6 +15,11 @@ returns-in-Some c =
 
 pub returns-in-None : goal.returns-in-None
 returns-in-None c =
+    let kinds = c.args.kinds.now in
     let p = c.args.proof in
-    let parts = subst (λ (o : Option (List MixedRoute)). MatchOption o (HasParts p.root) (IsAtBound c.args.kinds.now p)) c.in-None.is c.requires.whole in
-    own_outcome c.args.kinds.now p c.args.held c.requires.proof c.requires.held c.requires.own parts
+    let h = c.args.held in
+    let parts = subst (λ (o : Option (List MixedRoute)). MatchOption o (HasParts p.root) (IsAtBound kinds p)) c.in-None.is c.requires.whole in
+    let outcome : IsOutcome kinds (record { plan = routes_at h; cost = cost_at h; proof = p }) = own_outcome kinds p h c.requires.proof c.requires.held c.requires.own parts in
+    let costed : IsOutcome kinds (record { plan = routes_at h; cost = c.cost_of.result; proof = p }) =
+    subst (λ (x : Option ℕ). IsOutcome kinds (record { plan = routes_at h; cost = x; proof = p })) (sym c.cost_of.ensures) outcome in
+    subst (λ (x : Option (List MixedRoute)). IsOutcome kinds (record { plan = x; cost = c.cost_of.result; proof = p })) (sym c.routes_of.ensures) costed
