@@ -7,7 +7,7 @@ mod progress;
 
 use deadline::Deadline;
 use ev_outside::{FileShelf, OutSink};
-use evgap_run::run_to_end;
+use evgap_run::{Cause, run_to_end};
 pub use evgap_run::{Status, exit_code, run};
 use job_ending::SystemDiagnostics;
 use job_listeners::{HeardSink, wants_progress};
@@ -32,7 +32,7 @@ fn words_of(rt: &HostRuntime) -> io::Result<Vec<String>> {
 
 /// The program with these words over the files, the outputs and the clock of the system: its exit
 /// status is that of a run, or tells that the system gave no words. Behind it people are told on
-/// standard error what the first line means; nothing of that where memory is refused or standard
+/// standard error what its cause means; nothing of that where memory is refused or standard
 /// error fails.
 fn run_on(rt: &HostRuntime, words: io::Result<Vec<String>>) -> ExitCode {
     let alloc = rt.alloc();
@@ -50,15 +50,18 @@ fn run_on(rt: &HostRuntime, words: io::Result<Vec<String>>) -> ExitCode {
         &mut clock,
         &mut progress,
     );
-    tell_behind(rt, out.first_line());
+    if out.has_put() {
+        tell_behind(rt, progress.cause());
+    }
     code
 }
 
-/// Tells people what the first line that was printed means; nothing where memory is refused or
-/// standard error fails.
-fn tell_behind(rt: &HostRuntime, line: &str) {
+/// Tells people what a cause means, where there is one; nothing where memory is refused or standard
+/// error fails.
+fn tell_behind(rt: &HostRuntime, cause: Option<Cause>) {
     let Ok(words) = words_of(rt) else { return };
-    if let Ok(Some(told)) = meaning_of(rt.alloc(), words.as_slice(), line) {
+    let Some(cause) = cause else { return };
+    if let Ok(Some(told)) = meaning_of(rt.alloc(), words.as_slice(), cause) {
         let _ = eprintln!(rt; "evgap: {told}");
     }
 }

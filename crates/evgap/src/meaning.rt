@@ -1,19 +1,20 @@
-//! What people are told that a line means.
+//! What people are told that a cause means.
 
+use evgap_run::Cause;
 use gap_words::{Job, job_words};
 use plain_words::in_words;
 use std::alloc::{AllocError, Global};
 
-/// What the first line that was printed means, in words with the names of the files: of a line that
-/// begins with `refused`, `rejected` or `alone`. `None` for any other line. `words` stand behind
-/// the program's name.
+/// What a cause means, in words with the names of the files: what a rule says of them, or which
+/// customer is out of reach. `None` where the words name no job. `words` stand behind the program's
+/// name.
 pub(crate) fn meaning_of(
     alloc: Global,
     words: &[String],
-    line: &str,
+    cause: Cause,
 ) -> Result<Option<String>, AllocError> {
     match job_words(alloc, words)? {
-        Some(job) => in_words(alloc, names_of(alloc, &job)?.as_slice(), line),
+        Some(job) => in_words(alloc, names_of(alloc, &job)?.as_slice(), cause),
         None => Ok(None),
     }
 }

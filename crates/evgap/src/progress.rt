@@ -1,8 +1,8 @@
 //! Who tells people how far a search is.
 
 use evgap_run::{
-    GapProgress, GapWatcher, MoveProgress, MoveWatcher, PriceProgress, PriceWatcher,
-    RoundsProgress, RoundsWatcher, ScaleWatcher,
+    Cause, CauseListener, GapProgress, GapWatcher, MoveProgress, MoveWatcher, PriceProgress,
+    PriceWatcher, RoundsProgress, RoundsWatcher, ScaleWatcher,
 };
 use job_listeners::Pace;
 use std::fmt::{self, Display, Formatter};
@@ -20,6 +20,8 @@ pub(crate) struct ToldGap<'a, R: Clock + Eprint> {
     denominator: u64,
     /// What is held, once a plan is.
     held: Option<GapProgress>,
+    /// What the first line of the answer tells, where it isn't what was asked for.
+    cause: Option<Cause>,
 }
 
 impl<'a, R: Clock + Eprint> ToldGap<'a, R> {
@@ -34,7 +36,13 @@ impl<'a, R: Clock + Eprint> ToldGap<'a, R> {
             pace,
             denominator: 1,
             held: None,
+            cause: None,
         }
+    }
+
+    /// Why the answer isn't the one that was asked for, where it was heard so.
+    pub(crate) fn cause(&self) -> Option<Cause> {
+        self.cause
     }
 
     /// Whether a line is due now.
@@ -115,6 +123,12 @@ impl<'a, R: Clock + Eprint> GapWatcher for ToldGap<'a, R> {
 impl<'a, R: Clock + Eprint> ScaleWatcher for ToldGap<'a, R> {
     fn begin(&mut self, denominator: u64) {
         self.denominator = denominator;
+    }
+}
+
+impl<'a, R: Clock + Eprint> CauseListener for ToldGap<'a, R> {
+    fn hear(&mut self, cause: Cause) {
+        self.cause = Some(cause);
     }
 }
 

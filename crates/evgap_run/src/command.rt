@@ -18,7 +18,7 @@ use crate::watcher::Nobody;
 use ev_outside::{Shelf, Sink};
 use gap_search::GapWatcher;
 use gap_words::{Job, job_words};
-use job_frame::{ScaleWatcher, Status};
+use job_frame::{CauseListener, ScaleWatcher, Status};
 use std::alloc::{AllocError, Global};
 
 /// The program: its words after its name, the files and the output.
@@ -76,7 +76,7 @@ where
     S: Shelf,
     K: Sink,
     C: JobClock,
-    W: GapWatcher + ScaleWatcher,
+    W: GapWatcher + ScaleWatcher + CauseListener,
     ensures { Runs words.now K.takes_memory (S.state shelf.old) (S.state shelf.new)
         (K.state out.old) (K.state out.new) result }
 {
@@ -115,7 +115,7 @@ where
     S: Shelf,
     K: Sink,
     C: JobClock,
-    W: GapWatcher + ScaleWatcher,
+    W: GapWatcher + ScaleWatcher + CauseListener,
     requires { IsJob job.now }
     ensures words { result ≢ Status.Words }
     ensures job { Performs (task_of (job_value job.now)) (S.state shelf.old) (S.state shelf.new)
@@ -128,7 +128,7 @@ where
         → K.state out.new ≡ K.state out.old }
 {
     match job {
-        Job::Plan(job) => finish(plan(alloc, job, shelf, clock, watcher), shelf, out),
-        Job::Check(job) => finish(check(alloc, job, shelf), shelf, out),
+        Job::Plan(job) => finish(plan(alloc, job, shelf, clock, watcher), shelf, out, watcher),
+        Job::Check(job) => finish(check(alloc, job, shelf), shelf, out, watcher),
     }
 }

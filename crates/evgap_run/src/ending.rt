@@ -13,7 +13,7 @@ use crate::clock::JobClock;
 use crate::command::run_watched;
 use gap_search::GapWatcher;
 use job_ending::{Diagnostics, FailingShelf, FailingSink, Message, end_run, end_without_words};
-use job_frame::{ScaleWatcher, Status};
+use job_frame::{CauseListener, ScaleWatcher, Status};
 use std::alloc::Global;
 use std::io::{self, ErrorKind};
 use std::process::ExitCode;
@@ -34,7 +34,7 @@ where
     K: FailingSink,
     D: Diagnostics,
     C: JobClock,
-    W: GapWatcher + ScaleWatcher,
+    W: GapWatcher + ScaleWatcher + CauseListener,
     ensures runs { IfOk words (λ words. (ended : Status) × (exit_status result ≡ code_of ended)
         × Runs words.items K.takes_memory (S.state shelf.old) (S.state shelf.new)
         (K.state out.old) (K.state out.new) ended) }

@@ -10,13 +10,15 @@ ghost use Rattle.job_frame.specs.Task.{IsAnswered};
 ghost use Rattle.job_frame.specs.Writes.{AreDifferent};
 
 use ev_outside::{Shelf, ShelfFault, Sink};
-use job_frame::{Found, Status, conclude};
+use job_frame::{CauseListener, Found, Status, conclude};
 
-/// What a job found is written and put, or the job ends without an answer.
-pub fn finish<S: Shelf, K: Sink>(
+/// What a job found is written and put, and a listener hears its cause, or the job ends without an
+/// answer.
+pub fn finish<S: Shelf, K: Sink, L: CauseListener>(
     found: Result<Found, ShelfFault>,
     shelf: &mut S,
     out: &mut K,
+    listener: &mut L,
 ) -> Status
     requires answered { IfOk found (λ f. IsAnswered f.answer.status) }
     requires different { IfOk found (λ f. AreDifferent (outcome_of f).writes) }
@@ -34,7 +36,10 @@ pub fn finish<S: Shelf, K: Sink>(
         → K.state out.new ≡ K.state out.old }
 {
     match found {
-        Ok(found) => conclude(&found, shelf, out),
+        Ok(found) => {
+            found.answer.tell(listener);
+            conclude(&found, shelf, out)
+        }
         Err(ShelfFault::Failed) => Status::Fault,
         Err(ShelfFault::Memory) => Status::Memory,
     }

@@ -13,7 +13,7 @@ ghost use Rattle.route_plan.specs.PlanTexts.{FitsFile};
 use crate::report::push_accepted;
 use fleet_steps::{cost_of, proof_of};
 use instance_reader::Instance;
-use job_frame::{Answer, Ended, Status, refuse};
+use job_frame::{Answer, Cause, Ended, Status, refuse};
 use near_proof::{NearProof, NearVerdict, check_near};
 use near_text::push_near_verdict;
 use plan_check::{LargeFault, PlanFault};
@@ -136,5 +136,18 @@ fn report(
             Status::Negative
         }
     };
-    Ok(Answer { status, text })
+    Ok(Answer {
+        status,
+        text,
+        cause: cause_of(judgement),
+    })
+}
+
+/// The rule that the plan or the proof breaks, where one of them breaks one.
+fn cause_of(judgement: &Judgement) -> Option<Cause> {
+    match judgement {
+        Judgement::Accepted { .. } => None,
+        Judgement::Plan(fault) => Some(Cause::Plan(*fault)),
+        Judgement::Proof(verdict) => Some(Cause::Near(*verdict)),
+    }
 }

@@ -21,5 +21,5 @@ pub use gap_search::{
     RoundsProgress, RoundsWatcher,
 };
 pub use job_ending::{Diagnostics, FailingShelf, FailingSink, Message};
-pub use job_frame::{ScaleWatcher, Status};
+pub use job_frame::{Cause, CauseListener, ScaleWatcher, Status};
 pub use watcher::Nobody;

@@ -16,7 +16,7 @@ use crate::report::push_found;
 use fleet_steps::{cost_of, plan_text};
 use gap_search::{GapClock, GapWatcher, Improved, NearProof, close_gap};
 use instance_reader::Instance;
-use job_frame::{Answer, Planned, Status};
+use job_frame::{Answer, Cause, Planned, Status};
 use near_text::push_near;
 use plan_check::LargeFault;
 use route_plan::FleetPlan;
@@ -105,7 +105,17 @@ fn report(
     Ok(Answer {
         status: plan_status(cost, bound),
         text,
+        cause: cause_beside(alone, bound),
     })
+}
+
+/// What the first line tells: that there is no fleet plan, or which customer is out of reach.
+fn cause_beside(alone: Option<usize>, bound: Option<u128>) -> Option<Cause> {
+    match (bound, alone) {
+        (None, _) => Some(Cause::NoFleet),
+        (Some(_), Some(node)) => Some(Cause::Alone(node)),
+        (Some(_), None) => None,
+    }
 }
 
 /// The status beside a cost and a bound.

@@ -1,10 +1,10 @@
-//! Who watches a search: nobody.
+//! Who watches a search and hears why an answer isn't the one that was asked for: nobody.
 
 use gap_search::{
     GapProgress, GapWatcher, MoveProgress, MoveWatcher, PriceProgress, PriceWatcher,
     RoundsProgress, RoundsWatcher,
 };
-use job_frame::ScaleWatcher;
+use job_frame::{Cause, CauseListener, ScaleWatcher};
 
 /// Nobody.
 #[derive(Drop)]
@@ -28,4 +28,8 @@ impl GapWatcher for Nobody {
 
 impl ScaleWatcher for Nobody {
     fn begin(&mut self, _denominator: u64) {}
+}
+
+impl CauseListener for Nobody {
+    fn hear(&mut self, _cause: Cause) {}
 }

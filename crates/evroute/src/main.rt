@@ -2,7 +2,7 @@
 #![tactic(auto)]
 
 use ev_outside::{FileShelf, OutSink};
-use evroute_run::{FailingShelf, FailingSink, run_to_end};
+use evroute_run::{Cause, FailingShelf, FailingSink, run_to_end};
 pub use evroute_run::{Status, exit_code, run};
 use job_listeners::{HeardSink, PlainDiagnostics, ToldProgress, wants_progress};
 use plain_words::{Failed, left_behind, told_behind, unwritable};
@@ -42,7 +42,7 @@ fn run_on(rt: &HostRuntime, words: io::Result<Vec<String>>) -> ExitCode {
         &mut people,
         &mut progress,
     );
-    tell_behind(rt, &shelf, &out);
+    tell_behind(rt, &shelf, &out, progress.cause());
     code
 }
 
@@ -54,18 +54,18 @@ fn tell_in_front(rt: &HostRuntime) {
     }
 }
 
-/// Tells people what stands in the files of the job once a file or the output failed, and what its
-/// first line means.
+/// Tells people what stands in the files of the job once a file or the output failed, and, where a
+/// text was put, what its cause means.
 fn tell_behind(
     rt: &HostRuntime,
     shelf: &FileShelf<'_, HostRuntime>,
     out: &HeardSink<OutSink<'_, HostRuntime>>,
+    cause: Option<Cause>,
 ) {
     let alloc = rt.alloc();
     let Ok(words) = words_of(rt) else { return };
-    let line = out.first_line();
     if out.last_failure().is_some() {
-        let failed = Failed::Output(line);
+        let failed = Failed::Output(cause);
         tell(rt, left_behind(alloc, words.as_slice(), failed));
     } else if let Some(failure) = shelf.last_failure() {
         let failed = match shelf.storage().is_changed() {
@@ -74,7 +74,9 @@ fn tell_behind(
         };
         tell(rt, left_behind(alloc, words.as_slice(), failed));
     }
-    tell(rt, told_behind(alloc, rt, words.as_slice(), line));
+    if out.has_put() {
+        tell(rt, told_behind(alloc, rt, words.as_slice(), cause));
+    }
 }
 
 /// Tells people on standard error what there is to tell.

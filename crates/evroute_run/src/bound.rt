@@ -20,7 +20,7 @@ use command_line::BoundWords;
 use ev_outside::{Shelf, ShelfFault};
 use fleet_steps::fleet_instance;
 use instance_reader::Instance;
-use job_frame::{Answer, Ended, Found, MOST_BYTES, NewFile, Status, read_file, refuse_job};
+use job_frame::{Answer, Cause, Ended, Found, MOST_BYTES, NewFile, Status, read_file, refuse_job};
 use near_text::written_near_proofs_are_read;
 use ng_pricing::{NearProof, near_bound_watched, push_near, push_near_bound};
 use std::alloc::{AllocError, Global};
@@ -93,6 +93,7 @@ fn tell(alloc: Global, inst: &Instance, bound: Option<u128>) -> Result<Answer, A
     Ok(Answer {
         status: bound_status(bound),
         text,
+        cause: Cause::beside(bound),
     })
 }
 

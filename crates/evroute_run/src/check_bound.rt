@@ -19,7 +19,8 @@ use ev_outside::{Shelf, ShelfFault};
 use fleet_steps::{fleet_instance, proof_of};
 use instance_reader::Instance;
 use job_frame::{
-    Answer, Ended, Found, MOST_BYTES, MOST_CERTIFICATE_BYTES, Status, read_file, refuse, refuse_job,
+    Answer, Cause, Ended, Found, MOST_BYTES, MOST_CERTIFICATE_BYTES, Status, read_file, refuse,
+    refuse_job,
 };
 use ng_pricing::{NearProof, NearVerdict, check_near, push_near_verdict};
 use std::alloc::{AllocError, Global};
@@ -97,7 +98,16 @@ fn judge(alloc: Global, inst: &Instance, proof: &NearProof) -> Result<Answer, Al
     Ok(Answer {
         status: verdict_status(verdict),
         text,
+        cause: cause_of(verdict),
     })
+}
+
+/// The rule that a proof breaks, where it breaks one.
+fn cause_of(verdict: NearVerdict) -> Option<Cause> {
+    match verdict {
+        NearVerdict::Accepted => None,
+        _ => Some(Cause::Near(verdict)),
+    }
 }
 
 /// The status of a verdict.

@@ -25,7 +25,8 @@ use command_line::ProofWords;
 use ev_outside::{Shelf, ShelfFault};
 use instance_reader::Instance;
 use job_frame::{
-    Answer, Ended, Found, MOST_BYTES, MOST_CERTIFICATE_BYTES, Status, read_file, refuse, refuse_job,
+    Answer, Cause, Ended, Found, MOST_BYTES, MOST_CERTIFICATE_BYTES, Status, read_file, refuse,
+    refuse_job,
 };
 use plan_writer::Refusal;
 use route_plan::{RoutePlan, walk};
@@ -177,6 +178,7 @@ fn accept(
     Ok(Answer {
         status: Status::Done,
         text,
+        cause: None,
     })
 }
 
@@ -214,5 +216,6 @@ fn reject(alloc: Global, inst: &Instance, verdict: &RouteVerdict) -> Result<Answ
     Ok(Answer {
         status: Status::Negative,
         text,
+        cause: Some(Cause::Route(*verdict)),
     })
 }

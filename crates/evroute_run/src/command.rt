@@ -24,7 +24,7 @@ use crate::usage::put_usage;
 use crate::watcher::{JobWatcher, Nobody};
 use command_line::{Job, job_words};
 use ev_outside::{Shelf, Sink};
-use job_frame::Status;
+use job_frame::{Cause, Status};
 use mixed_run::{check_mixed_files, mixed};
 use std::alloc::{AllocError, Global};
 
@@ -126,7 +126,10 @@ pub fn run_watched<S: Shelf, K: Sink, W: JobWatcher>(
 {
     match job_words(alloc, words) {
         Ok(Some(job)) => perform(alloc, &job, shelf, out, watcher),
-        Ok(None) => put_usage(out),
+        Ok(None) => {
+            watcher.hear(Cause::Words);
+            put_usage(out)
+        }
         Err(AllocError) => Status::Memory,
     }
 }
@@ -166,17 +169,17 @@ fn perform<S: Shelf, K: Sink, W: JobWatcher>(
         → K.state out.new ≡ K.state out.old }
 {
     match job {
-        Job::Fixed(job) => finish(fixed(alloc, job, shelf), shelf, out),
-        Job::Fleet(job) => finish(fleet(alloc, job, shelf, watcher), shelf, out),
-        Job::Check(job) => finish(check(alloc, job, shelf), shelf, out),
-        Job::Convert(job) => finish(convert(alloc, job, shelf), shelf, out),
-        Job::Make(job) => make(alloc, job, shelf, out),
-        Job::Bound(job) => finish(bound(alloc, job, shelf, watcher), shelf, out),
-        Job::CheckBound(job) => finish(check_bound(alloc, job, shelf), shelf, out),
-        Job::Prove(job) => finish(prove(alloc, job, shelf), shelf, out),
-        Job::CheckRoute(job) => finish(check_route(alloc, job, shelf), shelf, out),
-        Job::Improve(job) => finish(improve(alloc, job, shelf, watcher), shelf, out),
-        Job::Mixed(job) => finish(mixed(alloc, job, shelf, watcher), shelf, out),
-        Job::CheckMixed(job) => finish(check_mixed_files(alloc, job, shelf), shelf, out),
+        Job::Fixed(job) => finish(fixed(alloc, job, shelf), shelf, out, watcher),
+        Job::Fleet(job) => finish(fleet(alloc, job, shelf, watcher), shelf, out, watcher),
+        Job::Check(job) => finish(check(alloc, job, shelf), shelf, out, watcher),
+        Job::Convert(job) => finish(convert(alloc, job, shelf), shelf, out, watcher),
+        Job::Make(job) => make(alloc, job, shelf, out, watcher),
+        Job::Bound(job) => finish(bound(alloc, job, shelf, watcher), shelf, out, watcher),
+        Job::CheckBound(job) => finish(check_bound(alloc, job, shelf), shelf, out, watcher),
+        Job::Prove(job) => finish(prove(alloc, job, shelf), shelf, out, watcher),
+        Job::CheckRoute(job) => finish(check_route(alloc, job, shelf), shelf, out, watcher),
+        Job::Improve(job) => finish(improve(alloc, job, shelf, watcher), shelf, out, watcher),
+        Job::Mixed(job) => finish(mixed(alloc, job, shelf, watcher), shelf, out, watcher),
+        Job::CheckMixed(job) => finish(check_mixed_files(alloc, job, shelf), shelf, out, watcher),
     }
 }

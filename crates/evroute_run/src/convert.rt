@@ -52,6 +52,7 @@ fn write_whole(alloc: Global, outfile: &str, whole: Vec<u8>) -> Result<Found, Al
     let answer = Answer {
         status: Status::Done,
         text: Vec::new(alloc),
+        cause: None,
     };
     let file = NewFile::new(alloc, outfile, whole)?;
     Found::with_file(alloc, answer, file)

@@ -115,6 +115,7 @@ pub(crate) fn report_plan(
         Ok(()) => Ok(Answer {
             status: Status::Done,
             text,
+            cause: None,
         }),
         Err(_) => Err(Ended::Memory),
     }
@@ -131,6 +132,7 @@ pub(crate) fn infeasible(alloc: Global, inst: &Instance) -> Result<Answer, Ended
         Ok(()) => Ok(Answer {
             status: Status::Negative,
             text,
+            cause: None,
         }),
         Err(_) => Err(Ended::Memory),
     }

@@ -22,7 +22,8 @@ use ev_outside::{Shelf, ShelfFault};
 use fleet_steps::{cost_of, plan_of, plan_text, reject};
 use instance_reader::Instance;
 use job_frame::{
-    Answer, Ended, Found, MOST_BYTES, NewFile, Status, limited_instance, read_file, refuse_job,
+    Answer, Cause, Ended, Found, MOST_BYTES, NewFile, Status, limited_instance, read_file,
+    refuse_job,
 };
 use plan_check::{LargeFault, check_large};
 use route_improve::{Improved, improve_watched, push_alone, push_improved};
@@ -162,6 +163,7 @@ fn write_better(
     let answer = Answer {
         status: Status::Done,
         text,
+        cause: None,
     };
     Found::with_file(alloc, answer, file)
 }
@@ -190,6 +192,7 @@ fn put_alone(alloc: Global, node: usize) -> Result<Found, AllocError>
     let answer = Answer {
         status: Status::Negative,
         text,
+        cause: Some(Cause::Alone(node)),
     };
     Ok(Found::alone(alloc, answer))
 }

@@ -14,7 +14,7 @@ ghost use Rattle.plan_writer.specs.CheckText.{IsJudged, check_text};
 use bound_certificate::{CertText, Certificate, read_certificate};
 use certificate_check::{Verdict, check_certificate};
 use instance_reader::Instance;
-use job_frame::{Answer, Ended, Status, refuse};
+use job_frame::{Answer, Cause, Ended, Status, refuse};
 use plan_check::{PlanFault, check_fleet};
 use plan_writer::{Judgement, Refusal, push_check_report};
 use route_plan::FleetPlan;
@@ -132,5 +132,18 @@ fn report(alloc: Global, inst: &Instance, judgement: &Judgement) -> Result<Answe
         Judgement::Accepted { .. } => Status::Done,
         Judgement::Plan(_) | Judgement::Certificate(_) => Status::Negative,
     };
-    Ok(Answer { status, text })
+    Ok(Answer {
+        status,
+        text,
+        cause: cause_of(judgement),
+    })
+}
+
+/// The rule that is broken, where one is.
+fn cause_of(judgement: &Judgement) -> Option<Cause> {
+    match judgement {
+        Judgement::Accepted { .. } => None,
+        Judgement::Plan(fault) => Some(Cause::Plan(*fault)),
+        Judgement::Certificate(verdict) => Some(Cause::Certificate(*verdict)),
+    }
 }

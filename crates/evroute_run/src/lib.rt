@@ -25,7 +25,7 @@ pub use command::{exit_code, run, run_watched};
 pub use ending::run_to_end;
 pub use ev_fleet::{Progress, Watcher};
 pub use job_ending::{Diagnostics, FailingShelf, FailingSink, Message, SystemDiagnostics};
-pub use job_frame::{ScaleWatcher, Status};
+pub use job_frame::{Cause, CauseListener, ScaleWatcher, Status};
 pub use mixed_run::{RisingProgress, RoundProgress, RoundWatcher};
 pub use ng_pricing::{PriceProgress, PriceWatcher};
 pub use route_improve::{MoveProgress, MoveWatcher};

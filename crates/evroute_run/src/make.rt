@@ -22,7 +22,7 @@ use ev_outside::{Shelf, ShelfFault, Sink};
 use frvcp_labels::solve_route;
 use instance_maker::MakerFault;
 use instance_reader::Instance;
-use job_frame::{Answer, Status, put_answer, refuse_job};
+use job_frame::{Answer, CauseListener, Status, put_answer, refuse_job};
 use made_instances::made_instance;
 use plan_writer::{Refusal, push_make_report};
 use route_plan::{RoutePlan, walk};
@@ -30,7 +30,13 @@ use std::alloc::{AllocError, Global};
 
 /// `make`: the instance is made and written, and then the route over all its customers is charged.
 /// Where memory is refused for that, the file stands.
-pub fn make<S: Shelf, K: Sink>(alloc: Global, job: &MakeWords, shelf: &mut S, out: &mut K) -> Status
+pub fn make<S: Shelf, K: Sink, L: CauseListener>(
+    alloc: Global,
+    job: &MakeWords,
+    shelf: &mut S,
+    out: &mut K,
+    listener: &mut L,
+) -> Status
     ensures words { result ≢ Status.Words }
     ensures job { Performs (task_of (job_value (Make job.now)))
         (S.state shelf.old) (S.state shelf.new) (K.state out.old) (K.state out.new) result }
@@ -47,7 +53,7 @@ pub fn make<S: Shelf, K: Sink>(alloc: Global, job: &MakeWords, shelf: &mut S, ou
             Err(ShelfFault::Failed) => Status::Fault,
             Err(ShelfFault::Memory) => Status::Memory,
         },
-        Err(MakerFault::Range) => finish(refuse_job(alloc, Refusal::Maker), shelf, out),
+        Err(MakerFault::Range) => finish(refuse_job(alloc, Refusal::Maker), shelf, out, listener),
         Err(MakerFault::Memory) => Status::Memory,
     }
 }
@@ -117,6 +123,7 @@ fn report_time(alloc: Global, inst: &Instance, plan: &RoutePlan) -> Result<Answe
     Ok(Answer {
         status: Status::Done,
         text,
+        cause: None,
     })
 }
 
@@ -131,5 +138,6 @@ fn report_no_time(alloc: Global, inst: &Instance) -> Result<Answer, AllocError>
     Ok(Answer {
         status: Status::Negative,
         text,
+        cause: None,
     })
 }

@@ -19,7 +19,7 @@ use bound_certificate::{
 use certificate_check::price_total;
 use ev_fleet::{Outcome, plan_fleet_watched};
 use instance_reader::Instance;
-use job_frame::{Answer, Planned, Status};
+use job_frame::{Answer, Cause, Planned, Status};
 use plan_writer::{Outcomes, RootLine, push_fleet_report};
 use route_plan::push_fleet_plan;
 use std::alloc::{AllocError, Global};
@@ -86,6 +86,7 @@ fn report(alloc: Global, inst: &Instance, outcome: &Outcome) -> Result<Answer, A
     Ok(Answer {
         status: search_status(outcomes.bound, outcome.stopped),
         text,
+        cause: Cause::beside(outcomes.bound),
     })
 }
 

@@ -1,15 +1,21 @@
 //! Who watches a long job.
 
 use ev_fleet::{Progress, Watcher};
-use job_frame::ScaleWatcher;
+use job_frame::{Cause, CauseListener, ScaleWatcher};
 use mixed_run::{RisingProgress, RoundProgress, RoundWatcher};
 use ng_pricing::{PriceProgress, PriceWatcher};
 use route_improve::{MoveProgress, MoveWatcher};
 
 /// Who is told how far a search, a bound, an improvement or the rounds of a fleet of several kinds
-/// are, and by what their times are scaled. Nothing is promised of it: neither what is written nor
-/// what is put, nor the status, depends on it.
-pub trait JobWatcher: Watcher + PriceWatcher + MoveWatcher + RoundWatcher + ScaleWatcher {}
+/// are, by what their times are scaled, and what the first line of an answer tells that isn't the
+/// one that was asked for. Nothing is promised of it: neither what is written nor what is put, nor
+/// the status, depends on it.
+pub trait JobWatcher: Watcher
+    + PriceWatcher
+    + MoveWatcher
+    + RoundWatcher
+    + ScaleWatcher
+    + CauseListener {}
 
 /// Nobody.
 #[derive(Drop)]
@@ -35,6 +41,10 @@ impl RoundWatcher for Nobody {
 
 impl ScaleWatcher for Nobody {
     fn begin(&mut self, _denominator: u64) {}
+}
+
+impl CauseListener for Nobody {
+    fn hear(&mut self, _cause: Cause) {}
 }
 
 impl JobWatcher for Nobody {}

@@ -49,6 +49,7 @@ pub fn show(
     let answer = Answer {
         status: Status::Done,
         text,
+        cause: None,
     };
     Ok(Found { answer, files })
 }

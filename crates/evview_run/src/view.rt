@@ -176,5 +176,10 @@ fn without_schedule(alloc: Global, status: Status, text: Vec<u8>) -> Found
     ensures files { map written_by result.files.items ≡ [] }
     ensures text { result.answer.text ≡ text }
 {
-    Found::alone(alloc, Answer { status, text })
+    let answer = Answer {
+        status,
+        text,
+        cause: None,
+    };
+    Found::alone(alloc, answer)
 }

@@ -1,9 +1,9 @@
 //! Why a step of a job may be the last, and the line of a refusal.
 
-ghost use Rattle.std.specs.Prelude.{◌≡◌, [], IfErr, IfOk};
+ghost use Rattle.std.specs.Prelude.{◌≡◌, [], IfErr, IfOk, Some};
 ghost use Rattle.plan_writer.specs.RefusalText.{IsRule, refusal_text};
 
-use crate::{Answer, Found, Status};
+use crate::{Answer, Cause, Found, Status};
 use ev_outside::ShelfFault;
 use plan_writer::{Refusal, push_refusal};
 use std::alloc::{AllocError, Global};
@@ -22,12 +22,14 @@ pub fn refuse(alloc: Global, refusal: Refusal) -> Result<Answer, AllocError>
     requires { IsRule refusal }
     ensures status { IfOk result (λ a. a.status ≡ Status.Refused) }
     ensures text { IfOk result (λ a. a.text.items ≡ refusal_text refusal) }
+    ensures cause { IfOk result (λ a. a.cause ≡ Some (Cause.Refused refusal)) }
 {
     let mut text = Vec::new(alloc);
     push_refusal(alloc, &mut text, &refusal)?;
     Ok(Answer {
         status: Status::Refused,
         text,
+        cause: Some(Cause::Refused(refusal)),
     })
 }
 
@@ -36,6 +38,7 @@ pub fn refuse_job(alloc: Global, refusal: Refusal) -> Result<Found, ShelfFault>
     requires { IsRule refusal }
     ensures status { IfOk result (λ f. f.answer.status ≡ Status.Refused) }
     ensures text { IfOk result (λ f. f.answer.text.items ≡ refusal_text refusal) }
+    ensures cause { IfOk result (λ f. f.answer.cause ≡ Some (Cause.Refused refusal)) }
     ensures files { IfOk result (λ f. f.files.items ≡ []) }
     ensures memory { IfErr result (λ fault. fault ≡ ShelfFault.Memory) }
 {

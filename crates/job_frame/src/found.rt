@@ -1,5 +1,6 @@
 //! What a job finds before anything is written.
 
+use crate::cause::{Cause, CauseListener};
 use crate::status::Status;
 use std::alloc::{AllocError, Global};
 
@@ -8,6 +9,17 @@ use std::alloc::{AllocError, Global};
 pub struct Answer {
     pub status: Status,
     pub text: Vec<u8>,
+    /// What the first line tells, where it isn't what was asked for.
+    pub cause: Option<Cause>,
+}
+
+impl Answer {
+    /// A listener hears the cause, where there is one.
+    pub fn tell<L: CauseListener>(&self, listener: &mut L) {
+        if let Some(cause) = self.cause {
+            listener.hear(cause);
+        }
+    }
 }
 
 /// A file that is written: its name, and all that it holds then.

@@ -9,12 +9,14 @@
 //!
 //! Beside that the steps that many jobs begin and end with: how much of a file is read
 //! (`caps.rt`), an instance with the limit of the words (`instance.rt`), the line of a refusal
-//! (`answer.rt`), the two files of a search (`planned.rt`), and who is told by what a job's times
+//! (`answer.rt`), why an answer isn't the one that was asked for, as a value, and who hears it
+//! (`cause.rt`), the two files of a search (`planned.rt`), and who is told by what a job's times
 //! are scaled (`scale.rt`).
 #![tactic(auto)]
 
 mod answer;
 mod caps;
+mod cause;
 mod concluding;
 mod found;
 mod instance;
@@ -25,6 +27,7 @@ mod status;
 
 pub use answer::{Ended, refuse, refuse_job};
 pub use caps::{MOST_BYTES, MOST_CERTIFICATE_BYTES};
+pub use cause::{Cause, CauseListener};
 pub use concluding::{conclude, put_answer};
 pub use found::{Answer, Found, NewFile};
 pub use instance::limited_instance;

@@ -1,4 +1,4 @@
-//! An output that remembers how what was printed begins.
+//! An output that remembers whether anything was put.
 
 ghost use Rattle.std.specs.Prelude.{◌≡◌, ◌≤◌, IfSome, OnErr, OnOk, IsErrOf, true};
 ghost use Rattle.ev_outside.specs.Counts.{Rose};
@@ -8,15 +8,11 @@ ghost use Rattle.job_ending.specs.Ending.{output_name};
 use ev_outside::{Failure, Sink, SinkFault};
 use job_ending::FailingSink;
 
-/// The most bytes that are remembered.
-const MOST: usize = 256;
-
-/// An output that remembers the first bytes of what was put first.
+/// An output that remembers whether anything was to be put.
 #[derive(Drop)]
 pub struct HeardSink<K: Sink + Drop> {
     out: K,
-    heard: [u8; MOST],
-    count: usize,
+    has_put: bool,
 }
 
 impl<K: Sink + Drop> HeardSink<K> {
@@ -24,37 +20,13 @@ impl<K: Sink + Drop> HeardSink<K> {
     pub fn over(out: K) -> Self {
         HeardSink {
             out,
-            heard: [0; MOST],
-            count: 0,
+            has_put: false,
         }
     }
 
-    /// The first line of what was put, as far as it is remembered; the empty text where it is no
-    /// text.
-    pub fn first_line(&self) -> &str {
-        let heard = match self.heard.get(..self.count) {
-            Some(heard) => heard,
-            None => return "",
-        };
-        match std::str::from_utf8(heard) {
-            Ok(text) => match text.split_once('\n') {
-                Some((line, _)) => line,
-                None => text,
-            },
-            Err(_) => "",
-        }
-    }
-
-    /// Remembers how the bytes begin, where nothing was put before.
-    fn hear(&mut self, bytes: &[u8])
-        ensures { self.new.out ≡ self.old.out }
-    {
-        if self.count == 0 {
-            for (kept, byte) in self.heard.iter_mut().zip(bytes) {
-                *kept = *byte;
-            }
-            self.count = bytes.len().min(MOST);
-        }
+    /// Whether anything was to be put.
+    pub fn has_put(&self) -> bool {
+        self.has_put
     }
 }
 
@@ -64,7 +36,7 @@ impl<K: Sink + Drop> Sink for HeardSink<K> {
     ghost takes_memory = { K.takes_memory };
 
     fn put(&mut self, bytes: &[u8]) -> Result<(), SinkFault> {
-        self.hear(bytes);
+        self.has_put = true;
         self.out.put(bytes)
     }
 }

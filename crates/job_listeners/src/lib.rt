@@ -1,4 +1,4 @@
-//! Who hears a job for people: an output that remembers how what was printed begins, standard error
+//! Who hears a job for people: an output that remembers whether anything was put, standard error
 //! that says how much memory had been taken, and who tells how far a long job is.
 //!
 //! Standard output stays as it is.

@@ -3,8 +3,8 @@
 use crate::pace::Pace;
 use crate::progress::{MovesLine, PricesLine, RoundsLine, SearchLine};
 use evroute_run::{
-    JobWatcher, MoveProgress, MoveWatcher, PriceProgress, PriceWatcher, Progress, RisingProgress,
-    RoundProgress, RoundWatcher, ScaleWatcher, Watcher,
+    Cause, CauseListener, JobWatcher, MoveProgress, MoveWatcher, PriceProgress, PriceWatcher,
+    Progress, RisingProgress, RoundProgress, RoundWatcher, ScaleWatcher, Watcher,
 };
 use std::env;
 use std::io::Eprint;
@@ -19,6 +19,8 @@ pub struct ToldProgress<'a, R: Clock + Eprint> {
     /// When the next line is due, where any is told.
     pace: Option<Pace>,
     denominator: u64,
+    /// What the first line of the answer tells, where it isn't what was asked for.
+    cause: Option<Cause>,
 }
 
 impl<'a, R: Clock + Eprint> ToldProgress<'a, R> {
@@ -32,7 +34,13 @@ impl<'a, R: Clock + Eprint> ToldProgress<'a, R> {
             rt,
             pace,
             denominator: 1,
+            cause: None,
         }
+    }
+
+    /// Why the answer isn't the one that was asked for, where it was heard so.
+    pub fn cause(&self) -> Option<Cause> {
+        self.cause
     }
 
     /// Whether a line is due now.
@@ -107,6 +115,12 @@ impl<'a, R: Clock + Eprint> RoundWatcher for ToldProgress<'a, R> {
 impl<'a, R: Clock + Eprint> ScaleWatcher for ToldProgress<'a, R> {
     fn begin(&mut self, denominator: u64) {
         self.denominator = denominator;
+    }
+}
+
+impl<'a, R: Clock + Eprint> CauseListener for ToldProgress<'a, R> {
+    fn hear(&mut self, cause: Cause) {
+        self.cause = Some(cause);
     }
 }
 

@@ -12,6 +12,8 @@ use Rattle.mixed_model.specs.Kinds.{AreKinds, first_of}
 use Rattle.mixed_model.specs.Agreement.{IsFirstApart}
 use Rattle.plan_writer.specs.RefusalText.{IsRule, refusal_text}
 use Rattle.plan_writer.specs.declared.refusal.Refusal.TheVariants as refusal
+use Rattle.job_frame.specs.declared.cause.Cause.{Cause}
+use Rattle.job_frame.specs.declared.cause.Cause.TheVariants as cause
 use Rattle.report_lines.specs.Lines.{number_line}
 use Rattle.mixed_run.specs.declared.refusal.MixedRefusal.{MixedRefusal}
 use Rattle.mixed_run.specs.declared.refusal.MixedRefusal.TheVariants.{Plain, Kinds}
@@ -35,6 +37,11 @@ pub record HasKinds (limit : Option ℕ) (files : List (List ℕ)) (kinds : List
 abbrev pub mixed_refusal_text : MixedRefusal → List ℕ
 mixed_refusal_text (Plain r) = refusal_text r
 mixed_refusal_text (Kinds kind) = number_line (codes "refused kinds ") kind
+
+-- and its cause
+abbrev pub mixed_cause : MixedRefusal → Cause
+mixed_cause (Plain r) = cause.Refused r
+mixed_cause (Kinds kind) = cause.Kinds kind
 
 -- the refusal names a rule: no want of memory stands in it
 abbrev pub IsMixedRule : MixedRefusal → Type 0

@@ -11,7 +11,7 @@ ghost use Rattle.mixed_run.specs.CheckMixedAnswer.{BreaksFirst, CheckMixedAnswer
 ghost use Rattle.mixed_run.specs.Judged.{AreKnown, HasLines, IsJudgementOf, IsProofEnded, judged_status};
 
 use instance_reader::Instance;
-use job_frame::{Answer, Ended, Status, refuse};
+use job_frame::{Answer, Cause, Ended, Status, refuse};
 use mixed_model::{MixedProof, MixedRoute, MixedVerdict, PlanFault, check_mixed, check_mixed_plan};
 use mixed_text::{CertText, push_mixed_verdict, read_mixed};
 use plan_writer::{Judgement, Refusal, push_check_report};
@@ -153,7 +153,20 @@ fn report(alloc: Global, first: &Instance, judgement: &MixedJudgement) -> Result
         MixedJudgement::Accepted { .. } => Status::Done,
         MixedJudgement::Plan(_) | MixedJudgement::Proof(_) => Status::Negative,
     };
-    Ok(Answer { status, text })
+    Ok(Answer {
+        status,
+        text,
+        cause: cause_of(judgement),
+    })
+}
+
+/// The rule that is broken, where one is.
+fn cause_of(judgement: &MixedJudgement) -> Option<Cause> {
+    match judgement {
+        MixedJudgement::Accepted { .. } => None,
+        MixedJudgement::Plan(fault) => Some(Cause::Plan(*fault)),
+        MixedJudgement::Proof(verdict) => Some(Cause::Mixed(*verdict)),
+    }
 }
 
 /// Appends the lines of what is found.

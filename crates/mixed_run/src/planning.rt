@@ -17,7 +17,7 @@ ghost use Rattle.plan_writer.specs.declared.fleet.RootLine.{RootLine};
 use certificate_check::price_total;
 use ev_list::Listed;
 use instance_reader::Instance;
-use job_frame::{Answer, Planned, ScaleWatcher, Status};
+use job_frame::{Answer, Cause, Planned, ScaleWatcher, Status};
 use mixed_fleet::{MixedOutcome, RoundWatcher, plan_mixed_watched};
 use mixed_model::{MixedProof, MixedRoot, MixedRoute, push_mixed_plan};
 use mixed_text::{push_mixed, written_mixed_proofs_are_read};
@@ -90,6 +90,7 @@ fn report(alloc: Global, kinds: &[Instance], outcome: &MixedOutcome) -> Result<A
     Ok(Answer {
         status: mixed_status(outcomes.bound),
         text,
+        cause: Cause::beside(outcomes.bound),
     })
 }
 

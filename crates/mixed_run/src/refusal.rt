@@ -1,10 +1,10 @@
 //! Why a job on kinds of vehicles is refused, and its line.
 
-ghost use Rattle.std.specs.Prelude.{◌≡◌, [], IfErr, IfOk};
-ghost use Rattle.mixed_run.specs.KindFiles.{IsMixedRule, mixed_refusal_text};
+ghost use Rattle.std.specs.Prelude.{◌≡◌, [], IfErr, IfOk, Some};
+ghost use Rattle.mixed_run.specs.KindFiles.{IsMixedRule, mixed_cause, mixed_refusal_text};
 
 use ev_outside::ShelfFault;
-use job_frame::{Answer, Found, Status, refuse};
+use job_frame::{Answer, Cause, Found, Status, refuse};
 use mixed_model::push_kinds_refusal;
 use plan_writer::Refusal;
 use std::alloc::{AllocError, Global};
@@ -32,6 +32,7 @@ pub fn refuse_mixed(alloc: Global, refusal: MixedRefusal) -> Result<Answer, Allo
     requires { IsMixedRule refusal }
     ensures status { IfOk result (λ a. a.status ≡ Status.Refused) }
     ensures text { IfOk result (λ a. a.text.items ≡ mixed_refusal_text refusal) }
+    ensures cause { IfOk result (λ a. a.cause ≡ Some (mixed_cause refusal)) }
 {
     match refusal {
         MixedRefusal::Plain(refusal) => refuse(alloc, refusal),
@@ -41,6 +42,7 @@ pub fn refuse_mixed(alloc: Global, refusal: MixedRefusal) -> Result<Answer, Allo
             Ok(Answer {
                 status: Status::Refused,
                 text,
+                cause: Some(Cause::Kinds(kind)),
             })
         }
     }

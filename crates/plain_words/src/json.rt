@@ -3,6 +3,9 @@
 use crate::names::{instances_of, names_of};
 use crate::reach::MOST_BYTES;
 use ev_outside::Shelf;
+use instance_reader::ReadFault;
+use job_frame::Cause;
+use plan_writer::Refusal;
 use serde_json::Value;
 use serde_json::error::Category;
 use std::alloc::{AllocError, Global};
@@ -12,14 +15,14 @@ const MARK: &[u8] = b"\xef\xbb\xbf";
 
 /// What is said where an instance was refused since it is no JSON text: from which byte on, counted
 /// from 0. The files of instances are read again, and the first of them is told that is none.
-/// `None` for other lines, and where they can't be had or are JSON texts by now.
+/// `None` for other causes, and where they can't be had or are JSON texts by now.
 pub fn broken_json<S: Shelf>(
     alloc: Global,
     shelf: &mut S,
     words: &[String],
-    line: &str,
+    cause: Cause,
 ) -> Result<Option<String>, AllocError> {
-    if line != "refused instance 2" {
+    if cause != Cause::Refused(Refusal::Instance(ReadFault::NotJson)) {
         return Ok(None);
     }
     let names = names_of(alloc, words)?;

@@ -1,13 +1,14 @@
 //! What stands in the files of a job that failed.
 
 use crate::names::{names_of, written_of};
+use job_frame::Cause;
 use std::alloc::{AllocError, Global};
 
 /// What failed last.
 #[derive(Clone, Copy)]
 pub enum Failed<'a> {
-    /// The output, to which a text with this first line was to go.
-    Output(&'a str),
+    /// The output, to which an answer with this cause was to go.
+    Output(Option<Cause>),
     /// A file that was opened, by its name.
     File(&'a str),
     /// A file that wasn't opened, or was left as it was, by its name.
@@ -35,7 +36,7 @@ pub fn left_behind(
 /// At which of these files it failed; behind all of them where it was the output.
 fn place_of(files: &[&str], failed: Failed<'_>) -> Option<usize> {
     match failed {
-        Failed::Output(line) if is_behind_files(line) => Some(files.len()),
+        Failed::Output(cause) if is_behind_files(cause) => Some(files.len()),
         Failed::Output(_) => None,
         Failed::File(name) | Failed::Unchanged(name) => {
             files.iter().position(|file| *file == name)
@@ -51,15 +52,10 @@ fn left_of(failed: Failed<'_>) -> &'static str {
     }
 }
 
-/// Whether what begins with this line is printed behind the files of a job: the lines of a refusal,
-/// of a broken rule and of a customer out of reach and the usage text come where none is written,
-/// and nothing where one of them failed.
-pub(crate) fn is_behind_files(line: &str) -> bool {
-    !line.is_empty()
-        && !line.starts_with("refused ")
-        && !line.starts_with("rejected ")
-        && !line.starts_with("alone ")
-        && !line.starts_with("evroute ")
+/// Whether an answer with this cause is put behind the files of a job: a refusal, a broken rule, a
+/// customer out of reach and the usage text come where none is written.
+pub(crate) fn is_behind_files(cause: Option<Cause>) -> bool {
+    matches!(cause, None | Some(Cause::NoFleet))
 }
 
 /// What is said of files of which those before a place were written, and the one there failed, of

@@ -2,6 +2,7 @@
 
 use crate::left::is_behind_files;
 use crate::names::{names_of, search_files};
+use job_frame::Cause;
 use std::alloc::{AllocError, Global};
 use std::fs::metadata;
 use std::rt::Files;
@@ -12,15 +13,15 @@ const MOST: u64 = 1 << 28;
 
 /// What is said of a certificate that `fleet` wrote and that is longer than `check` reads, or of a
 /// proof that `prove`, `bound` or `mixed` wrote and that is longer than its judge reads. `None` for
-/// other commands, where the system tells no length, and where the job wrote none, as its first
-/// line tells.
+/// other commands, where the system tells no length, and where the job wrote none, as its cause
+/// tells.
 pub(crate) fn long_certificate<R: Files>(
     alloc: Global,
     files: &R,
     words: &[String],
-    line: &str,
+    cause: Option<Cause>,
 ) -> Result<Option<String>, AllocError> {
-    if !is_behind_files(line) {
+    if !is_behind_files(cause) {
         return Ok(None);
     }
     let names = names_of(alloc, words)?;

@@ -63,11 +63,8 @@ pub(crate) fn certificate_of<'a>(names: &[&'a str]) -> &'a str {
 }
 
 /// The file of the kind with a number, which is counted from 0.
-pub(crate) fn kind_file<'a>(names: &[&'a str], kind: &str) -> &'a str {
-    match kind.parse::<usize>() {
-        Ok(kind) => name_at(instances_of(names), kind),
-        Err(_) => "the file",
-    }
+pub(crate) fn kind_file<'a>(names: &[&'a str], kind: u64) -> &'a str {
+    name_at(instances_of(names), kind as usize)
 }
 
 /// The files that a job writes, in order.

@@ -4,25 +4,26 @@ use crate::names::{instances_of, names_of, one_of, option_value};
 use ev_outside::Shelf;
 use frvcp_labels::solve_route;
 use instance_reader::{Instance, read_instance};
+use job_frame::Cause;
 use route_plan::read_route;
 use std::alloc::{AllocError, Global};
 
 /// The most bytes of an instance.
 pub(crate) const MOST_BYTES: usize = 1 << 26;
 
-/// What is said where `fleet`, `bound` or `mixed` printed that there is no plan of the fleet: a
+/// What is said where `fleet`, `bound` or `mixed` found that there is no plan of the fleet: a
 /// customer whom no route of its own serves, by a vehicle of any kind, the first in order of nodes.
 /// There is one, since routes of their own for all customers are such a plan. `None` for other
-/// commands and lines, and where the instances can't be read again.
+/// causes, and where the instances can't be read again.
 pub fn out_of_reach<S: Shelf>(
     alloc: Global,
     shelf: &mut S,
     words: &[String],
-    line: &str,
+    cause: Cause,
 ) -> Result<Option<String>, AllocError> {
     let names = names_of(alloc, words)?;
     let names = names.as_slice();
-    if line != "infeasible" || !matches!(names, ["fleet" | "bound" | "mixed", ..]) {
+    if cause != Cause::NoFleet {
         return Ok(None);
     }
     let files = instances_of(names);

@@ -1,134 +1,216 @@
-//! Lines that begin with `rejected`. Kinds of vehicles are counted from 0, in the order of their
-//! files.
+//! What broken rules of plans, certificates and proofs mean: a sentence for each. Kinds of vehicles
+//! are counted from 0, in the order of their files. What is accepted breaks none.
 
-use crate::sentences::Sentence;
+use crate::sentence::Sentence;
+use certificate_check::Verdict;
+use mixed_model::MixedVerdict;
+use near_proof::NearVerdict;
+use plan_check::PlanFault;
+use route_plan::WalkFault;
+use route_proof::RouteVerdict;
 
-/// What they mean.
-pub(crate) const REJECTED: &[Sentence] = &[
-    Sentence {
-        line: "rejected plan 1 route {route} walk {walk}",
-        says: "{PLAN}: route {route}, counted from 0, {fault of walk}",
-    },
-    Sentence {
-        line: "rejected plan 1 route {route} walk {walk} at {at}",
-        says: "{PLAN}: route {route}, at stop {at}, both counted from 0, {fault of walk}",
-    },
-    Sentence {
-        line: "rejected plan 2 customer {node}",
-        says: "{PLAN}: customer {node} is served more than once",
-    },
-    Sentence {
-        line: "rejected plan 3 customer {node}",
-        says: "{PLAN}: customer {node} is served by no route",
-    },
-    Sentence {
-        line: "rejected plan 4 route {route}",
-        says: "{PLAN}: route {route}, counted from 0, serves no customer",
-    },
-    Sentence {
-        line: "rejected plan 5 route {route} at {at}",
-        says: "{PLAN}: route {route}: stop {at} wasn't inserted, and is no customer",
-    },
-    Sentence {
-        line: "rejected certificate 1 section {section}",
-        says: "{CERT}: section {section} lists no label of a vehicle that starts",
-    },
-    Sentence {
-        line: "rejected certificate 2 section {section} label {label} node {node}",
-        says: "{CERT}: section {section}: the step from label {label} to node {node} leads to no \
-               listed label",
-    },
-    Sentence {
-        line: "rejected certificate 3 section {section} label {label}",
-        says: "{CERT}: section {section}: from label {label} a vehicle comes home for less than \
-               its customers' prices",
-    },
-    Sentence {
-        line: "rejected certificate 4 leaf {leaf}",
-        says: "{CERT}: leaf {leaf} of the tree allows a pair that its section forbids",
-    },
-    Sentence {
-        line: "rejected certificate 5 leaf {leaf}",
-        says: "{CERT}: the section of leaf {leaf} doesn't show the bound",
-    },
-    Sentence {
-        line: "rejected certificate 6",
-        says: "{CERT}: the root is neither the least cost of a fractional cover, nor a basis that \
-               is too wide, nor none where no fleet serves all",
-    },
-    Sentence {
-        line: "rejected proof 1 walk {walk}",
-        says: "{CERT}: its plan {fault of walk}",
-    },
-    Sentence {
-        line: "rejected proof 1 walk {walk} at {at}",
-        says: "{CERT}: its plan, at stop {at}, counted from 0, {fault of walk}",
-    },
-    Sentence {
-        line: "rejected proof 2",
-        says: "{CERT}: its plan is one of another route",
-    },
-    Sentence {
-        line: "rejected proof 3",
-        says: "{CERT}: no listed label covers a vehicle that starts",
-    },
-    Sentence {
-        line: "rejected proof 4 label {label} node {node}",
-        says: "{CERT}: the step from label {label} to node {node}, the next of the route, leads to \
-               no listed label",
-    },
-    Sentence {
-        line: "rejected proof 4 label {label} via {node}",
-        says: "{CERT}: the step from label {label} to the station at node {node} leads to no \
-               listed label",
-    },
-    Sentence {
-        line: "rejected proof 5 label {label}",
-        says: "{CERT}: from label {label} a vehicle comes home sooner than the plan, or within the \
-               limit where there is none",
-    },
-    Sentence {
-        line: "rejected near 1",
-        says: "{CERT}: no listed label covers a vehicle that starts",
-    },
-    Sentence {
-        line: "rejected near 2 label {label} node {node}",
-        says: "{CERT}: the step from label {label} to node {node} leads to no listed label",
-    },
-    Sentence {
-        line: "rejected near 3 label {label}",
-        says: "{CERT}: from label {label} a vehicle comes home for less than its services' prices",
-    },
-    Sentence {
-        line: "rejected near 4",
-        says: "{CERT}: the bound is not the sum of the prices, or none is shown",
-    },
-    Sentence {
-        line: "rejected near 5 customer {node}",
-        says: "{CERT}: the route listed for customer {node} doesn't show that its price can't be \
-               higher",
-    },
-    Sentence {
-        line: "rejected mixed 1 kind {kind}",
-        says: "{CERT}: kind {kind} lists no label of a vehicle that starts",
-    },
-    Sentence {
-        line: "rejected mixed 2 kind {kind} label {label} node {node}",
-        says: "{CERT}: kind {kind}: the step from label {label} to node {node} leads to no listed \
-               label",
-    },
-    Sentence {
-        line: "rejected mixed 3 kind {kind} label {label}",
-        says: "{CERT}: kind {kind}: from label {label} a vehicle comes home for less than its \
-               customers' prices",
-    },
-    Sentence {
-        line: "rejected mixed 4",
-        says: "{CERT}: its prices don't show the bound",
-    },
-    Sentence {
-        line: "rejected mixed 5",
-        says: "{CERT}: the root is neither the least cost of a fractional cover, nor a basis that \
-               is too wide, nor none where no fleet serves all",
-    },
-];
+/// What the broken rule of a fleet plan means.
+pub(crate) fn plan(fault: PlanFault) -> Sentence {
+    match fault {
+        PlanFault::Walk { route, fault } => walk(route, fault),
+        PlanFault::Twice { customer } => {
+            Sentence::one("{PLAN}: customer {1} is served more than once", customer)
+        }
+        PlanFault::Unserved { customer } => {
+            Sentence::one("{PLAN}: customer {1} is served by no route", customer)
+        }
+        PlanFault::EmptyRoute { route } => Sentence::one(
+            "{PLAN}: route {1}, counted from 0, serves no customer",
+            route,
+        ),
+        PlanFault::Stray { route, at } => Sentence::two(
+            "{PLAN}: route {1}: stop {2} wasn't inserted, and is no customer",
+            route,
+            at,
+        ),
+    }
+}
+
+/// What the broken rule of the walk along a route means.
+fn walk(route: usize, fault: WalkFault) -> Sentence {
+    match stop_of(fault) {
+        Some(at) => Sentence::two(
+            "{PLAN}: route {1}, at stop {2}, both counted from 0, {word}",
+            route,
+            at,
+        )
+        .saying(words_of(fault)),
+        None => Sentence::one("{PLAN}: route {1}, counted from 0, {word}", route).saying(words_of(
+            fault,
+        )),
+    }
+}
+
+/// What the broken rule of a certificate means.
+pub(crate) fn certificate(verdict: Verdict) -> Option<Sentence> {
+    match verdict {
+        Verdict::Accepted => None,
+        Verdict::Start { section } => Some(Sentence::one(
+            "{CERT}: section {1} lists no label of a vehicle that starts",
+            section,
+        )),
+        Verdict::Step {
+            section,
+            label,
+            node,
+        } => Some(Sentence::three(
+            "{CERT}: section {1}: the step from label {2} to node {3} leads to no listed label",
+            section,
+            label,
+            node,
+        )),
+        Verdict::End { section, label } => Some(Sentence::two(
+            "{CERT}: section {1}: from label {2} a vehicle comes home for less than its \
+             customers' prices",
+            section,
+            label,
+        )),
+        Verdict::Pairs { leaf } => Some(Sentence::one(
+            "{CERT}: leaf {1} of the tree allows a pair that its section forbids",
+            leaf,
+        )),
+        Verdict::Bound { leaf } => Some(Sentence::one(
+            "{CERT}: the section of leaf {1} doesn't show the bound",
+            leaf,
+        )),
+        Verdict::Root => Some(Sentence::plain(
+            "{CERT}: the root is neither the least cost of a fractional cover, nor a basis that \
+             is too wide, nor none where no fleet serves all",
+        )),
+    }
+}
+
+/// What the broken rule of the proof of a route means.
+pub(crate) fn route(verdict: RouteVerdict) -> Option<Sentence> {
+    match verdict {
+        RouteVerdict::Accepted => None,
+        RouteVerdict::Plan { fault } => Some(route_walk(fault)),
+        RouteVerdict::Other => Some(Sentence::plain("{CERT}: its plan is one of another route")),
+        RouteVerdict::Start => Some(Sentence::plain(
+            "{CERT}: no listed label covers a vehicle that starts",
+        )),
+        RouteVerdict::Step {
+            label,
+            node,
+            via: false,
+        } => Some(Sentence::two(
+            "{CERT}: the step from label {1} to node {2}, the next of the route, leads to no \
+             listed label",
+            label,
+            node,
+        )),
+        RouteVerdict::Step {
+            label,
+            node,
+            via: true,
+        } => Some(Sentence::two(
+            "{CERT}: the step from label {1} to the station at node {2} leads to no listed label",
+            label,
+            node,
+        )),
+        RouteVerdict::End { label } => Some(Sentence::one(
+            "{CERT}: from label {1} a vehicle comes home sooner than the plan, or within the \
+             limit where there is none",
+            label,
+        )),
+    }
+}
+
+/// What the broken rule of the walk along the plan of a proof means.
+fn route_walk(fault: WalkFault) -> Sentence {
+    match stop_of(fault) {
+        Some(at) => Sentence::one(
+            "{CERT}: its plan, at stop {1}, counted from 0, {word}",
+            at,
+        ).saying(words_of(fault)),
+        None => Sentence::worded("{CERT}: its plan {word}", words_of(fault)),
+    }
+}
+
+/// What the broken rule of a near proof means.
+pub(crate) fn near(verdict: NearVerdict) -> Option<Sentence> {
+    match verdict {
+        NearVerdict::Accepted => None,
+        NearVerdict::Start => Some(Sentence::plain(
+            "{CERT}: no listed label covers a vehicle that starts",
+        )),
+        NearVerdict::Step { label, node } => Some(Sentence::two(
+            "{CERT}: the step from label {1} to node {2} leads to no listed label",
+            label,
+            node,
+        )),
+        NearVerdict::End { label } => Some(Sentence::one(
+            "{CERT}: from label {1} a vehicle comes home for less than its services' prices",
+            label,
+        )),
+        NearVerdict::Bound => Some(Sentence::plain(
+            "{CERT}: the bound is not the sum of the prices, or none is shown",
+        )),
+        NearVerdict::Tight { customer } => Some(Sentence::one(
+            "{CERT}: the route listed for customer {1} doesn't show that its price can't be \
+             higher",
+            customer,
+        )),
+    }
+}
+
+/// What the broken rule of a proof for kinds of vehicles means.
+pub(crate) fn mixed(verdict: MixedVerdict) -> Option<Sentence> {
+    match verdict {
+        MixedVerdict::Accepted => None,
+        MixedVerdict::Start { kind } => Some(Sentence::one(
+            "{CERT}: kind {1} lists no label of a vehicle that starts",
+            kind,
+        )),
+        MixedVerdict::Step { kind, label, node } => Some(Sentence::three(
+            "{CERT}: kind {1}: the step from label {2} to node {3} leads to no listed label",
+            kind,
+            label,
+            node,
+        )),
+        MixedVerdict::End { kind, label } => Some(Sentence::two(
+            "{CERT}: kind {1}: from label {2} a vehicle comes home for less than its customers' \
+             prices",
+            kind,
+            label,
+        )),
+        MixedVerdict::Bound => Some(Sentence::plain("{CERT}: its prices don't show the bound")),
+        MixedVerdict::Root => Some(Sentence::plain(
+            "{CERT}: the root is neither the least cost of a fractional cover, nor a basis that \
+             is too wide, nor none where no fleet serves all",
+        )),
+    }
+}
+
+/// At which stop a walk breaks its rule, where the rule is one of a stop.
+fn stop_of(fault: WalkFault) -> Option<usize> {
+    match fault {
+        WalkFault::Ends => None,
+        WalkFault::Unknown { at }
+        | WalkFault::Again { at }
+        | WalkFault::Empty { at }
+        | WalkFault::NotStation { at }
+        | WalkFault::Full { at }
+        | WalkFault::Late { at } => Some(at),
+    }
+}
+
+/// What the rule of a walk says of the vehicle.
+fn words_of(fault: WalkFault) -> &'static str {
+    match fault {
+        WalkFault::Ends => "doesn't begin and end at the depot, each time without charging there",
+        WalkFault::Unknown { .. } => "comes to a node that isn't in the instance",
+        WalkFault::Again { .. } => "stays where it is",
+        WalkFault::Empty { .. } => {
+            "arrives with less than the reserve, or at home with less than it must"
+        }
+        WalkFault::NotStation { .. } => "charges, or stops over, where no station is",
+        WalkFault::Full { .. } => "charges more than the battery holds",
+        WalkFault::Late { .. } => "takes longer than the limit",
+    }
+}

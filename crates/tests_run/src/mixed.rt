@@ -4,10 +4,16 @@
 use crate::files::{assert_begins, assert_file, assert_run, run_with, words_of};
 use ev_outside::MemoryShelf;
 use evroute_run::Status;
+use instance_reader::ReadFault;
+use job_frame::Cause;
 use plain_words::{broken_json, out_of_reach};
+use plan_writer::Refusal;
 use std::alloc::{AllocError, Global};
 use std::process::Abort;
 use worked_instances::{ONE_STATION, THREE_CUSTOMERS, TWO_CUSTOMERS};
+
+/// The cause where an instance is no JSON text.
+const NO_JSON: Cause = Cause::Refused(Refusal::Instance(ReadFault::NotJson));
 
 /// A plan with both kinds of vehicles.
 const BOTH: &str = "evroute mixed plan 1\nroutes 2\nkind 1 route 0 1 0\nkind 0 route 0 2 0\n";
@@ -265,12 +271,12 @@ fn people_are_told_which_file_and_which_customer_it_is(rt: HostRuntime) {
         ),
     ] {
         let words = words_of(alloc, line).expect(&rt, "memory");
-        let told = out_of_reach(alloc, &mut shelf, words.as_slice(), "infeasible");
+        let told = out_of_reach(alloc, &mut shelf, words.as_slice(), Cause::NoFleet);
         let told = told.expect(&rt, "memory").expect(&rt, "words");
         assert_eq!(rt; told.as_str(), want);
     }
     let words = words_of(alloc, "check-mixed P Q A X").expect(&rt, "memory");
-    let told = broken_json(alloc, &mut shelf, words.as_slice(), "refused instance 2");
+    let told = broken_json(alloc, &mut shelf, words.as_slice(), NO_JSON);
     let told = told.expect(&rt, "memory").expect(&rt, "words");
     assert_eq!(rt; told.as_str(), "X: the JSON text ends too early, at byte 1");
 }

@@ -1,10 +1,33 @@
 //! What people are told beside the output.
 
+use certificate_check::Verdict;
+use certificate_parts::CertText;
+use charge_curve::CurveFault;
 use ev_outside::MemoryShelf;
+use ev_text::TextFault;
+use instance_reader::{Key, Part, Place, ReadFault};
+use job_frame::Cause;
 use job_listeners::{OutOfMemory, most_memory};
+use mixed_model::MixedVerdict;
+use near_proof::NearVerdict;
 use plain_words::{Failed, broken_json, in_words, left_behind, told_behind};
+use plan_check::PlanFault;
+use plan_writer::Refusal;
+use route_plan::{PlanText, RouteFault, WalkFault};
+use route_proof::RouteVerdict;
 use std::alloc::{AllocError, Global};
 use std::process::Abort;
+
+/// The cause where an instance is no JSON text.
+const NO_JSON: Cause = Cause::Refused(Refusal::Instance(ReadFault::NotJson));
+
+/// The cause where a certificate or a proof is of another version.
+const OTHER_VERSION: Cause = Cause::Refused(Refusal::Certificate(CertText::Version));
+
+/// The cause where the text of a plan ends too early.
+const SHORT_PLAN: Cause = Cause::Refused(Refusal::Plan(PlanText::Bad {
+    fault: TextFault::End { at: 7 },
+}));
 
 /// Words, which are parted by blanks.
 fn parted(alloc: Global, words: &str) -> Result<Vec<String>, AllocError> {
@@ -15,180 +38,233 @@ fn parted(alloc: Global, words: &str) -> Result<Vec<String>, AllocError> {
     Ok(list)
 }
 
-/// What is said of a line that was printed for these words, which are parted by blanks.
-fn said(alloc: Global, words: &str, line: &str) -> Result<String, AllocError> {
+/// What is said of a cause for these words, which are parted by blanks.
+fn said(alloc: Global, words: &str, cause: Cause) -> Result<String, AllocError> {
     let list = parted(alloc, words)?;
-    match in_words(alloc, list.as_slice(), line)? {
+    match in_words(alloc, list.as_slice(), cause)? {
         Some(text) => Ok(text),
         None => Ok(String::new(alloc)),
     }
 }
 
-/// This is said of a line that was printed for these words, or the test fails.
-fn assert_said(rt: &impl Abort, alloc: Global, words: &str, line: &str, want: &str) {
-    let found = said(alloc, words, line).expect(rt, "memory");
-    assert_eq!(rt; found.as_str(), want, "at {words}: {line}");
+/// This is said of a cause for these words, or the test fails.
+fn assert_said(rt: &impl Abort, alloc: Global, words: &str, cause: Cause, want: &str) {
+    let found = said(alloc, words, cause).expect(rt, "memory");
+    assert_eq!(rt; found.as_str(), want, "at {words}");
 }
 
 #[test]
 fn refusals_are_told_with_the_file(rt: HostRuntime) {
-    for &(words, line, want) in &[
+    for &(words, cause, want) in &[
         (
             "fixed --limit 5 shop.json 0,1,0",
-            "refused instance 4 max_q",
+            Cause::Refused(Refusal::Instance(ReadFault::Kind {
+                place: Place {
+                    key: Key::MaxQ,
+                    i: None,
+                    part: None,
+                    j: None,
+                },
+            })),
             "shop.json: max_q is of another kind than it must be (evroute convert makes decimals \
              whole)",
         ),
         (
             "fleet a b c",
-            "refused instance 2",
+            NO_JSON,
             "a: no JSON text (in UTF-8, without a byte order mark)",
         ),
         (
             "fixed a 0,1,0",
-            "refused instance 9 f[0] rise 2",
-            "a: f[0] doesn't rise at point 2",
+            Cause::Refused(Refusal::Instance(ReadFault::Level {
+                place: Place {
+                    key: Key::Breaks,
+                    i: Some(3),
+                    part: Some(Part::Charge),
+                    j: Some(1),
+                },
+            })),
+            "a: breakpoints_by_type/3/charge/1 is more than the battery holds",
         ),
         (
             "fixed a 0,1,0",
-            "refused instance 9 f[0] size 1",
-            "a: f[0] has too many points",
+            Cause::Refused(Refusal::Instance(ReadFault::BadCurve {
+                index: 0,
+                fault: CurveFault::Rise { index: 2 },
+            })),
+            "a: breakpoints_by_type/0 doesn't rise at point 2",
         ),
         (
             "fixed a 0,1,0",
-            "refused instance 13 f[0]",
-            "a: f[0] breaks a rule",
+            Cause::Refused(Refusal::Instance(ReadFault::BadCurve {
+                index: 1,
+                fault: CurveFault::Short { last: 9 },
+            })),
+            "a: breakpoints_by_type/1 ends at 9, below a full battery",
         ),
         (
-            "check a b c",
-            "refused plan 4 at 7",
-            "b: ends too early, at byte 7",
+            "fixed a 0,1,0 --limit 5",
+            Cause::Refused(Refusal::Limit(5)),
+            "the limit 5 times the denominator of a is past 10^18",
         ),
+        ("check a b c", SHORT_PLAN, "b: ends too early, at byte 7"),
         (
             "check a b --limit=3 c",
-            "refused certificate 3",
+            OTHER_VERSION,
             "c: a certificate of another version",
         ),
         (
             "check-route a 0,1,0 c",
-            "refused certificate 3",
+            OTHER_VERSION,
             "c: a proof of another version",
         ),
         (
             "check-route a 0,1,0 c",
-            "rejected proof 4 label 0 via 2",
+            Cause::Route(RouteVerdict::Step {
+                label: 0,
+                node: 2,
+                via: true,
+            }),
             "c: the step from label 0 to the station at node 2 leads to no listed label",
         ),
         (
             "check-bound a c",
-            "refused certificate 3",
+            OTHER_VERSION,
             "c: a proof of a bound of another version",
         ),
         (
             "check-bound a c --limit 3",
-            "rejected near 1",
+            Cause::Near(NearVerdict::Start),
             "c: no listed label covers a vehicle that starts",
         ),
         (
             "check-bound a c",
-            "rejected near 2 label 1 node 7",
+            Cause::Near(NearVerdict::Step { label: 1, node: 7 }),
             "c: the step from label 1 to node 7 leads to no listed label",
         ),
         (
             "check-bound a c",
-            "rejected near 3 label 4",
+            Cause::Near(NearVerdict::End { label: 4 }),
             "c: from label 4 a vehicle comes home for less than its services' prices",
         ),
         (
             "check-bound a c",
-            "rejected near 4",
+            Cause::Near(NearVerdict::Bound),
             "c: the bound is not the sum of the prices, or none is shown",
         ),
         (
             "check-bound a c",
-            "rejected near 5 customer 3",
+            Cause::Near(NearVerdict::Tight { customer: 3 }),
             "c: the route listed for customer 3 doesn't show that its price can't be higher",
         ),
-        ("check-bound a c", "bound none", ""),
-        ("bound a c --near 3", "bound 14/1", ""),
+        ("check-bound a c", Cause::Near(NearVerdict::Accepted), ""),
+        ("bound a c --near 3", Cause::NoFleet, ""),
         (
             "fixed a 0,1",
-            "refused route 4",
+            Cause::Refused(Refusal::Route(RouteFault::Ends)),
             "the route 0,1 doesn't begin and end at the depot, node 0",
         ),
-        ("fixed a 0,1,0", "time 43/2", ""),
-        ("fixed a 0,1,0", "infeasible", ""),
+        (
+            "make 0 1 1 a",
+            Cause::Refused(Refusal::Maker),
+            "SEED is from 1 to 2147483646, and there are 1 to 399 customers and stations, at \
+             least one of them a customer",
+        ),
     ] {
-        assert_said(&rt, rt.alloc(), words, line, want);
+        assert_said(&rt, rt.alloc(), words, cause, want);
     }
 }
 
 #[test]
 fn jobs_on_several_kinds_are_told_with_their_files(rt: HostRuntime) {
-    for &(line, want) in &[
+    for &(cause, want) in &[
         (
-            "refused kinds 1",
+            Cause::Kinds(1),
             "b: its nodes, customers or denominator differ from those of the first file",
         ),
         (
-            "refused instance 2",
+            NO_JSON,
             "a or b: no JSON text (in UTF-8, without a byte order mark)",
         ),
-        ("refused plan 4 at 7", "p: ends too early, at byte 7"),
+        (SHORT_PLAN, "p: ends too early, at byte 7"),
         (
-            "refused certificate 3",
+            OTHER_VERSION,
             "q: a proof for kinds of vehicles of another version",
         ),
         (
-            "rejected plan 3 customer 5",
+            Cause::Plan(PlanFault::Unserved { customer: 5 }),
             "p: customer 5 is served by no route",
         ),
         (
-            "rejected mixed 1 kind 0",
+            Cause::Mixed(MixedVerdict::Start { kind: 0 }),
             "q: kind 0 lists no label of a vehicle that starts",
         ),
         (
-            "rejected mixed 2 kind 1 label 0 node 7",
+            Cause::Mixed(MixedVerdict::Step {
+                kind: 1,
+                label: 0,
+                node: 7,
+            }),
             "q: kind 1: the step from label 0 to node 7 leads to no listed label",
         ),
         (
-            "rejected mixed 3 kind 1 label 4",
+            Cause::Mixed(MixedVerdict::End { kind: 1, label: 4 }),
             "q: kind 1: from label 4 a vehicle comes home for less than its customers' prices",
         ),
-        ("rejected mixed 4", "q: its prices don't show the bound"),
         (
-            "rejected mixed 5",
+            Cause::Mixed(MixedVerdict::Bound),
+            "q: its prices don't show the bound",
+        ),
+        (
+            Cause::Mixed(MixedVerdict::Root),
             "q: the root is neither the least cost of a fractional cover, nor a basis that is too \
              wide, nor none where no fleet serves all",
         ),
-        ("accepted", ""),
+        (Cause::Mixed(MixedVerdict::Accepted), ""),
     ] {
-        assert_said(&rt, rt.alloc(), "check-mixed p q a b --limit 3", line, want);
+        assert_said(
+            &rt,
+            rt.alloc(),
+            "check-mixed p q a b --limit 3",
+            cause,
+            want,
+        );
     }
 }
 
 #[test]
 fn broken_rules_are_told_with_the_file(rt: HostRuntime) {
-    for &(line, want) in &[
+    for &(cause, want) in &[
         (
-            "rejected plan 1 route 0 walk 4 at 7",
+            Cause::Plan(PlanFault::Walk {
+                route: 0,
+                fault: WalkFault::Empty { at: 7 },
+            }),
             "b: route 0, at stop 7, both counted from 0, arrives with less than the reserve, or at \
              home with less than it must",
         ),
         (
-            "rejected plan 3 customer 5",
+            Cause::Plan(PlanFault::Walk {
+                route: 2,
+                fault: WalkFault::Ends,
+            }),
+            "b: route 2, counted from 0, doesn't begin and end at the depot, each time without \
+             charging there",
+        ),
+        (
+            Cause::Plan(PlanFault::Unserved { customer: 5 }),
             "b: customer 5 is served by no route",
         ),
         (
-            "rejected certificate 5 leaf 0",
+            Cause::Certificate(Verdict::Bound { leaf: 0 }),
             "c: the section of leaf 0 doesn't show the bound",
         ),
         (
-            "alone 3",
+            Cause::Alone(3),
             "a: no route of its own serves customer 3 within the limit",
         ),
     ] {
-        assert_said(&rt, rt.alloc(), "check a b c", line, want);
+        assert_said(&rt, rt.alloc(), "check a b c", cause, want);
     }
 }
 
@@ -257,8 +333,7 @@ fn a_wrong_word_is_named(rt: HostRuntime) {
             "CUSTOMERS x: no whole number of at most 4294967295",
         ),
     ] {
-        let line = "evroute fixed FILE ROUTE [--limit N] [--charge N]";
-        assert_said(&rt, rt.alloc(), words, line, want);
+        assert_said(&rt, rt.alloc(), words, Cause::Words, want);
     }
 }
 
@@ -267,7 +342,7 @@ fn told_of(alloc: Global, bytes: &[u8]) -> Result<Option<String>, AllocError> {
     let words = parted(alloc, "fleet A P Q")?;
     let mut shelf = MemoryShelf::new(alloc, Vec::new(alloc));
     shelf.set("A", bytes)?;
-    broken_json(alloc, &mut shelf, words.as_slice(), "refused instance 2")
+    broken_json(alloc, &mut shelf, words.as_slice(), NO_JSON)
 }
 
 #[test]
@@ -295,21 +370,21 @@ fn a_text_that_is_no_json_is_told_by_its_byte(rt: HostRuntime) {
 #[test]
 fn what_is_told_behind_a_job_reads_no_device(rt: HostRuntime) {
     let alloc = rt.alloc();
-    for &(words, line, want) in &[
+    for &(words, cause, want) in &[
         (
             "fleet /dev/null b c",
-            "refused instance 2",
+            Some(NO_JSON),
             "/dev/null: no JSON text (in UTF-8, without a byte order mark)",
         ),
         (
             "fleet /proc/self/status b c",
-            "refused instance 2",
+            Some(NO_JSON),
             "/proc/self/status: no JSON text from byte 0 on",
         ),
-        ("fleet a b c", "cost 14/1", ""),
+        ("fleet a b c", None, ""),
     ] {
         let list = parted(alloc, words).expect(&rt, "memory");
-        let told = told_behind(alloc, &rt, list.as_slice(), line).expect(&rt, "memory");
+        let told = told_behind(alloc, &rt, list.as_slice(), cause).expect(&rt, "memory");
         let told = told.unwrap_or(String::new(alloc));
         assert_eq!(rt; told.as_str(), want, "{words}");
     }
@@ -348,10 +423,10 @@ fn what_a_failure_leaves_is_told(rt: HostRuntime) {
         ),
         (
             "fleet a b c",
-            Failed::Output("infeasible"),
+            Failed::Output(Some(Cause::NoFleet)),
             "b is whole, c is whole",
         ),
-        ("fleet a b c", Failed::Output("refused instance 2"), ""),
+        ("fleet a b c", Failed::Output(Some(NO_JSON)), ""),
         ("fleet a b c", Failed::File("a"), ""),
         (
             "improve a b c",
@@ -364,11 +439,7 @@ fn what_a_failure_leaves_is_told(rt: HostRuntime) {
             Failed::File("c"),
             "c may hold a part, and is to be written again",
         ),
-        (
-            "bound --near 2 a c",
-            Failed::Output("bound 14/1"),
-            "c is whole",
-        ),
+        ("bound --near 2 a c", Failed::Output(None), "c is whole"),
         ("bound a c --near 2", Failed::File("a"), ""),
         ("check-bound a c", Failed::File("c"), ""),
         (
@@ -378,21 +449,21 @@ fn what_a_failure_leaves_is_told(rt: HostRuntime) {
         ),
         (
             "mixed --limit 3 p q a b",
-            Failed::Output("cost 13/1"),
+            Failed::Output(None),
             "p is whole, q is whole",
         ),
         ("mixed p q a b", Failed::File("a"), ""),
-        ("mixed p q a b", Failed::Output("refused kinds 1"), ""),
+        ("mixed p q a b", Failed::Output(Some(Cause::Kinds(1))), ""),
         ("check-mixed p q a b", Failed::File("p"), ""),
-        ("make 1 1 0 c", Failed::Output("nodes 2"), "c is whole"),
-        ("improve a b c", Failed::Output("alone 1"), ""),
+        ("make 1 1 0 c", Failed::Output(None), "c is whole"),
+        ("improve a b c", Failed::Output(Some(Cause::Alone(1))), ""),
         (
             "convert a b --time-digits 0 --energy-digits 0",
             Failed::File("b"),
             "b may hold a part, and is to be written again",
         ),
         ("check a b c", Failed::File("b"), ""),
-        ("fixed a 0,1,0", Failed::Output("time 43/2"), ""),
+        ("fixed a 0,1,0", Failed::Output(None), ""),
     ] {
         assert_left(&rt, rt.alloc(), words, failed, want);
     }
