@@ -171,6 +171,7 @@ module _ (g : Network) (tree : SearchTree) (c : Certificate) (held : Option Held
 
     pub is_outcome : All IsKept c.sections → IsOutcome g budget answered
     is_outcome kept = record {
+      network = network;
       fits = fits;
       kept = kept;
       accepted = accepted;

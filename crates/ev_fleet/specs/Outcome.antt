@@ -2,7 +2,7 @@
 use Rattle.std.specs.Prelude.{◌≡◌, ◌↔◌, ℕ, ◌<◌, ◌≤◌, List, Option, Some, None, IfSome, IsTrue, false, length}
 use Rattle.std.specs.List.{All}
 use Rattle.customer_sets.specs.Pairs.{allows_of}
-use Rattle.ev_model.specs.Network.{Network}
+use Rattle.ev_model.specs.Network.{IsNetwork, Network}
 use Rattle.fleet_model.specs.Strong.{AreRisingPrices, IsStrong}
 use Rattle.bound_certificate.specs.Kept.{IsKept}
 use Rattle.bound_certificate.specs.Meaning.{priced_sections}
@@ -41,6 +41,7 @@ pub record IsStoppedWell (budget cost bound : Option ℕ) (o : Outcome) : Type 0
   pub within : IfSome budget (λ most. o.nodes ≤ most)
 
 pub record IsOutcome (g : Network) (budget : Option ℕ) (o : Outcome) : Type 0 where
+  pub network : IsNetwork g
   pub fits : Fits g o.certificate
   -- what its text tells is all of it, so that it is read as it
   pub kept : All IsKept o.certificate.sections

@@ -128,11 +128,11 @@ held_fits g None held = tt
 held_fits g (Some p) held = held.text
 
 -- what is reported stands together
-pub are_outcomes : (g : Network) (budget : Option ℕ) (o : Outcome) (stopped : Option ℕ) (told : RootLine) → IsNetwork g → IsOutcome g budget o
+pub are_outcomes : (g : Network) (budget : Option ℕ) (o : Outcome) (stopped : Option ℕ) (told : RootLine) → IsOutcome g budget o
     → TellsRootOf g o.certificate told → IsLowestLine told → AreOutcomes (record { cost = o.cost; bound = o.certificate.bound; root = told; stopped = stopped })
-are_outcomes g budget o stopped told network is tells low =
+are_outcomes g budget o stopped told is tells low =
     let valid = found_is_valid g budget o is in
-    let bound = true_bound g o.certificate network is.fits is.accepted in
+    let bound = true_bound g o.certificate is.network is.fits is.accepted in
     record {
       bound = is_bound_of_cost g o.plan o.cost o.certificate.bound valid bound;
       beside = stands_beside g o.plan o.cost o.certificate.bound valid bound;
@@ -154,22 +154,22 @@ pub appended : (old new text : List ℕ) → new ≡ old ++ text → old ≡ [] 
 appended old new text is empty = is ∙ ap (λ (xs : List ℕ). xs ++ text) empty
 
 -- a search whose texts were written and whose report was made
-pub is_found : (g : Network) (budget : Option ℕ) (o : Outcome) (plan_bytes cert_bytes text : List ℕ) (ended : Status) → IsNetwork g → IsOutcome g budget o
+pub is_found : (g : Network) (budget : Option ℕ) (o : Outcome) (plan_bytes cert_bytes text : List ℕ) (ended : Status) → IsOutcome g budget o
     → plan_bytes ≡ fleet_plan_text o.plan → cert_bytes ≡ certificate_text g (written g o.certificate)
     → IsReadBack g o.certificate → ended ≡ search_status o.certificate.bound o.stopped
     → ((told : RootLine) × TellsRootOf g o.certificate told × (text ≡ fleet_text g.denominator (outcomes_of g o told)))
     → IsFound g budget plan_bytes cert_bytes ended text
-is_found g budget o plan_bytes cert_bytes text ended network is plan cert reads status_is (told, tells, text_is) = record {
-  is_network = network;
+is_found g budget o plan_bytes cert_bytes text ended is plan cert reads status_is (told, tells, text_is) = record {
+  is_network = is.network;
   outcome = o;
   is = is;
-  true_bound = true_bound g o.certificate network is.fits is.accepted;
+  true_bound = true_bound g o.certificate is.network is.fits is.accepted;
   plan_is = plan;
   cert_is = cert;
   read_back = reads;
   root = told;
   root_is = tells;
   status_is = status_is;
-  tells = status_tells g budget o ended is (true_bound g o.certificate network is.fits is.accepted) status_is;
+  tells = status_tells g budget o ended is (true_bound g o.certificate is.network is.fits is.accepted) status_is;
   text_is = text_is;
 }

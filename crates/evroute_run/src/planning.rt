@@ -38,8 +38,6 @@ pub fn plan_all<W: JobWatcher>(
     ensures { IfOk result (λ p. IsFound inst.now nodes p.plan.items p.cert.items
         p.answer.status p.answer.text.items) }
 {
-    // That the instance's network is one is told by its calls; on it rests that the bound is true.
-    let _nodes = inst.nodes();
     watcher.begin(inst.denominator());
     let outcome = plan_fleet_watched(alloc, inst, nodes, watcher)?;
     know_read_back(inst, &outcome.certificate);
@@ -53,20 +51,18 @@ pub fn plan_all<W: JobWatcher>(
 
 /// The text of a certificate is read as this certificate, where it isn't too long.
 fn know_read_back(inst: &Instance, cert: &Certificate)
+    requires network { IsNetwork inst.now }
     requires few { customer_count inst.now ≤ most_customers }
     requires fits { Fits inst.now cert.now }
     requires kept { All IsKept cert.now.sections }
     ensures { IsReadBack inst.now cert.now }
 {
-    // That the instance's network is one is told by its calls.
-    let _nodes = inst.nodes();
     written_certificates_are_read();
 }
 
 /// The report on a search, and its status.
 fn report(alloc: Global, inst: &Instance, outcome: &Outcome) -> Result<Answer, AllocError>
     requires few { customer_count inst.now ≤ most_customers }
-    requires network { IsNetwork inst.now }
     requires outcome { (budget : Option ℕ) × IsOutcome inst.now budget outcome.now }
     ensures status { IfOk result (λ a. a.status
         ≡ search_status outcome.now.certificate.bound outcome.now.stopped) }

@@ -17,7 +17,7 @@ returns t c =
     ∙ ap (λ (held : Option FleetPlan). fleet_plan_text held) c.as_ref.ensures.value in
     let cert = appended c.new-cert.result.items c.push_certificate.new.out.items (certificate_text g (written g o.certificate)) c.in_ok-push_certificate.ensures.ok c.new-cert.ensures.items in
     is_found g c.args.nodes o c.push_fleet_plan.new.out.items c.push_certificate.new.out.items c.in_ok-answer.answer.text.items c.in_ok-answer.answer.status
-    c.nodes-nodes.ensures.network c.in_ok-outcome.ensures plan cert c.know_read_back.ensures c.in_ok-answer.ensures.status c.in_ok-answer.ensures.text
+    c.in_ok-outcome.ensures plan cert c.know_read_back.ensures c.in_ok-answer.ensures.status c.in_ok-answer.ensures.text
 
 pub know_read_back-requires-clause-fits : goal.know_read_back-requires-clause-fits
 know_read_back-requires-clause-fits t c = c.in_ok-outcome.ensures.fits
@@ -25,8 +25,8 @@ know_read_back-requires-clause-fits t c = c.in_ok-outcome.ensures.fits
 pub know_read_back-requires-clause-kept : goal.know_read_back-requires-clause-kept
 know_read_back-requires-clause-kept t c = c.in_ok-outcome.ensures.kept
 
-pub report-requires-clause-network : goal.report-requires-clause-network
-report-requires-clause-network = grind (arith, common_steps)
+pub know_read_back-requires-clause-network : goal.know_read_back-requires-clause-network
+know_read_back-requires-clause-network t c = c.in_ok-outcome.ensures.network
 
 pub push_fleet_plan-requires : goal.push_fleet_plan-requires
 push_fleet_plan-requires t c =
