@@ -14,7 +14,7 @@ use Rattle.piece_fn.specs.PieceFn.{level_times}
 use Rattle.label_pool.specs.Labels.{IsNext, NoneWaits, is_waiting}
 use Rattle.label_pool.specs.declared.label.Label.{Label}
 use Rattle.label_pool.proofs.Elements.{appended_before, appended_here, element_at, set_here, set_there}
-use Rattle.route_steps.specs.Homes.{NoWayHome}
+use Rattle.route_steps.specs.Homes.{IsBelowHomes, NoWayHome}
 use Rattle.frvcp_labels.specs.Charged.{OnlyAdds}
 use Rattle.frvcp_labels.specs.Search.{AreReached, AreSound, HasOrigin, IsGrown, IsSound, IsSpread, Reached, Spreads, SpreadsTo, settled_count}
 use Rattle.route_steps.specs.Steps.{AreSteps, CoverStops, Holds, IsSoundState, IsSoundStep, IsStep, MayGo, state_at}
@@ -252,12 +252,29 @@ module _ (t : Journey) (labels : List (Label State)) (is : IsSpread t labels (be
         | inr equal ↦ omega (arith, equal.0, other)
       ])
 
-  -- no way home is within the limit where the label that is next is past it
-  pub late_home : (limit i key : ℕ) (label : Label State) → AreSound t labels → IsNext labels i label → key ≡ label.key → limit ≡ scaled_limit t.network → limit < key → NoWayHome t
-  late_home limit i key label sound next is_key is_limit late stops rest =
+  -- nor is any below a bar where none waits
+  pub none_below : (bar : ℕ) → NoneWaits labels → IsBelowHomes t bar
+  none_below bar none stops rest = absurd (none_home none stops rest)
+
+  -- or where the label that is next is past the limit
+  pub late_home : (limit bar i key : ℕ) (label : Label State) → AreSound t labels → IsNext labels i label → key ≡ label.key → limit ≡ scaled_limit t.network → limit < key → IsBelowHomes t bar
+  late_home limit bar i key label sound next is_key is_limit late stops rest =
       let least = least_home i label sound next stops rest in
       let in_time : 0 + time_from t.network 1 0 t.start stops ≤ scaled_limit t.network = rest.in_time in
-      omega (arith, least, in_time, is_key, is_limit, late)
+      absurd (omega (arith, least, in_time, is_key, is_limit, late))
+
+  -- or not below the bar
+  pub bar_home : (bar i key : ℕ) (label : Label State) → AreSound t labels → IsNext labels i label → key ≡ label.key → bar ≤ key → IsBelowHomes t bar
+  bar_home bar i key label sound next is_key at_bar stops rest =
+      let least = least_home i label sound next stops rest in
+      omega (arith, least, is_key, at_bar)
+
+-- of two labels that are next the keys are the same
+pub next_key : (labels : List (Label State)) (i j : ℕ) (one other : Label State) → IsNext labels i one → IsNext labels j other → other.key ≤ one.key
+next_key labels i j one other first second = elim (second.least i one first.here first.waits) [
+  | inl less ↦ omega (arith, less)
+  | inr same ↦ omega (arith, same.0)
+]
 
 -- the start
 pub start_sound : (t : Journey) (value : List (ℕ × ℕ)) → IsTrip t.network t.route → t.start ≤ t.network.capacity → value ≡ (t.start, 0) ∷ [] → IsSoundState t.network t.route (record { passed = 0; node = 0; charged = false; value = value })

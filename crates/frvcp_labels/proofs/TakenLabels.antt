@@ -19,6 +19,11 @@ use Rattle.frvcp_labels.proofs.SearchTurns.{count_most, falls, least_home, now_c
 pub is_taken : (old now : Labels State) (o : Option ℕ) (i : ℕ) → o ≡ Some i → IfSome o (λ n. IsTaken old now n) → IsTaken old now i
 is_taken old now o i is told = subst (λ (x : Option ℕ). IfSome x (λ n. IsTaken old now n)) is told
 
+-- a key that is below a bar
+pub is_below : (old : Labels State) (bar : ℕ) (o : Option ℕ) (i : ℕ) → o ≡ Some i → IfSome o (λ n. (label : Label State) → slice_get old.labels n ≡ Some label → label.key < bar)
+    → (label : Label State) → slice_get old.labels i ≡ Some label → label.key < bar
+is_below old bar o i is told = subst (λ (x : Option ℕ). IfSome x (λ n. (label : Label State) → slice_get old.labels n ≡ Some label → label.key < bar)) is told
+
 module _ (t : Journey) (old now : Labels State) (i : ℕ) (taken : IsTaken old now i) where
   pub labels_are : now.labels ≡ settled_now t old.labels i taken.label taken.next.here taken.next.waits
   labels_are = ap (λ (p : Labels State). p.labels) taken.is
@@ -74,11 +79,12 @@ module _ (t : Journey) (old now : Labels State) (i : ℕ) (taken : IsTaken old n
       (grown.count ∙ ap settled_count labels_are ∙ now_count t old.labels i taken.label taken.next.here taken.next.waits) (omega (arith, most, count)) small
 
   -- at the end no way home takes less time
-  pub taken_home : (state : State) (end : ℕ) → IsSoundPool t old → IsSpread t old.labels (begin t.start) → end ≡ length t.route - 1 → state.passed ≡ end → ((label : Label State) → slice_get now.labels i ≡ Some label → state ≡ label.value)
-      → IsHome t now.labels i
-  taken_home state end sound spread is at told = record {
+  pub taken_home : (state : State) (end bar : ℕ) → IsSoundPool t old → IsSpread t old.labels (begin t.start) → end ≡ length t.route - 1 → state.passed ≡ end → ((label : Label State) → slice_get now.labels i ≡ Some label → state ≡ label.value)
+      → ((label : Label State) → slice_get old.labels i ≡ Some label → label.key < bar) → IsHome t now.labels bar i
+  taken_home state end bar sound spread is at told below = record {
     label = record taken.label { settled = true };
     here = here_now;
     home = ap (λ (s : State). s.passed) (sym (told (record taken.label { settled = true }) here_now)) ∙ at ∙ is;
+    below = below taken.label taken.next.here;
     least = λ stops rest. least_home t old.labels spread i taken.label sound.labels taken.next stops rest;
   }

@@ -28,7 +28,8 @@ impl<'a> Trip<'a> {
     /// limit.
     pub(crate) fn bar(&self, pool: &Pool<State>, home: Option<usize>) -> u64
         requires pool { IsSoundPool self.now pool.now }
-        requires home { IsHomeOrNone self.now pool.now.labels home }
+        requires home { IsHomeOrNone self.now pool.now.labels
+            (scaled_limit self.now.network + 1) home }
         ensures { MatchOption home (result ≡ scaled_limit self.now.network + 1)
             (λ i. (label : Label State) → slice_get pool.now.labels i ≡ Some label →
             result ≡ label.key) }

@@ -6,7 +6,7 @@ ghost use Rattle.ev_model.specs.Network.{node_count};
 ghost use Rattle.dominance.specs.LevelTimes.{IsValue, time_at};
 ghost use Rattle.piece_fn.specs.PieceFn.{level_times};
 ghost use Rattle.frvcp_labels.specs.Answers.{IsHomeOrNone, IsTaken};
-ghost use Rattle.route_steps.specs.Homes.{NoWayHome};
+ghost use Rattle.route_steps.specs.Homes.{IsBelowHomes};
 ghost use Rattle.frvcp_labels.specs.Charged.{AreCharged, OnlyAdds};
 ghost use Rattle.frvcp_labels.specs.Full.{AreFull};
 ghost use Rattle.frvcp_labels.specs.Search.{AreReached, HasOrigin, IsBelowWays, IsGrown, IsSoundPool, IsSpread, Reached, Spreads, SpreadsTo, SpreadsToStations};
@@ -49,12 +49,13 @@ impl<'a> Trip<'a> {
     }
 
     /// The first label at the route's end that is taken, `None` where none is left that promises a
-    /// way home within the limit.
+    /// way home within the limit, below the bar.
     pub(crate) fn first_home(
         &self,
         alloc: Global,
         pool: &mut Pool<State>,
         full: &mut [Option<u64>],
+        bar: u128,
     ) -> Result<Option<usize>, AllocError>
         requires pool { IsSoundPool self.now pool.old }
         requires full { AreFull self.now pool.old.labels full.old }
@@ -62,9 +63,9 @@ impl<'a> Trip<'a> {
         requires spread { IsSpread self.now pool.old.labels (begin self.now.start) }
         ensures pool { OnOk result (IsSoundPool self.now pool.new) }
         ensures full { OnOk result (AreFull self.now pool.new.labels full.new) }
-        ensures home { IfOk result (IsHomeOrNone self.now pool.new.labels) }
+        ensures home { IfOk result (IsHomeOrNone self.now pool.new.labels bar) }
     {
-        while let Some(i) = self.take_in_time(pool) {
+        while let Some(i) = self.take_in_time(pool, bar) {
             if pool.value(i).passed == self.end() {
                 return Ok(Some(i));
             }
@@ -73,12 +74,15 @@ impl<'a> Trip<'a> {
         Ok(None)
     }
 
-    /// Takes the next label, `None` where none is left or no way home is within the limit.
-    fn take_in_time(&self, pool: &mut Pool<State>) -> Option<usize>
+    /// Takes the next label, `None` where none is left or no way home is within the limit and below
+    /// the bar.
+    fn take_in_time(&self, pool: &mut Pool<State>, bar: u128) -> Option<usize>
         requires pool { IsSoundPool self.now pool.old }
         requires spread { IsSpread self.now pool.old.labels (begin self.now.start) }
-        ensures none { IsNone result → NoWayHome self.now }
+        ensures none { IsNone result → IsBelowHomes self.now bar }
         ensures next { IfSome result (λ i. IsTaken pool.old pool.new i) }
+        ensures below { IfSome result (λ i. (label : Label State) →
+            slice_get pool.old.labels i ≡ Some label → label.key < bar) }
         ensures unchanged { IsNone result → pool.new ≡ pool.old }
         ensures small { IfSome result (λ _. length pool.new.labels < 2 ^ 63) }
     {
@@ -86,6 +90,9 @@ impl<'a> Trip<'a> {
             return None;
         };
         if self.scaled_limit() < key {
+            return None;
+        }
+        if bar <= u128::from(key) {
             return None;
         }
         pool.take_next()

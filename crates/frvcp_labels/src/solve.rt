@@ -1,11 +1,11 @@
 //! The answer for one route.
 
-ghost use Rattle.std.specs.Prelude.{◌≤◌, IfOk, MatchOption};
+ghost use Rattle.std.specs.Prelude.{◌≡◌, ◌+◌, ◌≤◌, IfOk, MatchOption};
 ghost use Rattle.std.specs.List.{All};
-ghost use Rattle.ev_model.specs.Network.{IsNetwork};
+ghost use Rattle.ev_model.specs.Network.{IsNetwork, scaled_limit};
 ghost use Rattle.ev_model.specs.Fastest.{HasNoPlan, IsFastest};
 ghost use Rattle.ev_model.specs.Route.{IsRoute};
-ghost use Rattle.frvcp_labels.specs.Answers.{IsHomeOrNone};
+ghost use Rattle.frvcp_labels.specs.Answers.{HasNoneBelow, IsFastestBelow, IsHomeOrNone};
 ghost use Rattle.frvcp_labels.specs.Listing.{IsStateOnWay};
 ghost use Rattle.frvcp_labels.specs.Search.{IsSoundPool};
 
@@ -45,6 +45,34 @@ pub fn solve_route(
         rest: &rest,
     };
     trip.fastest(alloc)
+}
+
+/// A fastest plan of the route, as `solve_route` finds it, where it takes less than `bar`, a scaled
+/// time. `Ok(None)` comes exactly where no feasible plan of the route does, in any fraction of a
+/// unit; the search ends as soon as that is known.
+pub fn solve_below(
+    alloc: Global,
+    inst: &Instance,
+    route: &[usize],
+    start: u64,
+    bar: u128,
+) -> Result<Option<RoutePlan>, AllocError>
+    requires route { IsRoute inst.now route.now }
+    requires start { start ≤ inst.now.capacity }
+    ensures { IfOk result (λ answer. MatchOption answer
+        (HasNoneBelow inst.now route.now start bar)
+        (λ plan. IsFastestBelow inst.now route.now start bar plan.stops)) }
+{
+    let stations = station_nodes(alloc, inst)?;
+    let rest = Rest::new(alloc, inst, route, &stations)?;
+    let trip = Trip {
+        inst,
+        route,
+        stations: &stations,
+        start,
+        rest: &rest,
+    };
+    trip.fastest_below(alloc, bar)
 }
 
 /// A fastest plan of a route, or none, and states by which a judge may see that none is faster.
@@ -94,8 +122,18 @@ impl<'a> Trip<'a> {
             (HasNoPlan self.now.network self.now.route self.now.start)
             (λ plan. IsFastest self.now.network self.now.route self.now.start plan.stops)) }
     {
-        let (pool, home) = self.searched(alloc)?;
-        self.plan_to(alloc, &pool, home)
+        self.fastest_below(alloc, self.past_limit())
+    }
+
+    /// What `solve_below` answers.
+    fn fastest_below(&self, alloc: Global, bar: u128) -> Result<Option<RoutePlan>, AllocError>
+        ensures { IfOk result (λ answer. MatchOption answer
+            (HasNoneBelow self.now.network self.now.route self.now.start bar)
+            (λ plan. IsFastestBelow self.now.network self.now.route self.now.start bar
+            plan.stops)) }
+    {
+        let (pool, home) = self.searched(alloc, bar)?;
+        self.plan_to(alloc, &pool, home, bar)
     }
 
     /// What `solve_with_labels` answers.
@@ -105,19 +143,29 @@ impl<'a> Trip<'a> {
             (λ plan. IsFastest self.now.network self.now.route self.now.start plan.stops)) }
         ensures states { IfOk result (λ s. All (IsStateOnWay self.now) s.states.items) }
     {
-        let (pool, home) = self.searched(alloc)?;
-        let plan = self.plan_to(alloc, &pool, home)?;
+        let past = self.past_limit();
+        let (pool, home) = self.searched(alloc, past)?;
+        let plan = self.plan_to(alloc, &pool, home, past)?;
         let states = self.states_before(alloc, &pool, self.bar(&pool, home))?;
         Ok(Solved { plan, states })
     }
 
-    /// The labels of a whole search, and the one at the route's end that it has taken.
-    fn searched(&self, alloc: Global) -> Result<(Pool<State>, Option<usize>), AllocError>
+    /// The least time past the limit: a bar that each way home is below.
+    fn past_limit(&self) -> u128
+        ensures { result ≡ scaled_limit self.now.network + 1 }
+    {
+        u128::from(self.scaled_limit()) + 1
+    }
+
+    /// The labels of a search, and the one at the route's end that it has taken, none where no way
+    /// home is below the bar.
+    fn searched(&self, alloc: Global, bar: u128) -> Result<(Pool<State>, Option<usize>), AllocError>
         ensures pool { IfOk result (λ found. IsSoundPool self.now found.0) }
-        ensures home { IfOk result (λ found. IsHomeOrNone self.now found.0.labels found.1) }
+        ensures home { IfOk result (λ found.
+            IsHomeOrNone self.now found.0.labels bar found.1) }
     {
         let (mut pool, mut full) = self.begin(alloc)?;
-        let home = self.first_home(alloc, &mut pool, full.as_mut_slice())?;
+        let home = self.first_home(alloc, &mut pool, full.as_mut_slice(), bar)?;
         Ok((pool, home))
     }
 
@@ -136,18 +184,21 @@ impl<'a> Trip<'a> {
         Ok(states)
     }
 
-    /// The plan of a label at the route's end that a search has taken, none where there is none.
+    /// The plan of a label at the route's end that a search below a bar has taken, none where there
+    /// is none.
     fn plan_to(
         &self,
         alloc: Global,
         pool: &Pool<State>,
         home: Option<usize>,
+        bar: u128,
     ) -> Result<Option<RoutePlan>, AllocError>
         requires pool { IsSoundPool self.now pool.now }
-        requires home { IsHomeOrNone self.now pool.now.labels home }
+        requires home { IsHomeOrNone self.now pool.now.labels bar home }
         ensures { IfOk result (λ answer. MatchOption answer
-            (HasNoPlan self.now.network self.now.route self.now.start)
-            (λ plan. IsFastest self.now.network self.now.route self.now.start plan.stops)) }
+            (HasNoneBelow self.now.network self.now.route self.now.start bar)
+            (λ plan. IsFastestBelow self.now.network self.now.route self.now.start bar
+            plan.stops)) }
     {
         let Some(i) = home else {
             return Ok(None);

@@ -5,6 +5,8 @@
 #![tactic(auto)]
 
 #[cfg(test)]
+mod below;
+#[cfg(test)]
 mod both;
 #[cfg(test)]
 mod drawn;

@@ -4,7 +4,7 @@ use Rattle.label_pool.specs.Labels.{Labels}
 use Rattle.frvcp_labels.specs.Full.{AreFull}
 use Rattle.frvcp_labels.specs.Search.{IsSoundPool}
 use Rattle.route_steps.specs.declared.state.State.{State}
-use Rattle.frvcp_labels.proofs.TakenLabels.{is_taken, taken_charged, taken_falls, taken_full, taken_home, taken_inside, taken_on_way, taken_sound, taken_turn}
+use Rattle.frvcp_labels.proofs.TakenLabels.{is_below, is_taken, taken_charged, taken_falls, taken_full, taken_home, taken_inside, taken_on_way, taken_sound, taken_turn}
 use Rattle.frvcp_labels.proofs.trip.Trip.first_home.Goals as goal
 
 pub value-requires : goal.value-requires
@@ -15,7 +15,8 @@ returns-then-value-end-clause-pool c = taken_sound c.args.self.now c.loop-i.pool
 
 pub returns-then-value-end-clause-home : goal.returns-then-value-end-clause-home
 returns-then-value-end-clause-home c =
-    taken_home c.args.self.now c.loop-i.pool c.take_in_time.new.pool c.in-Some.i (is_taken c.loop-i.pool c.take_in_time.new.pool c.take_in_time.result c.in-Some.i c.in-Some.is c.take_in_time.ensures.next) c.value.result.now c.end.result c.loop-i.invariant.pool c.loop-i.invariant.spread c.end.ensures.value c.if-value-end.true c.value.ensures
+    taken_home c.args.self.now c.loop-i.pool c.take_in_time.new.pool c.in-Some.i (is_taken c.loop-i.pool c.take_in_time.new.pool c.take_in_time.result c.in-Some.i c.in-Some.is c.take_in_time.ensures.next) c.value.result.now c.end.result c.args.bar c.loop-i.invariant.pool c.loop-i.invariant.spread c.end.ensures.value c.if-value-end.true c.value.ensures
+    (is_below c.loop-i.pool c.args.bar c.take_in_time.result c.in-Some.i c.in-Some.is c.take_in_time.ensures.below)
 
 pub spread-requires-clause-pool : goal.spread-requires-clause-pool
 spread-requires-clause-pool c = taken_sound c.args.self.now c.loop-i.pool c.take_in_time.new.pool c.in-Some.i (is_taken c.loop-i.pool c.take_in_time.new.pool c.take_in_time.result c.in-Some.i c.in-Some.is c.take_in_time.ensures.next) c.loop-i.invariant.pool
