@@ -11,6 +11,7 @@ use Rattle.ev_model.specs.Route.{FollowsRoute, IsRoute, Moves}
 use Rattle.ev_model.specs.Time.{time_of}
 use Rattle.ev_model.specs.declared.Stop.{Stop}
 use Rattle.plan_check.specs.FleetRules.{IsCustomer}
+use Rattle.frvcp_labels.specs.Answers.{HasNoneBelow}
 use Rattle.route_improve.specs.Orders.{IsLeastTime, route_over}
 use Rattle.route_improve.specs.Pricing.{HasNoTime}
 use Rattle.route_improve.specs.Routes.{IsOrder}
@@ -82,3 +83,8 @@ past_limit g (x ∷ xs) bound other some below past time least = absurd (omega (
 pub no_faster : (g : Network) (order : List ℕ) (time : ℕ) (stops : List Stop) → IsLeastTime g order time → IsFeasible g 1 g.capacity stops → FollowsRoute (route_over order) stops → time ≤ time_of g 1 g.capacity stops
 no_faster g [] time stops least feasible follows = omega (arith, least)
 no_faster g (x ∷ xs) time stops least feasible follows = omega (arith, least.2, least.1.fastest 1 stops feasible follows)
+
+-- where no plan is below a bar, the least time isn't
+pub none_below : (g : Network) (order : List ℕ) (bar : ℕ) → HasNoneBelow g (route_over order) g.capacity bar → order ≢ [] → (time : ℕ) → IsLeastTime g order time → bar ≤ time
+none_below g [] bar none some time least = absurd (some refl)
+none_below g (x ∷ xs) bar none some time least = let late = none 1 least.0 least.1.feasible least.1.follows in omega (arith, late, least.2)

@@ -5,6 +5,8 @@ use Rattle.std.specs.List.{All}
 use Rattle.ev_model.specs.Fastest.{HasNoPlan}
 use Rattle.ev_model.specs.Network.{Network}
 use Rattle.route_improve.specs.Orders.{IsLeastTime, route_over}
+use Rattle.route_improve.specs.declared.pricer.Known.{Known}
+use Rattle.route_improve.specs.declared.pricer.Known.TheVariants.{Time, NotBelow}
 
 -- no plan, from full, serves the customers in this order, of whom there are some
 pub record HasNoTime (g : Network) (order : List ℕ) : Type 0 where
@@ -26,6 +28,21 @@ abbrev pub IsTimeOf : Network → List ℕ → Option ℕ → Type 0
 IsTimeOf g order None = HasNoTime g order
 IsTimeOf g order (Some time) = IsLeastTime g order time
 
--- orders, each with its least time, or with that it has none
-abbrev pub AreKnown : Network → List (Vec ℕ Global × Option ℕ) → Type 0
-AreKnown g entries = All (λ e. IsTimeOf g e.0.items e.1) entries
+-- the least time of an order, which is below a bar, or that it has none that is
+abbrev pub IsTimeBelow : Network → List ℕ → ℕ → Option ℕ → Type 0
+IsTimeBelow g order bar None = (time : ℕ) → IsLeastTime g order time → bar ≤ time
+IsTimeBelow g order bar (Some time) = IsLeastTime g order time × (time < bar)
+
+-- what is known of the least time of an order
+abbrev pub IsKnownOf : Network → List ℕ → Known → Type 0
+IsKnownOf g order (Time time) = IsLeastTime g order time
+IsKnownOf g order (NotBelow least) = (time : ℕ) → IsLeastTime g order time → least ≤ time
+
+-- it tells the least time where that is below a bar, or that it isn't
+abbrev pub Tells : ℕ → Known → Type 0
+Tells bar (Time time) = Unit {0}
+Tells bar (NotBelow least) = bar ≤ least
+
+-- orders, each with what is known of it
+abbrev pub AreKnown : Network → List (Vec ℕ Global × Known) → Type 0
+AreKnown g entries = All (λ e. IsKnownOf g e.0.items e.1) entries

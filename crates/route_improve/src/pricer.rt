@@ -1,14 +1,14 @@
 //! What orders cost: the least times of routes.
 
-ghost use Rattle.std.specs.Prelude.{◌≡◌, ◌+◌, ◌<◌, ◌≤◌, ◌≢◌, [], ℕ, IfOk, IfSome, MatchOption};
+ghost use Rattle.std.specs.Prelude.{◌≡◌, ◌+◌, ◌<◌, ◌≤◌, ◌≢◌, List, [], ℕ, IfOk, IfSome, IsTrue, MatchOption};
 ghost use Rattle.ev_model.specs.Fastest.{HasNoPlan, IsFastest};
-ghost use Rattle.ev_model.specs.Network.{scaled_limit};
+ghost use Rattle.ev_model.specs.Network.{Network, scaled_limit};
 ghost use Rattle.route_improve.specs.Orders.{IsLeastTime, route_over};
-ghost use Rattle.route_improve.specs.Pricing.{AreKnown, AreLess, AreNoLess, IsTimeOf};
+ghost use Rattle.route_improve.specs.Pricing.{AreKnown, AreLess, AreNoLess, IsKnownOf, IsTimeBelow, IsTimeOf, Tells};
 ghost use Rattle.route_improve.specs.Routes.{IsOrder};
 
 use crate::moves::copy_of;
-use frvcp_labels::{RouteBounds, solve_route};
+use frvcp_labels::{RouteBounds, solve_below, solve_route};
 use indexmap::IndexMap;
 use instance_reader::Instance;
 use route_plan::RoutePlan;
@@ -20,8 +20,8 @@ use std::marker::Model;
 pub(crate) struct Pricer<'a> {
     inst: &'a Instance,
     bounds: RouteBounds<'a>,
-    /// What was charged, by the order of the customers: the least time, or that there is none.
-    known: IndexMap<Vec<usize>, Option<u64>>,
+    /// What was found out, by the order of the customers.
+    known: IndexMap<Vec<usize>, Known>,
     /// How much work was done: a customer looked at is one unit, and charging an order of n
     /// customers takes n squared. No time that is told rests on it.
     work: u64,
@@ -61,7 +61,7 @@ impl<'a> Pricer<'a> {
     }
 
     /// The least times of two orders; `None` exactly where one has none, or where together they are
-    /// no less than `than`.
+    /// no less than `than`. Each is charged only as far as it may matter.
     pub(crate) fn least_times(
         &mut self,
         alloc: Global,
@@ -78,21 +78,17 @@ impl<'a> Pricer<'a> {
     {
         let customers = (first.len() as u64).saturating_add(second.len() as u64);
         self.work = self.work.saturating_add(customers);
-        if self.lower(first).saturating_add(self.lower(second)) >= than {
+        let second_lower = self.lower(second);
+        if self.lower(first).saturating_add(second_lower) >= than {
             return Ok(None);
         }
-        let Some(first_time) = self.least_time(alloc, first)? else {
+        let Some(first_time) = self.time_below(alloc, first, than - second_lower)? else {
             return Ok(None);
         };
-        if u128::from(first_time).saturating_add(self.lower(second)) >= than {
-            return Ok(None);
-        }
-        let Some(second_time) = self.least_time(alloc, second)? else {
+        let left = than - u128::from(first_time);
+        let Some(second_time) = self.time_below(alloc, second, left)? else {
             return Ok(None);
         };
-        if u128::from(first_time) + u128::from(second_time) >= than {
-            return Ok(None);
-        }
         Ok(Some((first_time, second_time)))
     }
 
@@ -112,8 +108,7 @@ impl<'a> Pricer<'a> {
         bound
     }
 
-    /// The least time of an order; `None` exactly where it has none. What was charged is
-    /// remembered.
+    /// The least time of an order; `None` exactly where it has none. It is charged, and remembered.
     pub(crate) fn least_time(
         &mut self,
         alloc: Global,
@@ -126,16 +121,108 @@ impl<'a> Pricer<'a> {
         if order.is_empty() {
             return Ok(Some(0));
         }
-        if let Some(time) = recall(self.inst, &self.known, order) {
-            return Ok(time);
+        self.count_charging(order);
+        let time = charge(alloc, self.inst, order)?;
+        if let Some(time) = time {
+            remember(alloc, self.inst, &mut self.known, order, Known::Time(time))?;
         }
+        Ok(time)
+    }
+
+    /// The least time of an order, where that is less than `bar`; `None` exactly where it has none
+    /// that is.
+    ///
+    /// What is found out is remembered. An order is charged below a bar once, and where that didn't
+    /// tell enough, a second time below any bar.
+    fn time_below(
+        &mut self,
+        alloc: Global,
+        order: &[usize],
+        bar: u128,
+    ) -> Result<Option<u64>, AllocError>
+        requires { IsOrder self.old order.now }
+        ensures network { self.new ≡ self.old }
+        ensures time { IfOk result (IsTimeBelow self.old order.now bar) }
+    {
+        if order.is_empty() {
+            return Ok(Known::Time(0).below(bar));
+        }
+        let told = self.told_below(alloc, order, bar)?;
+        Ok(told.below(bar))
+    }
+
+    /// What is known of an order, where that tells its least time below a bar; else it is charged.
+    fn told_below(&mut self, alloc: Global, order: &[usize], bar: u128) -> Result<Known, AllocError>
+        requires order { IsOrder self.old order.now }
+        requires some { order.now ≢ [] }
+        ensures network { self.new ≡ self.old }
+        ensures known { IfOk result (IsKnownOf self.old order.now) }
+        ensures tells { IfOk result (Tells bar) }
+    {
+        match recall(self.inst, &self.known, order) {
+            Some(told) if told.tells(bar) => Ok(told),
+            Some(_) => self.learn(alloc, order, u128::MAX),
+            None => {
+                self.count_charging(order);
+                self.learn(alloc, order, bar)
+            }
+        }
+    }
+
+    /// Charges an order below a bar, and remembers what that tells.
+    fn learn(&mut self, alloc: Global, order: &[usize], bar: u128) -> Result<Known, AllocError>
+        requires order { IsOrder self.old order.now }
+        requires some { order.now ≢ [] }
+        ensures network { self.new ≡ self.old }
+        ensures known { IfOk result (IsKnownOf self.old order.now) }
+        ensures tells { IfOk result (λ told. (least : ℕ) → least ≤ bar → Tells least told) }
+    {
+        let told = charge_below(alloc, self.inst, order, bar)?;
+        remember(alloc, self.inst, &mut self.known, order, told)?;
+        Ok(told)
+    }
+
+    /// Counts the work of charging an order.
+    fn count_charging(&mut self, order: &[usize])
+        ensures { self.new ≡ self.old }
+    {
         let customers = order.len() as u64;
         self.work = self
             .work
             .saturating_add(customers.saturating_mul(customers));
-        let time = charge(alloc, self.inst, order)?;
-        remember(alloc, self.inst, &mut self.known, order, time)?;
-        Ok(time)
+    }
+}
+
+/// What is known of the least time of an order.
+#[derive(Clone, Copy)]
+pub(crate) enum Known {
+    /// The least time.
+    Time(u64),
+    /// It has none below this time.
+    NotBelow(u128),
+}
+
+impl Known {
+    /// Whether it tells the least time below a bar, or that there is none.
+    fn tells(self, bar: u128) -> bool
+        ensures { IsTrue result → Tells bar self }
+    {
+        match self {
+            Known::Time(_) => true,
+            Known::NotBelow(least) => bar <= least,
+        }
+    }
+
+    /// The least time, where it is known and below a bar.
+    fn below(self, bar: u128) -> Option<u64>
+        requires { Tells bar self }
+        ensures { (g : Network) (order : List ℕ) → IsKnownOf g order self →
+            IsTimeBelow g order bar result }
+    {
+        match self {
+            Known::Time(time) if u128::from(time) < bar => Some(time),
+            _ => None,
+        }
     }
 }
 
@@ -143,34 +230,30 @@ impl<'a> Pricer<'a> {
 const MOST_KNOWN: usize = 1 << 16;
 
 /// What is known of an order.
-fn recall(
-    inst: &Instance,
-    known: &IndexMap<Vec<usize>, Option<u64>>,
-    order: &[usize],
-) -> Option<Option<u64>>
+fn recall(inst: &Instance, known: &IndexMap<Vec<usize>, Known>, order: &[usize]) -> Option<Known>
     requires { AreKnown inst.now known.now.entries }
-    ensures { IfSome result (IsTimeOf inst.now order.now) }
+    ensures { IfSome result (IsKnownOf inst.now order.now) }
 {
     match known.get(order) {
-        Some(time) => Some(*time),
+        Some(told) => Some(*told),
         None => None,
     }
 }
 
-/// Remembers the least time of an order, or that it has none, while there is room.
+/// Remembers what is known of an order, while there is room.
 fn remember(
     alloc: Global,
     inst: &Instance,
-    known: &mut IndexMap<Vec<usize>, Option<u64>>,
+    known: &mut IndexMap<Vec<usize>, Known>,
     order: &[usize],
-    time: Option<u64>,
+    told: Known,
 ) -> Result<(), AllocError>
     requires known { AreKnown inst.now known.old.entries }
-    requires time { IsTimeOf inst.now order.now time }
+    requires told { IsKnownOf inst.now order.now told }
     ensures { AreKnown inst.now known.new.entries }
 {
     if known.len() < MOST_KNOWN {
-        known.insert(copy_of(alloc, order)?, time)?;
+        known.insert(copy_of(alloc, order)?, told)?;
     }
     Ok(())
 }
@@ -184,6 +267,26 @@ fn charge(alloc: Global, inst: &Instance, order: &[usize]) -> Result<Option<u64>
     match fastest_plan(alloc, inst, order)? {
         Some(plan) => Ok(Some(plan.full_time(inst))),
         None => Ok(None),
+    }
+}
+
+/// What a search below a bar tells of an order.
+fn charge_below(
+    alloc: Global,
+    inst: &Instance,
+    order: &[usize],
+    bar: u128,
+) -> Result<Known, AllocError>
+    requires order { IsOrder inst.now order.now }
+    requires some { order.now ≢ [] }
+    ensures known { IfOk result (IsKnownOf inst.now order.now) }
+    ensures tells { IfOk result (λ told. (least : ℕ) → least ≤ bar → Tells least told) }
+{
+    let _nodes = inst.nodes();
+    let route = route_over(alloc, order)?;
+    match solve_below(alloc, inst, &route, inst.max_q(), bar)? {
+        Some(plan) => Ok(Known::Time(plan.full_time(inst))),
+        None => Ok(Known::NotBelow(bar)),
     }
 }
 

@@ -4,4 +4,4 @@ use Rattle.route_improve.proofs.Remembered.{recalled}
 use Rattle.route_improve.proofs.pricer.recall.Goals as goal
 
 pub returns-in-Some : goal.returns-in-Some
-returns-in-Some c = recalled c.args.inst.now c.args.known.now.entries c.args.order.now c.in-Some.time.now c.requires (sym c.get.ensures.value ∙ ap option_copied c.in-Some.is)
+returns-in-Some c = recalled c.args.inst.now c.args.known.now.entries c.args.order.now c.in-Some.told.now c.requires (sym c.get.ensures.value ∙ ap option_copied c.in-Some.is)
