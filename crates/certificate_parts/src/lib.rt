@@ -10,7 +10,10 @@ mod writing;
 
 pub use cert_text::CertText;
 pub use entry::BasisEntry;
-pub use ranges::{are_prices, basis_fits, bound_fits, is_weight, labels_fit, stands_in, stops_fit};
+pub use ranges::{
+    GREATEST_WEIGHT, MOST_BYTES, are_prices, basis_fits, bound_fits, is_weight, labels_fit,
+    stands_in, stops_fit,
+};
 pub use reading::{
     Place, Point, Points, begins_another, take_basis, take_bound, take_customer, take_labels,
     take_node, take_own, take_place, take_plan, take_points, take_prices, take_set, take_weight,

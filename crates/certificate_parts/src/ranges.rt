@@ -7,6 +7,6 @@ mod plan;
 
 pub use basis::{basis_fits, stands_in};
 pub use label::labels_fit;
-pub(crate) use numbers::{GREATEST_BOUND, GREATEST_PRICE, GREATEST_WEIGHT};
-pub use numbers::{are_prices, bound_fits, is_weight};
+pub(crate) use numbers::{GREATEST_BOUND, GREATEST_PRICE};
+pub use numbers::{GREATEST_WEIGHT, MOST_BYTES, are_prices, bound_fits, is_weight};
 pub use plan::stops_fit;

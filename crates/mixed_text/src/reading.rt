@@ -18,7 +18,9 @@ ghost use Rattle.mixed_text.specs.Written.{written_mixed, written_mixed_root};
 mod kinds;
 mod root;
 
-use certificate_parts::{CertText, begins_another, take_bound, take_own, take_prices};
+use certificate_parts::{
+    CertText, GREATEST_WEIGHT, MOST_BYTES, begins_another, take_bound, take_own, take_prices,
+};
 use ev_list::Listed;
 use ev_text::Scan;
 use instance_reader::Instance;
@@ -28,11 +30,8 @@ use mixed_model::{MixedProof, MixedRoot};
 use root::take_root;
 use std::alloc::Global;
 
-/// The most bytes of a text: 2^28.
-const MOST_BYTES: usize = 1 << 28;
-
-/// The greatest weight: 2^40.
-const GREATEST_WEIGHT: u128 = 1 << 40;
+/// The greatest weight, as numbers are read.
+const MOST_WEIGHT: u128 = GREATEST_WEIGHT as u128;
 
 /// The proof of a text, for kinds of vehicles that agree, of at most 128 customers. What is read is
 /// in the ranges of the kinds, and its text is `bytes`; each such proof has one text, which
@@ -115,7 +114,7 @@ fn take_body(alloc: Global, kinds: &[Instance], scan: &mut Scan<'_>) -> Result<M
     let bound = take_bound(scan)?;
     let root = take_root(alloc, first_kind(kinds), kinds.len(), scan)?;
     scan.word(b"section ")?;
-    let weight = scan.whole(GREATEST_WEIGHT)? as u64;
+    let weight = scan.whole(MOST_WEIGHT)? as u64;
     scan.word(b"\n")?;
     take_lines(alloc, kinds, scan, bound, root, weight)
 }

@@ -17,7 +17,7 @@ mod prices;
 mod sets;
 mod tight;
 
-use certificate_parts::{CertText, begins_another, take_bound};
+use certificate_parts::{CertText, MOST_BYTES, begins_another, take_bound};
 use ev_list::Listed;
 use ev_text::Scan;
 use instance_reader::Instance;
@@ -27,9 +27,6 @@ use prices::take_prices;
 use sets::take_nears;
 use std::alloc::Global;
 use tight::take_tight;
-
-/// The most bytes of a text: 2^28.
-const MOST_BYTES: usize = 1 << 28;
 
 /// The most labels.
 const MOST_LABELS: u128 = u64::MAX as u128;

@@ -12,16 +12,13 @@ ghost use Rattle.route_proof.specs.ProofIn.{SpellsProof, has_other_version, proo
 ghost use Rattle.route_proof.specs.Reading.{label_at, labels_at, listed_at, proof_at};
 
 use crate::{RouteLabel, RouteProof};
-use certificate_parts::{CertText, begins_another, take_node, take_plan, take_points};
+use certificate_parts::{CertText, MOST_BYTES, begins_another, take_node, take_plan, take_points};
 use ev_list::Listed;
 use ev_text::Scan;
 use instance_reader::Instance;
 use piece_fn::PieceFn;
 use route_plan::RoutePlan;
 use std::alloc::Global;
-
-/// The most bytes of a text: 2^28.
-const MOST_BYTES: usize = 1 << 28;
 
 /// The most labels.
 const MOST_LABELS: u128 = u64::MAX as u128;

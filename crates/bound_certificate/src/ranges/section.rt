@@ -5,11 +5,8 @@ ghost use Rattle.instance_reader.specs.Instance.{customer_nodes, most_customers}
 ghost use Rattle.bound_certificate.specs.Ranges.{SectionFits};
 
 use crate::certificate::Section;
-use certificate_parts::{are_prices, labels_fit};
+use certificate_parts::{GREATEST_WEIGHT, are_prices, labels_fit};
 use instance_reader::Instance;
-
-/// The greatest weight.
-const GREATEST_WEIGHT: u64 = 1 << 40;
 
 /// Whether a section is in its ranges.
 pub(crate) fn section_fits(inst: &Instance, section: &Section) -> bool

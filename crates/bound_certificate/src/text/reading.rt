@@ -19,7 +19,7 @@ mod tree;
 
 use crate::certificate::Certificate;
 use crate::text::writing::is_first_version;
-use certificate_parts::{CertText, begins_another, take_bound, take_own};
+use certificate_parts::{CertText, MOST_BYTES, begins_another, take_bound, take_own};
 use ev_list::Listed;
 use ev_text::{Scan, TextFault};
 use instance_reader::Instance;
@@ -27,9 +27,6 @@ use root::take_root;
 use section::take_sections;
 use std::alloc::Global;
 use tree::take_tree;
-
-/// The most bytes of a text: 2^28.
-const MOST_BYTES: usize = 1 << 28;
 
 /// The certificate of a text, for an instance of at most 128 customers. What is read is in the
 /// ranges of the instance, and its text is `bytes`; each certificate that fits has one text, which

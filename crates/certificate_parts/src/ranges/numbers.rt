@@ -5,11 +5,14 @@ ghost use Rattle.std.specs.List.{All};
 ghost use Rattle.certificate_parts.specs.Ranges.{IsWeight, IsPrice};
 ghost use Rattle.certificate_parts.specs.Limits.{greatest_bound};
 
+/// The most bytes of the text of a certificate or of a proof: 2^28.
+pub const MOST_BYTES: usize = 1 << 28;
+
 /// The greatest bound.
 pub(crate) const GREATEST_BOUND: u128 = 1 << 96;
 
-/// The greatest weight.
-pub(crate) const GREATEST_WEIGHT: u64 = 1 << 40;
+/// The greatest weight of a certificate.
+pub const GREATEST_WEIGHT: u64 = 1 << 40;
 
 /// The greatest size of a price.
 pub(crate) const GREATEST_PRICE: u128 = 1 << 84;

@@ -15,14 +15,11 @@ ghost use Rattle.certificate_parts.specs.declared.cert_text.CertText.TheVariants
 
 use crate::certificate::Section;
 use crate::text::reading::pairs::take_pairs;
-use certificate_parts::{CertText, take_labels, take_prices};
+use certificate_parts::{CertText, GREATEST_WEIGHT, take_labels, take_prices};
 use ev_list::Listed;
 use ev_text::{Scan, TextFault};
 use instance_reader::Instance;
 use std::alloc::Global;
-
-/// The greatest weight of a section.
-const GREATEST_WEIGHT: u128 = 1 << 40;
 
 /// The most forbidden pairs: those of 129 places, each with itself too.
 const MOST_PAIRS: u128 = 16_641;
@@ -133,7 +130,7 @@ fn take_section_head(scan: &mut Scan<'_>) -> Result<SectionHead, TextFault>
     ensures fault { IfErr result (λ fault. (g : Network) → section_at g scan.old ≡ Err fault) }
 {
     scan.word(b"section ")?;
-    let weight = scan.whole(GREATEST_WEIGHT)? as u64;
+    let weight = scan.whole(u128::from(GREATEST_WEIGHT))? as u64;
     scan.word(b" ")?;
     let pairs = scan.whole(MOST_PAIRS)?;
     scan.word(b" ")?;
