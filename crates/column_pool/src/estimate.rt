@@ -7,8 +7,8 @@ ghost use Rattle.route_pool.specs.Pool.{IsColumn, IsPool};
 use crate::route::set_of;
 use customer_sets::Pairs;
 use instance_reader::Instance;
-use master_simplex::{Lp, LpFault, solve};
-use master_table::{Caps, Table, TableFault};
+use master_simplex::{CERTIFICATE_CAPS, Lp, LpFault, solve};
+use master_table::{Table, TableFault};
 use price_loop::cover_cost;
 use route_plan::RoutePlan;
 use route_pool::{ColumnPool, earning, keeps_pairs, kept_places};
@@ -30,11 +30,7 @@ pub fn estimate_node(
     requires pairs { pairs.now.customers ≡ length (customer_nodes inst.now) }
     requires pool { IsPool inst.now pool.now }
 {
-    let caps = Caps {
-        body: 1 << 40,
-        cost: 1 << 84,
-    };
-    let Ok(mut table) = Table::new(alloc, inst.customers().len(), caps) else {
+    let Ok(mut table) = Table::new(alloc, inst.customers().len(), CERTIFICATE_CAPS) else {
         return Err(AllocError);
     };
     let places = kept_places(alloc, inst, pairs, pool)?;

@@ -11,7 +11,7 @@ use crate::by_loop::bound_by_loop;
 use crate::decided::bound_of_decided;
 use customer_sets::Pairs;
 use instance_reader::Instance;
-use master_table::Caps;
+use master_simplex::CERTIFICATE_CAPS;
 use route_pool::ColumnPool;
 use std::alloc::{AllocError, Global};
 
@@ -42,9 +42,5 @@ pub fn bound_node(
     if pairs.decided() {
         return bound_of_decided(alloc, inst, pairs, pool);
     }
-    let caps = Caps {
-        body: 1 << 40,
-        cost: 1 << 84,
-    };
-    bound_by_loop(alloc, inst, pairs, pool, caps)
+    bound_by_loop(alloc, inst, pairs, pool, CERTIFICATE_CAPS)
 }

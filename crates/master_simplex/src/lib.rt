@@ -25,4 +25,4 @@ pub use listed::ListedRoute;
 pub use method::solve;
 pub use over::share_weight;
 pub use prices::Lp;
-pub use wide::is_too_wide;
+pub use wide::{CERTIFICATE_CAPS, is_too_wide};

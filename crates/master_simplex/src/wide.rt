@@ -9,6 +9,12 @@ use crate::starts::has_start_past;
 use master_table::Caps;
 use std::alloc::{AllocError, Global};
 
+/// The caps of certificates: on the weight and shares, and on prices.
+pub const CERTIFICATE_CAPS: Caps = Caps {
+    body: 1 << 40,
+    cost: 1 << 84,
+};
+
 /// Whether the listed basis is too wide: some number of its first entries are independent, and with
 /// the helpers that follow, by rising customer, are a basis past the caps of 2^40 and 2^84. `Err`
 /// is want of memory alone.
@@ -28,9 +34,5 @@ pub fn is_too_wide(
     ensures narrow { IfOk result (λ answer. answer ≡ false →
         IsTooWide n (route_columns routes.now) (listed_columns n routes.now entries.now) → ⊥) }
 {
-    let caps = Caps {
-        body: 1 << 40,
-        cost: 1 << 84,
-    };
-    has_start_past(alloc, caps, n, routes, entries)
+    has_start_past(alloc, CERTIFICATE_CAPS, n, routes, entries)
 }

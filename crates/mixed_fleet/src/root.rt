@@ -19,18 +19,11 @@ use crate::searched::Searched;
 use bound_certificate::entries_of;
 use ev_list::Listed;
 use instance_reader::Instance;
-use master_simplex::Lp;
-use master_table::Caps;
+use master_simplex::{CERTIFICATE_CAPS, Lp};
 use mixed_model::{MixedProof, MixedRoot};
 use piece_fn::Label;
 use price_loop::{Ended, Risen, RoundWatcher, price_out_watched, rise_watched};
 use std::alloc::{AllocError, Global};
-
-/// The caps of certificates: on the weight and shares, and on prices.
-const CAPS: Caps = Caps {
-    body: 1 << 40,
-    cost: 1 << 84,
-};
 
 /// More than the scaled time of any route: the scaled limits are at most 10^18.
 const TOP: u64 = 1_000_000_000_000_000_001;
@@ -49,7 +42,7 @@ pub(crate) fn best_proof<W: RoundWatcher>(
     ensures met { IfOk result (λ end. All (IsSearched kinds.now) end.1.items) }
 {
     let earners = KindsEarners::new(kinds);
-    match price_out_watched(alloc, &earners, CAPS, begin, watcher)? {
+    match price_out_watched(alloc, &earners, CERTIFICATE_CAPS, begin, watcher)? {
         Ended::Closed {
             lp,
             routes,
