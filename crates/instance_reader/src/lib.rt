@@ -31,4 +31,4 @@ pub use faults::{LimitFault, ReadFault};
 pub use instance::Instance;
 pub use laws::bytes_mean_one_thing;
 pub use places::{Key, Part, Place};
-pub use read::read_instance;
+pub use read::{MOST_BYTES, read_instance};

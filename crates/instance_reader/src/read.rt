@@ -24,8 +24,8 @@ use charge_curve::{Curve, common_denominator};
 use serde_json::Value;
 use std::alloc::Global;
 
-/// The most bytes of an instance.
-const MOST_BYTES: usize = 1 << 26;
+/// The most bytes of an instance, and of a plan: 2^26.
+pub const MOST_BYTES: usize = 1 << 26;
 
 /// The greatest denominator.
 const MOST_DENOMINATOR: u64 = 1_000_000_000;

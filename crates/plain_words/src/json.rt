@@ -1,9 +1,8 @@
 //! From which byte on a file is no JSON text.
 
 use crate::names::{instances_of, names_of};
-use crate::reach::MOST_BYTES;
 use ev_outside::Shelf;
-use instance_reader::ReadFault;
+use instance_reader::{MOST_BYTES, ReadFault};
 use job_frame::Cause;
 use plan_writer::Refusal;
 use serde_json::Value;

@@ -3,13 +3,10 @@
 use crate::names::{instances_of, names_of, one_of, option_value};
 use ev_outside::Shelf;
 use frvcp_labels::solve_route;
-use instance_reader::{Instance, read_instance};
+use instance_reader::{Instance, MOST_BYTES, read_instance};
 use job_frame::Cause;
 use route_plan::read_route;
 use std::alloc::{AllocError, Global};
-
-/// The most bytes of an instance.
-pub(crate) const MOST_BYTES: usize = 1 << 26;
 
 /// What is said where `fleet`, `bound` or `mixed` found that there is no plan of the fleet: a
 /// customer whom no route of its own serves, by a vehicle of any kind, the first in order of nodes.

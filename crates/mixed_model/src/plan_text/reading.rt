@@ -9,11 +9,9 @@ ghost use Rattle.route_plan.specs.PlanReading.{or_bad};
 
 use crate::MixedRoute;
 use ev_text::Scan;
+use instance_reader::MOST_BYTES;
 use route_plan::{PlanText, take_stops};
 use std::alloc::Global;
-
-/// The most bytes of a text: 2^26.
-const MOST_BYTES: usize = 67_108_864;
 
 /// The most routes of a plan.
 const MOST_ROUTES: u128 = 1_000_000;

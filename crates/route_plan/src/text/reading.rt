@@ -11,10 +11,8 @@ ghost use Rattle.route_plan.specs.declared.text.plan_text.PlanText.TheVariants.{
 use crate::{FleetPlan, PlanText, RoutePlan, Stop};
 use ev_list::Listed;
 use ev_text::{Scan, TextFault};
+use instance_reader::MOST_BYTES;
 use std::alloc::{AllocFailed, Global};
-
-/// The most bytes of a text: 2^26.
-const MOST_BYTES: usize = 67_108_864;
 
 /// The greatest number of a node, and the greatest amount.
 const GREATEST_NUMBER: u128 = 1_000_000_000;
