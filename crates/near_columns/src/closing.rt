@@ -5,7 +5,7 @@ use crate::labels::{Care, Labels, Origin, Vehicle};
 use crate::memory::Memory;
 use crate::number::{signed, unsigned};
 use crate::rest_table::RestTable;
-use crate::search::{Question, Standing};
+use crate::search::{RouteQuery, Standing};
 use crate::values::{home_time, lateness};
 use piece_fn::PieceFn;
 use std::alloc::{AllocError, Global};
@@ -21,7 +21,7 @@ const LABELS_A_LOOK: usize = 64;
 /// a label that stands for all such ones of its layer.
 pub(crate) fn closed_labels<C: GapClock>(
     alloc: Global,
-    question: &Question<'_, '_>,
+    question: &RouteQuery<'_, '_>,
     clock: &mut C,
 ) -> Result<Option<Labels>, AllocError> {
     let mut labels = Labels::new(alloc, question.ground())?;
@@ -43,7 +43,7 @@ pub(crate) fn closed_labels<C: GapClock>(
 fn settle(
     alloc: Global,
     labels: &mut Labels,
-    question: &Question<'_, '_>,
+    question: &RouteQuery<'_, '_>,
     number: usize,
 ) -> Result<bool, AllocError> {
     let Some(from) = labels.standing(number) else {
@@ -59,7 +59,7 @@ fn settle(
 }
 
 /// Whether a step home takes less than what was earned.
-pub(crate) fn earns_at_home(question: &Question<'_, '_>, vehicle: &Vehicle) -> bool {
+pub(crate) fn earns_at_home(question: &RouteQuery<'_, '_>, vehicle: &Vehicle) -> bool {
     match home_time(question.ground(), vehicle.place, &vehicle.value) {
         Some(time) => time < vehicle.earned,
         None => false,
@@ -70,7 +70,7 @@ pub(crate) fn earns_at_home(question: &Question<'_, '_>, vehicle: &Vehicle) -> b
 fn go(
     alloc: Global,
     labels: &mut Labels,
-    question: &Question<'_, '_>,
+    question: &RouteQuery<'_, '_>,
     from: &Standing,
     to: usize,
 ) -> Result<(), AllocError> {
@@ -101,7 +101,7 @@ fn go(
 fn add(
     alloc: Global,
     labels: &mut Labels,
-    question: &Question<'_, '_>,
+    question: &RouteQuery<'_, '_>,
     from: &Standing,
     vehicle: Vehicle,
 ) -> Result<(), AllocError> {
@@ -126,7 +126,7 @@ fn add(
 /// a vehicle is one of them.
 fn hopeless_vehicle(
     alloc: Global,
-    question: &Question<'_, '_>,
+    question: &RouteQuery<'_, '_>,
     table: &RestTable,
     vehicle: &Vehicle,
     late: i64,
@@ -169,7 +169,7 @@ fn hopeless_vehicle(
 /// The times that are later than what the level is worth by so much, within the limit.
 fn line_from(
     alloc: Global,
-    question: &Question<'_, '_>,
+    question: &RouteQuery<'_, '_>,
     early: i64,
 ) -> Result<Option<PieceFn>, AllocError> {
     let ground = question.ground();

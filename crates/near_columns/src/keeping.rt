@@ -2,7 +2,7 @@
 
 use crate::labels::{Brief, Labels, Vehicle};
 use crate::number::{signed, unsigned};
-use crate::search::Question;
+use crate::search::RouteQuery;
 use crate::values::{first_point, last_point};
 use std::alloc::{AllocError, Global};
 
@@ -23,7 +23,7 @@ struct Kept {
 pub(crate) fn keep(
     alloc: Global,
     labels: &Labels,
-    question: &Question<'_, '_>,
+    question: &RouteQuery<'_, '_>,
 ) -> Result<Option<Vec<usize>>, AllocError> {
     let mut kept = Kept::new(alloc, labels)?;
     for turn in 0..labels.all.len() {
@@ -82,7 +82,7 @@ impl Kept {
 fn keep_step(
     alloc: Global,
     labels: &Labels,
-    question: &Question<'_, '_>,
+    question: &RouteQuery<'_, '_>,
     kept: &mut Kept,
     number: usize,
     to: usize,

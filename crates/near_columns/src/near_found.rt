@@ -3,7 +3,7 @@
 use crate::clock::{GapClock, NoClock};
 use crate::orders::{NearOrder, Orders};
 use crate::proving::proof_of;
-use crate::rounds::{Outcome, Rounds};
+use crate::rounds::{Rounds, RoundsEnd};
 use crate::starting::first_rounds;
 use crate::watcher::RoundsWatcher;
 use crate::whole::settle_prices;
@@ -77,13 +77,13 @@ impl Rounds {
         &mut self,
         alloc: Global,
         inst: &Instance,
-        outcome: Outcome,
+        outcome: RoundsEnd,
     ) -> Result<bool, AllocError> {
-        if outcome == Outcome::Closed && self.cover.lacking() > MOST_LACKING {
+        if outcome == RoundsEnd::Closed && self.cover.lacking() > MOST_LACKING {
             return Ok(false);
         }
         let settled = settle_prices(alloc, inst, &mut self.pricing, &mut self.pool, &mut NoClock)?;
-        Ok(settled == Outcome::Closed)
+        Ok(settled == RoundsEnd::Closed)
     }
 
     /// What was found by all rounds.

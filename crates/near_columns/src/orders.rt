@@ -8,7 +8,7 @@ use crate::number::{signed, unsigned};
 use crate::rest_table::sum_of;
 use crate::rounds::Rounds;
 use crate::routes::Route;
-use crate::search::{Aim, Pricing, Question, Search};
+use crate::search::{Aim, PricedGround, RouteQuery, Search};
 use instance_reader::Instance;
 use std::alloc::{AllocError, Global};
 
@@ -105,7 +105,7 @@ impl Orders {
         &mut self,
         alloc: Global,
         inst: &Instance,
-        pricing: &Pricing,
+        pricing: &PricedGround,
         clock: &mut C,
     ) -> Result<(), AllocError> {
         let ground = &pricing.ground;
@@ -114,7 +114,7 @@ impl Orders {
             care: Care::Exact,
             enough: MOST_FOUND,
         };
-        let question = Question { inst, pricing, aim };
+        let question = RouteQuery { inst, pricing, aim };
         let mut search = Search::new(alloc, ground)?;
         let _ = search.run(alloc, &question, clock)?;
         search.sort()?;

@@ -8,7 +8,7 @@ use crate::labels::{Care, Labels};
 use crate::memory::Memory;
 use crate::number::unsigned;
 use crate::rounds::Rounds;
-use crate::search::{Aim, Question};
+use crate::search::{Aim, RouteQuery};
 use crate::strengthening::strengthen;
 use crate::trips::fastest_plan;
 use crate::values::copy_of;
@@ -35,7 +35,7 @@ pub(crate) fn proof_of(
         care: Care::Exact,
         enough: 0,
     };
-    let question = Question { inst, pricing, aim };
+    let question = RouteQuery { inst, pricing, aim };
     let Some(labels) = needed_labels(alloc, &question)? else {
         return Ok(None);
     };
@@ -64,7 +64,7 @@ fn put_together(
 /// Closed labels, made stronger, of which those are kept that the start needs.
 fn needed_labels(
     alloc: Global,
-    question: &Question<'_, '_>,
+    question: &RouteQuery<'_, '_>,
 ) -> Result<Option<Vec<NearLabel>>, AllocError> {
     let Some(mut labels) = closed_labels(alloc, question, &mut NoClock)? else {
         return Ok(None);

@@ -6,7 +6,7 @@ use crate::labels::Care;
 use crate::number::{put, unsigned};
 use crate::rest_table::sum_of;
 use crate::routes::Route;
-use crate::search::{Aim, End, Pricing, Question, Search};
+use crate::search::{Aim, End, PricedGround, RouteQuery, Search};
 use crate::watcher::{RoundsProgress, RoundsWatcher};
 use cover_prices::Cover;
 use instance_reader::Instance;
@@ -35,7 +35,7 @@ const LEAST_AMOUNT: i64 = 4295;
 
 /// How rounds ended.
 #[derive(Clone, Copy, Debug, PartialEq, Eq)]
-pub(crate) enum Outcome {
+pub(crate) enum RoundsEnd {
     /// No near route earns.
     Closed,
     /// The time was up, or a search was given up.
@@ -45,7 +45,7 @@ pub(crate) enum Outcome {
 /// The state of column generation.
 #[derive(Drop)]
 pub(crate) struct Rounds {
-    pub(crate) pricing: Pricing,
+    pub(crate) pricing: PricedGround,
     pub(crate) cover: Cover,
     /// The routes of the columns.
     pub(crate) pool: Vec<Route>,
@@ -57,7 +57,11 @@ pub(crate) struct Rounds {
 
 impl Rounds {
     /// No route is known. Covering a customer without one costs so much.
-    pub(crate) fn new(alloc: Global, pricing: Pricing, dearest: i64) -> Result<Rounds, AllocError> {
+    pub(crate) fn new(
+        alloc: Global,
+        pricing: PricedGround,
+        dearest: i64,
+    ) -> Result<Rounds, AllocError> {
         let dearest = unsigned(dearest);
         let cover = Cover::new(alloc, pricing.ground.customers, dearest)?;
         Ok(Rounds {
@@ -103,18 +107,18 @@ impl Rounds {
         inst: &Instance,
         clock: &mut C,
         watcher: &mut W,
-    ) -> Result<Outcome, AllocError> {
+    ) -> Result<RoundsEnd, AllocError> {
         for _ in 0..MOST_GROWTHS {
-            if self.close(alloc, inst, clock, watcher)? == Outcome::Stopped {
-                return Ok(Outcome::Stopped);
+            if self.close(alloc, inst, clock, watcher)? == RoundsEnd::Stopped {
+                return Ok(RoundsEnd::Stopped);
             }
             let grown = self.grow_sets();
             let gone = self.ban_routes();
             if grown == 0 && gone == 0 {
-                return Ok(Outcome::Closed);
+                return Ok(RoundsEnd::Closed);
             }
         }
-        Ok(Outcome::Closed)
+        Ok(RoundsEnd::Closed)
     }
 
     /// Makes rounds until no near route earns.
@@ -124,22 +128,22 @@ impl Rounds {
         inst: &Instance,
         clock: &mut C,
         watcher: &mut W,
-    ) -> Result<Outcome, AllocError> {
+    ) -> Result<RoundsEnd, AllocError> {
         for _ in 0..MOST_ROUNDS {
             self.find_prices(alloc)?;
             self.tell(watcher);
             match self.round(alloc, inst, clock)? {
                 Round::Found => {}
-                Round::GivenUp => return Ok(Outcome::Stopped),
+                Round::GivenUp => return Ok(RoundsEnd::Stopped),
                 Round::None => {
                     if !self.cover.is_rough() {
-                        return Ok(Outcome::Closed);
+                        return Ok(RoundsEnd::Closed);
                     }
                     self.cover.refine();
                 }
             }
         }
-        Ok(Outcome::Stopped)
+        Ok(RoundsEnd::Stopped)
     }
 
     /// Tells how far the rounds are.
@@ -260,11 +264,11 @@ fn enough_for(care: Care) -> usize {
 pub(crate) fn found_with<C: GapClock>(
     alloc: Global,
     inst: &Instance,
-    pricing: &Pricing,
+    pricing: &PricedGround,
     aim: Aim,
     clock: &mut C,
 ) -> Result<Option<Search>, AllocError> {
-    let question = Question { inst, pricing, aim };
+    let question = RouteQuery { inst, pricing, aim };
     let mut search = Search::new(alloc, &pricing.ground)?;
     if search.run(alloc, &question, clock)? == End::GivenUp {
         return Ok(None);

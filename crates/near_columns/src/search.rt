@@ -19,7 +19,7 @@ const LABELS_A_LOOK: usize = 64;
 
 /// What near routes are judged by.
 #[derive(Drop)]
-pub(crate) struct Pricing {
+pub(crate) struct PricedGround {
     pub(crate) ground: Ground,
     /// The near sets, by customer.
     pub(crate) sets: Vec<Memory>,
@@ -43,9 +43,9 @@ pub(crate) struct Aim {
 
 /// What near routes are searched by.
 #[derive(Clone, Copy)]
-pub(crate) struct Question<'i, 'p> {
+pub(crate) struct RouteQuery<'i, 'p> {
     pub(crate) inst: &'i Instance,
-    pub(crate) pricing: &'p Pricing,
+    pub(crate) pricing: &'p PricedGround,
     pub(crate) aim: Aim,
 }
 
@@ -85,7 +85,7 @@ pub(crate) struct Standing {
     pub(crate) lateness: i64,
 }
 
-impl Pricing {
+impl PricedGround {
     /// The table, where it reckons with all ways home that the limit allows.
     pub(crate) fn whole_table(&self) -> Option<&RestTable> {
         match &self.table {
@@ -101,7 +101,7 @@ impl Pricing {
     }
 }
 
-impl Question<'_, '_> {
+impl RouteQuery<'_, '_> {
     /// The places.
     pub(crate) fn ground(&self) -> &Ground {
         &self.pricing.ground
@@ -192,7 +192,7 @@ impl Search {
     pub(crate) fn run<C: GapClock>(
         &mut self,
         alloc: Global,
-        question: &Question<'_, '_>,
+        question: &RouteQuery<'_, '_>,
         clock: &mut C,
     ) -> Result<End, AllocError> {
         for turn in 0..MOST_LABELS {
@@ -217,7 +217,7 @@ impl Search {
     fn settle(
         &mut self,
         alloc: Global,
-        question: &Question<'_, '_>,
+        question: &RouteQuery<'_, '_>,
         number: usize,
     ) -> Result<(), AllocError> {
         let Some(from) = self.labels.standing(number) else {
@@ -232,7 +232,7 @@ impl Search {
     /// Notes the route of a label, where it takes little enough.
     fn look_home(
         &mut self,
-        question: &Question<'_, '_>,
+        question: &RouteQuery<'_, '_>,
         from: &Standing,
     ) -> Result<(), AllocError> {
         let Some(label) = self.labels.all.get(from.number) else {
@@ -259,7 +259,7 @@ impl Search {
     fn go(
         &mut self,
         alloc: Global,
-        question: &Question<'_, '_>,
+        question: &RouteQuery<'_, '_>,
         from: &Standing,
         to: usize,
     ) -> Result<(), AllocError> {
@@ -284,7 +284,7 @@ impl Search {
     /// Lets the labels with these values wait, where they are of use.
     fn add_all(
         &mut self,
-        question: &Question<'_, '_>,
+        question: &RouteQuery<'_, '_>,
         from: &Standing,
         behind: (usize, Memory, i64),
         mut values: Vec<PieceFn>,
@@ -311,7 +311,7 @@ impl Search {
     /// Lets a label wait, where it is of use.
     fn add(
         &mut self,
-        question: &Question<'_, '_>,
+        question: &RouteQuery<'_, '_>,
         from: &Standing,
         vehicle: Vehicle,
     ) -> Result<(), AllocError> {

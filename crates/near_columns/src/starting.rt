@@ -8,7 +8,7 @@ use crate::memory::Memory;
 use crate::number::signed;
 use crate::rounds::Rounds;
 use crate::routes::Route;
-use crate::search::Pricing;
+use crate::search::PricedGround;
 use crate::trips::{fastest_plan, time_of};
 use instance_reader::Instance;
 use near_proof::near_sets;
@@ -28,7 +28,7 @@ pub(crate) fn first_rounds(alloc: Global, inst: &Instance) -> Result<Rounds, All
     for set in near_sets(alloc, inst, NEAR)? {
         sets.push(Memory::from_set(set))?;
     }
-    let pricing = Pricing {
+    let pricing = PricedGround {
         sets,
         prices: vec![in alloc; 0; ground.customers]?,
         table: None,

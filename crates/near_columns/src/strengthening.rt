@@ -4,7 +4,7 @@
 use crate::closing::earns_at_home;
 use crate::labels::{Care, Labels, Origin, Vehicle};
 use crate::number::signed;
-use crate::search::{Question, Standing};
+use crate::search::{RouteQuery, Standing};
 use crate::values::{copy_of, first_point, home_time, last_point, lateness, time_from};
 use piece_fn::PieceFn;
 use std::alloc::{AllocError, Global};
@@ -16,7 +16,7 @@ const MOST_RISE: i64 = 1 << 60;
 pub(crate) fn strengthen(
     alloc: Global,
     labels: &mut Labels,
-    question: &Question<'_, '_>,
+    question: &RouteQuery<'_, '_>,
     numbers: &[usize],
 ) -> Result<(), AllocError> {
     let mut order = Vec::with_capacity(alloc, numbers.len())?;
@@ -38,7 +38,7 @@ pub(crate) fn strengthen(
 fn strengthen_one(
     alloc: Global,
     labels: &mut Labels,
-    question: &Question<'_, '_>,
+    question: &RouteQuery<'_, '_>,
     number: usize,
 ) -> Result<(), AllocError> {
     let Some(label) = labels.all.get(number) else {
@@ -86,7 +86,7 @@ fn copy_of_vehicle(alloc: Global, vehicle: &Vehicle) -> Result<Vehicle, AllocErr
 /// The customers that a vehicle remembers besides the one at its place, those furthest away first.
 fn far_members(
     alloc: Global,
-    question: &Question<'_, '_>,
+    question: &RouteQuery<'_, '_>,
     vehicle: &Vehicle,
 ) -> Result<Vec<usize>, AllocError> {
     let mut order = Vec::new(alloc);
@@ -110,7 +110,7 @@ fn far_members(
 fn room_of(
     alloc: Global,
     labels: &mut Labels,
-    question: &Question<'_, '_>,
+    question: &RouteQuery<'_, '_>,
     vehicle: &Vehicle,
 ) -> Result<Option<i64>, AllocError> {
     if earns_at_home(question, vehicle) {
@@ -140,7 +140,7 @@ fn room_of(
 fn room_at(
     alloc: Global,
     labels: &mut Labels,
-    question: &Question<'_, '_>,
+    question: &RouteQuery<'_, '_>,
     from: (&Standing, &PieceFn),
     to: usize,
     most: i64,

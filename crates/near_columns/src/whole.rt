@@ -4,9 +4,9 @@ use crate::clock::GapClock;
 use crate::ground::Ground;
 use crate::labels::Care;
 use crate::number::{at, put};
-use crate::rounds::{Outcome, found_with};
+use crate::rounds::{RoundsEnd, found_with};
 use crate::routes::Route;
-use crate::search::{Aim, Pricing, Search};
+use crate::search::{Aim, PricedGround, Search};
 use instance_reader::Instance;
 use std::alloc::{AllocError, Global};
 
@@ -22,10 +22,10 @@ const ENOUGH: usize = 2_000;
 pub(crate) fn settle_prices<C: GapClock>(
     alloc: Global,
     inst: &Instance,
-    pricing: &mut Pricing,
+    pricing: &mut PricedGround,
     pool: &mut Vec<Route>,
     clock: &mut C,
-) -> Result<Outcome, AllocError> {
+) -> Result<RoundsEnd, AllocError> {
     let base = pricing.prices.clone()?;
     let aim = Aim {
         slack: 0,
@@ -36,14 +36,14 @@ pub(crate) fn settle_prices<C: GapClock>(
         fit_prices(alloc, pool, &base, &mut pricing.prices)?;
         pricing.make_table(alloc)?;
         let Some(search) = found_with(alloc, inst, pricing, aim, clock)? else {
-            return Ok(Outcome::Stopped);
+            return Ok(RoundsEnd::Stopped);
         };
         if search.found.is_empty() {
-            return Ok(Outcome::Closed);
+            return Ok(RoundsEnd::Closed);
         }
         add_found(alloc, &pricing.ground, pool, &search)?;
     }
-    Ok(Outcome::Stopped)
+    Ok(RoundsEnd::Stopped)
 }
 
 /// Puts the routes that were found into a pool.
