@@ -18,7 +18,7 @@ use customer_sets::Pairs;
 use instance_reader::Instance;
 use master_table::Caps;
 use piece_fn::Label;
-use price_loop::{Ended, price_out};
+use price_loop::{LoopEnd, price_out};
 use route_pool::{ColumnPool, put_own_routes};
 use std::alloc::{AllocError, Global};
 
@@ -45,7 +45,7 @@ pub(crate) fn bound_by_loop(
 {
     put_own_routes(alloc, inst, pool)?;
     match end_of(alloc, inst, pairs, pool, caps)? {
-        Ended::Closed {
+        LoopEnd::Closed {
             lp,
             routes,
             basis,
@@ -56,7 +56,7 @@ pub(crate) fn bound_by_loop(
             pool.note_recent(recent);
             bound_of(alloc, inst, pairs, &routes, lp, closing)
         }
-        Ended::Wide { routes, basis } => {
+        LoopEnd::Wide { routes, basis } => {
             take_all(alloc, inst, pool, &routes)?;
             let plans = plans_of(alloc, routes)?;
             wide_bound(alloc, inst, pairs, pool, plans, &basis)
@@ -72,7 +72,7 @@ fn end_of(
     pairs: &Pairs,
     pool: &ColumnPool,
     caps: Caps,
-) -> Result<Ended<NodeRoute, Vec<Label>>, AllocError>
+) -> Result<LoopEnd<NodeRoute, Vec<Label>>, AllocError>
     requires few { length (customer_nodes inst.now) ≤ most_customers }
     requires pairs { pairs.now.customers ≡ length (customer_nodes inst.now) }
     requires pool { IsPool inst.now pool.now }

@@ -22,7 +22,7 @@ use instance_reader::Instance;
 use master_simplex::{CERTIFICATE_CAPS, Lp};
 use mixed_model::{MixedProof, MixedRoot};
 use piece_fn::Label;
-use price_loop::{Ended, Risen, RoundWatcher, price_out_watched, rise_watched};
+use price_loop::{LoopEnd, Risen, RoundWatcher, price_out_watched, rise_watched};
 use std::alloc::{AllocError, Global};
 
 /// More than the scaled time of any route: the scaled limits are at most 10^18.
@@ -43,13 +43,13 @@ pub(crate) fn best_proof<W: RoundWatcher>(
 {
     let earners = KindsEarners::new(kinds);
     match price_out_watched(alloc, &earners, CERTIFICATE_CAPS, begin, watcher)? {
-        Ended::Closed {
+        LoopEnd::Closed {
             lp,
             routes,
             basis: _,
             closing,
         } => Ok((proof_at_end(alloc, kinds, lp, &routes, closing)?, routes)),
-        Ended::Wide { routes, basis } => {
+        LoopEnd::Wide { routes, basis } => {
             let proof = wide_proof(alloc, kinds, &routes, &basis, watcher)?;
             Ok((proof, routes))
         }

@@ -7,8 +7,8 @@ use Rattle.master_simplex.specs.declared.prices.Lp.{Lp}
 use Rattle.master_table.specs.Tableau.{Limits, size, Tableau}
 use Rattle.price_loop.specs.Masters.{columns_of, IsWide}
 use Rattle.price_loop.specs.Problems.{IsClosing, Problem}
-use Rattle.price_loop.specs.declared.ended.Ended.{Ended}
-use Rattle.price_loop.specs.declared.ended.Ended.TheVariants.{Closed, Wide}
+use Rattle.price_loop.specs.declared.ended.LoopEnd.{LoopEnd}
+use Rattle.price_loop.specs.declared.ended.LoopEnd.TheVariants.{Closed, Wide}
 
 -- the answer of the simplex method over these columns of n customers, on a table with the caps, at a basis
 pub record IsSolved (n : ℕ) (caps : Limits) (all : List Column) (basis : List ℕ)
@@ -29,7 +29,7 @@ pub record IsOver {R C : Type 0} (q : Problem R C) (caps : Limits) (lp : Lp) (ro
   pub one_price : length lp.prices.items ≡ q.customers
   pub closed : IsClosing q lp.weight lp.prices.items closing
 
-abbrev pub IsEnded : {R C : Type 0} → Problem R C → Limits → Ended R C → Type 0
+abbrev pub IsEnded : {R C : Type 0} → Problem R C → Limits → LoopEnd R C → Type 0
 IsEnded q caps (Closed lp routes basis closing) =
     IsOver q caps lp routes.items basis.items closing
 IsEnded q caps (Wide routes basis) = IsWide q caps routes.items basis.items

@@ -4,7 +4,7 @@ use master_simplex::Lp;
 
 /// Where a master problem stands at the end of the price loop.
 #[derive(Drop)]
-pub enum Ended<R: Drop, C: Drop> {
+pub enum LoopEnd<R: Drop, C: Drop> {
     /// The routes' optimum, or their ray, beside which no further route earns. `basis` has the
     /// numbers of its columns: first the customers' helpers, then the routes.
     Closed {

@@ -15,7 +15,7 @@ mod watcher;
 
 pub use cost::cover_cost;
 pub use earners::{Earned, Earners};
-pub use ended::Ended;
+pub use ended::LoopEnd;
 pub use rising::{Risen, rise, rise_watched};
 pub use rounds::{price_out, price_out_watched};
 pub use watcher::{Nobody, RisingProgress, RoundProgress, RoundWatcher};

@@ -8,7 +8,7 @@ ghost use Rattle.price_loop.specs.Masters.{HasMore, IsFault, IsMaster, IsStill};
 ghost use Rattle.price_loop.specs.Problems.{IsClosing};
 
 use crate::earners::{Earned, Earners};
-use crate::ended::Ended;
+use crate::ended::LoopEnd;
 use crate::fault::MasterFault;
 use crate::master::{Master, add, add_all, basis_of, fresh_master, solve_master};
 use crate::watcher::{Nobody, RoundWatcher, round_progress};
@@ -25,7 +25,7 @@ pub fn price_out<E: Earners>(
     earners: &E,
     caps: Caps,
     begin: Vec<E::Route>,
-) -> Result<Ended<E::Route, E::Closing>, AllocError>
+) -> Result<LoopEnd<E::Route, E::Closing>, AllocError>
     requires begin { All (E.problem earners.now).is_route begin.items }
     requires body { 1 ≤ caps.body }
     requires body_cap { caps.body ≤ 2 ^ 40 }
@@ -43,7 +43,7 @@ pub fn price_out_watched<E: Earners, W: RoundWatcher>(
     caps: Caps,
     begin: Vec<E::Route>,
     watcher: &mut W,
-) -> Result<Ended<E::Route, E::Closing>, AllocError>
+) -> Result<LoopEnd<E::Route, E::Closing>, AllocError>
     requires begin { All (E.problem earners.now).is_route begin.items }
     requires body { 1 ≤ caps.body }
     requires body_cap { caps.body ≤ 2 ^ 40 }
@@ -54,13 +54,13 @@ pub fn price_out_watched<E: Earners, W: RoundWatcher>(
     let mut master = fresh_master(alloc, earners, caps)?;
     match price_in(alloc, earners, &mut master, begin, watcher) {
         Err(MasterFault::Memory) => Err(AllocError),
-        Err(MasterFault::Wide { basis }) => Ok(Ended::Wide {
+        Err(MasterFault::Wide { basis }) => Ok(LoopEnd::Wide {
             routes: master.routes,
             basis,
         }),
         Ok((lp, closing)) => {
             let basis = basis_of(alloc, &master.table)?;
-            Ok(Ended::Closed {
+            Ok(LoopEnd::Closed {
                 lp,
                 routes: master.routes,
                 basis,

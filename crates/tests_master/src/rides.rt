@@ -5,7 +5,7 @@ ghost use Rattle.std.specs.Prelude.{◌≤◌, IfSome, ◌≡◌};
 
 use customer_sets::CustSet;
 use master_table::Caps;
-use price_loop::{Earned, Earners, Ended, Risen, price_out, rise};
+use price_loop::{Earned, Earners, LoopEnd, Risen, price_out, rise};
 use std::alloc::{AllocError, Global};
 
 /// Rides of single customers, of whom the first few are reached.
@@ -96,8 +96,8 @@ fn ended(alloc: Global, customers: usize, reached: usize) -> Option<(u64, i128, 
         cost: 1 << 84,
     };
     match price_out(alloc, &rides, caps, Vec::new(alloc)).ok()? {
-        Ended::Wide { .. } => None,
-        Ended::Closed { lp, routes, .. } => {
+        LoopEnd::Wide { .. } => None,
+        LoopEnd::Closed { lp, routes, .. } => {
             let mut sum = 0i128;
             for price in &lp.prices {
                 sum = sum.saturating_add(*price);

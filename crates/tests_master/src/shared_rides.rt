@@ -8,7 +8,7 @@ ghost use Rattle.tests_master.specs.SharedRides.{cost, served};
 
 use customer_sets::CustSet;
 use master_table::Caps;
-use price_loop::{Earned, Earners, Ended, Risen, price_out, rise};
+use price_loop::{Earned, Earners, LoopEnd, Risen, price_out, rise};
 use std::alloc::{AllocError, Global};
 
 /// Some customers, each of whom may ride alone or with one other.
@@ -148,8 +148,8 @@ fn ended(alloc: Global, body: u64) -> Option<(Option<(u64, i128)>, usize)>
         cost: 1 << 84,
     };
     match price_out(alloc, &rides, caps, Vec::new(alloc)).ok()? {
-        Ended::Wide { basis, .. } => Some((None, basis.len())),
-        Ended::Closed { lp, basis, .. } => {
+        LoopEnd::Wide { basis, .. } => Some((None, basis.len())),
+        LoopEnd::Closed { lp, basis, .. } => {
             let mut sum = 0i128;
             for price in &lp.prices {
                 sum = sum.saturating_add(*price);

@@ -4,7 +4,7 @@ use Rattle.std.specs.Global.{Global}
 use Rattle.master_table.specs.RowView.{limits_of}
 use Rattle.piece_fn.specs.declared.label.Label.{Label}
 use Rattle.price_loop.specs.Endings.{IsEnded}
-use Rattle.price_loop.specs.declared.ended.Ended.{Ended}
+use Rattle.price_loop.specs.declared.ended.LoopEnd.{LoopEnd}
 use Rattle.pricing.specs.declared.priced.PricedRoute.{PricedRoute}
 use Rattle.route_plan.specs.declared.plan.RoutePlan.{RoutePlan}
 use Rattle.route_pool.specs.Pool.{IsGrown, IsPool}
@@ -23,7 +23,7 @@ bound_of-requires-clause-over c =
     let p = c.args.pairs.now in
     let lp = c.in-Closed.lp in
     let closing = c.in-Closed.closing in
-    let over = subst (λ (e : Ended NodeRoute (Vec Label Global)). IsEnded (node_problem g p) (limits_of c.args.caps) e) c.in-Closed.is c.in_ok-lp.ensures in
+    let over = subst (λ (e : LoopEnd NodeRoute (Vec Label Global)). IsEnded (node_problem g p) (limits_of c.args.caps) e) c.in-Closed.is c.in_ok-lp.ensures in
     subst (λ (rs : List NodeRoute). IsPricedOut g p rs lp closing) (sym c.deref-in-Closed-3.ensures.value) (record {
       caps = limits_of c.args.caps;
       body = c.requires.body_cap;
@@ -36,7 +36,7 @@ pub wide_bound-requires-clause-routes : goal.wide_bound-requires-clause-routes
 wide_bound-requires-clause-routes c =
     let g = c.args.inst.now in
     let p = c.args.pairs.now in
-    let wide = subst (λ (e : Ended NodeRoute (Vec Label Global)). IsEnded (node_problem g p) (limits_of c.args.caps) e) c.in-Wide.is c.in_ok-lp.ensures in
+    let wide = subst (λ (e : LoopEnd NodeRoute (Vec Label Global)). IsEnded (node_problem g p) (limits_of c.args.caps) e) c.in-Wide.is c.in_ok-lp.ensures in
     subst (λ (ps : List RoutePlan). AreNodeRoutes g p ps) (sym c.in_ok-plans-in-Wide.ensures) (node_routes g p c.in-Wide.routes.items wide.routes_are)
 
 pub returns-in_ok-recent-in-Closed-clause-bound : goal.returns-in_ok-recent-in-Closed-clause-bound
@@ -56,7 +56,7 @@ returns-in_ok-plans-in-Wide-clause-bound c =
     let g = c.args.inst.now in
     let p = c.args.pairs.now in
     let caps = limits_of c.args.caps in
-    let wide = subst (λ (e : Ended NodeRoute (Vec Label Global)). IsEnded (node_problem g p) (limits_of c.args.caps) e) c.in-Wide.is c.in_ok-lp.ensures in
+    let wide = subst (λ (e : LoopEnd NodeRoute (Vec Label Global)). IsEnded (node_problem g p) (limits_of c.args.caps) e) c.in-Wide.is c.in_ok-lp.ensures in
     let past = wide_plans g p caps c.in-Wide.routes.items c.in-Wide.basis.items wide in
     let listed = subst (λ (ps : List RoutePlan). IsPastBasis g caps ps c.in-Wide.basis.items) (sym c.in_ok-plans-in-Wide.ensures) past in
     let numbered = subst (λ (js : List ℕ). IsPastBasis g caps c.in_ok-plans-in-Wide.plans.items js) (sym c.deref-in-Wide-2.ensures.value) listed in
