@@ -10,7 +10,7 @@ ghost use Rattle.near_pricing.specs.Questions.{IsQuestion, most_price};
 use crate::hopeless_labels;
 use completion_bounds::Completion;
 use instance_reader::Instance;
-use near_proof::{LabelFault, NearLabel, NearTerms, first_fault};
+use near_proof::{NearLabel, NearLabelFault, NearTerms, first_fault};
 use std::alloc::{AllocError, Global};
 use std::marker::Model;
 
@@ -79,7 +79,7 @@ impl<'a> Pricing<'a> {
         &self,
         alloc: Global,
         labels: &[NearLabel],
-    ) -> Result<Option<LabelFault>, AllocError>
+    ) -> Result<Option<NearLabelFault>, AllocError>
         requires { All (NearLabelFits self.now.network) labels.now }
         ensures { IfOk result (TellsFault self.now.network (record {
           terms = self.now.terms;

@@ -14,7 +14,7 @@ ghost use Rattle.near_proof.specs.Ranges.{AreAmong, NearLabelFits};
 
 use crate::asked::Pricing;
 use crate::steps::{Target, target_at, values_at};
-use near_proof::{LabelFault, NearLabel};
+use near_proof::{NearLabel, NearLabelFault};
 use piece_fn::PieceFn;
 use std::alloc::{AllocError, Global};
 
@@ -39,7 +39,7 @@ pub(crate) fn closed_with(
         let Some(fault) = pricing.first_fault(alloc, &labels)? else {
             return Ok(Some(labels));
         };
-        let LabelFault::Step { label, node } = fault else {
+        let NearLabelFault::Step { label, node } = fault else {
             return Ok(None);
         };
         if !list_step(alloc, pricing, &mut labels, label, node)? {

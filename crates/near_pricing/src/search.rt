@@ -22,7 +22,7 @@ use completion_bounds::Completion;
 use customer_sets::CustSet;
 use dominance::LabelValue;
 use index_links::IndexHeap;
-use near_proof::{LabelFault, NearLabel, earns_at_home};
+use near_proof::{NearLabel, NearLabelFault, earns_at_home};
 use piece_fn::PieceFn;
 use route_plan::RoutePlan;
 use std::alloc::{AllocError, Global};
@@ -325,7 +325,7 @@ impl Search<'_> {
         alloc: Global,
         pricing: &Pricing<'_>,
         labels: &[NearLabel],
-        fault: LabelFault,
+        fault: NearLabelFault,
     ) -> Result<(), AllocError>
         requires search { IsSearch pricing.now self.old }
         requires copies { AreCopies self.old.tree.found.items self.old.listed.items labels.now }
@@ -337,11 +337,11 @@ impl Search<'_> {
         ensures further { OnOk result (IsMended self.old self.new) }
     {
         match fault {
-            LabelFault::Start => self.settle(alloc, pricing, 0),
-            LabelFault::Step { label, node } => {
+            NearLabelFault::Start => self.settle(alloc, pricing, 0),
+            NearLabelFault::Step { label, node } => {
                 self.make_step(alloc, pricing, labels, label, node)
             }
-            LabelFault::End { label } => self.keep_listed(alloc, pricing, labels, label),
+            NearLabelFault::End { label } => self.keep_listed(alloc, pricing, labels, label),
         }
     }
 

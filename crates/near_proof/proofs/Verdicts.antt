@@ -18,8 +18,8 @@ use Rattle.near_proof.specs.declared.proof.NearLabel.{NearLabel}
 use Rattle.near_proof.specs.declared.proof.NearProof.{NearProof}
 use Rattle.near_proof.proofs.Rules.{inside}
 use Rattle.near_proof.specs.Verdicts.{IsVerdict}
-use Rattle.near_proof.specs.declared.faults.LabelFault.{LabelFault}
-use Rattle.near_proof.specs.declared.faults.LabelFault.TheVariants.{End, Start, Step}
+use Rattle.near_proof.specs.declared.faults.NearLabelFault.{NearLabelFault}
+use Rattle.near_proof.specs.declared.faults.NearLabelFault.TheVariants.{End, Start, Step}
 use Rattle.near_proof.specs.Faults.{IsFault, IsFirstFault, Judged, TellsFault}
 use Rattle.near_proof.specs.Judging.{as_verdict, judged_in, TellsBadEnd, TellsBadStep, TellsLoose, TellsTight}
 use Rattle.near_proof.proofs.LabelSteps.{not_uncovered}
@@ -128,7 +128,7 @@ module _ (g : Network) (p : NearProof) where
       before (at_tight y) (inl low) broken = omega (arith, low)
       before (at_tight y) (inr soon) broken = soon
 
-  pub fault_verdict : (fault : LabelFault) → TellsFault g (judged_in p) (Some fault) → IsVerdict g p (as_verdict fault)
+  pub fault_verdict : (fault : NearLabelFault) → TellsFault g (judged_in p) (Some fault) → IsVerdict g p (as_verdict fault)
   fault_verdict Start told = start_verdict told
   fault_verdict (Step label node) told = step_verdict label node told
   fault_verdict (End label) told = end_verdict label told

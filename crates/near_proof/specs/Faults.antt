@@ -7,8 +7,8 @@ use Rattle.near_proof.specs.Covered.{IsNearCovered}
 use Rattle.near_proof.specs.States.{near_start}
 use Rattle.near_proof.specs.Terms.{Terms}
 use Rattle.near_proof.specs.declared.proof.NearLabel.{NearLabel}
-use Rattle.near_proof.specs.declared.faults.LabelFault.{LabelFault}
-use Rattle.near_proof.specs.declared.faults.LabelFault.TheVariants.{End, Start, Step}
+use Rattle.near_proof.specs.declared.faults.NearLabelFault.{NearLabelFault}
+use Rattle.near_proof.specs.declared.faults.NearLabelFault.TheVariants.{End, Start, Step}
 use Rattle.near_proof.specs.declared.faults.NearTerms.{NearTerms}
 
 -- labels, and what near routes are judged by
@@ -37,7 +37,7 @@ pub record IsFirstFault (g : Network) (j : Judged) (at : Place) : Type 0 where
   pub first : (other : Place) → ComesBefore other at → IsFault g j other → ⊥
 
 -- that labels are closed, or the first place where they are not
-abbrev pub TellsFault : Network → Judged → Option LabelFault → Type 0
+abbrev pub TellsFault : Network → Judged → Option NearLabelFault → Type 0
 TellsFault g j None = AreClosed g j.terms j.labels
 TellsFault g j (Some Start) = IsFirstFault g j at_start
 TellsFault g j (Some (Step label node)) = IsFirstFault g j (at_step label node)

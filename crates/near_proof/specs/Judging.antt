@@ -17,15 +17,15 @@ use Rattle.near_proof.specs.declared.proof.NearLabel.{NearLabel}
 use Rattle.near_proof.specs.declared.proof.NearProof.{NearProof}
 use Rattle.near_proof.specs.declared.verdict.NearVerdict.{NearVerdict}
 use Rattle.near_proof.specs.declared.verdict.NearVerdict.TheVariants.{End as BadEnd, Start as NoStart, Step as BadStep}
-use Rattle.near_proof.specs.declared.faults.LabelFault.{LabelFault}
-use Rattle.near_proof.specs.declared.faults.LabelFault.TheVariants.{End, Start, Step}
+use Rattle.near_proof.specs.declared.faults.NearLabelFault.{NearLabelFault}
+use Rattle.near_proof.specs.declared.faults.NearLabelFault.TheVariants.{End, Start, Step}
 use Rattle.near_proof.specs.Faults.{IsFault, Judged, terms_in}
 use Rattle.near_proof.specs.Links.{AreEntries}
 use Rattle.near_proof.specs.declared.coverage.Target.{Target}
 use Rattle.near_proof.specs.declared.judge.Judge.{Judge}
 
 -- the verdict on a near proof whose labels are not closed
-abbrev pub as_verdict : LabelFault → NearVerdict
+abbrev pub as_verdict : NearLabelFault → NearVerdict
 as_verdict Start = NoStart
 as_verdict (Step label node) = BadStep label node
 as_verdict (End label) = BadEnd label

@@ -12,7 +12,7 @@ ghost use Rattle.near_proof.specs.Faults.{TellsFault};
 ghost use Rattle.near_proof.specs.Judging.{TellsLoose, TellsTight, as_verdict, judged_in};
 
 use crate::bound::bound_holds;
-use crate::faults::{LabelFault, NearTerms, first_fault};
+use crate::faults::{NearLabelFault, NearTerms, first_fault};
 use crate::tight::is_tight;
 use crate::{NearProof, NearVerdict};
 use instance_reader::Instance;
@@ -83,13 +83,13 @@ fn verdict_on(alloc: Global, inst: &Instance, proof: &NearProof) -> Result<NearV
 }
 
 /// The verdict on a near proof whose labels are not closed.
-fn verdict_by(fault: LabelFault) -> NearVerdict
+fn verdict_by(fault: NearLabelFault) -> NearVerdict
     ensures { result ≡ as_verdict fault }
 {
     match fault {
-        LabelFault::Start => NearVerdict::Start,
-        LabelFault::Step { label, node } => NearVerdict::Step { label, node },
-        LabelFault::End { label } => NearVerdict::End { label },
+        NearLabelFault::Start => NearVerdict::Start,
+        NearLabelFault::Step { label, node } => NearVerdict::Step { label, node },
+        NearLabelFault::End { label } => NearVerdict::End { label },
     }
 }
 
@@ -98,7 +98,7 @@ fn fault_of(
     alloc: Global,
     inst: &Instance,
     proof: &NearProof,
-) -> Result<Option<LabelFault>, AllocError>
+) -> Result<Option<NearLabelFault>, AllocError>
     requires few { length (customer_nodes inst.now) ≤ most_customers }
     requires fits { NearFits inst.now proof.now }
     ensures { IfOk result (TellsFault inst.now (judged_in proof.now)) }

@@ -30,7 +30,7 @@ pub struct NearTerms<'a> {
 
 /// Where labels are not closed. Labels are counted from 0.
 #[derive(Clone, Copy, Debug, PartialEq, Eq)]
-pub enum LabelFault {
+pub enum NearLabelFault {
     /// No label covers the start: the depot with a full battery at time 0, before any service.
     Start,
     /// A step from a level of the label to the node, a customer or a station, leads to a state that
@@ -52,7 +52,7 @@ pub fn first_fault(
     inst: &Instance,
     terms: NearTerms<'_>,
     labels: &[NearLabel],
-) -> Result<Option<LabelFault>, AllocError>
+) -> Result<Option<NearLabelFault>, AllocError>
     requires few { length (customer_nodes inst.now) ≤ most_customers }
     requires weight { terms.weight ≤ 1 }
     requires one_price { length terms.prices.now ≡ length (customer_nodes inst.now) }
@@ -71,13 +71,13 @@ pub fn first_fault(
         entries: entries.as_slice(),
     };
     if !judge.covers_start(alloc) {
-        return Ok(Some(LabelFault::Start));
+        return Ok(Some(NearLabelFault::Start));
     }
     if let Some((label, node)) = judge.bad_step(alloc)? {
-        return Ok(Some(LabelFault::Step { label, node }));
+        return Ok(Some(NearLabelFault::Step { label, node }));
     }
     match judge.bad_end()? {
-        Some(label) => Ok(Some(LabelFault::End { label })),
+        Some(label) => Ok(Some(NearLabelFault::End { label })),
         None => Ok(None),
     }
 }

@@ -25,7 +25,7 @@ mod verdict;
 pub use check::check_near;
 pub use earnings::{earned_by, price_total};
 pub use ends::earns_at_home;
-pub use faults::{LabelFault, NearTerms, first_fault};
+pub use faults::{NearLabelFault, NearTerms, first_fault};
 pub use laws::{
     a_near_route_pays_its_prices, accepted_bounds_are_true, accepted_prices_cannot_be_raised,
     accepted_proofs_break_no_rule,

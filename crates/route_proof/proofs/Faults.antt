@@ -9,8 +9,8 @@ use Rattle.route_proof.proofs.Rules.{closed_by_rules}
 use Rattle.route_proof.specs.Faults.{Breaks, TellsEnds, TellsLabels, TellsSteps}
 use Rattle.route_proof.specs.Questions.{Question}
 use Rattle.route_proof.specs.Tellings.{Misses, TellsFirst}
-use Rattle.route_proof.specs.declared.fault.LabelFault.{LabelFault}
-use Rattle.route_proof.specs.declared.fault.LabelFault.TheVariants.{End, Start, Step}
+use Rattle.route_proof.specs.declared.fault.RouteLabelFault.{RouteLabelFault}
+use Rattle.route_proof.specs.declared.fault.RouteLabelFault.TheVariants.{End, Start, Step}
 use Rattle.route_proof.specs.declared.steps.Missed.{Missed}
 
 module _ (q : Question) (n : ℕ) (label : RouteLabel) (here : slice_get q.labels n ≡ Some label) where
@@ -55,7 +55,7 @@ no_ends q n all before m fault =
     before m (omega (arith, within, all)) fault
 
 -- the first broken rule of all
-pub step_told : (q : Question) (fault : LabelFault) → (Breaks q at_start → ⊥) → TellsSteps q (Some fault) → TellsLabels q (Some fault)
+pub step_told : (q : Question) (fault : RouteLabelFault) → (Breaks q at_start → ⊥) → TellsSteps q (Some fault) → TellsLabels q (Some fault)
 step_told q Start begins first = absurd first
 step_told q (Step n x via) begins first = record { broken = first.0; first = none_before }
   where
@@ -65,7 +65,7 @@ step_told q (Step n x via) begins first = record { broken = first.0; first = non
     none_before (at_home m) before fault = before
 step_told q (End n) begins first = absurd first
 
-pub end_told : (q : Question) (o : Option LabelFault) → (Breaks q at_start → ⊥) → TellsSteps q None → TellsEnds q o → TellsLabels q o
+pub end_told : (q : Question) (o : Option RouteLabelFault) → (Breaks q at_start → ⊥) → TellsSteps q None → TellsEnds q o → TellsLabels q o
 end_told q None begins steps ends = (closed_by_rules q.journey q.bar q.labels).1 none
   where
     none : (at : Place) → Breaks q at → ⊥

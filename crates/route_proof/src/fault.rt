@@ -2,7 +2,7 @@
 
 /// The first rule that the labels of a route break. Labels are counted from 0.
 #[derive(Clone, Copy, Debug, PartialEq, Eq)]
-pub enum LabelFault {
+pub enum RouteLabelFault {
     /// No label covers the start.
     Start,
     /// A step from the label leads to a vehicle below the bar that no label covers: to the node as

@@ -10,7 +10,7 @@ ghost use Rattle.route_proof.specs.Verdicts.{IsVerdict};
 ghost use Rattle.route_proof.specs.Faults.{TellsEnds, TellsLabels, TellsStart, TellsSteps};
 
 use crate::asking::Asked;
-use crate::fault::LabelFault;
+use crate::fault::RouteLabelFault;
 use crate::judged::Judged;
 use crate::plan::bar_of;
 use crate::steps::Missed;
@@ -63,9 +63,13 @@ pub fn check_route(
     };
     match first_fault(alloc, inst, route, start, bar, proof.labels.as_slice())? {
         None => Ok(RouteVerdict::Accepted),
-        Some(LabelFault::Start) => Ok(RouteVerdict::Start),
-        Some(LabelFault::Step { label, node, via }) => Ok(RouteVerdict::Step { label, node, via }),
-        Some(LabelFault::End { label }) => Ok(RouteVerdict::End { label }),
+        Some(RouteLabelFault::Start) => Ok(RouteVerdict::Start),
+        Some(RouteLabelFault::Step { label, node, via }) => Ok(RouteVerdict::Step {
+            label,
+            node,
+            via,
+        }),
+        Some(RouteLabelFault::End { label }) => Ok(RouteVerdict::End { label }),
     }
 }
 
@@ -78,7 +82,7 @@ pub fn first_fault(
     start: u64,
     bar: u64,
     labels: &[RouteLabel],
-) -> Result<Option<LabelFault>, AllocError>
+) -> Result<Option<RouteLabelFault>, AllocError>
     requires route { IsRoute inst.now route.now }
     requires labels { All (RouteLabelFits inst.now route.now) labels.now }
     ensures { IfOk result (TellsLabels (record {
@@ -89,7 +93,7 @@ pub fn first_fault(
 {
     let judged = Judged::new(alloc, inst, route, start, bar, labels)?;
     if !judged.covers_start(alloc) {
-        return Ok(Some(LabelFault::Start));
+        return Ok(Some(RouteLabelFault::Start));
     }
     if let Some(fault) = judged.first_step(alloc)? {
         return Ok(Some(fault));
@@ -110,24 +114,24 @@ impl Judged<'_> {
     }
 
     /// The first step to a vehicle below the bar that is not covered, if there is one.
-    fn first_step(&self, alloc: Global) -> Result<Option<LabelFault>, AllocError>
+    fn first_step(&self, alloc: Global) -> Result<Option<RouteLabelFault>, AllocError>
         ensures { IfOk result (TellsSteps self.now) }
     {
         for label in 0..self.count() {
             if let Some(Missed { node, via }) = self.uncovered_step(alloc, self.label(label))? {
-                return Ok(Some(LabelFault::Step { label, node, via }));
+                return Ok(Some(RouteLabelFault::Step { label, node, via }));
             }
         }
         Ok(None)
     }
 
     /// The first label from which a step home ends below the bar, if there is one.
-    fn first_end(&self, alloc: Global) -> Result<Option<LabelFault>, AllocError>
+    fn first_end(&self, alloc: Global) -> Result<Option<RouteLabelFault>, AllocError>
         ensures { IfOk result (TellsEnds self.now) }
     {
         for label in 0..self.count() {
             if self.ends_below(alloc, self.label(label))? {
-                return Ok(Some(LabelFault::End { label }));
+                return Ok(Some(RouteLabelFault::End { label }));
             }
         }
         Ok(None)

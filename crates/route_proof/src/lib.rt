@@ -27,7 +27,7 @@ mod verdict_text;
 mod writing;
 
 pub use certificate_parts::CertText;
-pub use fault::LabelFault;
+pub use fault::RouteLabelFault;
 pub use judge::{check_route, first_fault};
 pub use laws::{closed_labels_are_true, closed_where_no_rule_is_broken};
 pub use proof::{RouteLabel, RouteProof};

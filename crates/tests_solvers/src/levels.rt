@@ -3,7 +3,7 @@
 
 use fixed_certificate::RouteLabel;
 use instance_reader::Instance;
-use route_proof::LabelFault;
+use route_proof::RouteLabelFault;
 
 /// A vehicle about to leave a node: how much of the route it has passed, its level and its time.
 #[derive(Clone, Copy)]
@@ -158,15 +158,15 @@ impl List<'_> {
     }
 
     /// The first step to a vehicle that is missed.
-    fn first_step(&self) -> Option<LabelFault> {
+    fn first_step(&self) -> Option<RouteLabelFault> {
         for (label, from) in self.labels.iter().enumerate() {
             if let Some(node) = self.missed_next(from) {
                 let via = false;
-                return Some(LabelFault::Step { label, node, via });
+                return Some(RouteLabelFault::Step { label, node, via });
             }
             if let Some(node) = self.missed_station(from) {
                 let via = true;
-                return Some(LabelFault::Step { label, node, via });
+                return Some(RouteLabelFault::Step { label, node, via });
             }
         }
         None
@@ -197,13 +197,13 @@ impl List<'_> {
     }
 
     /// The first label from which a step home ends below the bar.
-    fn first_end(&self) -> Option<LabelFault> {
+    fn first_end(&self) -> Option<RouteLabelFault> {
         let label = self.labels.iter().position(|label| self.ends_below(label))?;
-        Some(LabelFault::End { label })
+        Some(RouteLabelFault::End { label })
     }
 
     /// The first broken rule, if there is one.
-    pub(crate) fn fault(&self) -> Option<LabelFault> {
+    pub(crate) fn fault(&self) -> Option<RouteLabelFault> {
         let begin = Vehicle {
             passed: 0,
             node: 0,
@@ -211,7 +211,7 @@ impl List<'_> {
             time: 0,
         };
         if self.bar > 0 && !self.covers(&begin) {
-            return Some(LabelFault::Start);
+            return Some(RouteLabelFault::Start);
         }
         match self.first_step() {
             Some(fault) => Some(fault),

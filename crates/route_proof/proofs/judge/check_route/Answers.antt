@@ -7,7 +7,7 @@ use Rattle.route_proof.specs.declared.verdict.RouteVerdict.{RouteVerdict}
 use Rattle.route_proof.proofs.HomeBounds.{accepted_is_true}
 use Rattle.route_steps.specs.Trips.{Journey}
 use Rattle.route_proof.specs.Faults.{TellsLabels}
-use Rattle.route_proof.specs.declared.fault.LabelFault.{LabelFault}
+use Rattle.route_proof.specs.declared.fault.RouteLabelFault.{RouteLabelFault}
 use Rattle.route_proof.proofs.judge.check_route.Goals as goal
 
 pub returns-in-Err-clause-shows : goal.returns-in-Err-clause-shows
@@ -19,7 +19,7 @@ returns-in-Err-clause-shows c is =
 pub returns-in-None-clause-shows : goal.returns-in-None-clause-shows
 returns-in-None-clause-shows c is =
     let t : Journey = record { network = c.args.inst.now; route = c.args.route.now; start = c.args.start } in
-    let told = subst (λ (o : Option LabelFault). TellsLabels (record { journey = record { network = c.args.inst.now; route = c.args.route.now; start = c.args.start }; bar = c.in-Ok.bar; labels = c.as_slice.result.now }) o) c.in-None.is c.in_ok-first_fault.ensures in
+    let told = subst (λ (o : Option RouteLabelFault). TellsLabels (record { journey = record { network = c.args.inst.now; route = c.args.route.now; start = c.args.start }; bar = c.in-Ok.bar; labels = c.as_slice.result.now }) o) c.in-None.is c.in_ok-first_fault.ensures in
     let listed = subst (λ (ls : List RouteLabel). AreClosed (record { network = c.args.inst.now; route = c.args.route.now; start = c.args.start }) c.in-Ok.bar ls) c.as_slice.ensures told in
     let closed = subst (λ b. AreClosed (record { network = c.args.inst.now; route = c.args.route.now; start = c.args.start }) b c.args.proof.now.labels) c.in-Ok.ensures.bar listed in
     let accepted : IsAccepted t c.args.proof.now = record { plan = c.in-Ok.ensures.good; closed = closed } in
