@@ -1,6 +1,6 @@
 pub mod Answers
 pub mod Questions
-pub mod PricingInside
+pub mod Inside
 pub mod Better
 pub mod Steps
 pub mod Placed

@@ -8,7 +8,7 @@ ghost use Rattle.near_proof.specs.Ranges.{NearLabelFits, SetsFit};
 ghost use Rattle.near_pricing.specs.Answers.{IsNearPriced};
 ghost use Rattle.near_pricing.specs.Tree.{IsSearch};
 
-use crate::asked::Pricing;
+use crate::asked::Question;
 use crate::coverage::Care;
 use crate::listing::{closed_with, list_all};
 use crate::priced::{NearPriced, Prices};
@@ -63,7 +63,7 @@ pub fn near_price(
         prices: prices.of.as_slice(),
         sets,
     };
-    let pricing = Pricing::new(inst, terms);
+    let pricing = Question::new(inst, terms);
     let table = completion_of(alloc, &pricing)?;
     priced_by(alloc, &pricing, &table)
 }
@@ -71,7 +71,7 @@ pub fn near_price(
 /// The answer with what a table leaves out.
 fn priced_by(
     alloc: Global,
-    pricing: &Pricing<'_>,
+    pricing: &Question<'_>,
     table: &Completion,
 ) -> Result<NearPriced, AllocError>
     ensures { IfOk result (IsNearPriced pricing.now.network pricing.now.terms) }
@@ -90,7 +90,7 @@ fn priced_by(
 /// The answer once an exact search has found no route.
 fn closed_after(
     alloc: Global,
-    pricing: &Pricing<'_>,
+    pricing: &Question<'_>,
     table: &Completion,
     exact: &Search<'_>,
 ) -> Result<NearPriced, AllocError>
@@ -117,7 +117,7 @@ fn most_mends(table: &Completion) -> usize {
 /// A search that has come to its end.
 fn found_with<'a>(
     alloc: Global,
-    pricing: &Pricing<'_>,
+    pricing: &Question<'_>,
     table: &'a Completion,
     care: Care,
 ) -> Result<Search<'a>, AllocError>
@@ -130,7 +130,7 @@ fn found_with<'a>(
 
 /// The answer of the search whose labels are all real, and make each other needless only where
 /// they cover each other's states.
-fn certain(alloc: Global, pricing: &Pricing<'_>) -> Result<NearPriced, AllocError>
+fn certain(alloc: Global, pricing: &Question<'_>) -> Result<NearPriced, AllocError>
     ensures { IfOk result (IsNearPriced pricing.now.network pricing.now.terms) }
 {
     let none = Completion::none(alloc);
@@ -150,7 +150,7 @@ fn certain(alloc: Global, pricing: &Pricing<'_>) -> Result<NearPriced, AllocErro
 }
 
 /// The labels, which are closed.
-fn closed_by(pricing: &Pricing<'_>, labels: Vec<NearLabel>) -> NearPriced
+fn closed_by(pricing: &Question<'_>, labels: Vec<NearLabel>) -> NearPriced
     requires closed { AreClosed pricing.now.network pricing.now.terms labels.items }
     requires fit { All (NearLabelFits pricing.now.network) labels.items }
     ensures { IsNearPriced pricing.now.network pricing.now.terms result }
@@ -162,7 +162,7 @@ fn closed_by(pricing: &Pricing<'_>, labels: Vec<NearLabel>) -> NearPriced
 }
 
 /// The best route that a search found.
-fn better_of(pricing: &Pricing<'_>, search: Search<'_>) -> NearPriced
+fn better_of(pricing: &Question<'_>, search: Search<'_>) -> NearPriced
     requires search { IsSearch pricing.now search }
     requires some { 0 < length search.routes.items }
     ensures { IsNearPriced pricing.now.network pricing.now.terms result }

@@ -16,25 +16,25 @@ use std::marker::Model;
 
 /// What near routes are judged by, on an instance. Contracts see these.
 #[derive(Drop)]
-pub(crate) struct Pricing<'a> {
+pub(crate) struct Question<'a> {
     inst: &'a Instance,
     terms: NearTerms<'a>,
 }
 
-impl<'a> Model for Pricing<'a> {
+impl<'a> Model for Question<'a> {
     ghost use Rattle.near_pricing.specs.Questions.{Question};
-    ghost use Rattle.near_pricing.specs.PricingInside.{IsPricing, question};
+    ghost use Rattle.near_pricing.specs.Inside.{IsSoundQuestion, question};
 
     ghost Value = { Question };
 
     ghost view = { question };
 
-    ghost invariant = { IsPricing };
+    ghost invariant = { IsSoundQuestion };
 }
 
-impl<'a> Pricing<'a> {
+impl<'a> Question<'a> {
     /// The question.
-    pub(crate) fn new(inst: &'a Instance, terms: NearTerms<'a>) -> Pricing<'a>
+    pub(crate) fn new(inst: &'a Instance, terms: NearTerms<'a>) -> Question<'a>
         requires few { length (customer_nodes inst.now) ≤ most_customers }
         requires weight { terms.weight ≤ 1 }
         requires one_price { length terms.prices.now ≡ length (customer_nodes inst.now) }
@@ -44,7 +44,7 @@ impl<'a> Pricing<'a> {
     {
         // That the instance's network is one is told by its calls.
         let _nodes = inst.nodes();
-        Pricing { inst, terms }
+        Question { inst, terms }
     }
 
     /// The instance.

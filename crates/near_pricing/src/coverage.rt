@@ -6,7 +6,7 @@ ghost use Rattle.ev_model.specs.Network.{node_count};
 ghost use Rattle.piece_fn.specs.PieceFn.{level_times};
 ghost use Rattle.near_pricing.specs.Tree.{IsTree};
 
-use crate::asked::Pricing;
+use crate::asked::Question;
 use crate::found::Tree;
 use crate::groups::{Brief, Detail, Gap, Group};
 use dominance::LabelValue;
@@ -63,7 +63,7 @@ impl Asked<'_> {
 impl Tree {
     /// The first level of the label at which no other one has that level or a higher one at no more
     /// cost and no later; `None` where others make it needless.
-    pub(crate) fn gap(&self, pricing: &Pricing<'_>, asked: &Asked<'_>) -> Option<Gap>
+    pub(crate) fn gap(&self, pricing: &Question<'_>, asked: &Asked<'_>) -> Option<Gap>
         requires tree { IsTree pricing.now self.now.found.items self.now.groups.items }
         requires node { asked.now.label.now.node < node_count pricing.now.network }
     {
@@ -87,7 +87,7 @@ impl Tree {
     ///
     /// Those that it was compared with leave the level of the gap open, so the later ones are asked
     /// first whether they close it.
-    pub(crate) fn makes_needless(&self, pricing: &Pricing<'_>, asked: &Asked<'_>, gap: Gap) -> bool
+    pub(crate) fn makes_needless(&self, pricing: &Question<'_>, asked: &Asked<'_>, gap: Gap) -> bool
         requires tree { IsTree pricing.now self.now.found.items self.now.groups.items }
         requires node { asked.now.label.now.node < node_count pricing.now.network }
     {
@@ -104,7 +104,7 @@ impl Tree {
     /// where none does so at that level.
     fn reach(
         &self,
-        pricing: &Pricing<'_>,
+        pricing: &Question<'_>,
         asked: &Asked<'_>,
         group: &Group,
         first: usize,

@@ -3,7 +3,7 @@
 ghost use Rattle.std.specs.Prelude.{◌≡◌, ◌+◌, ◌<◌, IfOk, IfSome, OnOk, length};
 ghost use Rattle.near_pricing.specs.Tree.{HasOrigin, IsGrown, IsInRange, IsTree};
 
-use crate::asked::Pricing;
+use crate::asked::Question;
 use crate::groups::{Gap, Group, no_labels};
 use near_proof::NearLabel;
 use std::alloc::{AllocError, Global};
@@ -29,7 +29,7 @@ pub(crate) struct Tree {
 
 impl Tree {
     /// No label.
-    pub(crate) fn new(alloc: Global, pricing: &Pricing<'_>) -> Result<Tree, AllocError>
+    pub(crate) fn new(alloc: Global, pricing: &Question<'_>) -> Result<Tree, AllocError>
         ensures tree { IfOk result (λ t. IsTree pricing.now t.found.items t.groups.items) }
         ensures none { IfOk result (λ t. length t.found.items ≡ 0) }
     {
@@ -42,7 +42,7 @@ impl Tree {
     /// Puts a label behind the others and answers its number.
     pub(crate) fn push(
         &mut self,
-        pricing: &Pricing<'_>,
+        pricing: &Question<'_>,
         label: NearLabel,
         parent: Option<usize>,
         gap: Gap,

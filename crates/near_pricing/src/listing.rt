@@ -12,7 +12,7 @@ ghost use Rattle.label_steps.specs.Arrivals.{IsWithin};
 ghost use Rattle.near_proof.specs.Closed.{AreClosed};
 ghost use Rattle.near_proof.specs.Ranges.{AreAmong, NearLabelFits};
 
-use crate::asked::Pricing;
+use crate::asked::Question;
 use crate::steps::{Target, target_at, values_at};
 use near_proof::{NearLabel, NearLabelFault};
 use piece_fn::PieceFn;
@@ -25,7 +25,7 @@ const MOST_EARNED: u128 = 1 << 96;
 /// enough, or would be too much, or a step home earns more than it takes.
 pub(crate) fn closed_with(
     alloc: Global,
-    pricing: &Pricing<'_>,
+    pricing: &Question<'_>,
     mut labels: Vec<NearLabel>,
     most: usize,
 ) -> Result<Option<Vec<NearLabel>>, AllocError>
@@ -51,7 +51,7 @@ pub(crate) fn closed_with(
 
 /// Lists labels, as before any service.
 pub(crate) fn list_all(
-    pricing: &Pricing<'_>,
+    pricing: &Question<'_>,
     listed: &mut Vec<NearLabel>,
     mut labels: Vec<NearLabel>,
 ) -> Result<(), AllocError>
@@ -71,7 +71,7 @@ pub(crate) fn list_all(
 /// to any that may be listed.
 fn list_step(
     alloc: Global,
-    pricing: &Pricing<'_>,
+    pricing: &Question<'_>,
     labels: &mut Vec<NearLabel>,
     number: usize,
     node: usize,
@@ -101,7 +101,7 @@ fn list_step(
 
 /// Lists the labels with these values.
 fn list_values(
-    pricing: &Pricing<'_>,
+    pricing: &Question<'_>,
     labels: &mut Vec<NearLabel>,
     node: usize,
     target: &Target,
@@ -121,7 +121,7 @@ fn list_values(
 }
 
 /// The label at a node with a value, as before any service.
-fn without_count(pricing: &Pricing<'_>, node: usize, target: &Target, value: PieceFn) -> NearLabel
+fn without_count(pricing: &Question<'_>, node: usize, target: &Target, value: PieceFn) -> NearLabel
     requires node { node < node_count pricing.now.network }
     requires memory { AreAmong (customer_count pricing.now.network) target.now.memory }
     requires earned { target.now.earned ≤ greatest_bound }

@@ -7,7 +7,7 @@ ghost use Rattle.near_pricing.specs.Better.{HasBetter};
 ghost use Rattle.near_pricing.specs.Tree.{IsBetterPlan, IsTree};
 ghost use Rattle.near_pricing.specs.declared.found.Found.{Found};
 
-use crate::asked::Pricing;
+use crate::asked::Question;
 use crate::found::Tree;
 use frvcp_labels::solve_route;
 use instance_reader::Instance;
@@ -17,7 +17,7 @@ use std::alloc::{AllocError, Global};
 /// A fastest plan of the route of a label that earns more than it takes at home.
 pub(crate) fn route_of(
     alloc: Global,
-    pricing: &Pricing<'_>,
+    pricing: &Question<'_>,
     tree: &Tree,
     home: usize,
 ) -> Result<RoutePlan, AllocError>
@@ -34,7 +34,7 @@ pub(crate) fn route_of(
 /// A fastest plan that serves the customers at these nodes in this order.
 fn fastest_in(
     alloc: Global,
-    pricing: &Pricing<'_>,
+    pricing: &Question<'_>,
     order: Vec<usize>,
 ) -> Result<RoutePlan, AllocError>
     requires { HasBetter pricing.now order.items }
@@ -64,7 +64,7 @@ impl Tree {
     fn order_of(
         &self,
         alloc: Global,
-        pricing: &Pricing<'_>,
+        pricing: &Question<'_>,
         home: usize,
     ) -> Result<Vec<usize>, AllocError>
         requires tree { IsTree pricing.now self.now.found.items self.now.groups.items }

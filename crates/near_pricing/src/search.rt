@@ -10,7 +10,7 @@ ghost use Rattle.near_pricing.specs.Placed.{CanStep};
 ghost use Rattle.near_pricing.specs.Tree.{AreCopies, AreSteps, HasOrigin, IsFurther, IsGrown, IsInRange, IsMended, IsSearch, IsTree};
 ghost use Rattle.near_pricing.specs.declared.found.Found.{Found};
 
-use crate::asked::Pricing;
+use crate::asked::Question;
 use crate::coverage::{Asked, Care};
 use crate::found::Tree;
 use crate::gain::gain_at_home;
@@ -53,7 +53,7 @@ impl<'a> Search<'a> {
     /// A search in which the start waits.
     pub(crate) fn new(
         alloc: Global,
-        pricing: &Pricing<'_>,
+        pricing: &Question<'_>,
         table: &'a Completion,
         care: Care,
     ) -> Result<Search<'a>, AllocError>
@@ -84,7 +84,7 @@ impl<'a> Search<'a> {
 
     /// Takes the labels that wait, by least time, and makes the steps from those that are not
     /// needless, until none waits or enough earn more than they take.
-    pub(crate) fn run(&mut self, alloc: Global, pricing: &Pricing<'_>) -> Result<(), AllocError>
+    pub(crate) fn run(&mut self, alloc: Global, pricing: &Question<'_>) -> Result<(), AllocError>
         requires { IsSearch pricing.now self.old }
         ensures search { OnOk result (IsSearch pricing.now self.new) }
         ensures listed { OnOk result (length self.old.listed.items ≤ length self.new.listed.items) }
@@ -102,7 +102,7 @@ impl<'a> Search<'a> {
     fn take(
         &mut self,
         alloc: Global,
-        pricing: &Pricing<'_>,
+        pricing: &Question<'_>,
         number: usize,
     ) -> Result<(), AllocError>
         requires search { IsSearch pricing.now self.old }
@@ -117,7 +117,7 @@ impl<'a> Search<'a> {
     }
 
     /// Whether labels that were taken before make a label needless.
-    fn is_needless(&self, pricing: &Pricing<'_>, number: usize) -> bool
+    fn is_needless(&self, pricing: &Question<'_>, number: usize) -> bool
         requires search { IsSearch pricing.now self.now }
         requires known { number < length self.now.tree.found.items }
     {
@@ -136,7 +136,7 @@ impl<'a> Search<'a> {
     fn settle(
         &mut self,
         alloc: Global,
-        pricing: &Pricing<'_>,
+        pricing: &Question<'_>,
         number: usize,
     ) -> Result<(), AllocError>
         requires search { IsSearch pricing.now self.old }
@@ -158,7 +158,7 @@ impl<'a> Search<'a> {
     fn look_home(
         &mut self,
         alloc: Global,
-        pricing: &Pricing<'_>,
+        pricing: &Question<'_>,
         number: usize,
     ) -> Result<(), AllocError>
         requires search { IsSearch pricing.now self.old }
@@ -185,7 +185,7 @@ impl<'a> Search<'a> {
     fn keep_route(
         &mut self,
         alloc: Global,
-        pricing: &Pricing<'_>,
+        pricing: &Question<'_>,
         number: usize,
     ) -> Result<(), AllocError>
         requires search { IsSearch pricing.now self.old }
@@ -206,7 +206,7 @@ impl<'a> Search<'a> {
     fn go(
         &mut self,
         alloc: Global,
-        pricing: &Pricing<'_>,
+        pricing: &Question<'_>,
         from: usize,
         node: usize,
         budget: u64,
@@ -239,7 +239,7 @@ impl<'a> Search<'a> {
     /// Lets the labels with these values wait, where they are not needless.
     fn add_all(
         &mut self,
-        pricing: &Pricing<'_>,
+        pricing: &Question<'_>,
         from: usize,
         node: usize,
         target: &Target,
@@ -262,7 +262,7 @@ impl<'a> Search<'a> {
     /// Lets a label wait, where it is not needless.
     fn add(
         &mut self,
-        pricing: &Pricing<'_>,
+        pricing: &Question<'_>,
         from: usize,
         label: NearLabel,
     ) -> Result<(), AllocError>
@@ -303,7 +303,7 @@ impl Search<'_> {
     pub(crate) fn labels(
         &self,
         alloc: Global,
-        pricing: &Pricing<'_>,
+        pricing: &Question<'_>,
     ) -> Result<Vec<NearLabel>, AllocError>
         requires { IsSearch pricing.now self.now }
         ensures copies { IfOk result (λ labels.
@@ -323,7 +323,7 @@ impl Search<'_> {
     pub(crate) fn mend(
         &mut self,
         alloc: Global,
-        pricing: &Pricing<'_>,
+        pricing: &Question<'_>,
         labels: &[NearLabel],
         fault: NearLabelFault,
     ) -> Result<(), AllocError>
@@ -349,7 +349,7 @@ impl Search<'_> {
     fn keep_listed(
         &mut self,
         alloc: Global,
-        pricing: &Pricing<'_>,
+        pricing: &Question<'_>,
         labels: &[NearLabel],
         label: usize,
     ) -> Result<(), AllocError>
@@ -372,7 +372,7 @@ impl Search<'_> {
     fn make_step(
         &mut self,
         alloc: Global,
-        pricing: &Pricing<'_>,
+        pricing: &Question<'_>,
         labels: &[NearLabel],
         label: usize,
         node: usize,
@@ -394,7 +394,7 @@ impl Search<'_> {
     fn force(
         &mut self,
         alloc: Global,
-        pricing: &Pricing<'_>,
+        pricing: &Question<'_>,
         from: usize,
         node: usize,
     ) -> Result<(), AllocError>
@@ -418,7 +418,7 @@ impl Search<'_> {
     fn force_all(
         &mut self,
         alloc: Global,
-        pricing: &Pricing<'_>,
+        pricing: &Question<'_>,
         from: usize,
         node: usize,
         target: &Target,
@@ -442,7 +442,7 @@ impl Search<'_> {
     fn force_one(
         &mut self,
         alloc: Global,
-        pricing: &Pricing<'_>,
+        pricing: &Question<'_>,
         from: usize,
         label: NearLabel,
     ) -> Result<(), AllocError>
@@ -485,7 +485,7 @@ fn copy_of(alloc: Global, label: &NearLabel) -> Result<NearLabel, AllocError>
 fn put(
     tree: &mut Tree,
     queue: &mut IndexHeap,
-    pricing: &Pricing<'_>,
+    pricing: &Question<'_>,
     label: NearLabel,
     parent: Option<usize>,
     gap: Gap,

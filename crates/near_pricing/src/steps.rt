@@ -6,7 +6,7 @@ ghost use Rattle.instance_reader.specs.Instance.{customer_nodes};
 ghost use Rattle.near_pricing.specs.Placed.{CanStep, IsPlaced, IsServedAt};
 ghost use Rattle.near_pricing.specs.Steps.{IsLeft, Leads, with_value};
 
-use crate::asked::Pricing;
+use crate::asked::Question;
 use customer_sets::CustSet;
 use label_steps::{arrival, departures};
 use near_proof::{NearLabel, remembered};
@@ -41,7 +41,7 @@ impl Target {
 
 /// Where the step from a label to a node leads, if one may be made: to a station, or to a customer
 /// who isn't remembered, after fewer services than there are customers. It takes no memory.
-pub(crate) fn target_at(pricing: &Pricing<'_>, from: &NearLabel, node: usize) -> Option<Target>
+pub(crate) fn target_at(pricing: &Question<'_>, from: &NearLabel, node: usize) -> Option<Target>
     requires label { IsPlaced pricing.now.network from.now }
     requires node { node < node_count pricing.now.network }
     ensures leads { IfSome result (λ t. (value : List (ℕ × ℕ)) →
@@ -72,7 +72,7 @@ pub(crate) fn target_at(pricing: &Pricing<'_>, from: &NearLabel, node: usize) ->
 }
 
 /// What is common to the labels after serving a customer.
-fn after_service(pricing: &Pricing<'_>, from: &NearLabel, customer: usize) -> Target
+fn after_service(pricing: &Question<'_>, from: &NearLabel, customer: usize) -> Target
     requires label { IsPlaced pricing.now.network from.now }
     requires known { customer < length (customer_nodes pricing.now.network) }
     requires fewer { from.now.count < length (customer_nodes pricing.now.network) }
@@ -91,7 +91,7 @@ fn after_service(pricing: &Pricing<'_>, from: &NearLabel, customer: usize) -> Ta
 /// or the limit does not let the vehicle come so far.
 pub(crate) fn values_at(
     alloc: Global,
-    pricing: &Pricing<'_>,
+    pricing: &Question<'_>,
     from: &NearLabel,
     node: usize,
 ) -> Result<Vec<PieceFn>, AllocError>

@@ -3,7 +3,7 @@
 ghost use Rattle.std.specs.Prelude.{◌<◌};
 ghost use Rattle.ev_model.specs.Network.{node_count};
 
-use crate::asked::Pricing;
+use crate::asked::Question;
 use completion_bounds::{Completion, Terms};
 use customer_sets::CustSet;
 use instance_reader::{Instance, MOST_CUSTOMERS};
@@ -16,7 +16,7 @@ const LAYERS: u64 = 100;
 /// The table of a question. A search leaves out what can't earn by it; no promise rests on it.
 pub(crate) fn completion_of(
     alloc: Global,
-    pricing: &Pricing<'_>,
+    pricing: &Question<'_>,
 ) -> Result<Completion, AllocError> {
     let terms = pricing.terms();
     let mut prices = Vec::new(alloc);
@@ -55,7 +55,7 @@ pub(crate) fn is_beyond(table: &Completion, label: &NearLabel) -> bool {
 /// Whether no way home earns from behind the arc from a label with a budget to a customer, by the
 /// table, whoever else is remembered there. It spares most steps the look at who is.
 pub(crate) fn is_left_out(
-    pricing: &Pricing<'_>,
+    pricing: &Question<'_>,
     table: &Completion,
     from: &NearLabel,
     node: usize,
