@@ -28,6 +28,6 @@ pub use laws::{
     accepted_bounds_are_true, accepted_where_no_rule_is_broken, exact_roots_are_least_covers,
 };
 pub use master_simplex::ListedRoute;
-pub use rounding::{price_sum, rounded_up};
+pub use rounding::{rounded_up, unsigned_total};
 pub use routes::fleet_route;
 pub use verdict::Verdict;

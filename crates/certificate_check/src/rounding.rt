@@ -9,7 +9,7 @@ ghost use Rattle.certificate_check.specs.RoundedUp.{IsRoundedUp};
 use crate::price_total;
 
 /// The sum of all prices, where it isn't below 0. It takes no memory.
-pub fn price_sum(prices: &[i128]) -> u128
+pub fn unsigned_total(prices: &[i128]) -> u128
     requires few { length prices.now ≤ 128 }
     requires small { All IsPrice prices.now }
     requires some { pos 0 ≤ℤ sum_of prices.now }

@@ -10,7 +10,7 @@ ghost use Rattle.ev_fleet.specs.Bounds.{IsBoundOf};
 ghost use Rattle.ev_fleet.specs.State.{greater_of};
 
 use bound_certificate::Section;
-use certificate_check::{price_sum, rounded_up};
+use certificate_check::{rounded_up, unsigned_total};
 
 /// The bound of a section: its price sum over its weight, rounded up, where the weight is above 0;
 /// `None`, that there is no plan, where the weight is 0 and the price sum above 0; and else 0.
@@ -21,7 +21,7 @@ pub(crate) fn bound_of(section: &Section) -> Option<u128>
     ensures bound { IsBoundOf (priced_section section.now) result }
     ensures small { IfSome result (λ bound. bound ≤ greatest_bound) }
 {
-    let sum = price_sum(section.prices.as_slice());
+    let sum = unsigned_total(section.prices.as_slice());
     if section.weight == 0 {
         return if sum == 0 { Some(0) } else { None };
     }

@@ -7,7 +7,7 @@ ghost use Rattle.certificate_parts.specs.Ranges.{IsPrice};
 ghost use Rattle.fleet_model.specs.Prices.{sum_of};
 ghost use Rattle.mixed_fleet.specs.Proofs.{IsBoundOf};
 
-use certificate_check::{price_sum, rounded_up};
+use certificate_check::{rounded_up, unsigned_total};
 
 /// The bound by prices: their sum over the weight, rounded up; `None`, that there is no plan, where
 /// the weight is 0.
@@ -19,7 +19,7 @@ pub(crate) fn bound_of(weight: u64, prices: &[i128]) -> Option<u128>
     ensures bound { IsBoundOf weight prices.now result }
     ensures small { IfSome result (λ bound. bound ≤ greatest_bound) }
 {
-    let sum = price_sum(prices);
+    let sum = unsigned_total(prices);
     if weight == 0 {
         return None;
     }

@@ -2,7 +2,7 @@ use Rattle.std.proofs.Common.{◌≡◌, ◌∙◌, pos, ◌^◌, ◌≤◌, ◌
 use Rattle.std.specs.Int.{w128}
 use Rattle.std.proofs.lemmas.Int.{ints}
 use Rattle.fleet_model.specs.Prices.{sum_of}
-use Rattle.certificate_check.proofs.rounding.price_sum.Goals as goal
+use Rattle.certificate_check.proofs.rounding.unsigned_total.Goals as goal
 
 pub returns : goal.returns
 returns c =
