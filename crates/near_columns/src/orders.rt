@@ -5,7 +5,7 @@ use crate::ground::Ground;
 use crate::labels::Care;
 use crate::memory::Memory;
 use crate::number::{signed, unsigned};
-use crate::rest_table::sum_of;
+use crate::rest_table::price_total;
 use crate::rounds::Rounds;
 use crate::routes::Route;
 use crate::search::{Aim, PricedGround, RouteQuery, Search};
@@ -130,6 +130,6 @@ impl Orders {
 /// How much more than they earn routes may take.
 fn slack_of(prices: &[i64]) -> i64 {
     let parts = signed(prices.len() as u64).saturating_mul(100);
-    let slack = sum_of(prices).saturating_mul(SLACK).checked_div(parts);
+    let slack = price_total(prices).saturating_mul(SLACK).checked_div(parts);
     slack.unwrap_or(0)
 }

@@ -52,7 +52,7 @@ fn put_together(
     tight: Vec<RoutePlan>,
 ) -> NearProof {
     NearProof {
-        bound: Some(sum_of(&prices)),
+        bound: Some(price_total(&prices)),
         weight: 1,
         prices: Listed::from_vec(prices),
         sets: Listed::from_vec(sets),
@@ -89,7 +89,7 @@ fn all_prices(alloc: Global, prices: &[i64]) -> Result<Vec<u64>, AllocError> {
 }
 
 /// The sum of prices.
-fn sum_of(prices: &[u64]) -> u128 {
+fn price_total(prices: &[u64]) -> u128 {
     let mut sum: u128 = 0;
     for price in prices {
         sum = sum.saturating_add(u128::from(*price));

@@ -182,12 +182,12 @@ impl Rest {
 fn plan_of(ground: &Ground, prices: &[i64]) -> Option<Plan> {
     match plan_up_to(ground, prices, ground.limit) {
         Some(plan) => Some(plan),
-        None => plan_up_to(ground, prices, ground.limit.min(sum_of(prices))),
+        None => plan_up_to(ground, prices, ground.limit.min(price_total(prices))),
     }
 }
 
 /// The sum of prices.
-pub(crate) fn sum_of(prices: &[i64]) -> i64 {
+pub(crate) fn price_total(prices: &[i64]) -> i64 {
     prices
         .iter()
         .fold(0, |sum: i64, price| sum.saturating_add(*price))

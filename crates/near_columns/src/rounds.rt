@@ -4,7 +4,7 @@ use crate::clock::{GapClock, NoClock};
 use crate::growing::grow;
 use crate::labels::Care;
 use crate::number::{put, unsigned};
-use crate::rest_table::sum_of;
+use crate::rest_table::price_total;
 use crate::routes::Route;
 use crate::search::{Aim, End, PricedGround, RouteQuery, Search};
 use crate::watcher::{RoundsProgress, RoundsWatcher};
@@ -152,7 +152,7 @@ impl Rounds {
         watcher.watch_rounds(RoundsProgress {
             rounds: self.count,
             routes: self.pool.len() as u64,
-            prices: unsigned(sum_of(&self.pricing.prices)),
+            prices: unsigned(price_total(&self.pricing.prices)),
         });
     }
 
