@@ -4,7 +4,7 @@ use Rattle.std.specs.Prelude.{ℤ, pos, negsuc, neg_ℤ, ◌*ℤ◌, ◌≤ℤ�
 use Rattle.std.proofs.Math.IntN.{negsuc-*ℤ-pos, pos-*ℤ-pos}
 use Rattle.std.proofs.lemmas.Bool.{false≢true}
 use Rattle.std.proofs.lemmas.Int.{ints}
-use Rattle.fleet_model.specs.Prices.{sum_of}
+use Rattle.fleet_model.specs.Prices.{price_total}
 use Rattle.certificate_check.specs.Shares.{AreEven, CostThePrices, listed_cost, TellsCost, TellsCover}
 use Rattle.certificate_check.specs.declared.cover.SharedRoute.{SharedRoute}
 
@@ -25,14 +25,14 @@ same_unsigned a over (pos p) more same =
     omega (arith, ints, product)
 same_unsigned a over (negsuc p) more same = absurd (omega (arith, ints, more))
 
-pub negative_costs_other : (weight : ℕ) (prices : List ℤ) (over : ℕ) (xs : List SharedRoute) → sum_of prices <ℤ pos 0 → 1 ≤ over → CostThePrices weight prices over xs → ⊥
-negative_costs_other weight prices over xs less some = negative_product (listed_cost xs * weight) over (sum_of prices) less some
+pub negative_costs_other : (weight : ℕ) (prices : List ℤ) (over : ℕ) (xs : List SharedRoute) → price_total prices <ℤ pos 0 → 1 ≤ over → CostThePrices weight prices over xs → ⊥
+negative_costs_other weight prices over xs less some = negative_product (listed_cost xs * weight) over (price_total prices) less some
 
-pub product_told : (weight : ℕ) (prices : List ℤ) (over : ℕ) (xs : List SharedRoute) (b : Bool) → 1 ≤ weight → pos 0 ≤ℤ sum_of prices →
-    IsTrue b ↔ (listed_cost xs * weight ≡ unsigned_abs (sum_of prices) * over) → TellsCost weight prices over xs b
-product_told weight prices over xs true some more is = (some, same_signed (listed_cost xs * weight) over (sum_of prices) more (is.0 refl))
+pub product_told : (weight : ℕ) (prices : List ℤ) (over : ℕ) (xs : List SharedRoute) (b : Bool) → 1 ≤ weight → pos 0 ≤ℤ price_total prices →
+    IsTrue b ↔ (listed_cost xs * weight ≡ unsigned_abs (price_total prices) * over) → TellsCost weight prices over xs b
+product_told weight prices over xs true some more is = (some, same_signed (listed_cost xs * weight) over (price_total prices) more (is.0 refl))
 product_told weight prices over xs false some more is =
-    inr (λ same. false≢true (is.1 (same_unsigned (listed_cost xs * weight) over (sum_of prices) more same)))
+    inr (λ same. false≢true (is.1 (same_unsigned (listed_cost xs * weight) over (price_total prices) more same)))
 
 pub cover_told : (customers weight : ℕ) (prices : List ℤ) (over : ℕ) (xs : List SharedRoute) (b : Bool) → AreEven customers over xs → TellsCost weight prices over xs b → TellsCover customers weight prices over xs b
 cover_told customers weight prices over xs true even is = record { even = even; some_weight = is.0; cost = is.1 }

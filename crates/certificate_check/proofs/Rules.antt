@@ -12,7 +12,7 @@ use Rattle.ev_model.specs.Network.{Network}
 use Rattle.ev_model.specs.declared.Stop.{Stop}
 use Rattle.fleet_model.specs.ClosedList.{IsClosed}
 use Rattle.fleet_model.specs.Cover.{cost_of_shares, IsFleetRoute, Share as RouteShare, shares_of}
-use Rattle.fleet_model.specs.Prices.{sum_of}
+use Rattle.fleet_model.specs.Prices.{price_total}
 use Rattle.fleet_model.specs.Section.{Section as PricedSection, ShowsNoPlan}
 use Rattle.fleet_model.specs.Tree.{IsBoundedBy}
 use Rattle.fleet_model.proofs.Bounds.{cases_less}
@@ -95,7 +95,7 @@ allowed_unless false none = absurd (none refl)
 
 no_plan_or_not : (s : PricedSection) → ShowsNoPlan s ⊎ (ShowsNoPlan s → ⊥)
 no_plan_or_not s = elim (cases_eq s.weight 0) [
-  | inl none ↦ elim (cases_less (pos 0) (sum_of s.prices)) [
+  | inl none ↦ elim (cases_less (pos 0) (price_total s.prices)) [
     | inl more ↦ inl (none, more)
     | inr fine ↦ inr (λ shows. let more = shows.1 in omega (arith, ints, more, fine))
   ]
@@ -104,7 +104,7 @@ no_plan_or_not s = elim (cases_eq s.weight 0) [
 
 bounded_or_not : (s : PricedSection) (bound : Option ℕ) → IsBoundedBy s bound ⊎ (IsBoundedBy s bound → ⊥)
 bounded_or_not s None = no_plan_or_not s
-bounded_or_not s (Some b) = elim (cases_less (pos (b * s.weight)) (sum_of s.prices +ℤ pos s.weight)) [
+bounded_or_not s (Some b) = elim (cases_less (pos (b * s.weight)) (price_total s.prices +ℤ pos s.weight)) [
   | inl less ↦ inl (inl less)
   | inr more ↦ elim (cases_eq s.weight 0) [
     | inl none ↦ elim (cases_eq b 0) [
@@ -200,7 +200,7 @@ module _ (g : Network) (c : Certificate) (fits : Fits g c) (none : (fault : Cert
       covers = λ node known customer. even node (λ no. unbroken (inr (inl (node, known, customer, no))));
     };
     some_weight = let some : s.weight ≢ 0 = λ no. unbroken (inr (inr (inl no))) in omega (arith, some);
-    cost = same_unless (pos (cost_of_shares g 1 (route_shares shares) * s.weight)) (sum_of s.prices *ℤ pos over) (λ no. unbroken (inr (inr (inr no))));
+    cost = same_unless (pos (cost_of_shares g 1 (route_shares shares) * s.weight)) (price_total s.prices *ℤ pos over) (λ no. unbroken (inr (inr (inr no))));
   }
     where
       even : (node : ℕ) → (shares_of g (route_shares shares) node ≢ over → ⊥) → shares_of g (route_shares shares) node ≡ over

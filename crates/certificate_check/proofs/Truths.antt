@@ -11,7 +11,7 @@ use Rattle.ev_model.specs.Network.{IsNetwork, Network}
 use Rattle.ev_model.specs.Route.{route_of}
 use Rattle.fleet_model.specs.ClosedList.{IsClosed}
 use Rattle.fleet_model.specs.Cover.{Share as RouteShare}
-use Rattle.fleet_model.specs.Prices.{sum_of}
+use Rattle.fleet_model.specs.Prices.{price_total}
 use Rattle.fleet_model.specs.Section.{IsSectionOf, Section, ShowsNoPlan}
 use Rattle.fleet_model.specs.Tree.{BranchTree, IsBranchTree, LeavesAreUnder}
 use Rattle.fleet_model.specs.Whole.{NoFractionIsFaster}
@@ -92,8 +92,8 @@ exact_cost g c s over shares accepted is at =
 
 no_cover : (g : Network) (c : Certificate) (s : Section) → IsNetwork g → Fits g c → IsAccepted g c → IsSectionAt c 0 s → ShowsNoPlan s → HasNoCover g
 no_cover g c s network fits accepted at none = λ k weight others some cover.
-    absurd (nothing_is_below (k * weight) (cost_of_shares g k others) (sum_of s.prices) (mul-le-mul some cover.some_weight) none.1
-    (subst (λ w. (pos (k * weight) *ℤ sum_of s.prices) ≤ℤ pos (w * cost_of_shares g k others)) none.0 (least_of g c s network fits accepted at k weight others cover)))
+    absurd (nothing_is_below (k * weight) (cost_of_shares g k others) (price_total s.prices) (mul-le-mul some cover.some_weight) none.1
+    (subst (λ w. (pos (k * weight) *ℤ price_total s.prices) ≤ℤ pos (w * cost_of_shares g k others)) none.0 (least_of g c s network fits accepted at k weight others cover)))
 
 true_root : (g : Network) (c : Certificate) (s : Section) → IsNetwork g → Fits g c → IsAccepted g c → IsSectionAt c 0 s → (r : Root) → c.root ≡ r → IsTrueRoot g s r
 true_root g c s network fits accepted at root.None is = no_cover g c s network fits accepted at (subst (λ (r : Root). RootHolds g s r) is (root_at g c s accepted at).holds)

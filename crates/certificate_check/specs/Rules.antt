@@ -4,7 +4,7 @@ use Rattle.ev_model.specs.Network.{is_customer, Network, node_count}
 use Rattle.fleet_model.specs.ClosedListRules.{ClosedFault, ComesBefore as ComesBeforeInSection, IsFault}
 use Rattle.fleet_model.specs.Cover.{cost_of_shares, IsFleetRoute, Share, shares_of}
 use Rattle.fleet_model.specs.Places.{customer_count}
-use Rattle.fleet_model.specs.Prices.{sum_of}
+use Rattle.fleet_model.specs.Prices.{price_total}
 use Rattle.fleet_model.specs.Section.{Section, ShowsNoPlan}
 use Rattle.fleet_model.specs.Tree.{IsBoundedBy}
 use Rattle.fleet_model.specs.Wide.{IsTooWide}
@@ -48,7 +48,7 @@ HasUnevenCustomer g over shares =
 -- the cost of the shares over their weight is not the price sum over the section's weight
 abbrev pub CostsOther : Network → Section → ℕ → List Share → Type 0
 CostsOther g s over shares =
-    pos (cost_of_shares g 1 shares * s.weight) ≢ sum_of s.prices *ℤ pos over
+    pos (cost_of_shares g 1 shares * s.weight) ≢ price_total s.prices *ℤ pos over
 
 abbrev pub IsExactBroken : Network → Section → ℕ → List Share → Type 0
 IsExactBroken g s over shares =

@@ -7,7 +7,7 @@ use Rattle.ev_model.specs.Network.{Network}
 use Rattle.ev_model.specs.declared.Stop.{Stop}
 use Rattle.fleet_model.specs.Cover.{IsExactRoot, Share as RouteShare}
 use Rattle.fleet_model.specs.Places.{customer_count}
-use Rattle.fleet_model.specs.Prices.{sum_of}
+use Rattle.fleet_model.specs.Prices.{price_total}
 use Rattle.fleet_model.specs.Section.{Section}
 use Rattle.bound_certificate.specs.Meaning.{route_shares}
 use Rattle.bound_certificate.specs.declared.certificate.Share.{Share}
@@ -44,7 +44,7 @@ TellsEven customers over xs false = AreUneven customers over xs
 -- the shares over their weight cost the price sum over the weight of time
 abbrev pub CostThePrices : ℕ → List ℤ → ℕ → List SharedRoute → Type 0
 CostThePrices weight prices over xs =
-    pos (listed_cost xs * weight) ≡ sum_of prices *ℤ pos over
+    pos (listed_cost xs * weight) ≡ price_total prices *ℤ pos over
 
 abbrev pub TellsCost : ℕ → List ℤ → ℕ → List SharedRoute → Bool → Type 0
 TellsCost weight prices over xs true = (1 ≤ weight) × CostThePrices weight prices over xs

@@ -5,7 +5,7 @@ use Rattle.ev_model.specs.Network.{Network}
 use Rattle.ev_model.specs.declared.Stop.{Stop}
 use Rattle.fleet_model.specs.Cover.{cost_of_shares, IsFractionalCover, Share}
 use Rattle.fleet_model.specs.Places.{customer_count}
-use Rattle.fleet_model.specs.Prices.{sum_of}
+use Rattle.fleet_model.specs.Prices.{price_total}
 use Rattle.fleet_model.specs.Section.{Section}
 use Rattle.fleet_model.specs.Wide.{IsTooWide}
 use Rattle.bound_certificate.specs.Meaning.{basis_columns, route_columns, route_shares}
@@ -26,13 +26,13 @@ IsTrueBound g (Some bound) =
 abbrev pub IsLeastCost : Network → Section → Type 0
 IsLeastCost g s =
     (k weight : ℕ) (others : List Share) → IsFractionalCover g k weight others →
-    (pos (k * weight) *ℤ sum_of s.prices) ≤ℤ pos (s.weight * cost_of_shares g k others)
+    (pos (k * weight) *ℤ price_total s.prices) ≤ℤ pos (s.weight * cost_of_shares g k others)
 
 -- the shares are a fractional cover in whole plans that costs the price sum of the section over its weight
 pub record CostExactly (g : Network) (s : Section) (over : ℕ) (shares : List Share) : Type 0 where
   pub cover : IsFractionalCover g 1 over shares
   pub some_weight : 1 ≤ s.weight
-  pub cost : pos (cost_of_shares g 1 shares * s.weight) ≡ sum_of s.prices *ℤ pos over
+  pub cost : pos (cost_of_shares g 1 shares * s.weight) ≡ price_total s.prices *ℤ pos over
 
 -- there is no fractional cover, in any fraction of a unit
 abbrev pub HasNoCover : Network → Type 0

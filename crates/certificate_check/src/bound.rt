@@ -5,7 +5,7 @@ ghost use Rattle.std.specs.List.{All};
 ghost use Rattle.bound_certificate.specs.Limits.{greatest_bound};
 ghost use Rattle.bound_certificate.specs.Ranges.{IsPrice};
 ghost use Rattle.certificate_check.specs.Bounds.{HasPrices, IsBoundOf};
-ghost use Rattle.fleet_model.specs.Prices.{sum_of};
+ghost use Rattle.fleet_model.specs.Prices.{price_total};
 ghost use Rattle.fleet_model.specs.Section.{Section};
 ghost use Rattle.fleet_model.specs.Tree.{IsBoundedBy};
 
@@ -45,7 +45,7 @@ pub fn bound_of(weight: u64, prices: &[i128]) -> Option<i128>
 pub fn price_total(prices: &[i128]) -> i128
     requires few { length prices.now ≤ 128 }
     requires small { All IsPrice prices.now }
-    ensures value { result ≡ sum_of prices.now }
+    ensures value { result ≡ price_total prices.now }
     ensures small { unsigned_abs result ≤ 2 ^ 91 }
 {
     let mut sum = 0;

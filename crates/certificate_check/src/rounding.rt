@@ -3,7 +3,7 @@
 ghost use Rattle.std.specs.Prelude.{◌≡◌, ◌^◌, ◌≤◌, pos, ◌≤ℤ◌, length, unsigned_abs};
 ghost use Rattle.std.specs.List.{All};
 ghost use Rattle.certificate_parts.specs.Ranges.{IsPrice};
-ghost use Rattle.fleet_model.specs.Prices.{sum_of};
+ghost use Rattle.fleet_model.specs.Prices.{price_total};
 ghost use Rattle.certificate_check.specs.RoundedUp.{IsRoundedUp};
 
 use crate::price_total;
@@ -12,8 +12,8 @@ use crate::price_total;
 pub fn unsigned_total(prices: &[i128]) -> u128
     requires few { length prices.now ≤ 128 }
     requires small { All IsPrice prices.now }
-    requires some { pos 0 ≤ℤ sum_of prices.now }
-    ensures value { pos result ≡ sum_of prices.now }
+    requires some { pos 0 ≤ℤ price_total prices.now }
+    ensures value { pos result ≡ price_total prices.now }
     ensures small { result ≤ 2 ^ 91 }
 {
     price_total(prices).unsigned_abs()

@@ -13,7 +13,7 @@ use Rattle.ev_model.specs.declared.Stop.{Stop}
 use Rattle.fleet_model.specs.Cover.{cost_of_shares, IsFleetRoute, IsFractionalCover, Share as RouteShare, shares_of}
 use Rattle.fleet_model.specs.Pairs.{PlanKeepsPairs}
 use Rattle.fleet_model.specs.Places.{customer_number, numbers_of}
-use Rattle.fleet_model.specs.Prices.{price_sum, sum_of}
+use Rattle.fleet_model.specs.Prices.{price_sum, price_total}
 use Rattle.fleet_model.proofs.Counts.{AreCustomers, number_less, times_append}
 use Rattle.fleet_model.proofs.Fleets.{plan_below}
 use Rattle.fleet_model.proofs.Numbers.{counted}
@@ -118,7 +118,7 @@ module _ (g : Network) (p : ForbiddenPairs) (shares : List Share) (prices : List
     keeps = of_plans (PlanKeepsPairs g (allows_of p)) (λ stops is. is.route.keeps);
     cost =
         let cost : 1 * cost_of g 1 (plans_of shares) ≡ cost_of g 1 (plans_of shares) = omega arith in
-        ap sum_of same ∙ all.sum ∙ ap pos (sym cost) ∙ ap (λ w. pos (w * cost_of g 1 (plans_of shares))) (sym weight);
+        ap price_total same ∙ all.sum ∙ ap pos (sym cost) ∙ ap (λ w. pos (w * cost_of g 1 (plans_of shares))) (sym weight);
   }
 
   -- ---- the cover
@@ -141,7 +141,7 @@ module _ (g : Network) (p : ForbiddenPairs) (shares : List Share) (prices : List
       some_weight = omega (arith, weight);
       cost =
           let cost : cost_of_shares g 1 (route_shares shares) * s.weight ≡ cost_of g 1 (plans_of shares) = ap (λ w. cost_of_shares g 1 (route_shares shares) * w) weight ∙ (let c = shares_cost g shares all.whole in omega (arith, c)) in
-          ap pos cost ∙ sym all.sum ∙ ap sum_of (sym same) ∙ omega (arith, ints);
+          ap pos cost ∙ sym all.sum ∙ ap price_total (sym same) ∙ omega (arith, ints);
     };
     keeps = All-map (λ (x : RouteShare). PlanKeepsPairs g (allows_of p) x.plan) route_of_share shares (each (PlanKeepsPairs g (allows_of p)) (λ stops is. is.route.keeps));
     fits = record {

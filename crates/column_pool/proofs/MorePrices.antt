@@ -9,7 +9,7 @@ use Rattle.std.specs.List.{All}
 use Rattle.std.proofs.lemmas.List.Elements.{All-replicate, All-set}
 use Rattle.ev_model.specs.Fleet.{times_in}
 use Rattle.bound_certificate.specs.Ranges.{IsPrice}
-use Rattle.fleet_model.specs.Prices.{price_of, price_sum, sum_of}
+use Rattle.fleet_model.specs.Prices.{price_of, price_sum, price_total}
 use Rattle.column_pool.specs.Chains.{lone_price}
 
 -- ---- prices with one more
@@ -42,10 +42,10 @@ module _ (prices : List ℤ) (z : ℤ) where
         λ i. first i +ℤ rest i
   ]
 
-  pub sum_more : sum_of more ≡ sum_of prices +ℤ z
+  pub sum_more : price_total more ≡ price_total prices +ℤ z
   sum_more = sum_from prices
     where
-      sum_from : (ps : List ℤ) → sum_of (ps ++ z ∷ []) ≡ sum_of ps +ℤ z
+      sum_from : (ps : List ℤ) → price_total (ps ++ z ∷ []) ≡ price_total ps +ℤ z
       sum_from [] = omega (arith, ints)
       sum_from (p ∷ ps) = let rest = sum_from ps in omega (arith, ints, rest)
 
@@ -90,11 +90,11 @@ module _ (prices : List ℤ) (t : ℕ) where
       omega (arith, ints, all, small)
 
 -- ---- a price for one customer alone
-free_sum : (n : ℕ) → sum_of (replicate n (pos 0)) ≡ pos 0
+free_sum : (n : ℕ) → price_total (replicate n (pos 0)) ≡ pos 0
 free_sum zero = refl
 free_sum (suc n) = let rest = free_sum n in rw rest refl
 
-pub lone_sum : (n k : ℕ) → k < n → sum_of (lone_price n k) ≡ pos 1
+pub lone_sum : (n k : ℕ) → k < n → price_total (lone_price n k) ≡ pos 1
 lone_sum zero k less = absurd (omega (arith, less))
 lone_sum (suc n) zero less = let rest = free_sum n in rw rest refl
 lone_sum (suc n) (suc k) less = let rest = lone_sum n k (omega (arith, less)) in rw rest refl

@@ -6,7 +6,7 @@ use Rattle.std.proofs.lemmas.List.Elements.{All-weaker}
 use Rattle.customer_sets.specs.Pairs.{ForbiddenPairs}
 use Rattle.ev_model.specs.Network.{IsNetwork, Network}
 use Rattle.fleet_model.specs.Cover.{IsExactRoot}
-use Rattle.fleet_model.specs.Prices.{sum_of}
+use Rattle.fleet_model.specs.Prices.{price_total}
 use Rattle.instance_reader.specs.Instance.{customer_nodes}
 use Rattle.master_simplex.specs.declared.prices.Lp.{Lp}
 use Rattle.piece_fn.specs.declared.label.Label.{Label}
@@ -48,7 +48,7 @@ module _ (g : Network) (p : ForbiddenPairs) (routes : List NodeRoute) (lp : Lp) 
     pub empty_node : lp.weight ≡ 0 → IsNodeSection g p s → IsEmpty g p s
     empty_node none node = record {
       section = node;
-      none = (weight ∙ none, subst (λ (ps : List ℤ). pos 0 <ℤ sum_of ps) (sym prices) (ray_above (node_problem g p) routes no_route is.caps lp is.basis labels is.over none));
+      none = (weight ∙ none, subst (λ (ps : List ℤ). pos 0 <ℤ price_total ps) (sym prices) (ray_above (node_problem g p) routes no_route is.caps lp is.basis labels is.over none));
     }
 
     pub exact_node : (some : lp.weight ≢ 0) (n : ℕ) (shares : Vec Share Global) → n ≡ length (customer_nodes g) → IsNetwork g → IsNodeSection g p s

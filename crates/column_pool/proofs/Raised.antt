@@ -4,7 +4,7 @@ use Rattle.std.specs.Global.{Global}
 use Rattle.std.proofs.lemmas.List.{length-map, length-replicate}
 use Rattle.customer_sets.specs.Pairs.{allows_of, ForbiddenPairs}
 use Rattle.ev_model.specs.Network.{Network}
-use Rattle.fleet_model.specs.Prices.{sum_of}
+use Rattle.fleet_model.specs.Prices.{price_total}
 use Rattle.fleet_model.specs.Strong.{AreRisingPrices}
 use Rattle.instance_reader.specs.Instance.{customer_nodes}
 use Rattle.piece_fn.specs.declared.label.Label.{Label}
@@ -24,7 +24,7 @@ module _ (g : Network) (p : ForbiddenPairs) (s : Section) (prices : List ℤ) (l
       let long : length prices ≡ n = subst (λ (zs : List ℤ). length zs ≡ n) (sym is.prices_are) (length-map lone pos ∙ length-set (replicate n 0) customer 1 ∙ length-replicate n 0) in
       record {
         section = section_closed g p s 0 prices labels.items is.closes pairs weight same alike count (omega arith) long is.small few;
-        none = (weight, subst (λ (zs : List ℤ). pos 0 <ℤ sum_of zs) (sym same) (lone_above n customer prices is.within is.prices_are));
+        none = (weight, subst (λ (zs : List ℤ). pos 0 <ℤ price_total zs) (sym same) (lone_above n customer prices is.within is.prices_are));
       }
 
   module _ (weight : s.weight ≡ 1) (is : IsPricedByRising (node_problem g p) prices labels) where

@@ -5,7 +5,7 @@ use Rattle.std.proofs.lemmas.List.{length-map, map-append}
 use Rattle.customer_sets.specs.Pairs.{allows_of, ForbiddenPairs}
 use Rattle.ev_model.specs.Network.{Network, scaled_limit}
 use Rattle.fleet_model.specs.Places.{numbers_of}
-use Rattle.fleet_model.specs.Prices.{price_of, sum_of}
+use Rattle.fleet_model.specs.Prices.{price_of, price_total}
 use Rattle.fleet_model.specs.Strong.{AreRisingPrices, ArePayable, IsRisingPrice}
 use Rattle.fleet_model.proofs.Numbers.{counted}
 use Rattle.instance_reader.specs.Instance.{customer_nodes}
@@ -71,7 +71,7 @@ lone_whole zero c = refl
 lone_whole (suc n) zero = ap (λ (ys : List ℤ). pos 1 ∷ ys) (replicate_whole n)
 lone_whole (suc n) (suc c) = ap (λ (ys : List ℤ). pos 0 ∷ ys) (lone_whole n c)
 
-pub lone_above : (n c : ℕ) (prices : List ℤ) → c < n → prices ≡ map pos (set (replicate n 0) c 1) → pos 0 <ℤ sum_of prices
+pub lone_above : (n c : ℕ) (prices : List ℤ) → c < n → prices ≡ map pos (set (replicate n 0) c 1) → pos 0 <ℤ price_total prices
 lone_above n c prices less same =
-    let sum : sum_of prices ≡ pos 1 = ap sum_of (same ∙ lone_whole n c) ∙ lone_sum n c less in
+    let sum : price_total prices ≡ pos 1 = ap price_total (same ∙ lone_whole n c) ∙ lone_sum n c less in
     omega (arith, ints, sum)

@@ -7,7 +7,7 @@ use Rattle.ev_model.specs.declared.Stop.{Stop}
 use Rattle.fleet_model.specs.ClosedList.{IsClosed}
 use Rattle.fleet_model.specs.Cover.{CoverKeepsPairs, IsExactRoot}
 use Rattle.fleet_model.specs.Pairs.{FleetKeepsPairs}
-use Rattle.fleet_model.specs.Prices.{sum_of}
+use Rattle.fleet_model.specs.Prices.{price_total}
 use Rattle.fleet_model.specs.Section.{ShowsNoPlan}
 use Rattle.fleet_model.specs.Strong.{AreRisingPrices, IsWideBasis}
 use Rattle.route_plan.specs.declared.plan.RoutePlan.{RoutePlan}
@@ -66,7 +66,7 @@ pub record IsPlanAtBound (g : Network) (p : ForbiddenPairs) (s : Section)
     (plans : List (List Stop)) : Type 0 where
   pub fleet : IsFleetPlan g 1 plans
   pub keeps : FleetKeepsPairs g (allows_of p) plans
-  pub cost : sum_of s.prices ≡ pos (s.weight * cost_of g 1 plans)
+  pub cost : price_total s.prices ≡ pos (s.weight * cost_of g 1 plans)
 
 -- where the pairs are decided: the plans that have shares are a fleet plan at the bound of the section, or there is none
 abbrev pub IsBoundOfDecided : Network → ForbiddenPairs → NodeBound → Type 0

@@ -8,7 +8,7 @@ use Rattle.ev_model.specs.Network.{is_customer, Network, node_count}
 use Rattle.ev_model.specs.Time.{time_of}
 use Rattle.ev_model.specs.declared.Stop.{Stop}
 use Rattle.fleet_model.specs.Places.{customer_number, numbers_of}
-use Rattle.fleet_model.specs.Prices.{price_sum, sum_of}
+use Rattle.fleet_model.specs.Prices.{price_sum, price_total}
 use Rattle.bound_certificate.specs.Ranges.{IsPrice}
 use Rattle.bound_certificate.specs.declared.certificate.Section.{Section}
 use Rattle.bound_certificate.specs.declared.certificate.Share.{Share}
@@ -55,7 +55,7 @@ pub record AreChains (g : Network) (p : ForbiddenPairs) (number : ℕ) (shares :
   pub served : (node : ℕ) → node < node_count g → is_customer g node ≡ true →
       customer_number g node < number → 1 ≤ times_in (all_customers g (plans_of shares)) node
   pub count : length prices ≡ number
-  pub sum : sum_of prices ≡ pos (cost_of g 1 (plans_of shares))
+  pub sum : price_total prices ≡ pos (cost_of g 1 (plans_of shares))
   pub pays : All (λ x. PaysNoMore g prices x.plan.stops) shares
   pub small : All IsPrice prices
 

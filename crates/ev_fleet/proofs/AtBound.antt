@@ -11,7 +11,7 @@ use Rattle.ev_model.specs.Feasible.{IsFeasible}
 use Rattle.ev_model.specs.Route.{route_of}
 use Rattle.ev_model.specs.declared.Stop.{Stop}
 use Rattle.fleet_model.specs.Cover.{cost_of_shares, IsExactRoot, Share, shares_of}
-use Rattle.fleet_model.specs.Prices.{sum_of}
+use Rattle.fleet_model.specs.Prices.{price_total}
 use Rattle.fleet_model.specs.Section.{Section}
 use Rattle.fleet_model.proofs.Counts.{AreCustomers, times_append}
 use Rattle.fleet_model.proofs.Fleets.{plan_below}
@@ -68,9 +68,9 @@ shares_cost g over (x ∷ shares) feasible some once covers =
     omega (arith, left)) in
     rw whole (omega (arith, rest))
 
-pub costs_bound : (g : Network) (s : Section) (over : ℕ) (shares : List Share) → IsExactRoot g s over shares → IsFleetPlan g 1 (plans_in shares) → sum_of s.prices ≡ pos (s.weight * cost_of g 1 (plans_in shares))
+pub costs_bound : (g : Network) (s : Section) (over : ℕ) (shares : List Share) → IsExactRoot g s over shares → IsFleetPlan g 1 (plans_in shares) → price_total s.prices ≡ pos (s.weight * cost_of g 1 (plans_in shares))
 costs_bound g s over shares exact fleet =
     let cost = cost_of g 1 (plans_in shares) in
     let sums = shares_cost g over shares fleet.feasible fleet.some (λ node known is. (let one = fleet.once node known is in omega (arith, one))) (λ node known is there. exact.cover.covers node known is) in
     let same : cost_of_shares g 1 shares * s.weight ≡ over * (s.weight * cost) = ap (λ n. n * s.weight) sums ∙ omega arith in
-    cancelled over (s.weight * cost) (sum_of s.prices) exact.cover.some_weight (sym (ap pos same) ∙ exact.cost)
+    cancelled over (s.weight * cost) (price_total s.prices) exact.cover.some_weight (sym (ap pos same) ∙ exact.cost)

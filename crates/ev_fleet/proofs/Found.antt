@@ -6,7 +6,7 @@ use Rattle.std.proofs.lemmas.Int.{ints}
 use Rattle.customer_sets.specs.Pairs.{ForbiddenPairs, allows_of}
 use Rattle.ev_model.specs.Network.{Network}
 use Rattle.fleet_model.specs.Cover.{CoverKeepsPairs, cost_of_shares}
-use Rattle.fleet_model.specs.Prices.{price_of, sum_of}
+use Rattle.fleet_model.specs.Prices.{price_of, price_total}
 use Rattle.fleet_model.specs.Strong.{AreRisingPrices, IsStrong}
 use Rattle.bound_certificate.specs.Meaning.{basis_columns, priced_section, route_shares}
 use Rattle.bound_certificate.specs.Ranges.{customer_count}
@@ -31,18 +31,18 @@ exact_sum a over (pos p) some same = omega (arith, ints)
 exact_sum a over (negsuc p) some same = absurd (negative_product a over (negsuc p) (omega (arith, ints)) some same)
 
 -- prices that aren't below 0 have a sum that isn't
-each_some : (xs : List ℤ) → ((c : ℕ) → c < length xs → pos 0 ≤ℤ price_of xs c) → pos 0 ≤ℤ sum_of xs
+each_some : (xs : List ℤ) → ((c : ℕ) → c < length xs → pos 0 ≤ℤ price_of xs c) → pos 0 ≤ℤ price_total xs
 each_some [] some = omega (arith, ints)
 each_some (x ∷ xs) some =
     let first : pos 0 ≤ℤ x = some 0 (omega arith) in
     let rest = each_some xs (λ c less. some (suc c) (omega (arith, less))) in
     omega (arith, ints, first, rest)
 
-pub strong_sum : (g : Network) (s : Section) → IsStrong g (priced_section s) → pos 0 ≤ℤ sum_of s.prices
+pub strong_sum : (g : Network) (s : Section) → IsStrong g (priced_section s) → pos 0 ≤ℤ price_total s.prices
 strong_sum g s strong = elim strong [
   | inl none ↦ let more = none.1 in omega (arith, ints, more)
   | inr rest ↦ elim rest [
-    | inl best ↦ exact_sum (cost_of_shares g 1 best.shares * s.weight) best.over (sum_of s.prices) best.exact.cover.some_weight best.exact.cost
+    | inl best ↦ exact_sum (cost_of_shares g 1 best.shares * s.weight) best.over (price_total s.prices) best.exact.cover.some_weight best.exact.cost
     | inr risen ↦
         let one = risen.prices.one_price in
         each_some s.prices (λ c less. (risen.prices.rising c (omega (arith, one, less))).some)

@@ -1,7 +1,7 @@
 -- A section has one bound, and what it says of the bounds of leaves.
 use Rattle.std.proofs.Common.{◌≡◌, ◌∙◌, ℕ, ◌*◌, ◌≤◌, Option, Some, None, inl, inr, refl, sym, ap, arith, mul-le-mul_right}
 use Rattle.std.proofs.lemmas.Int.{ints}
-use Rattle.fleet_model.specs.Prices.{sum_of}
+use Rattle.fleet_model.specs.Prices.{price_total}
 use Rattle.fleet_model.specs.Section.{Section}
 use Rattle.fleet_model.specs.Tree.{IsBoundedBy}
 use Rattle.certificate_check.proofs.RoundedSums.{rounded_is_one}
@@ -19,7 +19,7 @@ bound_is_one s (Some b) None first second = absurd (elim first [
 ])
 bound_is_one s (Some b) (Some c) first second = elim first [
   | inl some ↦ elim second [
-    | inl other ↦ ap Some (rounded_is_one (sum_of s.prices) s.weight b c some.1 other.1)
+    | inl other ↦ ap Some (rounded_is_one (price_total s.prices) s.weight b c some.1 other.1)
     | inr none ↦ absurd (omega (arith, some.0, none.0))
   ]
   | inr none ↦ elim second [

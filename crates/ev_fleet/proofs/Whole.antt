@@ -6,7 +6,7 @@ use Rattle.std.proofs.lemmas.List.Elements.{All-push, All-weaker}
 use Rattle.ev_model.specs.Fleet.{IsFleetPlan, cost_of}
 use Rattle.ev_model.specs.Network.{Network}
 use Rattle.ev_model.specs.declared.Stop.{Stop}
-use Rattle.fleet_model.specs.Prices.{sum_of}
+use Rattle.fleet_model.specs.Prices.{price_total}
 use Rattle.bound_certificate.specs.Meaning.{priced_section, route_shares}
 use Rattle.bound_certificate.specs.declared.certificate.Root.{Root}
 use Rattle.bound_certificate.specs.declared.certificate.Root.TheVariants as root
@@ -20,11 +20,11 @@ use Rattle.ev_fleet.specs.Whole.{IsNoDearer, ReachesCost, ReachesWhole, TakesSha
 use Rattle.ev_fleet.proofs.AtBound.{costs_bound, plans_in}
 use Rattle.ev_fleet.proofs.Bounds.{most_most}
 
-pub plan_reaches : (s : Section) (plan : ℕ) (cost : Option ℕ) → 1 ≤ s.weight → sum_of s.prices ≡ pos (s.weight * plan) → IsAtMost cost (Some plan) → ReachesCost cost s
+pub plan_reaches : (s : Section) (plan : ℕ) (cost : Option ℕ) → 1 ≤ s.weight → price_total s.prices ≡ pos (s.weight * plan) → IsAtMost cost (Some plan) → ReachesCost cost s
 plan_reaches s plan cost some same low None bounds = tt
 plan_reaches s plan cost some same low (Some own) bounds = elim bounds [
   | inl rounded ↦
-      let is : own ≡ plan = rounded_is_cost (sum_of s.prices) s.weight plan own some same rounded.1 in
+      let is : own ≡ plan = rounded_is_cost (price_total s.prices) s.weight plan own some same rounded.1 in
       let most : IsAtMost (Some plan) (Some own) = omega (arith, is) in
       most_most cost (Some plan) (Some own) low most
   | inr none ↦ let zero = none.0 in absurd (omega (arith, some, zero))
@@ -39,8 +39,8 @@ reaches_whole g cost s root.None shown takes = tt
 reaches_whole g cost s (root.Exact over shares) shown takes = λ fleet.
     let same = plans_same shares in
     let whole : IsFleetPlan g 1 (plans_in (route_shares shares)) = subst (IsFleetPlan g 1) (sym same) fleet in
-    let sum : sum_of s.prices ≡ pos (s.weight * cost_of g 1 (plans_in (route_shares shares))) = costs_bound g (priced_section s) over (route_shares shares) shown.exact whole in
-    let paid : sum_of s.prices ≡ pos (s.weight * cost_of g 1 (plans_of shares)) = sum ∙ ap (λ ps. pos (s.weight * cost_of g 1 ps)) same in
+    let sum : price_total s.prices ≡ pos (s.weight * cost_of g 1 (plans_in (route_shares shares))) = costs_bound g (priced_section s) over (route_shares shares) shown.exact whole in
+    let paid : price_total s.prices ≡ pos (s.weight * cost_of g 1 (plans_of shares)) = sum ∙ ap (λ ps. pos (s.weight * cost_of g 1 ps)) same in
     plan_reaches s (cost_of g 1 (plans_of shares)) cost shown.exact.some_weight paid (takes fleet)
 reaches_whole g cost s (root.Wide columns basis) shown takes = tt
 

@@ -1,6 +1,6 @@
 -- The bound of a section, and which of two bounds is above the other.
 use Rattle.std.specs.Prelude.{◌≡◌, ◌⊎◌, ℕ, ◌≤◌, pos, ◌≤ℤ◌, List, Option, Some, None, slice_get}
-use Rattle.fleet_model.specs.Prices.{sum_of}
+use Rattle.fleet_model.specs.Prices.{price_total}
 use Rattle.fleet_model.specs.Section.{Section as PricedSection, ShowsNoPlan}
 use Rattle.bound_certificate.specs.Meaning.{priced_section}
 use Rattle.bound_certificate.specs.declared.certificate.Section.{Section}
@@ -11,8 +11,8 @@ use Rattle.certificate_check.specs.RoundedUp.{IsRoundedUp}
 abbrev pub IsBoundOf : PricedSection → Option ℕ → Type 0
 IsBoundOf s None = ShowsNoPlan s
 IsBoundOf s (Some bound) =
-    ((1 ≤ s.weight) × IsRoundedUp (sum_of s.prices) s.weight bound)
-    ⊎ ((s.weight ≡ 0) × (sum_of s.prices ≤ℤ pos 0) × (bound ≡ 0))
+    ((1 ≤ s.weight) × IsRoundedUp (price_total s.prices) s.weight bound)
+    ⊎ ((s.weight ≡ 0) × (price_total s.prices ≤ℤ pos 0) × (bound ≡ 0))
 
 -- a bound is not above another. `None`, that there is no plan, is above every number.
 abbrev pub IsAtMost : Option ℕ → Option ℕ → Type 0

@@ -1,7 +1,7 @@
 -- The least bound of the sections that leaves of a certificate's tree name.
 use Rattle.std.specs.Prelude.{◌≡◌, ℕ, ◌≤◌, ◌<◌, min, pos, ◌≤ℤ◌, List, [], ◌∷◌, Option, Some, None, length}
 use Rattle.std.specs.List.{All}
-use Rattle.fleet_model.specs.Prices.{sum_of}
+use Rattle.fleet_model.specs.Prices.{price_total}
 use Rattle.bound_certificate.specs.Ranges.{IsPrice}
 use Rattle.bound_certificate.specs.declared.certificate.Section.{Section}
 use Rattle.bound_certificate.specs.declared.certificate.TreeLine.{TreeLine}
@@ -12,7 +12,7 @@ use Rattle.ev_fleet.specs.Bounds.{HasBound}
 pub record IsSummable (s : Section) : Type 0 where
   pub few : length s.prices ≤ 128
   pub small : All IsPrice s.prices
-  pub some : pos 0 ≤ℤ sum_of s.prices
+  pub some : pos 0 ≤ℤ price_total s.prices
 
 -- the lesser of two bounds; `None` is above every number
 abbrev pub lesser : Option ℕ → Option ℕ → Option ℕ

@@ -5,7 +5,7 @@ ghost use Rattle.std.specs.List.{All};
 ghost use Rattle.bound_certificate.specs.Limits.{greatest_bound};
 ghost use Rattle.bound_certificate.specs.Meaning.{priced_section};
 ghost use Rattle.bound_certificate.specs.Ranges.{IsPrice};
-ghost use Rattle.fleet_model.specs.Prices.{sum_of};
+ghost use Rattle.fleet_model.specs.Prices.{price_total};
 ghost use Rattle.ev_fleet.specs.Bounds.{IsBoundOf};
 ghost use Rattle.ev_fleet.specs.State.{greater_of};
 
@@ -17,7 +17,7 @@ use certificate_check::{rounded_up, unsigned_total};
 pub(crate) fn bound_of(section: &Section) -> Option<u128>
     requires few { length section.now.prices ≤ 128 }
     requires small { All IsPrice section.now.prices }
-    requires some { pos 0 ≤ℤ sum_of section.now.prices }
+    requires some { pos 0 ≤ℤ price_total section.now.prices }
     ensures bound { IsBoundOf (priced_section section.now) result }
     ensures small { IfSome result (λ bound. bound ≤ greatest_bound) }
 {

@@ -22,7 +22,7 @@ use Rattle.ev_fleet.specs.Outcome.{IsOutcome}
 use Rattle.ev_fleet.specs.Plans.{IsHeld, cost_held}
 use Rattle.ev_fleet.specs.declared.outcome.Outcome.{Outcome}
 use Rattle.ev_model.specs.Network.{IsNetwork, Network}
-use Rattle.fleet_model.specs.Prices.{sum_of}
+use Rattle.fleet_model.specs.Prices.{price_total}
 use Rattle.fleet_model.specs.Section.{Section as PricedSection}
 use Rattle.plan_check.specs.FleetRules.{stops_of}
 use Rattle.plan_writer.specs.FleetText.{AreOutcomes, IsExactLine, IsLowestLine, StandsBeside, StandsBesideRoot, fleet_text}
@@ -90,7 +90,7 @@ section_fits g c x fits here = first c.sections here fits.sections
     first (y ∷ ys) here all = subst (λ (z : Section). SectionFits g z) (same_Some y x here) (All-head (SectionFits g) y ys all)
 
 pub tells_exact : (g : Network) (c : Certificate) (over : ℕ) (shares : List Share) (x : Section) (told : RootLine) → IsNetwork g → Fits g c → IsAccepted g c →
-    c.root ≡ root.Exact over shares → slice_get c.sections 0 ≡ Some x → IsExactLine (sum_of x.prices) (x.weight * g.denominator) told → TellsRootOf g c told
+    c.root ≡ root.Exact over shares → slice_get c.sections 0 ≡ Some x → IsExactLine (price_total x.prices) (x.weight * g.denominator) told → TellsRootOf g c told
 tells_exact g c over shares x told network fits accepted is here line =
     let at = section_at c x here in
     subst (λ (r : Root). TellsKind g c r told) (sym is)

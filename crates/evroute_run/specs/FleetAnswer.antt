@@ -13,7 +13,7 @@ use Rattle.ev_fleet.specs.Outcome.{IsOutcome, LeavesGap}
 use Rattle.ev_fleet.specs.Plans.{cost_held}
 use Rattle.ev_fleet.specs.declared.outcome.Outcome.{Outcome}
 use Rattle.ev_model.specs.Network.{IsNetwork, Network}
-use Rattle.fleet_model.specs.Prices.{sum_of}
+use Rattle.fleet_model.specs.Prices.{price_total}
 use Rattle.fleet_model.specs.Section.{Section}
 use Rattle.plan_writer.specs.CheckText.{check_text}
 use Rattle.plan_writer.specs.FleetText.{IsExactLine, fleet_text}
@@ -40,7 +40,7 @@ abbrev pub TellsKind : Network → Certificate → Root → RootLine → Type 0
 TellsKind g c root.None told = told ≡ line.Empty
 TellsKind g c (root.Exact over shares) told =
     (s : Section) × IsSectionAt c 0 s × IsLeastCost g s
-    × IsExactLine (sum_of s.prices) (s.weight * g.denominator) told
+    × IsExactLine (price_total s.prices) (s.weight * g.denominator) told
 TellsKind g c (root.Wide columns basis) told = told ≡ line.Wide
 
 abbrev pub TellsRootOf : Network → Certificate → RootLine → Type 0

@@ -8,7 +8,7 @@ ghost use Rattle.certificate_check.specs.Accepted.{IsAccepted};
 ghost use Rattle.ev_fleet.specs.Outcome.{IsOutcome};
 ghost use Rattle.ev_model.specs.Network.{IsNetwork};
 ghost use Rattle.evroute_run.specs.FleetAnswer.{IsFound, IsReadBack, TellsRootOf, outcomes_of, search_status};
-ghost use Rattle.fleet_model.specs.Prices.{sum_of};
+ghost use Rattle.fleet_model.specs.Prices.{price_total};
 ghost use Rattle.instance_reader.specs.Instance.{most_customers};
 ghost use Rattle.plan_writer.specs.FleetText.{IsExactLine, IsLowestLine, fleet_text};
 
@@ -135,7 +135,7 @@ fn exact_line(inst: &Instance, section: &Section) -> RootLine
     requires few { customer_count inst.now ≤ most_customers }
     requires fits { SectionFits inst.now section.now }
     requires weight { 1 ≤ section.now.weight }
-    ensures value { IsExactLine (sum_of section.now.prices)
+    ensures value { IsExactLine (price_total section.now.prices)
         (section.now.weight * inst.now.denominator) result }
     ensures lowest { IsLowestLine result }
 {

@@ -11,7 +11,7 @@ use Rattle.fleet_model.specs.ClosedList.{IsClosed}
 use Rattle.fleet_model.specs.Cover.{cost_of_shares, CoverKeepsPairs, IsExactRoot, IsFractionalCover, Share}
 use Rattle.fleet_model.specs.Pairs.{PlanKeepsPairs}
 use Rattle.fleet_model.specs.Places.{places_of}
-use Rattle.fleet_model.specs.Prices.{sum_of}
+use Rattle.fleet_model.specs.Prices.{price_total}
 use Rattle.fleet_model.specs.Section.{IsAtMostBound, IsSectionOf, Section}
 use Rattle.fleet_model.specs.Whole.{NoFractionIsFaster}
 use Rattle.fleet_model.proofs.Covers.{cover_cost}
@@ -63,15 +63,15 @@ cases_less (negsuc a) (negsuc b) = elim (cases_lt b a) [
 ]
 
 -- where the weight is above 0, the bound is the price sum over the weight, rounded up
-pub bound_rounds_up : (s : Section) (bound : ℕ) → 0 < s.weight → IsAtMostBound s bound ↔ ((z : ℤ) → sum_of s.prices ≤ℤ (z *ℤ pos s.weight) → pos bound ≤ℤ z)
+pub bound_rounds_up : (s : Section) (bound : ℕ) → 0 < s.weight → IsAtMostBound s bound ↔ ((z : ℤ) → price_total s.prices ≤ℤ (z *ℤ pos s.weight) → pos bound ≤ℤ z)
 bound_rounds_up s bound some = (
   λ at_most. elim at_most [
-    | inl less ↦ λ z le. below_each s.weight bound (sum_of s.prices) z some less le
+    | inl less ↦ λ z le. below_each s.weight bound (price_total s.prices) z some less le
     | inr none ↦ absurd (omega (arith, none.0, some))
   ],
-  λ least. elim (cases_less (pos (bound * s.weight)) (sum_of s.prices +ℤ pos s.weight)) [
+  λ least. elim (cases_less (pos (bound * s.weight)) (price_total s.prices +ℤ pos s.weight)) [
     | inl less ↦ inl less
-    | inr more ↦ absurd (only_below s.weight bound (sum_of s.prices) some least more)
+    | inr more ↦ absurd (only_below s.weight bound (price_total s.prices) some least more)
   ],
 )
 
@@ -101,7 +101,7 @@ signed_optimum total w over kw cost (negsuc p) some some_over same le =
 pub optimum : (g : Network) (s : Section) (over k weight : ℕ) (shares others : List Share) → IsNetwork g → NoFractionIsFaster g → IsSectionOf g s → IsClosed g s → IsExactRoot g s over shares
     → IsFractionalCover g k weight others → CoverKeepsPairs g s.allows others → cost_of_shares g 1 shares * (k * weight) ≤ cost_of_shares g k others * over
 optimum g s over k weight shares others network law of closed root cover keeps =
-    signed_optimum (cost_of_shares g 1 shares) s.weight over (k * weight) (cost_of_shares g k others) (sum_of s.prices) root.some_weight root.cover.some_weight root.cost
+    signed_optimum (cost_of_shares g 1 shares) s.weight over (k * weight) (cost_of_shares g k others) (price_total s.prices) root.some_weight root.cover.some_weight root.cost
     (cover_cost g s k weight others network law of closed cover keeps)
 
 keeps_all : (g : Network) (allows : ℕ → ℕ → Bool) (shares : List Share) → ((a b : ℕ) → allows a b ≡ true) → CoverKeepsPairs g allows shares

@@ -16,7 +16,7 @@ use Rattle.fleet_model.specs.ClosedList.{IsClosed}
 use Rattle.fleet_model.specs.Cover.{cost_of_shares, CoverKeepsPairs, IsFleetRoute, IsFractionalCover, Share, shares_of}
 use Rattle.fleet_model.specs.Pairs.{PlanKeepsPairs}
 use Rattle.fleet_model.specs.Places.{customer_count, customer_number, numbers_of}
-use Rattle.fleet_model.specs.Prices.{price_of, price_sum, sum_of}
+use Rattle.fleet_model.specs.Prices.{price_of, price_sum, price_total}
 use Rattle.fleet_model.specs.Section.{IsSectionOf, Section}
 use Rattle.fleet_model.specs.Whole.{NoFractionIsFaster}
 use Rattle.fleet_model.proofs.Fleets.{plan_below}
@@ -150,12 +150,12 @@ shares_pay g s k (x ∷ xs) network law of closed routes keeps =
     summed k s.weight (x.share * time_of g k g.capacity x.plan) (cost_of_shares g k xs) (repeated x.share (price_sum s.prices (numbers_of g x.plan))) (paid_by g s.prices xs) one rest
 
 pub cover_cost : (g : Network) (s : Section) (k weight : ℕ) (xs : List Share) → IsNetwork g → NoFractionIsFaster g → IsSectionOf g s → IsClosed g s → IsFractionalCover g k weight xs → CoverKeepsPairs g s.allows xs
-    → (pos (k * weight) *ℤ sum_of s.prices) ≤ℤ pos (s.weight * cost_of_shares g k xs)
+    → (pos (k * weight) *ℤ price_total s.prices) ≤ℤ pos (s.weight * cost_of_shares g k xs)
 cover_cost g s k weight xs network law of closed cover keeps =
     let paid = shares_pay g s k xs network law of closed cover.routes keeps in
-    let all : sum_to s.prices (customer_count g) ≡ sum_of s.prices = ap (λ n. sum_to s.prices n) (sym of.one_price) ∙ sum_to_all s.prices in
-    let sum : paid_by g s.prices xs ≡ repeated weight (sum_of s.prices) =
+    let all : sum_to s.prices (customer_count g) ≡ price_total s.prices = ap (λ n. sum_to s.prices n) (sym of.one_price) ∙ sum_to_all s.prices in
+    let sum : paid_by g s.prices xs ≡ repeated weight (price_total s.prices) =
     all_by g k s.prices xs cover.routes ∙ even_by g s.prices weight xs (node_count g) cover.covers ∙ ap (λ z. repeated weight z) all in
-    let product : repeated k (repeated weight (sum_of s.prices)) ≡ pos (k * weight) *ℤ sum_of s.prices = sym (repeated_times k weight (sum_of s.prices)) ∙ repeated_is (k * weight) (sum_of s.prices) in
-    let whole : repeated k (paid_by g s.prices xs) ≡ pos (k * weight) *ℤ sum_of s.prices = ap (λ z. repeated k z) sum ∙ product in
+    let product : repeated k (repeated weight (price_total s.prices)) ≡ pos (k * weight) *ℤ price_total s.prices = sym (repeated_times k weight (price_total s.prices)) ∙ repeated_is (k * weight) (price_total s.prices) in
+    let whole : repeated k (paid_by g s.prices xs) ≡ pos (k * weight) *ℤ price_total s.prices = ap (λ z. repeated k z) sum ∙ product in
     rw whole at paid

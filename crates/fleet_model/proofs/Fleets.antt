@@ -15,7 +15,7 @@ use Rattle.ev_model.specs.Time.{time_of}
 use Rattle.ev_model.specs.declared.Stop.{Stop}
 use Rattle.fleet_model.specs.Pairs.{FleetKeepsPairs, PlanKeepsPairs}
 use Rattle.fleet_model.specs.Places.{customer_count, customer_number, numbers_of}
-use Rattle.fleet_model.specs.Prices.{price_sum, sum_of}
+use Rattle.fleet_model.specs.Prices.{price_sum, price_total}
 use Rattle.fleet_model.specs.Section.{Section, IsSectionOf, IsAtMostBound, ShowsNoPlan}
 use Rattle.fleet_model.specs.ClosedList.{IsClosed}
 use Rattle.fleet_model.proofs.Counts.{AreCustomers, times_append}
@@ -80,13 +80,13 @@ routes_pay g s (p ∷ ps) network of closed feasible only keeps once =
     (summed (price_sum s.prices (numbers_of g p)) (price_sum s.prices (map (customer_number g) (all_customers g ps))) s.weight (time_of g 1 g.capacity p) (cost_of g 1 ps) paid later)
 
 pub fleet_pays : (g : Network) (s : Section) (plans : List (List Stop)) → IsNetwork g → IsSectionOf g s → IsClosed g s → IsFleetPlan g 1 plans → FleetKeepsPairs g s.allows plans
-    → sum_of s.prices ≤ℤ pos (s.weight * cost_of g 1 plans)
+    → price_total s.prices ≤ℤ pos (s.weight * cost_of g 1 plans)
 fleet_pays g s plans network of closed fleet keeps =
     let below = all_below g 1 plans fleet.feasible in
     let paid = routes_pay g s plans network of closed fleet.feasible fleet.only keeps (served_once g 1 plans fleet) in
     let sum = sum_weighed g s.prices (all_customers g plans) (node_count g) (all_filtered g plans) below ∙ weighed_once g s.prices (all_customers g plans) (node_count g) fleet.once in
-    let all : sum_to s.prices (customer_count g) ≡ sum_of s.prices = ap (λ n. sum_to s.prices n) (sym of.one_price) ∙ sum_to_all s.prices in
-    let whole : price_sum s.prices (map (customer_number g) (all_customers g plans)) ≡ sum_of s.prices = sum ∙ all in
+    let all : sum_to s.prices (customer_count g) ≡ price_total s.prices = ap (λ n. sum_to s.prices n) (sym of.one_price) ∙ sum_to_all s.prices in
+    let whole : price_sum s.prices (map (customer_number g) (all_customers g plans)) ≡ price_total s.prices = sum ∙ all in
     rw whole at paid
 
 bounded : (w cost bound : ℕ) (prices : ℤ) → prices ≤ℤ pos (w * cost) → pos (bound * w) <ℤ (prices +ℤ pos w) → bound ≤ cost
@@ -101,7 +101,7 @@ bounded w cost bound prices paid below = elim (cases_lt cost bound) [
 pub fleet_bound : (g : Network) (s : Section) (plans : List (List Stop)) (bound : ℕ) → IsNetwork g → IsSectionOf g s → IsClosed g s → IsFleetPlan g 1 plans → FleetKeepsPairs g s.allows plans
     → IsAtMostBound s bound → bound ≤ cost_of g 1 plans
 fleet_bound g s plans bound network of closed fleet keeps (inl below) =
-    bounded s.weight (cost_of g 1 plans) bound (sum_of s.prices) (fleet_pays g s plans network of closed fleet keeps) below
+    bounded s.weight (cost_of g 1 plans) bound (price_total s.prices) (fleet_pays g s plans network of closed fleet keeps) below
 fleet_bound g s plans bound network of closed fleet keeps (inr none) = omega (arith, none.1)
 
 nothing : (w cost : ℕ) (prices : ℤ) → prices ≤ℤ pos (w * cost) → w ≡ 0 → pos 0 <ℤ prices → ⊥
@@ -112,4 +112,4 @@ nothing w cost prices paid none more =
 
 pub fleet_none : (g : Network) (s : Section) (plans : List (List Stop)) → IsNetwork g → IsSectionOf g s → IsClosed g s → IsFleetPlan g 1 plans → FleetKeepsPairs g s.allows plans → ShowsNoPlan s → ⊥
 fleet_none g s plans network of closed fleet keeps shows =
-    nothing s.weight (cost_of g 1 plans) (sum_of s.prices) (fleet_pays g s plans network of closed fleet keeps) shows.0 shows.1
+    nothing s.weight (cost_of g 1 plans) (price_total s.prices) (fleet_pays g s plans network of closed fleet keeps) shows.0 shows.1

@@ -6,7 +6,7 @@ use Rattle.std.proofs.lemmas.Int.{ints}
 use Rattle.ev_model.specs.Fleet.{times_in}
 use Rattle.ev_model.specs.Network.{Network, is_customer}
 use Rattle.fleet_model.specs.Places.{customer_number}
-use Rattle.fleet_model.specs.Prices.{price_of, price_sum, sum_of}
+use Rattle.fleet_model.specs.Prices.{price_of, price_sum, price_total}
 use Rattle.fleet_model.proofs.Counts.{AreCustomers}
 
 -- an amount n times
@@ -86,7 +86,7 @@ sum_to_more : (p : ℤ) (prices : List ℤ) (n : ℕ) → sum_to (p ∷ prices) 
 sum_to_more p prices zero = omega (arith, ints)
 sum_to_more p prices (suc n) = let before = sum_to_more p prices n in rw before (omega (arith, ints))
 
-pub sum_to_all : (prices : List ℤ) → sum_to prices (length prices) ≡ sum_of prices
+pub sum_to_all : (prices : List ℤ) → sum_to prices (length prices) ≡ price_total prices
 sum_to_all [] = refl
 sum_to_all (p ∷ prices) = let rest = sum_to_all prices in sum_to_more p prices (length prices) ∙ rw rest refl
 

@@ -8,7 +8,7 @@ use Rattle.ev_model.specs.Network.{Network, node_count, is_customer}
 use Rattle.ev_model.specs.Time.{time_of}
 use Rattle.ev_model.specs.declared.Stop.{Stop}
 use Rattle.fleet_model.specs.Pairs.{PlanKeepsPairs}
-use Rattle.fleet_model.specs.Prices.{sum_of}
+use Rattle.fleet_model.specs.Prices.{price_total}
 use Rattle.fleet_model.specs.Section.{Section}
 
 -- a plan of a fleet that serves no customer twice
@@ -50,4 +50,4 @@ CoverKeepsPairs g allows shares = All (λ x. PlanKeepsPairs g allows x.plan) sha
 pub record IsExactRoot (g : Network) (s : Section) (over : ℕ) (shares : List Share) : Type 0 where
   pub cover : IsFractionalCover g 1 over shares
   pub some_weight : 1 ≤ s.weight
-  pub cost : pos (cost_of_shares g 1 shares * s.weight) ≡ sum_of s.prices *ℤ pos over
+  pub cost : pos (cost_of_shares g 1 shares * s.weight) ≡ price_total s.prices *ℤ pos over

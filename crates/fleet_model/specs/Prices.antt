@@ -11,9 +11,9 @@ price_sum prices [] = pos 0
 price_sum prices (c ∷ set) = price_of prices c +ℤ price_sum prices set
 
 -- the sum of all prices
-abbrev pub sum_of : List ℤ → ℤ
-sum_of [] = pos 0
-sum_of (p ∷ prices) = p +ℤ sum_of prices
+abbrev pub price_total : List ℤ → ℤ
+price_total [] = pos 0
+price_total (p ∷ prices) = p +ℤ price_total prices
 
 -- a label of a certificate: its paid sum is the price sum of its set
 abbrev pub priced : List ℤ → Label → Label

@@ -5,7 +5,7 @@ use Rattle.std.specs.List.{Contains}
 use Rattle.ev_model.specs.Network.{Network}
 use Rattle.fleet_model.specs.Places.{customer_count}
 use Rattle.fleet_model.specs.Labels.{Label, IsLevel}
-use Rattle.fleet_model.specs.Prices.{sum_of}
+use Rattle.fleet_model.specs.Prices.{price_total}
 
 -- `allows a b` tells that the place b may follow the place a; prices are by customer number
 pub record Section : Type 0 where
@@ -24,8 +24,8 @@ pub record IsSectionOf (g : Network) (s : Section) : Type 0 where
 -- the weight is 0 and it isn't
 abbrev pub IsAtMostBound : Section → ℕ → Type 0
 IsAtMostBound s bound =
-    (pos (bound * s.weight) <ℤ (sum_of s.prices +ℤ pos s.weight)) ⊎ ((s.weight ≡ 0) × (bound ≡ 0))
+    (pos (bound * s.weight) <ℤ (price_total s.prices +ℤ pos s.weight)) ⊎ ((s.weight ≡ 0) × (bound ≡ 0))
 
 -- the section shows that there is no plan: the weight is 0 and the price sum is above 0
 abbrev pub ShowsNoPlan : Section → Type 0
-ShowsNoPlan s = (s.weight ≡ 0) × (pos 0 <ℤ sum_of s.prices)
+ShowsNoPlan s = (s.weight ≡ 0) × (pos 0 <ℤ price_total s.prices)

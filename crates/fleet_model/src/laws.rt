@@ -19,7 +19,7 @@ ghost use Rattle.fleet_model.specs.Margins.{Covers, CoversBy, HasNoMargin, IsMar
 ghost use Rattle.fleet_model.specs.Pairs.{FleetKeepsPairs, PlanKeepsPairs};
 ghost use Rattle.fleet_model.specs.Places.{customer_count, customer_number, numbers_of};
 ghost use Rattle.fleet_model.specs.PricedLabels.{ArePriced, IsClosedByPrices, IsCoveredByPrices};
-ghost use Rattle.fleet_model.specs.Prices.{price_sum, priced, sum_of};
+ghost use Rattle.fleet_model.specs.Prices.{price_sum, priced, price_total};
 ghost use Rattle.fleet_model.specs.Section.{IsAtMostBound, IsSectionOf, Section, ShowsNoPlan};
 ghost use Rattle.fleet_model.specs.Tree.{BranchTree, IsBranchTree, KeepsSomeLeaf, LeavesAreUnder};
 ghost use Rattle.fleet_model.specs.Whole.{NoFractionIsFaster};
@@ -92,7 +92,7 @@ pub fn no_cover_costs_less()
     ensures { (g : Network) (s : Section) (k weight : ℕ) (shares : List Share) →
         IsNetwork g → NoFractionIsFaster g → IsSectionOf g s → IsClosed g s →
         IsFractionalCover g k weight shares → CoverKeepsPairs g s.allows shares →
-        (pos (k * weight) *ℤ sum_of s.prices) ≤ℤ pos (s.weight * cost_of_shares g k shares) }
+        (pos (k * weight) *ℤ price_total s.prices) ≤ℤ pos (s.weight * cost_of_shares g k shares) }
 {}
 
 /// Labels whose paid sums are the price sums of their sets: a state whose paid sum is that of its
@@ -112,7 +112,7 @@ pub fn paid_sums_may_be_price_sums()
 /// up: the least whole number that, times the weight, is no less than the price sum.
 pub fn the_bound_rounds_up()
     ensures { (s : Section) (bound : ℕ) → 0 < s.weight →
-        IsAtMostBound s bound ↔ ((z : ℤ) → sum_of s.prices ≤ℤ (z *ℤ pos s.weight) →
+        IsAtMostBound s bound ↔ ((z : ℤ) → price_total s.prices ≤ℤ (z *ℤ pos s.weight) →
         pos bound ≤ℤ z) }
 {}
 

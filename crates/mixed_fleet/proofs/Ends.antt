@@ -5,7 +5,7 @@ use Rattle.std.proofs.Math.IntN.{negsuc-*ℤ-pos}
 use Rattle.std.proofs.lemmas.Int.{ints}
 use Rattle.std.proofs.lemmas.List.{get_or-set_same, length-replicate, length-set}
 use Rattle.ev_model.specs.Network.{Network}
-use Rattle.fleet_model.specs.Prices.{sum_of}
+use Rattle.fleet_model.specs.Prices.{price_total}
 use Rattle.instance_reader.specs.Instance.{customer_nodes}
 use Rattle.certificate_parts.specs.Limits.{most_items}
 use Rattle.certificate_parts.specs.declared.entry.BasisEntry.{BasisEntry}
@@ -44,7 +44,7 @@ not_below k over (negsuc p) some same =
     absurd (omega (arith, ints, product, parts, some))
 
 module _ (kinds : List Network) (lp : Lp) (routes : List Searched) (closing : List (List Label)) (is : IsClosedAt kinds lp routes closing) where
-  pub ray_sum : lp.weight ≡ 0 → pos 0 <ℤ sum_of lp.prices.items
+  pub ray_sum : lp.weight ≡ 0 → pos 0 <ℤ price_total lp.prices.items
   ray_sum none = ray_above (problem_of kinds) routes no_route certificate_caps lp is.basis closing is.over none
 
   shares_at : lp.weight ≢ 0 → AreShares (problem_of kinds) routes no_route certificate_caps lp.weight lp.prices.items lp.over lp.shares.items
@@ -53,8 +53,8 @@ module _ (kinds : List Network) (lp : Lp) (routes : List Searched) (closing : Li
   pub shares_placed : (n : ℕ) → n ≡ length (customer_nodes (first_of kinds)) → lp.weight ≢ 0 → All (HasRoute n routes) lp.shares.items
   shares_placed n same some = subst (λ (k : ℕ). All (HasRoute k routes) lp.shares.items) (sym same) (shares_at some).placed
 
-  pub exact_sum : lp.weight ≢ 0 → pos 0 ≤ℤ sum_of lp.prices.items
-  exact_sum some = let at = shares_at some in not_below _ lp.over (sum_of lp.prices.items) at.some at.cost
+  pub exact_sum : lp.weight ≢ 0 → pos 0 ≤ℤ price_total lp.prices.items
+  exact_sum some = let at = shares_at some in not_below _ lp.over (price_total lp.prices.items) at.some at.cost
 
   pub exact_root : AreFleetKinds kinds → (n : ℕ) → n ≡ length (customer_nodes (first_of kinds)) → lp.weight ≢ 0 → (found : List MixedShare) → length found ≤ most_items → found ≡ map (share_at n routes) lp.shares.items
       → IsRightRoot kinds lp.weight lp.prices.items (root.Exact lp.over found)
@@ -70,8 +70,8 @@ module _ (kinds : List Network) (lp : Lp) (routes : List Searched) (closing : Li
 -- ---- rising prices
 
 module _ (kinds : List Network) (fleet : AreFleetKinds kinds) (prices : List ℤ) (closing : List (List Label)) where
-  pub rising_sum : IsPricedByRising (problem_of kinds) prices closing → pos 0 ≤ℤ sum_of prices
-  rising_sum is = subst (λ (ps : List ℤ). pos 0 ≤ℤ sum_of ps) (sym is.prices_are) (some_sum is.of)
+  pub rising_sum : IsPricedByRising (problem_of kinds) prices closing → pos 0 ≤ℤ price_total prices
+  rising_sum is = subst (λ (ps : List ℤ). pos 0 ≤ℤ price_total ps) (sym is.prices_are) (some_sum is.of)
 
   pub rising_root : IsPricedByRising (problem_of kinds) prices closing → (routes : List Searched) (basis : List ℕ) → IsWide (problem_of kinds) certificate_caps routes basis → length routes ≤ most_items → (n : ℕ) → n ≡ length (customer_nodes (first_of kinds))
       → (columns : List MixedRoute) → columns ≡ routes_of routes → (entries : List BasisEntry) → entries ≡ map (entry_of n) basis → IsRightRoot kinds 1 prices (root.Wide columns entries)
@@ -82,7 +82,7 @@ module _ (kinds : List Network) (fleet : AreFleetKinds kinds) (prices : List ℤ
       (subst (λ (cs : List MixedRoute). IsRightRoot kinds 1 prices (root.Wide cs (map (entry_of (length (customer_nodes (first_of kinds)))) basis))) (sym listed)
       (columns_fit kinds fleet routes basis wide few, wide_root kinds fleet routes basis wide, refl, rising))
 
-  pub nowhere_sum : (customer : ℕ) → IsNowhere (problem_of kinds) customer prices closing → pos 0 <ℤ sum_of prices
+  pub nowhere_sum : (customer : ℕ) → IsNowhere (problem_of kinds) customer prices closing → pos 0 <ℤ price_total prices
   nowhere_sum customer is =
       let n = length (customer_nodes (first_of kinds)) in
       let of : List ℕ = set (replicate n 0) customer 1 in
@@ -92,4 +92,4 @@ module _ (kinds : List Network) (fleet : AreFleetKinds kinds) (prices : List ℤ
       let within = is.within in
       let one : get_or of customer 0 ≡ 1 = get_or-set_same blank customer 1 0 (omega (arith, within, none)) in
       let some = sum_at_least of customer (omega (arith, within, none, long)) in
-      subst (λ (ps : List ℤ). pos 0 <ℤ sum_of ps) (sym is.prices_are) (omega (arith, ints, one, some))
+      subst (λ (ps : List ℤ). pos 0 <ℤ price_total ps) (sym is.prices_are) (omega (arith, ints, one, some))

@@ -8,7 +8,7 @@ use Rattle.std.proofs.lemmas.List.Sorted.{IsPermutation-map}
 use Rattle.ev_model.specs.Fleet.{all_customers, customers_of, ServesOnly, times_in}
 use Rattle.ev_model.specs.Network.{Network}
 use Rattle.fleet_model.specs.Cover.{shares_of}
-use Rattle.fleet_model.specs.Prices.{sum_of}
+use Rattle.fleet_model.specs.Prices.{price_total}
 use Rattle.fleet_model.proofs.Counts.{times_append}
 use Rattle.mixed_model.specs.Accepted.{RootHolds}
 use Rattle.mixed_model.specs.Covers.{IsExactCover, IsKindRoute, KindShare, mixed_cost_of_shares, plain_shares}
@@ -94,17 +94,17 @@ module _ (kinds : List Network) (over : ℕ) where
               same_factor over (times_in (all_customers g (plain_plans (kind_plans (routes_in shares)))) node) 1 some_over (sym times ∙ covered ∙ sym one);
         }
 
-    whole_cost : (shares : List MixedShare) (weight : ℕ) (prices : List ℤ) → AreWhole over shares → IsExactCover kinds weight prices over (kind_shares shares) → sum_of prices ≡ pos (weight * cost_of_routes kinds (routes_in shares))
+    whole_cost : (shares : List MixedShare) (weight : ℕ) (prices : List ℤ) → AreWhole over shares → IsExactCover kinds weight prices over (kind_shares shares) → price_total prices ≡ pos (weight * cost_of_routes kinds (routes_in shares))
     whole_cost shares weight prices whole exact =
         let cost = cost_of_routes kinds (routes_in shares) in
         let same : mixed_cost_of_shares kinds 1 (kind_shares shares) * weight ≡ over * (weight * cost) = ap (λ n. n * weight) (cost_whole shares whole) ∙ omega arith in
-        cancelled over (weight * cost) (sum_of prices) exact.cover.some_weight (sym (ap pos same) ∙ exact.cost)
+        cancelled over (weight * cost) (price_total prices) exact.cover.some_weight (sym (ap pos same) ∙ exact.cost)
 
 -- ---- the bound of an exact root
 
-bound_at : (weight cost : ℕ) (prices : List ℤ) (bound : Option ℕ) → IsBoundOf weight prices bound → 1 ≤ weight → sum_of prices ≡ pos (weight * cost) → bound ≡ Some cost
+bound_at : (weight cost : ℕ) (prices : List ℤ) (bound : Option ℕ) → IsBoundOf weight prices bound → 1 ≤ weight → price_total prices ≡ pos (weight * cost) → bound ≡ Some cost
 bound_at weight cost prices None is some sum = absurd (let none = is.0 in omega (arith, none, some))
-bound_at weight cost prices (Some bound) is some sum = ap Some (rounded_is_cost (sum_of prices) weight cost bound some sum is.1)
+bound_at weight cost prices (Some bound) is some sum = ap Some (rounded_is_cost (price_total prices) weight cost bound some sum is.1)
 
 pub at_bound : (kinds : List Network) (p : MixedProof) (over : ℕ) (shares : List MixedShare) (routes sorted : List MixedRoute) → AreFleetKinds kinds → IsBestProof kinds p → p.root ≡ Exact over shares → AreWhole over shares
     → routes ≡ routes_in shares → IsPermutation routes sorted → IsNonDecreasingBy (λ (r : MixedRoute). first_outside r.plan.stops) sorted → IsAtBound kinds p sorted

@@ -2,7 +2,7 @@
 -- prices.
 use Rattle.std.specs.Prelude.{◌≡◌, ℕ, ◌≤◌, ℤ, pos, ◌<ℤ◌, List, IsSome, Option, Some, None}
 use Rattle.ev_model.specs.Network.{Network}
-use Rattle.fleet_model.specs.Prices.{sum_of}
+use Rattle.fleet_model.specs.Prices.{price_total}
 use Rattle.certificate_check.specs.RoundedUp.{IsRoundedUp}
 use Rattle.mixed_model.specs.Accepted.{IsMixedAccepted}
 use Rattle.mixed_model.specs.Ranges.{MixedFits}
@@ -16,8 +16,8 @@ use Rattle.mixed_fleet.specs.Rising.{AreRisingPrices}
 -- the bound is the price sum over the weight, rounded up; there is none, which says that there is
 -- no plan, exactly where the weight is 0, and the price sum is above 0 then
 abbrev pub IsBoundOf : ℕ → List ℤ → Option ℕ → Type 0
-IsBoundOf weight prices None = (weight ≡ 0) × (pos 0 <ℤ sum_of prices)
-IsBoundOf weight prices (Some bound) = (1 ≤ weight) × IsRoundedUp (sum_of prices) weight bound
+IsBoundOf weight prices None = (weight ≡ 0) × (pos 0 <ℤ price_total prices)
+IsBoundOf weight prices (Some bound) = (1 ≤ weight) × IsRoundedUp (price_total prices) weight bound
 
 -- there is no root exactly where there is no bound. Of a wide root the weight is 1, and the prices
 -- are the rising prices over the routes of all kinds

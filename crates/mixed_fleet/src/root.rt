@@ -2,7 +2,7 @@
 
 ghost use Rattle.std.specs.Prelude.{◌≡◌, pos, ◌<ℤ◌, ◌≤ℤ◌, IfOk};
 ghost use Rattle.std.specs.List.{All};
-ghost use Rattle.fleet_model.specs.Prices.{sum_of};
+ghost use Rattle.fleet_model.specs.Prices.{price_total};
 ghost use Rattle.price_loop.specs.Masters.{IsWide};
 ghost use Rattle.mixed_fleet.specs.Fleets.{AreFleetKinds};
 ghost use Rattle.mixed_fleet.specs.Problem.{AreClosedLists, MayBeAsked, problem_of};
@@ -127,8 +127,8 @@ fn proof_with(
     requires fleet { AreFleetKinds kinds.now }
     requires asked { MayBeAsked kinds.now weight prices.items }
     requires closed { AreClosedLists kinds.now weight prices.items labels }
-    requires some { pos 0 ≤ℤ sum_of prices.items }
-    requires above { weight ≡ 0 → pos 0 <ℤ sum_of prices.items }
+    requires some { pos 0 ≤ℤ price_total prices.items }
+    requires above { weight ≡ 0 → pos 0 <ℤ price_total prices.items }
     requires root { IsRightRoot kinds.now weight prices.items root }
     ensures { IsBestProof kinds.now result }
 {

@@ -12,7 +12,7 @@ use Rattle.ev_model.specs.Network.{IsNetwork, Network, node_count}
 use Rattle.ev_model.specs.declared.Stop.{Stop}
 use Rattle.fleet_model.specs.Pairs.{PlanKeepsPairs}
 use Rattle.fleet_model.specs.Places.{customer_count, customer_number, numbers_of, places_of}
-use Rattle.fleet_model.specs.Prices.{price_sum, sum_of}
+use Rattle.fleet_model.specs.Prices.{price_sum, price_total}
 use Rattle.fleet_model.specs.Section.{IsSectionOf}
 use Rattle.fleet_model.proofs.Fleets.{plan_below}
 use Rattle.fleet_model.proofs.Plans.{plan_pays}
@@ -89,19 +89,19 @@ module _ (kinds : List Network) (p : MixedProof) (networks : All IsNetwork kinds
       (copies_pay g p.prices p.weight (time_in kinds 1 x.plan) x.share (customers_of g x.plan.stops) (route_pays x.plan (All-head P x xs routes)))
       (all_pay xs (All-tail P x xs routes))
 
-  pub whole_pays : (over : ℕ) (xs : List KindShare) → IsMixedCover kinds 1 over xs → (pos over *ℤ sum_of p.prices) ≤ℤ pos (p.weight * mixed_cost_of_shares kinds 1 xs)
+  pub whole_pays : (over : ℕ) (xs : List KindShare) → IsMixedCover kinds 1 over xs → (pos over *ℤ price_total p.prices) ≤ℤ pos (p.weight * mixed_cost_of_shares kinds 1 xs)
   whole_pays over xs cover =
       let g = first_of kinds in
       let all = all_copies g (plain_shares xs) in
       let paid = all_pay xs cover.routes in
       let first = sections 0 are.some in
-      let sum : sum_to p.prices (customer_count g) ≡ sum_of p.prices = ap (λ (n : ℕ). sum_to p.prices n) (sym first.one_price) ∙ sum_to_all p.prices in
+      let sum : sum_to p.prices (customer_count g) ≡ price_total p.prices = ap (λ (n : ℕ). sum_to p.prices n) (sym first.one_price) ∙ sum_to_all p.prices in
       let even = weighed_evenly g p.prices all over (node_count g) (λ x known is. times_all g (plain_shares xs) x ∙ cover.covers x known is) in
-      let whole : price_sum p.prices (map (customer_number g) all) ≡ pos over *ℤ sum_of p.prices =
-      sum_weighed g p.prices all (node_count g) (customers_all g (plain_shares xs)) (all_below xs cover.routes) ∙ even ∙ ap (λ (z : ℤ). repeated over z) sum ∙ repeated_is over (sum_of p.prices) in
+      let whole : price_sum p.prices (map (customer_number g) all) ≡ pos over *ℤ price_total p.prices =
+      sum_weighed g p.prices all (node_count g) (customers_all g (plain_shares xs)) (all_below xs cover.routes) ∙ even ∙ ap (λ (z : ℤ). repeated over z) sum ∙ repeated_is over (price_total p.prices) in
       rw whole at paid
 
   pub least_cost : IsLeastCost kinds p.weight p.prices
   least_cost k over others cover =
       let has = whole_cover kinds networks k over others cover in
-      in_kths k over p.weight (mixed_cost_of_shares kinds 1 has.whole) (mixed_cost_of_shares kinds k others) (sum_of p.prices) (whole_pays over has.whole has.cover) has.no_dearer
+      in_kths k over p.weight (mixed_cost_of_shares kinds 1 has.whole) (mixed_cost_of_shares kinds k others) (price_total p.prices) (whole_pays over has.whole has.cover) has.no_dearer

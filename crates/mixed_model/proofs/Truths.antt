@@ -7,7 +7,7 @@ use Rattle.std.proofs.Math.Nat.{mul-le-mul, mul-le-mul_left}
 use Rattle.std.proofs.lemmas.Bool.{cases_eq}
 use Rattle.std.proofs.lemmas.Int.{ints}
 use Rattle.ev_model.specs.Network.{IsNetwork, Network}
-use Rattle.fleet_model.specs.Prices.{sum_of}
+use Rattle.fleet_model.specs.Prices.{price_total}
 use Rattle.fleet_model.specs.Section.{IsAtMostBound, Section}
 use Rattle.fleet_model.specs.Tree.{IsBoundedBy}
 use Rattle.fleet_model.proofs.Bounds.{bound_rounds_up}
@@ -28,7 +28,7 @@ use Rattle.mixed_model.proofs.Sections.{section_at}
 use Rattle.mixed_model.proofs.Whole.{whole_cover}
 
 -- a price sum that is paid at the weight has a bound that is paid
-bounded : (s : Section) (bound cost : ℕ) → IsAtMostBound s bound → sum_of s.prices ≤ℤ pos (s.weight * cost) → bound ≤ cost
+bounded : (s : Section) (bound cost : ℕ) → IsAtMostBound s bound → price_total s.prices ≤ℤ pos (s.weight * cost) → bound ≤ cost
 bounded s bound cost at_most paid = elim (cases_eq s.weight 0) [
   | inl none ↦ elim at_most [
     | inl less ↦
@@ -40,7 +40,7 @@ bounded s bound cost at_most paid = elim (cases_eq s.weight 0) [
   | inr some ↦
       let product : pos cost *ℤ pos s.weight ≡ pos (cost * s.weight) = pos-*ℤ-pos cost s.weight in
       let turned : s.weight * cost ≡ cost * s.weight = omega arith in
-      let within : sum_of s.prices ≤ℤ (pos cost *ℤ pos s.weight) = rw product (omega (arith, ints, paid, turned)) in
+      let within : price_total s.prices ≤ℤ (pos cost *ℤ pos s.weight) = rw product (omega (arith, ints, paid, turned)) in
       let least = (bound_rounds_up s bound (omega (arith, some))).0 at_most (pos cost) within in
       omega (arith, ints, least)
 ]
@@ -73,10 +73,10 @@ nothing_is_below n cost (pos m) some positive less =
     omega (arith, ints, product, both, less)
 nothing_is_below n cost (negsuc m) some positive less = omega (arith, ints, positive)
 
-no_cover : (kinds : List Network) (weight : ℕ) (prices : List ℤ) → IsLeastCost kinds weight prices → weight ≡ 0 → pos 0 <ℤ sum_of prices → HasNoCover kinds
+no_cover : (kinds : List Network) (weight : ℕ) (prices : List ℤ) → IsLeastCost kinds weight prices → weight ≡ 0 → pos 0 <ℤ price_total prices → HasNoCover kinds
 no_cover kinds weight prices least none more = λ k over others some cover.
-    nothing_is_below (k * over) (mixed_cost_of_shares kinds k others) (sum_of prices) (mul-le-mul some cover.some_weight) more
-    (subst (λ (w : ℕ). (pos (k * over) *ℤ sum_of prices) ≤ℤ pos (w * mixed_cost_of_shares kinds k others)) none (least k over others cover))
+    nothing_is_below (k * over) (mixed_cost_of_shares kinds k others) (price_total prices) (mul-le-mul some cover.some_weight) more
+    (subst (λ (w : ℕ). (pos (k * over) *ℤ price_total prices) ≤ℤ pos (w * mixed_cost_of_shares kinds k others)) none (least k over others cover))
 
 true_root : (kinds : List Network) (p : MixedProof) → IsLeastCost kinds p.weight p.prices → (r : MixedRoot) → RootHolds kinds p r → IsTrueRoot kinds p r
 true_root kinds p least root.None shows = no_cover kinds p.weight p.prices least shows.0 shows.1

@@ -4,7 +4,7 @@ use Rattle.std.specs.Prelude.{◌≡◌, ℕ, ◌+◌, ◌*◌, ◌<◌, ◌≤�
 use Rattle.std.specs.List.{All}
 use Rattle.ev_model.specs.Network.{is_customer, Network, node_count}
 use Rattle.fleet_model.specs.Cover.{IsFleetRoute, Share, shares_of}
-use Rattle.fleet_model.specs.Prices.{sum_of}
+use Rattle.fleet_model.specs.Prices.{price_total}
 use Rattle.mixed_model.specs.Kinds.{first_of, network_of}
 use Rattle.mixed_model.specs.Plans.{KindPlan, time_in}
 
@@ -44,4 +44,4 @@ pub record IsExactCover (kinds : List Network) (weight : ℕ) (prices : List ℤ
     (shares : List KindShare) : Type 0 where
   pub cover : IsMixedCover kinds 1 over shares
   pub some_weight : 1 ≤ weight
-  pub cost : pos (mixed_cost_of_shares kinds 1 shares * weight) ≡ sum_of prices *ℤ pos over
+  pub cost : pos (mixed_cost_of_shares kinds 1 shares * weight) ≡ price_total prices *ℤ pos over

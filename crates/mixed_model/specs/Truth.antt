@@ -2,7 +2,7 @@
 -- fractional covers.
 use Rattle.std.specs.Prelude.{ℕ, ◌*◌, ◌≤◌, List, Option, None, Some, ℤ, pos, ◌*ℤ◌, ◌≤ℤ◌}
 use Rattle.ev_model.specs.Network.{Network}
-use Rattle.fleet_model.specs.Prices.{sum_of}
+use Rattle.fleet_model.specs.Prices.{price_total}
 use Rattle.mixed_model.specs.Covers.{IsExactCover, IsMixedCover, KindShare, mixed_cost_of_shares}
 use Rattle.mixed_model.specs.Meaning.{kind_shares}
 use Rattle.mixed_model.specs.Plans.{IsMixedPlan, KindPlan, mixed_cost}
@@ -23,7 +23,7 @@ IsTrueBound kinds (Some bound) =
 abbrev pub IsLeastCost : List Network → ℕ → List ℤ → Type 0
 IsLeastCost kinds weight prices =
     (k over : ℕ) (others : List KindShare) → IsMixedCover kinds k over others →
-    (pos (k * over) *ℤ sum_of prices) ≤ℤ pos (weight * mixed_cost_of_shares kinds k others)
+    (pos (k * over) *ℤ price_total prices) ≤ℤ pos (weight * mixed_cost_of_shares kinds k others)
 
 -- there is no fractional cover, in any fraction of a unit
 abbrev pub HasNoCover : List Network → Type 0

@@ -3,7 +3,7 @@ use Rattle.std.proofs.Common.{◌≡◌, ◌∙◌, ◌↔◌, ℕ, ◌*◌, ◌
 use Rattle.std.proofs.lemmas.List.Elements.{All-weaker}
 use Rattle.std.specs.List.{All}
 use Rattle.ev_model.specs.Network.{Network}
-use Rattle.fleet_model.specs.Prices.{sum_of}
+use Rattle.fleet_model.specs.Prices.{price_total}
 use Rattle.job_frame.specs.declared.status.Status.{Status}
 use Rattle.job_frame.specs.declared.status.Status.TheVariants as status
 use Rattle.mixed_fleet.specs.Outcome.{IsOutcome}
@@ -71,7 +71,7 @@ shows kinds p (root.Exact over shares) line.Wide (Some b) same is tells = λ emp
 shows kinds p (root.Wide columns basis) told (Some b) same is tells = λ empty. cc
 
 pub tells_exact : (kinds : List Network) (p : MixedProof) (over : ℕ) (shares : List MixedShare) (told : RootLine) → IsBestProof kinds p → p.root ≡ root.Exact over shares →
-    IsExactLine (sum_of p.prices) (p.weight * (first_of kinds).denominator) told → TellsRoot kinds p p.root told
+    IsExactLine (price_total p.prices) (p.weight * (first_of kinds).denominator) told → TellsRoot kinds p p.root told
 tells_exact kinds p over shares told best is line =
     let truth = subst (λ (r : MixedRoot). IsTrueRoot kinds p r) is best.truth.root in
     subst (λ (r : MixedRoot). TellsRoot kinds p r told) (sym is) (truth.0, line)

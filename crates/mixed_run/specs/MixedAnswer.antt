@@ -2,7 +2,7 @@
 use Rattle.std.specs.Prelude.{◌≡◌, ◌↔◌, ℕ, ◌*◌, ◌≤◌, List, [], ◌∷◌, Option, None, Some, length}
 use Rattle.certificate_parts.specs.Limits.{most_bytes}
 use Rattle.ev_model.specs.Network.{Network}
-use Rattle.fleet_model.specs.Prices.{sum_of}
+use Rattle.fleet_model.specs.Prices.{price_total}
 use Rattle.job_frame.specs.Task.{Task}
 use Rattle.job_frame.specs.Writes.{Written}
 use Rattle.job_frame.specs.declared.status.Status.{Status}
@@ -36,7 +36,7 @@ abbrev pub TellsRoot : List Network → MixedProof → MixedRoot → RootLine �
 TellsRoot kinds p root.None told = told ≡ line.Empty
 TellsRoot kinds p (root.Exact over shares) told =
     IsLeastCost kinds p.weight p.prices
-    × IsExactLine (sum_of p.prices) (p.weight * (first_of kinds).denominator) told
+    × IsExactLine (price_total p.prices) (p.weight * (first_of kinds).denominator) told
 TellsRoot kinds p (root.Wide columns basis) told = told ≡ line.Wide
 
 -- the status of a search with this bound: there is no plan, or the search did what it was asked for

@@ -17,7 +17,7 @@ use Rattle.ev_model.specs.Route.{route_of}
 use Rattle.ev_model.specs.Time.{time_of}
 use Rattle.ev_model.specs.declared.Stop.{Stop}
 use Rattle.fleet_model.specs.Places.{customer_count, customer_number, numbers_of}
-use Rattle.fleet_model.specs.Prices.{price_of as integer_price, price_sum, sum_of}
+use Rattle.fleet_model.specs.Prices.{price_of as integer_price, price_sum, price_total as integer_total}
 use Rattle.fleet_model.specs.Whole.{NoFractionIsFaster}
 use Rattle.fleet_model.proofs.Counts.{AreCustomers, AreNew, number_less, numbers_once, once_is_new, times_append}
 use Rattle.fleet_model.proofs.Fleets.{all_below, all_filtered, plan_below, served_once}
@@ -134,7 +134,7 @@ earned_is prices (c ∷ cs) =
     let more = sum_by-cons (price_of prices) c cs in
     omega (arith, ints, rest, first, more)
 
-total_is : (prices : List ℕ) → sum_of (map pos prices) ≡ pos (price_total prices)
+total_is : (prices : List ℕ) → integer_total (map pos prices) ≡ pos (price_total prices)
 total_is [] = refl
 total_is (price ∷ prices) =
     let rest = total_is prices in
@@ -147,8 +147,8 @@ all_once g prices k plans one_price fleet =
     let listed = map pos prices in
     let count : length listed ≡ customer_count g = length-map prices pos ∙ one_price in
     let sum = sum_weighed g listed (all_customers g plans) (node_count g) (all_filtered g plans) (all_below g k plans fleet.feasible) ∙ weighed_once g listed (all_customers g plans) (node_count g) fleet.once in
-    let all : sum_to listed (customer_count g) ≡ sum_of listed = ap (λ n. sum_to listed n) (sym count) ∙ sum_to_all listed in
-    let whole : price_sum listed (map (customer_number g) (all_customers g plans)) ≡ sum_of listed = sum ∙ all in
+    let all : sum_to listed (customer_count g) ≡ integer_total listed = ap (λ n. sum_to listed n) (sym count) ∙ sum_to_all listed in
+    let whole : price_sum listed (map (customer_number g) (all_customers g plans)) ≡ integer_total listed = sum ∙ all in
     omega (arith, ints, whole, earned_is prices (map (customer_number g) (all_customers g plans)), total_is prices)
 
 pub fleet_pays : (g : Network) (t : Terms) (k : ℕ) (plans : List (List Stop)) → IsNetwork g → NearRoutesPay g t → length t.prices ≡ customer_count g → IsFleetPlan g k plans → k * price_total t.prices ≤ t.weight * cost_of g k plans

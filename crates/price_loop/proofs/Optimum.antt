@@ -11,7 +11,7 @@ use Rattle.customer_sets.specs.CustSet.{has, with_customer}
 use Rattle.customer_sets.proofs.Ranges.{has-with_customer}
 use Rattle.ev_model.specs.Fleet.{times_in}
 use Rattle.fleet_model.specs.Equations.{column_at, cost_of, helper, helpers, right_side, route, serves, total_from}
-use Rattle.fleet_model.specs.Prices.{sum_of}
+use Rattle.fleet_model.specs.Prices.{price_total}
 use Rattle.master_simplex.specs.Answer.{cost_of_shares, covered, IsAdded, IsOptimum}
 use Rattle.master_simplex.specs.declared.prices.Lp.{Lp}
 use Rattle.master_table.specs.Tableau.{Limits, Tableau}
@@ -57,11 +57,11 @@ counted_once (x ∷ xs) c k few = elim (cases_eq x c) [
 ]
 
 -- ---- the sum of all prices
-all_of : (c : ℕ) (prices : List ℤ) → total_from (λ x. true) c prices ≡ sum_of prices
+all_of : (c : ℕ) (prices : List ℤ) → total_from (λ x. true) c prices ≡ price_total prices
 all_of c [] = refl
 all_of c (p ∷ prices) = let rest = all_of (suc c) prices in ap (λ z. p +ℤ z) rest
 
-pub sum_is_right : (prices : List ℤ) → right_side prices ≡ sum_of prices
+pub sum_is_right : (prices : List ℤ) → right_side prices ≡ price_total prices
 sum_is_right prices = all_of 0 prices
 
 -- ---- shares of columns as shares of routes
@@ -115,7 +115,7 @@ module _ {R C : Type 0} (q : Problem R C) (routes : List R) (none : R) where
     pub some_weight : 1 ≤ weight
     pub placed : All (HasRoute n routes) xs
     pub exact : (c : ℕ) → c < n → times_shared xs c ≡ over
-    pub cost : pos (cost_shared xs * weight) ≡ sum_of prices *ℤ pos over
+    pub cost : pos (cost_shared xs * weight) ≡ price_total prices *ℤ pos over
     pub small : over ≤ caps.body
     pub parts : All (λ x. (0 < x.1) × (x.1 ≤ over)) xs
 
@@ -155,7 +155,7 @@ module _ {R C : Type 0} (q : Problem R C) (routes : List R) (none : R) where
       | inr ray ↦ absurd (some ray.weightless)
     ]
 
-    pub ray_above : lp.weight ≡ 0 → pos 0 <ℤ sum_of lp.prices.items
+    pub ray_above : lp.weight ≡ 0 → pos 0 <ℤ price_total lp.prices.items
     ray_above none = elim is.solved.answer [
       | inl optimum ↦ (let e = optimum.weighty in absurd (omega (arith, none, e)))
       | inr ray ↦ subst (λ z. pos 0 <ℤ z) (sum_is_right lp.prices.items) ray.above

@@ -2,7 +2,7 @@ use Rattle.std.proofs.Common.{◌≡◌, ◌+◌, ◌*◌, ◌<◌, ◌≤◌, �
 use Rattle.std.specs.Int.{w128}
 use Rattle.std.specs.Prelude.{slice_index_or}
 use Rattle.std.proofs.lemmas.Int.{ints}
-use Rattle.fleet_model.specs.Prices.{sum_of}
+use Rattle.fleet_model.specs.Prices.{price_total}
 use Rattle.certificate_check.proofs.SectionBounds.{sum_end, sum_step}
 use Rattle.certificate_check.proofs.bound.price_total.Goals as goal
 
@@ -16,7 +16,7 @@ loop-c-preserved c =
     let few : length xs ≤ 128 = c.requires.few in
     let below : at < length xs = c.loop-c-test.true in
     let before = c.loop-c.invariant.sum in
-    let step : sum_of (drop at xs) ≡ slice_index_or xs at (pos 0) +ℤ sum_of (drop (at + 1) xs) = sum_step xs at below in
+    let step : price_total (drop at xs) ≡ slice_index_or xs at (pos 0) +ℤ price_total (drop (at + 1) xs) = sum_step xs at below in
     let same : to_z w128 (of_z w128 (to_z w128 c.loop-c.sum-bits +ℤ to_z w128 (of_z w128 (slice_index_or xs at (pos 0))))) ≡ to_z w128 c.loop-c.sum-bits +ℤ slice_index_or xs at (pos 0) = omega (arith, ints) in
     record {
       sum = omega (arith, ints, same, step, before);
@@ -37,7 +37,7 @@ overflow_add-sum c =
 pub returns : goal.returns
 returns c =
     let xs = c.args.prices.now in
-    let nothing : sum_of (drop c.loop-c.c xs) ≡ pos 0 = sum_end xs c.loop-c.c c.loop-c-test.false in
+    let nothing : price_total (drop c.loop-c.c xs) ≡ pos 0 = sum_end xs c.loop-c.c c.loop-c-test.false in
     let all = c.loop-c.invariant.sum in
     let before_small : unsigned_abs (to_z w128 c.loop-c.sum-bits) ≤ c.loop-c.c * 2 ^ 84 = c.loop-c.invariant.small in
     let few : length xs ≤ 128 = c.requires.few in

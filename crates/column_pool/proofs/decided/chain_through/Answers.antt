@@ -5,7 +5,7 @@ use Rattle.std.specs.List.{All}
 use Rattle.std.proofs.lemmas.Int.{ints}
 use Rattle.closed_lists.specs.Questions.{Question}
 use Rattle.ev_model.specs.Fastest.{HasNoPlan, IsFastest}
-use Rattle.fleet_model.specs.Prices.{sum_of}
+use Rattle.fleet_model.specs.Prices.{price_total}
 use Rattle.fleet_model.proofs.Counts.{number_less}
 use Rattle.fleet_model.proofs.Numbers.{counted}
 use Rattle.ev_model.specs.Network.{node_count}
@@ -56,7 +56,7 @@ returns-in-Closed c =
     let same = ap length c.customers.ensures.value in
     let number = c.requires.number in
     let less : c.args.number < n = omega (arith, number, below, all, same) in
-    let sum : sum_of c.section_of.result.prices ≡ pos 1 = ap sum_of (told.prices ∙ c.in_ok-lone_price.ensures) ∙ lone_sum n c.args.number less in
+    let sum : price_total c.section_of.result.prices ≡ pos 1 = ap price_total (told.prices ∙ c.in_ok-lone_price.ensures) ∙ lone_sum n c.args.number less in
     record {
       section = section_closed g p c.section_of.result 0 prices c.in-Closed.labels.items closed told.pairs told.weight told.prices told.labels c.requires.pairs (omega arith) (count ∙ ap length c.customers.ensures.value) small told.few;
       none = (told.weight, subst (λ (z : ℤ). pos 0 <ℤ z) (sym sum) (omega (arith, ints)));
