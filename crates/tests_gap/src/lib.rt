@@ -10,6 +10,8 @@ mod drawn;
 #[cfg(test)]
 mod edges;
 #[cfg(test)]
+mod effort;
+#[cfg(test)]
 mod files;
 #[cfg(test)]
 mod judged;
