@@ -39,7 +39,8 @@ where
         × Runs words.items K.takes_memory (S.state shelf.old) (S.state shelf.new)
         (K.state out.old) (K.state out.new) ended) }
     ensures told { IfOk words (λ _. (message : Option Message)
-        × IsToldAt (exit_status result) (S.state shelf.new).asked message
+        × IsToldAt (exit_status result) (K.cause out.new) (S.cause shelf.new)
+        (S.state shelf.new).asked message
         × TellsIfSome (D.told people.old) message (D.told people.new)) }
     ensures memory { IfErr words (λ error. error_kind error ≡ ErrorKind.OutOfMemory
         → (exit_status result ≡ code_of Status.Memory)

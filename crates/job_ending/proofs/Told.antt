@@ -1,19 +1,20 @@
 -- What is told at an exit status, by what is told at the code that it is of; and what is told of words that were had or not.
-use Rattle.std.proofs.Common.{◌≡◌, ◌≢◌, ◌∙◌, Err, IfErr, IfOk, IfSome, List, Ok, Option, Result, Some, sym, ℕ}
+use Rattle.std.proofs.Common.{◌≡◌, ◌≢◌, ◌∙◌, Err, IfErr, IfOk, List, Ok, Option, Result, Some, sym, ℕ}
 use Rattle.std.specs.Prelude.{IsNone}
+use Rattle.std.specs.declared.io.Error.{Error}
 use Rattle.ev_outside.specs.declared.failure.Failure.{Failure}
-use Rattle.job_ending.specs.Ending.{IsToldAt, NamesCause}
+use Rattle.job_ending.specs.Ending.{IsLastFailure, IsToldAt}
 use Rattle.job_ending.specs.declared.message.Message.{Message}
 use Rattle.job_ending.specs.declared.message.Message.TheVariants as message
 use Rattle.job_frame.specs.Codes.{code_of}
 use Rattle.job_frame.specs.declared.status.Status.TheVariants as status
 
-pub told_at : (exit code : ℕ) (asked : Option (List ℕ)) (failure : Option Failure) (told : Option Message) → exit ≡ code
+pub told_at : (exit code : ℕ) (of_output of_file : Option Error) (asked : Option (List ℕ)) (failure : Option Failure) (told : Option Message) → exit ≡ code
     → (code ≡ code_of status.Memory → told ≡ Some message.Memory) → (code ≡ code_of status.Fault → told ≡ Some (message.Failure failure))
-    → (code ≢ code_of status.Memory → code ≢ code_of status.Fault → IsNone told) → IfSome failure (NamesCause asked) → IsToldAt exit asked told
-told_at exit code asked failure told same memory fault none names = record {
+    → (code ≢ code_of status.Memory → code ≢ code_of status.Fault → IsNone told) → IsLastFailure of_output of_file asked failure → IsToldAt exit of_output of_file asked told
+told_at exit code of_output of_file asked failure told same memory fault none last = record {
   memory = λ is. memory (sym same ∙ is);
-  fault = λ is. (failure, fault (sym same ∙ is), names);
+  fault = λ is. (failure, fault (sym same ∙ is), last);
   none = λ other fails. none (λ is. other (same ∙ is)) (λ is. fails (same ∙ is));
 }
 

@@ -42,7 +42,8 @@ where
     D: Diagnostics,
     ensures status { exit_status result ≡ code }
     ensures told { (message : Option Message)
-        × IsToldAt (exit_status result) (S.state shelf.now).asked message
+        × IsToldAt (exit_status result) (K.cause out.now) (S.cause shelf.now)
+        (S.state shelf.now).asked message
         × TellsIfSome (D.told people.old) message (D.told people.new) }
 {
     let failure = failure_of(shelf, out);

@@ -1,6 +1,6 @@
 //! An output that remembers whether anything was put.
 
-ghost use Rattle.std.specs.Prelude.{◌≡◌, ◌≤◌, IfSome, OnErr, OnOk, IsErrOf, true};
+ghost use Rattle.std.specs.Prelude.{◌≡◌, ◌≤◌, ◌↔◌, IfSome, IsNone, OnErr, OnOk, IsErrOf, Some, true};
 ghost use Rattle.ev_outside.specs.Counts.{Rose};
 ghost use Rattle.ev_outside.specs.Sink.{Adds, AddsPrefix};
 ghost use Rattle.job_ending.specs.Ending.{output_name};
@@ -42,9 +42,9 @@ impl<K: Sink + Drop> Sink for HeardSink<K> {
 }
 
 impl<K: FailingSink + Drop> FailingSink for HeardSink<K> {
-    fn last_failure(&self) -> Option<Failure<'_>>
-        ensures name { IfSome result (λ failure. failure.name.now ≡ output_name) }
-    {
+    ghost cause = { λ sink. K.cause sink.out };
+
+    fn last_failure(&self) -> Option<Failure<'_>> {
         self.out.last_failure()
     }
 }
