@@ -7,20 +7,17 @@ ghost use Rattle.job_frame.specs.Finds.{Finds, written_by};
 ghost use Rattle.job_frame.specs.Task.{AreReadUpTo};
 ghost use Rattle.job_frame.specs.Caps.{most_bytes};
 ghost use Rattle.job_frame.specs.LimitedNetwork.{HasNetwork};
-ghost use Rattle.plan_writer.specs.CheckText.{check_text};
-ghost use Rattle.plan_writer.specs.declared.check.Judgement.TheVariants as judgement;
 ghost use Rattle.route_plan.specs.PlanTexts.{FitsFile};
 ghost use Rattle.view_words.specs.JobValue.{IsJob, job_value};
 
 use crate::showing::show;
 use ev_outside::{Shelf, ShelfFault};
-use fleet_steps::{cost_of, plan_of};
+use fleet_steps::{cost_of, plan_of, reject};
 use instance_reader::Instance;
 use job_frame::{
     Answer, Ended, Found, MOST_BYTES, Status, limited_instance, read_file, refuse_job,
 };
-use plan_check::{LargeFault, PlanFault};
-use plan_writer::{Judgement, push_check_report};
+use plan_check::LargeFault;
 use report_lines::{push_numbered, push_word};
 use route_plan::FleetPlan;
 use std::alloc::{AllocError, Global};
@@ -133,7 +130,12 @@ fn refuse_route(alloc: Global, number: u64) -> Result<Found, AllocError>
     let mut text = Vec::new(alloc);
     push_numbered(alloc, &mut text, b"refused number ", u128::from(number))?;
     push_word(&mut text, b"\n")?;
-    Ok(without_schedule(alloc, Status::Refused, text))
+    let answer = Answer {
+        status: Status::Refused,
+        text,
+        cause: None,
+    };
+    Ok(Found::alone(alloc, answer))
 }
 
 /// What is found for a plan, or for none, with the one route that is asked for: it is judged and
@@ -156,30 +158,4 @@ fn view_judged(
         Err(LargeFault::Plan { fault }) => reject(alloc, inst, fault),
         Err(LargeFault::Memory) => Err(AllocError),
     }
-}
-
-/// The line of the first rule that a plan breaks.
-fn reject(alloc: Global, inst: &Instance, fault: PlanFault) -> Result<Found, AllocError>
-    ensures status { IfOk result (λ f. f.answer.status ≡ Status.Negative) }
-    ensures files { IfOk result (λ f. map written_by f.files.items ≡ []) }
-    ensures text { IfOk result (λ f. f.answer.text.items
-        ≡ check_text inst.now.denominator (judgement.Plan fault)) }
-{
-    let mut text = Vec::new(alloc);
-    push_check_report(alloc, &mut text, inst, &Judgement::Plan(fault))?;
-    Ok(without_schedule(alloc, Status::Negative, text))
-}
-
-/// A text that says why no schedule is shown.
-fn without_schedule(alloc: Global, status: Status, text: Vec<u8>) -> Found
-    ensures status { result.answer.status ≡ status }
-    ensures files { map written_by result.files.items ≡ [] }
-    ensures text { result.answer.text ≡ text }
-{
-    let answer = Answer {
-        status,
-        text,
-        cause: None,
-    };
-    Found::alone(alloc, answer)
 }
