@@ -1,6 +1,7 @@
 -- Why a step is the last of a command, by why the steps that several commands share are.
 use Rattle.std.proofs.Common.{ℕ, List, Option, subst, sym}
 use Rattle.ev_model.specs.Network.{Network}
+use Rattle.fleet_steps.proofs.PlanFiles.{plan_rule}
 use Rattle.fleet_steps.specs.FleetNetwork.{HasFleetNetwork, IsFleetEnded}
 use Rattle.fleet_steps.specs.NearFile.{IsProofEnded}
 use Rattle.fleet_steps.specs.PlanFile.{IsPlanEnded}
@@ -13,7 +14,6 @@ use Rattle.plan_writer.specs.declared.refusal.Refusal.TheVariants as refusal
 use Rattle.evroute_run.specs.CheckAnswer.{IsCheckRefused}
 use Rattle.evroute_run.specs.CheckBoundAnswer.{IsCheckBoundRefused}
 use Rattle.evroute_run.specs.Ended.{IsCheckBoundEnded, IsCheckEnded, IsImproveEnded}
-use Rattle.evroute_run.specs.ImproveAnswer.{IsImproveRefused}
 
 -- a rule that the first steps on a fleet break is a rule of `check`, whatever its other files hold
 pub check_at_instance : (limit : Option ℕ) (bytes plan_bytes cert_bytes : List ℕ) (e : Ended) → IsFleetEnded limit bytes e → IsCheckEnded limit bytes plan_bytes cert_bytes e
@@ -38,8 +38,7 @@ check_at_plan limit bytes plan_bytes cert_bytes g (Refused r) fleet rule (fault,
 -- and a rule of `improve`
 pub improve_at_plan : (limit : Option ℕ) (bytes plan_bytes : List ℕ) (g : Network) (e : Ended) → HasNetwork limit bytes g → IsRuleOrMemory e → IsPlanEnded plan_bytes e → IsImproveEnded limit bytes plan_bytes e
 improve_at_plan limit bytes plan_bytes g Memory network rule h = tt
-improve_at_plan limit bytes plan_bytes g (Refused r) network rule (fault, is, first) =
-    (rule, subst (λ (x : Refusal). IsImproveRefused limit bytes plan_bytes x) (sym is) (g, network, first))
+improve_at_plan limit bytes plan_bytes g (Refused r) network rule h = (rule, plan_rule limit bytes plan_bytes g r network h)
 
 -- the first fault of a near proof's text is a rule of `check-bound`
 pub check_bound_at_proof : (limit : Option ℕ) (bytes cert_bytes : List ℕ) (g : Network) (e : Ended) → HasFleetNetwork limit bytes g → IsRuleOrMemory e → IsProofEnded g cert_bytes e

@@ -7,10 +7,11 @@ use Rattle.ev_model.specs.Fleet.{cost_of}
 use Rattle.ev_model.specs.Network.{Network}
 use Rattle.ev_outside.specs.Shelf.{Files, ShelfState}
 use Rattle.job_frame.specs.Caps.{file_read, most_bytes}
-use Rattle.fleet_steps.specs.PlanFile.{BreaksFirst, IsValid, routes_of}
+use Rattle.fleet_steps.proofs.PlanFiles.{early_rule}
+use Rattle.fleet_steps.specs.PlanFile.{BreaksFirst, HasPlan, IsValid, routes_of}
 use Rattle.evroute_run.specs.Ended.{IsImproveEnded}
 use Rattle.job_frame.specs.Ended.{IsNetworkEnded}
-use Rattle.evroute_run.specs.ImproveAnswer.{HasPlan, ImproveAnswers, PutsAlone, PutsBrokenPlan, improve_task}
+use Rattle.evroute_run.specs.ImproveAnswer.{ImproveAnswers, PutsAlone, PutsBrokenPlan, improve_task}
 use Rattle.job_frame.specs.LimitedNetwork.{HasNetwork}
 use Rattle.job_frame.specs.declared.answer.Ended.{Ended}
 use Rattle.job_frame.specs.declared.answer.Ended.TheVariants.{Refused, Memory}
@@ -29,7 +30,6 @@ use Rattle.plan_writer.specs.CheckText.{check_text}
 use Rattle.plan_writer.specs.RefusalText.{refusal_text}
 use Rattle.plan_writer.specs.declared.check.Judgement.TheVariants as judgement
 use Rattle.plan_writer.specs.declared.refusal.Refusal.{Refusal}
-use Rattle.plan_writer.specs.declared.refusal.Refusal.TheVariants as refusal
 use Rattle.route_improve.specs.Improved.{CostsNoMore, IsFirstAlone, IsImproved}
 use Rattle.route_improve.specs.ImprovedText.{alone_text, improved_text}
 use Rattle.route_plan.specs.PlanTexts.{fleet_plan_text}
@@ -164,15 +164,7 @@ improve_found {E} job files bytes plan_bytes outfile given (Ok f) read read_plan
 -- a rule that the first steps break is a rule of `improve`
 improve_ended : (limit : Option ℕ) (bs plan_bytes : List ℕ) (e : Ended) → IsNetworkEnded limit bs e → IsImproveEnded limit bs plan_bytes e
 improve_ended limit bs plan_bytes Memory h = tt
-improve_ended limit bs plan_bytes (Refused (refusal.Instance fault)) h = h
-improve_ended limit bs plan_bytes (Refused (refusal.Limit given)) h = h
-improve_ended limit bs plan_bytes (Refused (refusal.Customers count)) h = absurd h.1
-improve_ended limit bs plan_bytes (Refused (refusal.Charge level)) h = absurd h.1
-improve_ended limit bs plan_bytes (Refused (refusal.Route fault)) h = absurd h.1
-improve_ended limit bs plan_bytes (Refused (refusal.Plan fault)) h = absurd h.1
-improve_ended limit bs plan_bytes (Refused (refusal.Certificate fault)) h = absurd h.1
-improve_ended limit bs plan_bytes (Refused (refusal.Literal fault)) h = absurd h.1
-improve_ended limit bs plan_bytes (Refused refusal.Maker) h = absurd h.1
+improve_ended limit bs plan_bytes (Refused r) h = (h.0, early_rule limit bs plan_bytes r h.1)
 
 -- a refusal before the plan is read is the answer whatever the plan holds
 pub refused_at_instance : (job : ImproveJob) (files : Option Files) (bytes given : List ℕ) (ended : Ended) (refusal : Refusal) →

@@ -2,45 +2,18 @@
 use Rattle.std.proofs.Common.{◌≡◌, ◌⊎◌, ℕ, List, [], ◌∷◌, Option, None, inl, inr, subst, sym, ◌∙◌}
 use Rattle.command_line.specs.Words.{ImproveJob}
 use Rattle.ev_model.specs.Network.{Network}
-use Rattle.ev_text.proofs.Results.{Err-ne-Ok}
 use Rattle.job_frame.proofs.OneStatus.{ExcludeEachOther, IsPlain, lawful, nothing_excludes}
 use Rattle.job_frame.proofs.Performed.{IsLawful}
 use Rattle.job_frame.specs.Task.{Outcome}
 use Rattle.job_frame.specs.Writes.{Written}
-use Rattle.plan_writer.specs.RefusalText.{IsRule}
-use Rattle.plan_writer.specs.declared.refusal.Refusal.{Refusal}
-use Rattle.plan_writer.specs.declared.refusal.Refusal.TheVariants as refusal
 use Rattle.route_improve.specs.Improved.{CostsNoMore, IsFirstAlone}
-use Rattle.route_plan.proofs.PlanLaws.{fleet_plan_is_spelled}
 use Rattle.route_plan.specs.declared.plan.FleetPlan.{FleetPlan}
-use Rattle.fleet_steps.proofs.Plans.{same_plan, valid_breaks_none}
-use Rattle.job_frame.proofs.LimitedNetworks.{one_limited, refused_has_none}
-use Rattle.fleet_steps.specs.PlanFile.{BreaksFirst, routes_of}
-use Rattle.evroute_run.specs.ImproveAnswer.{HoldsPlan, ImproveAnswers, IsImproveRefused, PutsAlone, PutsBrokenPlan, PutsImproved, improve_answers, improve_task}
+use Rattle.fleet_steps.proofs.PlanFiles.{refused_holds_not, same_held, same_network}
+use Rattle.fleet_steps.proofs.Plans.{valid_breaks_none}
+use Rattle.fleet_steps.specs.PlanFile.{BreaksFirst, HoldsPlan, routes_of}
+use Rattle.evroute_run.specs.ImproveAnswer.{ImproveAnswers, PutsAlone, PutsBrokenPlan, PutsImproved, improve_answers, improve_task}
 use Rattle.job_frame.specs.declared.status.Status.{Status}
 use Rattle.job_frame.specs.declared.status.Status.TheVariants as status
-
--- what the files hold breaks no rule of a text
-refused_holds_not : (limit : Option ℕ) (bytes plan_bytes : List ℕ) (h : HoldsPlan limit bytes plan_bytes) (r : Refusal) →
-    IsRule r → IsImproveRefused limit bytes plan_bytes r → ⊥
-refused_holds_not limit bytes plan_bytes h (refusal.Instance e) rule first =
-    refused_has_none limit bytes (refusal.Instance e) h.network rule first h.has.network
-refused_holds_not limit bytes plan_bytes h (refusal.Limit given) rule past =
-    refused_has_none limit bytes (refusal.Limit given) h.network rule past h.has.network
-refused_holds_not limit bytes plan_bytes h (refusal.Plan e) rule (g, other, fault) =
-    Err-ne-Ok e h.plan (sym fault ∙ (fleet_plan_is_spelled plan_bytes h.plan).1 h.has.spelled)
-refused_holds_not limit bytes plan_bytes h (refusal.Customers count) rule is = absurd is
-refused_holds_not limit bytes plan_bytes h (refusal.Certificate e) rule is = absurd is
-refused_holds_not limit bytes plan_bytes h (refusal.Charge level) rule is = absurd is
-refused_holds_not limit bytes plan_bytes h (refusal.Route e) rule is = absurd is
-refused_holds_not limit bytes plan_bytes h (refusal.Literal e) rule is = absurd is
-refused_holds_not limit bytes plan_bytes h refusal.Maker rule is = absurd is
-
-same_network : (limit : Option ℕ) (bytes plan_bytes : List ℕ) (h other : HoldsPlan limit bytes plan_bytes) → other.network ≡ h.network
-same_network limit bytes plan_bytes h other = one_limited limit bytes other.network h.network other.has.network h.has.network
-
-same_held : (limit : Option ℕ) (bytes plan_bytes : List ℕ) (h other : HoldsPlan limit bytes plan_bytes) → other.plan ≡ h.plan
-same_held limit bytes plan_bytes h other = same_plan plan_bytes other.plan h.plan other.has.spelled h.has.spelled
 
 -- a plan that became cheaper breaks no rule
 improved_is_unbroken : (limit : Option ℕ) (outfile bytes plan_bytes : List ℕ) (ws vs : List Written) (text other : List ℕ) →

@@ -5,7 +5,7 @@ use Rattle.evroute_run.specs.CheckAnswer.{IsCheckRefused}
 use Rattle.evroute_run.specs.CheckBoundAnswer.{IsCheckBoundRefused}
 use Rattle.evroute_run.specs.CheckRouteAnswer.{IsCheckRouteRefused}
 use Rattle.evroute_run.specs.FixedAnswer.{IsRefused}
-use Rattle.evroute_run.specs.ImproveAnswer.{IsImproveRefused}
+use Rattle.fleet_steps.specs.PlanFile.{IsTextRefused}
 use Rattle.plan_writer.specs.RefusalText.{IsRule}
 use Rattle.job_frame.specs.declared.answer.Ended.{Ended}
 use Rattle.job_frame.specs.declared.answer.Ended.TheVariants.{Refused, Memory}
@@ -36,5 +36,5 @@ IsCheckBoundEnded limit bytes cert_bytes Memory = Unit {0}
 -- of `improve`
 abbrev pub IsImproveEnded : Option ℕ → List ℕ → List ℕ → Ended → Type 0
 IsImproveEnded limit bytes plan_bytes (Refused refusal) =
-    IsRule refusal × IsImproveRefused limit bytes plan_bytes refusal
+    IsRule refusal × IsTextRefused limit bytes plan_bytes refusal
 IsImproveEnded limit bytes plan_bytes Memory = Unit {0}

@@ -1,49 +1,25 @@
 -- What `improve` answers to the bytes of its instance and of its plan file.
-use Rattle.std.specs.Prelude.{◌≡◌, ℕ, ◌⊎◌, List, [], ◌∷◌, Option, None, Some, Err}
+use Rattle.std.specs.Prelude.{◌≡◌, ℕ, ◌⊎◌, List, [], ◌∷◌, Option, None, Some}
 use Rattle.command_line.specs.Words.{ImproveJob}
 use Rattle.ev_model.specs.Fleet.{cost_of}
 use Rattle.ev_model.specs.Network.{Network}
-use Rattle.instance_reader.specs.Faults.{IsFirstFault}
 use Rattle.plan_check.specs.FleetRules.{stops_of}
 use Rattle.plan_check.specs.declared.fault.PlanFault.{PlanFault}
 use Rattle.plan_writer.specs.CheckText.{check_text}
 use Rattle.plan_writer.specs.RefusalText.{IsRule, refusal_text}
 use Rattle.plan_writer.specs.declared.check.Judgement.TheVariants as judgement
 use Rattle.plan_writer.specs.declared.refusal.Refusal.{Refusal}
-use Rattle.plan_writer.specs.declared.refusal.Refusal.TheVariants as refusal
 use Rattle.route_improve.specs.Improved.{CostsNoMore, IsFirstAlone, IsImproved}
 use Rattle.route_improve.specs.ImprovedText.{alone_text, improved_text}
-use Rattle.route_plan.specs.PlanReading.{fleet_plan_in}
-use Rattle.route_plan.specs.PlanTexts.{SpellsFleetPlan, fleet_plan_text}
+use Rattle.route_plan.specs.PlanTexts.{fleet_plan_text}
 use Rattle.route_plan.specs.declared.plan.FleetPlan.{FleetPlan}
 use Rattle.job_frame.specs.Caps.{file_read}
-use Rattle.fleet_steps.specs.PlanFile.{BreaksFirst, IsValid, routes_of}
-use Rattle.job_frame.specs.LimitedNetwork.{HasNetwork, IsPastLimit}
+use Rattle.fleet_steps.specs.PlanFile.{BreaksFirst, HoldsPlan, IsTextRefused, IsValid, routes_of}
+use Rattle.job_frame.specs.LimitedNetwork.{HasNetwork}
 use Rattle.job_frame.specs.Task.{Outcome, Task}
 use Rattle.job_frame.specs.Writes.{Written}
 use Rattle.job_frame.specs.declared.status.Status.{Status}
 use Rattle.job_frame.specs.declared.status.Status.TheVariants as status
-
--- the bytes of the instance and of the plan file break no rule: g is the network, and the file
--- holds the plan or says that there is none
-pub record HasPlan (limit : Option ℕ) (bytes plan_bytes : List ℕ)
-    (g : Network) (plan : Option FleetPlan) : Type 0 where
-  pub network : HasNetwork limit bytes g
-  pub spelled : SpellsFleetPlan plan_bytes plan
-
--- the first broken rule: of the instance, the limit, the plan's text
-abbrev pub IsImproveRefused : Option ℕ → List ℕ → List ℕ → Refusal → Type 0
-IsImproveRefused limit bytes plan_bytes (refusal.Instance fault) = IsFirstFault bytes fault
-IsImproveRefused limit bytes plan_bytes (refusal.Limit given) = IsPastLimit limit bytes given
-IsImproveRefused limit bytes plan_bytes (refusal.Plan fault) =
-    (g : Network) × HasNetwork limit bytes g × (fleet_plan_in plan_bytes ≡ Err fault)
-IsImproveRefused limit bytes plan_bytes other = ⊥
-
--- no rule of a text is broken: what the two files hold
-pub record HoldsPlan (limit : Option ℕ) (bytes plan_bytes : List ℕ) : Type 0 where
-  pub network : Network
-  pub plan : Option FleetPlan
-  pub has : HasPlan limit bytes plan_bytes network plan
 
 -- The plan file holds a fleet plan, or none. A fleet plan is written that costs no more, each of
 -- whose routes is fastest for the order of its customers, and that no relocation and no exchange
@@ -87,7 +63,7 @@ pub record PutsImproveRefusal (limit : Option ℕ) (bytes plan_bytes : List ℕ)
     (ws : List Written) (text : List ℕ) : Type 0 where
   pub refusal : Refusal
   pub rule : IsRule refusal
-  pub refused : IsImproveRefused limit bytes plan_bytes refusal
+  pub refused : IsTextRefused limit bytes plan_bytes refusal
   pub none : ws ≡ []
   pub text_is : text ≡ refusal_text refusal
 

@@ -5,7 +5,8 @@ use Rattle.std.proofs.Common.{◌≡◌, ◌≢◌, ◌⊎◌, ℕ, ◌≤◌, L
 use Rattle.ev_model.specs.Fleet.{IsFleetPlan}
 use Rattle.ev_model.specs.Network.{Network}
 use Rattle.ev_outside.specs.Shelf.{Files, ShelfState}
-use Rattle.fleet_steps.specs.PlanFile.{BreaksFirst, IsPlanEnded, IsValid}
+use Rattle.fleet_steps.proofs.PlanFiles.{early_rule, plan_rule}
+use Rattle.fleet_steps.specs.PlanFile.{BreaksFirst, HasPlan, IsPlanEnded, IsTextRefused, IsValid}
 use Rattle.job_frame.proofs.BehindReads.{IsFoundFor, no_write}
 use Rattle.job_frame.proofs.FileReads.{some_read}
 use Rattle.job_frame.specs.Faults.{FailsReading, HasFailedRead}
@@ -26,7 +27,6 @@ use Rattle.plan_writer.specs.CheckText.{check_text}
 use Rattle.plan_writer.specs.RefusalText.{IsRule, refusal_text}
 use Rattle.plan_writer.specs.declared.check.Judgement.TheVariants as judgement
 use Rattle.plan_writer.specs.declared.refusal.Refusal.{Refusal}
-use Rattle.plan_writer.specs.declared.refusal.Refusal.TheVariants as refusal
 use Rattle.route_plan.specs.declared.plan.FleetPlan.{FleetPlan}
 use Rattle.schedule_texts.specs.JsonTexts.{json_text}
 use Rattle.schedule_texts.specs.Pictures.{picture_text}
@@ -34,7 +34,7 @@ use Rattle.schedule_texts.specs.Tables.{table_text}
 use Rattle.view_words.specs.JobValue.{IsJob, job_value}
 use Rattle.view_words.specs.Words.{ViewPlan}
 use Rattle.view_words.specs.declared.Job.{Job}
-use Rattle.evview_run.specs.ViewAnswer.{HasPlan, HasRoute, IsTextRefused, PutsNoRoute, PutsRefusal, ViewAnswers, file_of, no_route_text, route_count, shown_of, view_task}
+use Rattle.evview_run.specs.ViewAnswer.{HasRoute, PutsNoRoute, PutsRefusal, ViewAnswers, file_of, no_route_text, route_count, shown_of, view_task}
 
 -- a plan that costs something is a fleet plan
 pub plan_is_fleet : (g : Network) (plan : Option (Bor FleetPlan)) (cost : Option ℕ) → IsValid g (option_map (λ p. p.now) plan) cost → IfSome plan (λ p. IsFleetPlan g 1 (stops_of p.now.routes))
@@ -95,10 +95,6 @@ module _ (job : ViewPlan) (bytes plan_bytes : List ℕ) where
 
 rule_of : (ended : Ended) (r : Refusal) → ended ≡ Refused r → IsRuleOrMemory ended → IsRule r
 rule_of ended r is rule = subst (λ (e : Ended). IsRuleOrMemory e) is rule
-
-plan_rule : (limit : Option ℕ) (bytes plan_bytes : List ℕ) (g : Network) (r : Refusal) → HasNetwork limit bytes g → IsPlanEnded plan_bytes (Refused r) → IsTextRefused limit bytes plan_bytes r
-plan_rule limit bytes plan_bytes g r network (fault, is, first) =
-    subst (λ (x : Refusal). IsTextRefused limit bytes plan_bytes x) (sym is) (g, network, first)
 
 -- the first broken rule of the plan's text
 pub puts_refusal : {E : Type 0} (job : ViewPlan) (bytes plan_bytes : List ℕ) (g : Network) (ended : Ended) (r : Refusal) (made : Result Found E) → HasNetwork job.limit bytes g → ended ≡ Refused r
@@ -164,18 +160,6 @@ view_found {E} job files bytes plan_bytes given (Ok f) differ read read_plan sam
       };
       different = plain.1;
     }
-
--- a rule of the instance is broken whatever the plan holds
-early_rule : (limit : Option ℕ) (bytes plan_bytes : List ℕ) (r : Refusal) → IsNetworkRefused limit bytes r → IsTextRefused limit bytes plan_bytes r
-early_rule limit bytes plan_bytes (refusal.Instance e) is = is
-early_rule limit bytes plan_bytes (refusal.Limit given) is = is
-early_rule limit bytes plan_bytes (refusal.Customers count) is = absurd is
-early_rule limit bytes plan_bytes (refusal.Charge level) is = absurd is
-early_rule limit bytes plan_bytes (refusal.Route e) is = absurd is
-early_rule limit bytes plan_bytes (refusal.Plan e) is = absurd is
-early_rule limit bytes plan_bytes (refusal.Certificate e) is = absurd is
-early_rule limit bytes plan_bytes (refusal.Literal e) is = absurd is
-early_rule limit bytes plan_bytes refusal.Maker is = absurd is
 
 -- a refusal before the plan is read is the answer whatever the plan holds
 pub refused_early : (job : ViewPlan) (files : Option Files) (bytes given : List ℕ) (ended : Ended) (r : Refusal) → AreReadUpTo most_bytes files job.file bytes → given ≡ bytes → ended ≡ Refused r

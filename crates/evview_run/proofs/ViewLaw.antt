@@ -1,43 +1,18 @@
 -- The causes of the statuses exclude each other.
-use Rattle.std.proofs.Common.{◌≡◌, ◌∙◌, ◌⊎◌, ℕ, ◌<◌, ◌≤◌, List, [], ◌∷◌, Option, Some, inl, inr, arith, subst, sym}
+use Rattle.std.proofs.Common.{◌≡◌, ◌⊎◌, ℕ, ◌<◌, ◌≤◌, List, [], ◌∷◌, Option, Some, inl, inr, arith, subst}
 use Rattle.ev_model.specs.Network.{Network}
-use Rattle.ev_text.proofs.Results.{Err-ne-Ok}
-use Rattle.fleet_steps.proofs.Plans.{same_plan, valid_breaks_none}
-use Rattle.fleet_steps.specs.PlanFile.{BreaksFirst}
+use Rattle.fleet_steps.proofs.PlanFiles.{refused_holds_not, same_held, same_network}
+use Rattle.fleet_steps.proofs.Plans.{valid_breaks_none}
+use Rattle.fleet_steps.specs.PlanFile.{BreaksFirst, HoldsPlan}
 use Rattle.job_frame.proofs.OneStatus.{ExcludeEachOther, IsPlain, lawful, nothing_excludes}
 use Rattle.job_frame.proofs.Performed.{IsLawful}
 use Rattle.job_frame.specs.Task.{Outcome}
 use Rattle.job_frame.specs.Writes.{Written}
 use Rattle.job_frame.specs.declared.status.Status.{Status}
 use Rattle.job_frame.specs.declared.status.Status.TheVariants as status
-use Rattle.job_frame.proofs.LimitedNetworks.{one_limited, refused_has_none}
-use Rattle.plan_writer.specs.RefusalText.{IsRule}
-use Rattle.plan_writer.specs.declared.refusal.Refusal.{Refusal}
-use Rattle.plan_writer.specs.declared.refusal.Refusal.TheVariants as refusal
-use Rattle.route_plan.proofs.PlanLaws.{fleet_plan_is_spelled}
 use Rattle.route_plan.specs.declared.plan.FleetPlan.{FleetPlan}
 use Rattle.view_words.specs.Words.{ViewPlan}
-use Rattle.evview_run.specs.ViewAnswer.{HasRoute, HoldsPlan, IsTextRefused, PutsBrokenPlan, PutsNoRoute, PutsRefusal, PutsSchedule, ViewAnswers, route_count, view_answers, view_task}
-
-module _ (limit : Option ℕ) (bytes plan_bytes : List ℕ) where
-  -- what the files hold breaks no rule of a text
-  refused_holds_not : (h : HoldsPlan limit bytes plan_bytes) (r : Refusal) → IsRule r → IsTextRefused limit bytes plan_bytes r → ⊥
-  refused_holds_not h (refusal.Instance e) rule first = refused_has_none limit bytes (refusal.Instance e) h.network rule first h.has.network
-  refused_holds_not h (refusal.Limit given) rule past = refused_has_none limit bytes (refusal.Limit given) h.network rule past h.has.network
-  refused_holds_not h (refusal.Plan e) rule (g, other, fault) =
-      Err-ne-Ok e h.plan (sym fault ∙ (fleet_plan_is_spelled plan_bytes h.plan).1 h.has.spelled)
-  refused_holds_not h (refusal.Customers count) rule is = absurd is
-  refused_holds_not h (refusal.Certificate e) rule is = absurd is
-  refused_holds_not h (refusal.Charge level) rule is = absurd is
-  refused_holds_not h (refusal.Route e) rule is = absurd is
-  refused_holds_not h (refusal.Literal e) rule is = absurd is
-  refused_holds_not h refusal.Maker rule is = absurd is
-
-  same_network : (h other : HoldsPlan limit bytes plan_bytes) → other.network ≡ h.network
-  same_network h other = one_limited limit bytes other.network h.network other.has.network h.has.network
-
-  same_held : (h other : HoldsPlan limit bytes plan_bytes) → other.plan ≡ h.plan
-  same_held h other = same_plan plan_bytes other.plan h.plan other.has.spelled h.has.spelled
+use Rattle.evview_run.specs.ViewAnswer.{HasRoute, PutsBrokenPlan, PutsNoRoute, PutsRefusal, PutsSchedule, ViewAnswers, route_count, view_answers, view_task}
 
 -- a route that is there isn't past the last one
 there_or_past : (route : Option ℕ) (number : ℕ) (plan : Option FleetPlan) → HasRoute route plan → route ≡ Some number → route_count plan ≤ number → ⊥

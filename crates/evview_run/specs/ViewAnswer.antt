@@ -1,14 +1,13 @@
 -- What is written and put for the bytes of an instance and of a plan file.
-use Rattle.std.specs.Prelude.{◌≡◌, ℕ, ◌<◌, ◌≤◌, ◌⊎◌, List, [], ◌∷◌, ◌++◌, Option, None, Some, Err, codes, decimal, length}
+use Rattle.std.specs.Prelude.{◌≡◌, ℕ, ◌<◌, ◌≤◌, ◌⊎◌, List, [], ◌∷◌, ◌++◌, Option, None, Some, codes, decimal, length}
 use Rattle.ev_model.specs.Network.{Network}
-use Rattle.fleet_steps.specs.PlanFile.{BreaksFirst, IsValid}
-use Rattle.instance_reader.specs.Faults.{IsFirstFault}
+use Rattle.fleet_steps.specs.PlanFile.{BreaksFirst, HoldsPlan, IsTextRefused, IsValid}
 use Rattle.job_frame.specs.Task.{Outcome, Task}
 use Rattle.job_frame.specs.Writes.{Written}
 use Rattle.job_frame.specs.declared.status.Status.{Status}
 use Rattle.job_frame.specs.declared.status.Status.TheVariants as status
 use Rattle.job_frame.specs.Caps.{file_read}
-use Rattle.job_frame.specs.LimitedNetwork.{HasNetwork, IsPastLimit}
+use Rattle.job_frame.specs.LimitedNetwork.{HasNetwork}
 use Rattle.plan_check.specs.FleetRules.{stops_of}
 use Rattle.plan_check.specs.declared.fault.PlanFault.{PlanFault}
 use Rattle.plan_schedule.specs.Schedules.{only, schedule_of}
@@ -17,35 +16,11 @@ use Rattle.plan_writer.specs.CheckText.{check_text}
 use Rattle.plan_writer.specs.RefusalText.{IsRule, refusal_text}
 use Rattle.plan_writer.specs.declared.check.Judgement.TheVariants as judgement
 use Rattle.plan_writer.specs.declared.refusal.Refusal.{Refusal}
-use Rattle.plan_writer.specs.declared.refusal.Refusal.TheVariants as refusal
-use Rattle.route_plan.specs.PlanReading.{fleet_plan_in}
-use Rattle.route_plan.specs.PlanTexts.{SpellsFleetPlan}
 use Rattle.route_plan.specs.declared.plan.FleetPlan.{FleetPlan}
 use Rattle.schedule_texts.specs.JsonTexts.{json_text}
 use Rattle.schedule_texts.specs.Pictures.{picture_text}
 use Rattle.schedule_texts.specs.Tables.{table_text}
 use Rattle.view_words.specs.Words.{ViewPlan}
-
--- the bytes of the instance and of the plan file break no rule: g is the network, and the file
--- holds the plan or says that there is none
-pub record HasPlan (limit : Option ℕ) (bytes plan_bytes : List ℕ)
-    (g : Network) (plan : Option FleetPlan) : Type 0 where
-  pub network : HasNetwork limit bytes g
-  pub spelled : SpellsFleetPlan plan_bytes plan
-
--- no rule of a text is broken: what the two files hold
-pub record HoldsPlan (limit : Option ℕ) (bytes plan_bytes : List ℕ) : Type 0 where
-  pub network : Network
-  pub plan : Option FleetPlan
-  pub has : HasPlan limit bytes plan_bytes network plan
-
--- the first broken rule: of the instance, the limit, the plan's text
-abbrev pub IsTextRefused : Option ℕ → List ℕ → List ℕ → Refusal → Type 0
-IsTextRefused limit bytes plan_bytes (refusal.Instance fault) = IsFirstFault bytes fault
-IsTextRefused limit bytes plan_bytes (refusal.Limit given) = IsPastLimit limit bytes given
-IsTextRefused limit bytes plan_bytes (refusal.Plan fault) =
-    (g : Network) × HasNetwork limit bytes g × (fleet_plan_in plan_bytes ≡ Err fault)
-IsTextRefused limit bytes plan_bytes other = ⊥
 
 -- how many routes there are
 abbrev pub route_count : Option FleetPlan → ℕ

@@ -2,7 +2,8 @@
 //! judged, and its schedule is shown.
 
 ghost use Rattle.std.specs.Prelude.{◌≡◌, ◌≤◌, [], IfErr, IfOk, IfSome, IsNone, List, Option, Some, map, option_map, ℕ};
-ghost use Rattle.evview_run.specs.ViewAnswer.{HasPlan, HasRoute, ViewAnswers, no_route_text, route_count, view_task};
+ghost use Rattle.evview_run.specs.ViewAnswer.{HasRoute, ViewAnswers, no_route_text, route_count, view_task};
+ghost use Rattle.fleet_steps.specs.PlanFile.{HasPlan};
 ghost use Rattle.job_frame.specs.Finds.{Finds, written_by};
 ghost use Rattle.job_frame.specs.Task.{AreReadUpTo};
 ghost use Rattle.job_frame.specs.Caps.{most_bytes};

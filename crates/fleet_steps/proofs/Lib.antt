@@ -1,4 +1,5 @@
 pub mod Costs
 pub mod Instances
 pub mod Plans
+pub mod PlanFiles
 pub mod Nears

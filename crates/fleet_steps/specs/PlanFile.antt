@@ -2,12 +2,15 @@
 use Rattle.std.specs.Prelude.{◌≡◌, ℕ, List, Option, None, Some, Err, option_map}
 use Rattle.ev_model.specs.Fleet.{cost_of, IsFleetPlan}
 use Rattle.ev_model.specs.Network.{Network}
+use Rattle.instance_reader.specs.Faults.{IsFirstFault}
+use Rattle.job_frame.specs.LimitedNetwork.{HasNetwork, IsPastLimit}
 use Rattle.job_frame.specs.declared.answer.Ended.{Ended}
 use Rattle.job_frame.specs.declared.answer.Ended.TheVariants.{Refused, Memory}
 use Rattle.plan_check.specs.FleetRules.{IsFirstBroken, stops_of}
 use Rattle.plan_check.specs.declared.fault.LargeFault.{LargeFault}
 use Rattle.plan_check.specs.declared.fault.LargeFault.TheVariants as large
 use Rattle.plan_check.specs.declared.fault.PlanFault.{PlanFault}
+use Rattle.plan_writer.specs.declared.refusal.Refusal.{Refusal}
 use Rattle.plan_writer.specs.declared.refusal.Refusal.TheVariants as refusal
 use Rattle.route_plan.specs.PlanReading.{fleet_plan_in}
 use Rattle.route_plan.specs.PlanTexts.{SpellsFleetPlan}
@@ -22,6 +25,26 @@ pub record HasFleet (limit : Option ℕ) (bytes plan_bytes : List ℕ)
     (g : Network) (plan : Option FleetPlan) : Type 0 where
   pub network : HasFleetNetwork limit bytes g
   pub spelled : SpellsFleetPlan plan_bytes plan
+
+-- the same of an instance with any number of customers
+pub record HasPlan (limit : Option ℕ) (bytes plan_bytes : List ℕ)
+    (g : Network) (plan : Option FleetPlan) : Type 0 where
+  pub network : HasNetwork limit bytes g
+  pub spelled : SpellsFleetPlan plan_bytes plan
+
+-- no rule of a text is broken, whatever the number of customers: what the two files hold
+pub record HoldsPlan (limit : Option ℕ) (bytes plan_bytes : List ℕ) : Type 0 where
+  pub network : Network
+  pub plan : Option FleetPlan
+  pub has : HasPlan limit bytes plan_bytes network plan
+
+-- the first broken rule: of the instance, the limit, the plan's text
+abbrev pub IsTextRefused : Option ℕ → List ℕ → List ℕ → Refusal → Type 0
+IsTextRefused limit bytes plan_bytes (refusal.Instance fault) = IsFirstFault bytes fault
+IsTextRefused limit bytes plan_bytes (refusal.Limit given) = IsPastLimit limit bytes given
+IsTextRefused limit bytes plan_bytes (refusal.Plan fault) =
+    (g : Network) × HasNetwork limit bytes g × (fleet_plan_in plan_bytes ≡ Err fault)
+IsTextRefused limit bytes plan_bytes other = ⊥
 
 -- the bytes are no text of a plan, by this fault, or memory was refused
 abbrev pub IsPlanEnded : List ℕ → Ended → Type 0
