@@ -8,6 +8,7 @@ ghost use Rattle.dominance.specs.LevelTimes.{IsLevel, time_at};
 ghost use Rattle.ev_model.specs.Network.{node_count};
 ghost use Rattle.frvcp_labels.specs.Charged.{AreThere, WereThere};
 ghost use Rattle.frvcp_labels.specs.Search.{IsSoundPool, Reached};
+ghost use Rattle.frvcp_labels.specs.declared.there.Sight.{Sight};
 ghost use Rattle.piece_fn.specs.PieceFn.{level_times};
 ghost use Rattle.route_steps.specs.Steps.{Holds, IsSoundState, MayGo, state_at};
 ghost use Rattle.route_steps.specs.Ways.{Leaving};
@@ -19,6 +20,17 @@ use label_steps::arrival;
 use piece_fn::PieceFn;
 use route_steps::State;
 use std::alloc::AllocError;
+
+/// What labels tell of a level at a time.
+#[derive(Clone, Copy)]
+enum Sight {
+    /// One has a level at least as high, no later.
+    Reached,
+    /// One has a level at least as high, but later than some lower level that it has in time.
+    Later,
+    /// None has both a level at least as high and one in time.
+    Nowhere,
+}
 
 impl<'a> Trip<'a> {
     /// Whether each vehicle of a state that may drive to a node was there before it arrives, with a
@@ -41,8 +53,10 @@ impl<'a> Trip<'a> {
         if to == 0 {
             return Ok(false);
         }
-        if self.was_highest_there(pool, from, passed, to) {
-            return Ok(true);
+        match self.highest_sight(pool, from, passed, to) {
+            Sight::Reached => return Ok(true),
+            Sight::Nowhere => return Ok(false),
+            Sight::Later => {}
         }
         match arrival(self.inst, &from.value, from.node, to, self.inst.min_q())? {
             Some(arrived) => Ok(self.is_covered(pool, passed, to, &arrived)),
@@ -50,47 +64,47 @@ impl<'a> Trip<'a> {
         }
     }
 
-    /// Whether the highest level of a state was there by the least time with which one arrives.
-    fn was_highest_there(&self, pool: &Pool<State>, from: &State, passed: usize, to: usize) -> bool
+    /// What is told of the highest level of a state at the least time with which one arrives.
+    fn highest_sight(&self, pool: &Pool<State>, from: &State, passed: usize, to: usize) -> Sight
         requires pool { IsSoundPool self.now pool.now }
         requires from { IsSoundState self.now.network self.now.route from.now }
         requires next { MayGo self.now.network self.now.route from.now.passed passed to }
-        ensures { IsTrue result → AreThere self.now pool.now.labels from.now passed to }
+        ensures { result ≡ Sight.Reached → AreThere self.now pool.now.labels from.now passed to }
     {
         let top = highest(from.value.points());
         let energy = self.energy(from.node, to);
         if top < energy {
-            return true;
+            return Sight::Reached;
         }
         let lowest = energy.saturating_add(self.inst.min_q());
         let least = least_from(&from.value, lowest);
         let time = least.saturating_add(self.drive_time(from.node, to));
-        self.is_reached(pool, passed, to, top - energy, time)
+        self.sight(pool, passed, to, top - energy, time)
     }
 
-    /// Whether one live label at a place has a level at least as high, no later.
-    fn is_reached(
-        &self,
-        pool: &Pool<State>,
-        passed: usize,
-        node: usize,
-        level: u64,
-        time: u64,
-    ) -> bool
+    /// What the live labels at a place tell of a level at a time.
+    fn sight(&self, pool: &Pool<State>, passed: usize, node: usize, level: u64, time: u64) -> Sight
         requires pool { IsSoundPool self.now pool.now }
         requires passed { passed < length self.now.route }
         requires node { node < node_count self.now.network }
-        ensures { IsTrue result → Reached pool.now.labels
+        ensures { result ≡ Sight.Reached → Reached pool.now.labels
             (record { passed = passed; node = node; level = level; time = time }) }
     {
+        let mut is_later = false;
         let mut at = pool.first_live(self.bucket(passed, node));
         while let Some(i) = at {
-            if reaches(&pool.value(i).value, level, time) {
-                return true;
+            match sight_of(&pool.value(i).value, level, time) {
+                Sight::Reached => return Sight::Reached,
+                Sight::Later => is_later = true,
+                Sight::Nowhere => {}
             }
             at = pool.next_live(i);
         }
-        false
+        if is_later {
+            Sight::Later
+        } else {
+            Sight::Nowhere
+        }
     }
 
     /// Whether one live label at a place covers a value.
@@ -112,20 +126,24 @@ impl<'a> Trip<'a> {
     }
 }
 
-/// Whether a value has a level at least as high, no later.
-fn reaches(value: &PieceFn, level: u64, time: u64) -> bool
-    ensures { IsTrue result → Reaches (level_times value.now) 0 level time }
+/// What a value tells of a level at a time.
+fn sight_of(value: &PieceFn, level: u64, time: u64) -> Sight
+    ensures { result ≡ Sight.Reached → Reaches (level_times value.now) 0 level time }
 {
     let (first, least) = value.least();
     if time < least {
-        return false;
+        return Sight::Nowhere;
     }
     if level <= first {
-        return true;
+        return Sight::Reached;
     }
     match value.at(level) {
-        Some(at) => at <= time,
-        None => false,
+        None => Sight::Nowhere,
+        Some(at) => if at <= time {
+            Sight::Reached
+        } else {
+            Sight::Later
+        },
     }
 }
 

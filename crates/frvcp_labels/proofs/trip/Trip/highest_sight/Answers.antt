@@ -6,7 +6,7 @@ use Rattle.route_steps.specs.Trips.{Journey}
 use Rattle.label_steps.specs.Arrivals.{drive_time}
 use Rattle.frvcp_labels.specs.Search.{Reached}
 use Rattle.frvcp_labels.proofs.ChargedStates.{highest_there, none_there_low}
-use Rattle.frvcp_labels.proofs.trip.Trip.was_highest_there.Goals as goal
+use Rattle.frvcp_labels.proofs.trip.Trip.highest_sight.Goals as goal
 
 pub returns-then-top-energy : goal.returns-then-top-energy
 returns-then-top-energy c _ =
@@ -29,4 +29,4 @@ returns c is =
     omega (arith, sum, most, own, reserve)) in
     highest_there c.args.self.now c.args.pool.now.labels c.args.from.now c.args.passed c.args.to c.highest-top.result c.least_from-least.result c.saturating_add-time.result c.points.ensures.valid (c.highest-top.ensures ∙ ap last_level c.points.ensures.value)
     (λ high there arrives. c.least_from-least.ensures high there (omega (arith, enough, arrives))) early
-    (subst (λ e. Reached c.args.pool.now.labels (record { passed = c.args.passed; node = c.args.to; level = c.highest-top.result - e; time = c.saturating_add-time.result })) c.energy-energy.ensures (c.is_reached.ensures is))
+    (subst (λ e. Reached c.args.pool.now.labels (record { passed = c.args.passed; node = c.args.to; level = c.highest-top.result - e; time = c.saturating_add-time.result })) c.energy-energy.ensures (c.sight.ensures is))

@@ -1,12 +1,12 @@
 use Rattle.std.proofs.Common.{◌+◌, ◌*◌}
 use Rattle.ev_model.specs.Network.{node_count}
 use Rattle.frvcp_labels.proofs.ChargedStates.{left_falls, lives_at, reached_by}
-use Rattle.frvcp_labels.proofs.trip.Trip.is_reached.Goals as goal
+use Rattle.frvcp_labels.proofs.trip.Trip.sight.Goals as goal
 
-pub returns-then-reaches : goal.returns-then-reaches
-returns-then-reaches c _ =
+pub returns-in-Reached : goal.returns-in-Reached
+returns-in-Reached c _ =
     let live = lives_at c.args.pool.now.labels (c.args.passed * node_count c.args.self.now.network + c.args.node) c.in-Some.i c.loop-at.at c.in-Some.is c.loop-at.invariant in
-    reached_by c.args.self.now c.args.pool.now.labels c.args.passed c.args.node c.in-Some.i c.args.level c.args.time c.value.result.now c.requires.pool.labels c.requires.node live (c.value.ensures live.label live.here) (c.reaches.ensures c.if-reaches.true)
+    reached_by c.args.self.now c.args.pool.now.labels c.args.passed c.args.node c.in-Some.i c.args.level c.args.time c.value.result.now c.requires.pool.labels c.requires.node live (c.value.ensures live.label live.here) (c.sight_of.ensures c.in-Reached.is)
 
 pub loop-at-smaller : goal.loop-at-smaller
 loop-at-smaller c =
