@@ -1,7 +1,7 @@
 //! What planning answers of kinds of vehicles, where the judges accept it and its texts are read
 //! back.
 
-ghost use Rattle.std.specs.Prelude.{◌≡◌, ◌<◌, ◌≤◌, length, true};
+ghost use Rattle.std.specs.Prelude.{◌≡◌, ◌<◌, ◌≤◌, IfSome, length, true};
 ghost use Rattle.std.specs.List.{All};
 ghost use Rattle.instance_reader.specs.Instance.{customer_nodes, most_customers};
 ghost use Rattle.mixed_model.specs.Kinds.{AreKinds, first_of};
@@ -23,10 +23,20 @@ use std::alloc::Global;
 /// refuses the plan or the proof, the cost that is answered is another one, or a text of theirs is
 /// another one once it is read and written.
 pub(crate) fn judged(alloc: Global, kinds: &[Instance]) -> Option<(MixedOutcome, Option<u128>)> {
+    let (outcome, cost) = judged_apart(alloc, kinds)?;
+    if outcome.cost == cost {
+        Some((outcome, cost))
+    } else {
+        None
+    }
+}
+
+/// The same, whatever cost is answered beside the plan.
+fn judged_apart(alloc: Global, kinds: &[Instance]) -> Option<(MixedOutcome, Option<u128>)> {
     if !are_of_a_fleet(kinds) {
         return None;
     }
-    let outcome = plan_mixed(alloc, kinds).ok()?;
+    let outcome = planned(alloc, kinds)?;
     if !is_accepted(alloc, kinds, &outcome.proof) {
         return None;
     }
@@ -34,10 +44,19 @@ pub(crate) fn judged(alloc: Global, kinds: &[Instance]) -> Option<(MixedOutcome,
         Some(plan) => Some(cost_of(alloc, kinds, plan.as_slice())?),
         None => None,
     };
-    if outcome.cost != cost {
-        return None;
-    }
     Some((outcome, cost))
+}
+
+/// What planning answers of these kinds, where memory isn't refused.
+fn planned(alloc: Global, kinds: &[Instance]) -> Option<MixedOutcome>
+    requires kinds { AreKinds kinds.now }
+    requires few { length (customer_nodes (first_of kinds.now)) ≤ most_customers }
+    ensures { IfSome result (λ o. IfSome o.plan (IsHeld kinds.now)) }
+{
+    match plan_mixed(alloc, kinds) {
+        Ok(outcome) => Some(outcome),
+        Err(_) => None,
+    }
 }
 
 /// Whether the judge accepts the proof, and its text is read back.

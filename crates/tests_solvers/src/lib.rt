@@ -5,8 +5,6 @@
 #![tactic(auto)]
 
 #[cfg(test)]
-mod below;
-#[cfg(test)]
 mod both;
 #[cfg(test)]
 mod drawn;
