@@ -1,8 +1,8 @@
 //! Tests of the search for the cheapest plan of a fleet: worked instances, drawn ones beside a
-//! plain enumeration of all plans, one that takes several nodes, and as many customers as may be. Of
-//! fleets of several kinds of vehicles: whether kinds agree, what the judges say of plans and of
-//! proofs, what planning answers, beside an enumeration of drawn kinds too, and the texts of plans and
-//! proofs.
+//! plain enumeration of all plans, one that takes several nodes, and as many customers as may be.
+//! Of fleets of several kinds of vehicles: whether kinds agree, what the judges say of plans and of
+//! proofs, what planning answers, beside an enumeration of drawn kinds too, and the texts of plans
+//! and proofs.
 #![tactic(auto)]
 
 #[cfg(test)]

@@ -70,8 +70,8 @@ fn one_route_serves_both_customers_where_it_may_last_so_long(rt: HostRuntime) {
     assert_eq!(rt; told(&alone).0, Some(16));
 }
 
-/// The root has half a route for each two of three customers. The greedy plan takes the one with the
-/// first share, of customers 1 and 3, and the customer who is left alone. Where it is left out,
+/// The root has half a route for each two of three customers. The greedy plan takes the one with
+/// the first share, of customers 1 and 3, and the customer who is left alone. Where it is left out,
 /// another plan of the same cost is found among the routes that were met.
 #[test]
 fn routes_with_shares_are_taken_greedily(rt: HostRuntime) {

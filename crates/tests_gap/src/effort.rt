@@ -16,8 +16,8 @@ const DEARER_PAIRS: &str =
     "evroute plan 1\nroutes 3\nroute 0 1 6 0\nroute 0 2 3 0\nroute 0 4 5 0\n";
 
 /// A depot and three customers, of whom the first shares a route with either of the others, which
-/// takes 36, and each takes 30 alone. Prices that are fixed one by one are 30, 6 and 6; at best they
-/// come to 66, which is what a plan costs.
+/// takes 36, and each takes 30 alone. Prices that are fixed one by one are 30, 6 and 6; at best
+/// they come to 66, which is what a plan costs.
 const STAR: &str =
     r#"{"max_q":10,"css":[],"breakpoints_by_type":[],"process_times":[0,0,0,0],"energy_matrix":[[0,1,1,1],[1,0,1,1],[1,1,0,1],[1,1,1,0]],"time_matrix":[[0,15,15,15],[15,0,6,6],[15,6,0,30],[15,6,30,0]],"t_max":40}"#;
 

@@ -1,7 +1,7 @@
 //! Tests that both solvers of one route, by a table of whole levels and by labels, agree: whether
 //! there is a plan, and how long a fastest one takes; that proofs of routes are accepted, and that
-//! the judge finds in changed ones what a look at each level finds; and of fleet plans that are made
-//! cheaper.
+//! the judge finds in changed ones what a look at each level finds; and of fleet plans that are
+//! made cheaper.
 #![tactic(auto)]
 
 #[cfg(test)]
