@@ -7,6 +7,7 @@ use Rattle.fleet_steps.specs.NearFile.{HasNear, IsProofEnded}
 use Rattle.fleet_steps.specs.FleetNetwork.{IsFleetEnded}
 use Rattle.fleet_steps.specs.FleetNetwork.{HasFleetNetwork, IsFleetRefused}
 use Rattle.gap_words.specs.Words.{CheckGap}
+use Rattle.job_frame.proofs.Endings.{rule_of}
 use Rattle.job_frame.proofs.FileReads.{some_read}
 use Rattle.job_frame.specs.Faults.{FailsReading, HasFailedRead}
 use Rattle.job_frame.specs.Task.{Answers, AreReadUpTo}
@@ -26,9 +27,6 @@ use Rattle.evgap_run.specs.CheckAnswer.{CheckAnswers, Holds, IsCheckRefused, che
 use Rattle.evgap_run.specs.Judged.{IsJudgementOf, judged_status, judgement_text}
 use Rattle.evgap_run.specs.declared.judging.Judgement.{Judgement}
 use Rattle.evgap_run.specs.declared.judging.Judgement.TheVariants as judgement
-
-pub rule_of : (ended : Ended) (r : Refusal) → ended ≡ Refused r → IsRuleOrMemory ended → IsRule r
-rule_of ended r is rule = subst (λ (e : Ended). IsRuleOrMemory e) is rule
 
 -- ---- refusals
 

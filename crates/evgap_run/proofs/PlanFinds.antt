@@ -34,7 +34,7 @@ use Rattle.plan_writer.specs.RefusalText.{IsRule, refusal_text}
 use Rattle.plan_writer.specs.declared.check.Judgement.TheVariants as judgement
 use Rattle.plan_writer.specs.declared.refusal.Refusal.{Refusal}
 use Rattle.route_plan.specs.declared.plan.FleetPlan.{FleetPlan}
-use Rattle.evgap_run.proofs.CheckFinds.{rule_of}
+use Rattle.job_frame.proofs.Endings.{rule_of}
 use Rattle.evgap_run.proofs.Written.{are_accepted}
 use Rattle.evgap_run.specs.PlanAnswer.{HasPlanJob, HasStart, IsNoStart, IsPlanFound, IsPlanRefused, PlanAnswers, PutsBrokenStart, PutsPlan, plan_status, plan_task, start_reads}
 

@@ -7,6 +7,7 @@ use Rattle.ev_model.specs.Network.{Network}
 use Rattle.ev_outside.specs.Shelf.{Files, ShelfState}
 use Rattle.fleet_steps.proofs.PlanFiles.{early_rule, plan_rule}
 use Rattle.fleet_steps.specs.PlanFile.{BreaksFirst, HasPlan, IsPlanEnded, IsTextRefused, IsValid}
+use Rattle.job_frame.proofs.Endings.{rule_of}
 use Rattle.job_frame.proofs.BehindReads.{IsFoundFor, no_write}
 use Rattle.job_frame.proofs.FileReads.{some_read}
 use Rattle.job_frame.specs.Faults.{FailsReading, HasFailedRead}
@@ -92,9 +93,6 @@ module _ (job : ViewPlan) (bytes plan_bytes : List ℕ) where
   refused_so {E} r (Err e) rule refused answered files text = tt
   refused_so {E} r (Ok f) rule refused answered files text =
       by_status f status.Refused answered (inl (record { refusal = r; rule = rule; refused = refused; none = ap (λ fs. map written_by fs) files; text_is = text }))
-
-rule_of : (ended : Ended) (r : Refusal) → ended ≡ Refused r → IsRuleOrMemory ended → IsRule r
-rule_of ended r is rule = subst (λ (e : Ended). IsRuleOrMemory e) is rule
 
 -- the first broken rule of the plan's text
 pub puts_refusal : {E : Type 0} (job : ViewPlan) (bytes plan_bytes : List ℕ) (g : Network) (ended : Ended) (r : Refusal) (made : Result Found E) → HasNetwork job.limit bytes g → ended ≡ Refused r

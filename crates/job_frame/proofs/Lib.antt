@@ -5,3 +5,4 @@ pub mod Performed
 pub mod OneStatus
 pub mod ReadRules
 pub mod LimitedNetworks
+pub mod Endings

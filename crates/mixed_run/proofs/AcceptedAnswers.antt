@@ -2,6 +2,7 @@
 use Rattle.std.proofs.Common.{◌≡◌, ℕ, ◌*◌, ◌≤◌, List, Option, None, Some, Result, Ok, Err, IfOk, ap, arith, inr, inl, length, subst, sym}
 use Rattle.std.proofs.lemmas.Option.{same_Some}
 use Rattle.ev_model.specs.Network.{Network}
+use Rattle.job_frame.proofs.Endings.{rule_of}
 use Rattle.job_frame.specs.declared.found.Answer.{Answer}
 use Rattle.job_frame.specs.declared.status.Status.{Status}
 use Rattle.job_frame.specs.declared.status.Status.TheVariants as status
@@ -20,7 +21,7 @@ use Rattle.mixed_run.specs.KindFiles.{HasKinds}
 use Rattle.mixed_run.specs.declared.judging.MixedJudgement.{MixedJudgement}
 use Rattle.mixed_run.specs.declared.judging.MixedJudgement.TheVariants as judgement
 use Rattle.mixed_run.specs.declared.refusal.MixedRefusal.TheVariants.{Plain}
-use Rattle.plan_writer.specs.RefusalText.{IsRule, refusal_text}
+use Rattle.plan_writer.specs.RefusalText.{refusal_text}
 use Rattle.plan_writer.specs.declared.refusal.Refusal.{Refusal}
 use Rattle.report_lines.specs.Lines.{IsBoundOf}
 
@@ -44,9 +45,6 @@ plan_refused limit files kinds count plan_bytes given ended r has many same is r
     let first = subst (λ (e : Ended). IsPlanEnded (length kinds) plan_bytes e) is
     (subst (λ (n : ℕ). IsPlanEnded n plan_bytes ended) many (subst (λ (bs : List ℕ). IsPlanEnded count bs ended) same refused)) in
     inr (inl (record { kinds = kinds; has = has; fault = first.0; is = ap (λ (x : Refusal). Plain x) first.1; first = first.2 }))
-
-pub rule_of : (ended : Ended) (r : Refusal) → ended ≡ Refused r → IsRuleOrMemory ended → IsRule r
-rule_of ended r is rule = subst (λ (e : Ended). IsRuleOrMemory e) is rule
 
 pub refused_answers : {E : Type 0} (limit : Option ℕ) (files : List (List ℕ)) (kinds : List Network) (plan : Option (List MixedRoute)) (plan_bytes cert_bytes : List ℕ) (ended : Ended) (r : Refusal) (made : Result Answer E) →
     HasPlan limit files plan_bytes kinds plan → ended ≡ Refused r → IsRuleOrMemory ended → IsProofEnded kinds cert_bytes ended

@@ -1,8 +1,9 @@
 use Rattle.std.proofs.Common.{length, refl, arith}
 use Rattle.std.proofs.lemmas.Grind.{common_steps}
 use Rattle.job_frame.proofs.BehindReads.{finds_refused, read_fails}
+use Rattle.job_frame.proofs.Endings.{rule_of}
 use Rattle.job_frame.proofs.FileReads.{named_read}
-use Rattle.mixed_run.proofs.AcceptedAnswers.{plan_refused, rule_of}
+use Rattle.mixed_run.proofs.AcceptedAnswers.{plan_refused}
 use Rattle.mixed_run.proofs.CheckMixedFinds.{plan_fails, refused_by_plan}
 use Rattle.command_line.specs.JobValue.{mixed_value}
 use Rattle.command_line.specs.Words.{MixedJob}
