@@ -5,3 +5,4 @@ pub mod PlanFinds
 pub mod Outcomes
 pub mod PlanLaw
 pub mod Performed
+pub mod Hearing

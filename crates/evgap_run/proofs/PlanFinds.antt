@@ -14,6 +14,7 @@ use Rattle.gap_words.specs.JobValue.{plan_value}
 use Rattle.gap_words.specs.Words.{PlanGap}
 use Rattle.gap_words.specs.declared.PlanWords.{PlanWords}
 use Rattle.job_frame.proofs.BehindReads.{IsFoundFor, no_write}
+use Rattle.job_frame.proofs.Hearing.{HearsOfFound}
 use Rattle.job_frame.proofs.FileReads.{some_read}
 use Rattle.job_frame.specs.Faults.{FailsReading, HasFailedRead}
 use Rattle.job_frame.specs.Finds.{written_by}
@@ -36,7 +37,7 @@ use Rattle.plan_writer.specs.declared.refusal.Refusal.{Refusal}
 use Rattle.route_plan.specs.declared.plan.FleetPlan.{FleetPlan}
 use Rattle.job_frame.proofs.Endings.{rule_of}
 use Rattle.evgap_run.proofs.Written.{are_accepted}
-use Rattle.evgap_run.specs.PlanAnswer.{HasPlanJob, HasStart, IsNoStart, IsPlanFound, IsPlanRefused, PlanAnswers, PutsBrokenStart, PutsPlan, plan_status, plan_task, start_reads}
+use Rattle.evgap_run.specs.PlanAnswer.{HasPlanJob, HasStart, IsNoStart, IsPlanFound, IsPlanRefused, PlanAnswers, PutsBrokenStart, PutsPlan, plan_status, plan_task, start_reads, plan_heard}
 
 -- ---- the plan to begin with
 
@@ -192,26 +193,27 @@ reads_none files start is = subst (λ (s : Option (List ℕ)). AreRead files (st
 
 found_for : {E : Type 0} (job : PlanGap) (files : Option Files) (bytes : List ℕ) (more : List (List ℕ)) (made : Result Found E) → job.plan ≢ job.proof → AreReadUpTo most_bytes files job.file bytes
     → AreRead files (start_reads job.start) more → IfOk made (λ f. PlanAnswers job bytes more f.answer.status (map written_by f.files.items) f.answer.text.items)
-    → IfOk made (λ f. IsFoundFor (plan_task job) files f)
-found_for {E} job files bytes more (Err e) other read reads answers = tt
-found_for {E} job files bytes more (Ok f) other read reads answers =
+    → IfOk made (HearsOfFound plan_heard) → IfOk made (λ f. IsFoundFor (plan_task job) files f)
+found_for {E} job files bytes more (Err e) other read reads answers heard = tt
+found_for {E} job files bytes more (Ok f) other read reads answers heard =
     let plain = answer_is_plain job bytes more f.answer.status (map written_by f.files.items) f.answer.text.items other answers in
     record {
       answered = plain.0;
       answers = record { bytes = bytes ∷ more; read = (read, reads); answer = answers };
+      heard = heard;
       different = plain.1;
     }
 
 pub found_from_none : {E : Type 0} (job : PlanGap) (files : Option Files) (bytes : List ℕ) (made : Result Found E) → job.plan ≢ job.proof → job.start ≡ None → AreReadUpTo most_bytes files job.file bytes
-    → IfOk made (λ f. PlanAnswers job bytes [] f.answer.status (map written_by f.files.items) f.answer.text.items) → IfOk made (λ f. IsFoundFor (plan_task job) files f)
-found_from_none {E} job files bytes made other none read answers = found_for job files bytes [] made other read (reads_none files job.start none) answers
+    → IfOk made (λ f. PlanAnswers job bytes [] f.answer.status (map written_by f.files.items) f.answer.text.items) → IfOk made (HearsOfFound plan_heard) → IfOk made (λ f. IsFoundFor (plan_task job) files f)
+found_from_none {E} job files bytes made other none read answers heard = found_for job files bytes [] made other read (reads_none files job.start none) answers heard
 
 pub found_from_text : {E : Type 0} (job : PlanGap) (files : Option Files) (bytes name start_bytes given : List ℕ) (made : Result Found E) → job.plan ≢ job.proof → job.start ≡ Some name
     → AreReadUpTo most_bytes files job.file bytes → AreReadUpTo most_bytes files name start_bytes → given ≡ start_bytes
-    → IfOk made (λ f. PlanAnswers job bytes (given ∷ []) f.answer.status (map written_by f.files.items) f.answer.text.items) → IfOk made (λ f. IsFoundFor (plan_task job) files f)
-found_from_text {E} job files bytes name start_bytes given made other named read read_start same answers =
+    → IfOk made (λ f. PlanAnswers job bytes (given ∷ []) f.answer.status (map written_by f.files.items) f.answer.text.items) → IfOk made (HearsOfFound plan_heard) → IfOk made (λ f. IsFoundFor (plan_task job) files f)
+found_from_text {E} job files bytes name start_bytes given made other named read read_start same answers heard =
     let here = subst (λ (bs : List ℕ). IfOk made (λ f. PlanAnswers job bytes (bs ∷ []) f.answer.status (map written_by f.files.items) f.answer.text.items)) same answers in
-    found_for job files bytes (start_bytes ∷ []) made other read (reads_start files job.start name start_bytes named read_start) here
+    found_for job files bytes (start_bytes ∷ []) made other read (reads_start files job.start name start_bytes named read_start) here heard
 
 -- whatever stands in the file of the plan to begin with, some bytes are read
 some_start : (files : Option Files) (start : Option (List ℕ)) → (more : List (List ℕ)) × AreRead files (start_reads start) more

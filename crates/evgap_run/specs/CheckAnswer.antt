@@ -5,7 +5,10 @@ use Rattle.fleet_steps.specs.PlanFile.{BreaksFirst, HasFleet, IsValid}
 use Rattle.fleet_steps.specs.NearFile.{HasNear}
 use Rattle.fleet_steps.specs.FleetNetwork.{HasFleetNetwork, IsFleetRefused}
 use Rattle.gap_words.specs.Words.{CheckGap}
+use Rattle.evgap_run.specs.Judged.{HearsJudgement}
+use Rattle.job_frame.specs.Heard.{HearsRefusal}
 use Rattle.job_frame.specs.Task.{Outcome, Task}
+use Rattle.job_frame.specs.declared.cause.Cause.{Cause}
 use Rattle.job_frame.specs.declared.status.Status.{Status}
 use Rattle.job_frame.specs.declared.status.Status.TheVariants as status
 use Rattle.job_frame.specs.Caps.{certificate_read, file_read}
@@ -95,6 +98,11 @@ CheckAnswers limit bytes plan_bytes proof_bytes status.Refused text =
     PutsCheckRefusal limit bytes plan_bytes proof_bytes text
 CheckAnswers limit bytes plan_bytes proof_bytes other text = ⊥
 
+-- what is heard of an answer
+abbrev pub check_heard : Status → List ℕ → Option Cause → Type 0
+check_heard answered text heard =
+    HearsRefusal answered text heard ⊎ HearsJudgement answered text heard
+
 -- `check` reads three files, and writes none
 abbrev pub check_answers : CheckGap → List (List ℕ) → Outcome → Type 0
 check_answers job (bytes ∷ plan_bytes ∷ proof_bytes ∷ []) o =
@@ -115,6 +123,7 @@ check_task job = record {
   reads = file_read job.file ∷ file_read job.plan ∷ certificate_read job.proof ∷ [];
   goes_on = check_goes_on job;
   answers = check_answers job;
+  heard = check_heard;
   writes_first = λ ws. ⊥;
   is_open = ⊥;
   has_budget = ⊥;

@@ -1,7 +1,9 @@
 -- What the judges of a plan and of a proof find.
-use Rattle.std.specs.Prelude.{◌≡◌, ◌≢◌, ℕ, List, Option}
+use Rattle.std.specs.Prelude.{◌≡◌, ◌≢◌, ℕ, List, Option, None, Some}
 use Rattle.ev_model.specs.Network.{Network}
 use Rattle.fleet_steps.specs.PlanFile.{BreaksFirst, IsValid}
+use Rattle.job_frame.specs.declared.cause.Cause.{Cause}
+use Rattle.job_frame.specs.declared.cause.Cause.TheVariants as cause
 use Rattle.job_frame.specs.declared.status.Status.{Status}
 use Rattle.job_frame.specs.declared.status.Status.TheVariants as status
 use Rattle.near_proof.specs.Accepted.{IsAccepted}
@@ -41,3 +43,19 @@ judgement_text denominator told (Proof found) = near_verdict_text denominator to
 abbrev pub judged_status : Judgement → Status
 judged_status (Accepted cost bound) = status.Done
 judged_status found = status.Negative
+
+-- and its cause: the rule that is broken, where one is
+abbrev pub judged_cause : Judgement → Option Cause
+judged_cause (Accepted cost bound) = None
+judged_cause (Plan fault) = Some (cause.Plan fault)
+judged_cause (Proof found) = Some (cause.Near found)
+
+-- the lines of what the judges find are put, and its cause is heard
+pub record HearsJudgement
+    (answered : Status) (text : List ℕ) (heard : Option Cause) : Type 0 where
+  pub denominator : ℕ
+  pub told : Option ℕ
+  pub found : Judgement
+  pub status_is : answered ≡ judged_status found
+  pub text_is : text ≡ judgement_text denominator told found
+  pub heard_is : heard ≡ judged_cause found

@@ -9,8 +9,12 @@ use Rattle.fleet_steps.specs.FleetNetwork.{HasFleetNetwork, IsFleetRefused}
 use Rattle.gap_search.specs.Gap.{IsGapOutcome, cost_held, plan_held}
 use Rattle.gap_search.specs.declared.outcome.GapOutcome.{GapOutcome}
 use Rattle.gap_words.specs.Words.{PlanGap}
+use Rattle.fleet_steps.specs.Heard.{HearsBrokenPlan}
+use Rattle.job_frame.specs.Heard.{HearsRefusal}
 use Rattle.job_frame.specs.Task.{Outcome, Read, Task}
 use Rattle.job_frame.specs.Writes.{Written}
+use Rattle.job_frame.specs.declared.cause.Cause.{Cause}
+use Rattle.job_frame.specs.declared.cause.Cause.TheVariants as cause
 use Rattle.job_frame.specs.declared.status.Status.{Status}
 use Rattle.job_frame.specs.declared.status.Status.TheVariants as status
 use Rattle.job_frame.specs.Caps.{file_read}
@@ -160,6 +164,28 @@ PlanAnswers job bytes more status.Stopped ws text = PutsPlan job bytes more stat
 PlanAnswers job bytes more status.Refused ws text = PutsPlanRefusal job bytes more ws text
 PlanAnswers job bytes more other ws text = ⊥
 
+-- what the first line of a search tells: that there is no fleet plan, or who is out of reach
+abbrev pub found_cause : Option ℕ → Option ℕ → Option Cause
+found_cause alone None = Some cause.NoFleet
+found_cause (Some node) (Some bound) = Some (cause.Alone node)
+found_cause None (Some bound) = None
+
+-- the lines of what a search found are put, and its cause is heard
+pub record HearsFound (answered : Status) (text : List ℕ) (heard : Option Cause) : Type 0 where
+  pub denominator : ℕ
+  pub alone : Option ℕ
+  pub cost : Option ℕ
+  pub bound : Option ℕ
+  pub status_is : answered ≡ plan_status cost bound
+  pub text_is : text ≡ found_text denominator alone cost bound
+  pub heard_is : heard ≡ found_cause alone bound
+
+-- what is heard of an answer
+abbrev pub plan_heard : Status → List ℕ → Option Cause → Type 0
+plan_heard answered text heard =
+    HearsRefusal answered text heard ⊎ HearsBrokenPlan answered text heard
+    ⊎ HearsFound answered text heard
+
 -- `plan` reads its instance, and the plan to begin with where a file is named
 abbrev pub plan_answers : PlanGap → List (List ℕ) → Outcome → Type 0
 plan_answers job [] o = ⊥
@@ -181,6 +207,7 @@ plan_task job = record {
   reads = file_read job.file ∷ start_reads job.start;
   goes_on = plan_goes_on job;
   answers = plan_answers job;
+  heard = plan_heard;
   writes_first = λ ws. ⊥;
   is_open = Unit {0};
   has_budget = Unit {0};

@@ -1,8 +1,8 @@
 //! The judgement of `check` on a plan and on the bytes of a proof.
 
 ghost use Rattle.std.specs.Prelude.{◌≡◌, ◌≤◌, IfOk, List, Option, length, option_map, ℕ};
-ghost use Rattle.evgap_run.specs.CheckAnswer.{CheckAnswers};
-ghost use Rattle.evgap_run.specs.Judged.{HasLines, IsJudgementOf, judged_status, judgement_text};
+ghost use Rattle.evgap_run.specs.CheckAnswer.{CheckAnswers, check_heard};
+ghost use Rattle.evgap_run.specs.Judged.{HasLines, IsJudgementOf, judged_cause, judged_status, judgement_text};
 ghost use Rattle.fleet_steps.specs.PlanFile.{HasFleet};
 ghost use Rattle.fleet_steps.specs.NearFile.{HasNear};
 ghost use Rattle.instance_reader.specs.Instance.{customer_nodes, most_customers};
@@ -52,6 +52,7 @@ pub fn judge_text(
         → HasFleet limit file plan_bytes inst.now (option_map (λ p. p.now) plan.entry)
         → IfOk result (λ a.
         CheckAnswers limit file plan_bytes bytes.now a.status a.text.items) }
+    ensures heard { IfOk result (λ a. check_heard a.status a.text.items a.cause) }
 {
     match proof_of(alloc, inst, bytes) {
         Ok(proof) => report_on(alloc, inst, plan, &proof),
@@ -75,6 +76,7 @@ fn report_on(
         → HasFleet limit file plan_bytes inst.now (option_map (λ p. p.now) plan.entry)
         → HasNear inst.now bytes proof.now
         → IfOk result (λ a. CheckAnswers limit file plan_bytes bytes a.status a.text.items) }
+    ensures heard { IfOk result (λ a. check_heard a.status a.text.items a.cause) }
 {
     let judgement = judge(alloc, inst, plan, proof)?;
     report(alloc, inst, proof, &judgement)
@@ -120,6 +122,7 @@ fn report(
     ensures status { IfOk result (λ a. a.status ≡ judged_status judgement.now) }
     ensures text { IfOk result (λ a. a.text.items
         ≡ judgement_text inst.now.denominator proof.now.bound judgement.now) }
+    ensures cause { IfOk result (λ a. a.cause ≡ judged_cause judgement.now) }
 {
     let mut text = Vec::new(alloc);
     let status = match judgement {
@@ -144,7 +147,9 @@ fn report(
 }
 
 /// The rule that the plan or the proof breaks, where one of them breaks one.
-fn cause_of(judgement: &Judgement) -> Option<Cause> {
+fn cause_of(judgement: &Judgement) -> Option<Cause>
+    ensures { result ≡ judged_cause judgement.now }
+{
     match judgement {
         Judgement::Accepted { .. } => None,
         Judgement::Plan(fault) => Some(Cause::Plan(*fault)),

@@ -3,7 +3,7 @@
 
 ghost use Rattle.std.specs.Prelude.{◌≡◌, ◌≤◌, ◌∷◌, [], IfErr, IfOk, IfSome, List, None, Some, length, map, option_map, ℕ};
 ghost use Rattle.ev_model.specs.Fleet.{IsFleetPlan};
-ghost use Rattle.evgap_run.specs.PlanAnswer.{HasPlanJob, PlanAnswers, plan_task};
+ghost use Rattle.evgap_run.specs.PlanAnswer.{HasPlanJob, PlanAnswers, plan_heard, plan_task};
 ghost use Rattle.fleet_steps.specs.FleetNetwork.{HasFleetNetwork};
 ghost use Rattle.gap_words.specs.JobValue.{IsPlanJob, plan_value};
 ghost use Rattle.instance_reader.specs.Instance.{customer_nodes, most_customers};
@@ -116,6 +116,8 @@ fn plan_from_none<C: JobClock, W: GapWatcher>(
         → HasPlanJob (plan_value job.now) bytes more inst.now None
         → IfOk result (λ f. PlanAnswers (plan_value job.now) bytes more
         f.answer.status (map written_by f.files.items) f.answer.text.items) }
+    ensures heard { IfOk result
+        (λ f. plan_heard f.answer.status f.answer.text.items f.answer.cause) }
     ensures memory { IfErr result (λ fault. fault ≡ ShelfFault.Memory) }
 {
     match plan_from(alloc, inst, None, job, clock, watcher) {
@@ -140,6 +142,8 @@ fn plan_from_text<C: JobClock, W: GapWatcher>(
         → (plan_value job.now).start ≡ Some name
         → IfOk result (λ f. PlanAnswers (plan_value job.now) file (bytes.now ∷ [])
         f.answer.status (map written_by f.files.items) f.answer.text.items) }
+    ensures heard { IfOk result
+        (λ f. plan_heard f.answer.status f.answer.text.items f.answer.cause) }
     ensures memory { IfErr result (λ fault. fault ≡ ShelfFault.Memory) }
 {
     match plan_of(alloc, bytes) {
@@ -163,11 +167,13 @@ fn plan_from<C: JobClock, W: GapWatcher>(
 ) -> Result<Found, AllocError>
     requires few { length (customer_nodes inst.now) ≤ most_customers }
     requires files { IsPlanJob job.now }
-    ensures { (bytes : List ℕ) (more : List (List ℕ))
+    ensures answers { (bytes : List ℕ) (more : List (List ℕ))
         → HasPlanJob (plan_value job.now) bytes more inst.now
         (option_map (λ p. p.now) start.entry)
         → IfOk result (λ f. PlanAnswers (plan_value job.now) bytes more
         f.answer.status (map written_by f.files.items) f.answer.text.items) }
+    ensures heard { IfOk result
+        (λ f. plan_heard f.answer.status f.answer.text.items f.answer.cause) }
 {
     match cost_of(alloc, inst, start) {
         Ok(_was) => plan_judged(alloc, inst, start, job, clock, watcher),
@@ -187,11 +193,13 @@ fn plan_judged<C: JobClock, W: GapWatcher>(
 ) -> Result<Found, AllocError>
     requires few { length (customer_nodes inst.now) ≤ most_customers }
     requires start { IfSome start (λ plan. IsFleetPlan inst.now 1 (stops_of plan.now.routes)) }
-    ensures { (bytes : List ℕ) (more : List (List ℕ))
+    ensures answers { (bytes : List ℕ) (more : List (List ℕ))
         → HasPlanJob (plan_value job.now) bytes more inst.now
         (option_map (λ p. p.now) start.entry)
         → IfOk result (λ f. PlanAnswers (plan_value job.now) bytes more
         f.answer.status (map written_by f.files.items) f.answer.text.items) }
+    ensures heard { IfOk result
+        (λ f. plan_heard f.answer.status f.answer.text.items f.answer.cause) }
 {
     let planned = plan_all(alloc, inst, start, clock, watcher)?;
     planned.found(alloc, job.plan.as_str(), job.proof.as_str())

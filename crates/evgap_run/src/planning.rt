@@ -2,7 +2,7 @@
 
 ghost use Rattle.std.specs.Prelude.{◌≡◌, ◌≤◌, IfOk, IfSome, length, option_map};
 ghost use Rattle.ev_model.specs.Fleet.{IsFleetPlan};
-ghost use Rattle.evgap_run.specs.PlanAnswer.{IsPlanFound, alone_in, plan_status};
+ghost use Rattle.evgap_run.specs.PlanAnswer.{IsPlanFound, alone_in, found_cause, plan_heard, plan_status};
 ghost use Rattle.evgap_run.specs.Report.{IsSmallCost, found_text};
 ghost use Rattle.gap_search.specs.Gap.{cost_held, plan_held};
 ghost use Rattle.instance_reader.specs.Instance.{customer_nodes, most_customers};
@@ -33,8 +33,10 @@ pub fn plan_all<C: GapClock, W: GapWatcher>(
 ) -> Result<Planned, AllocError>
     requires few { length (customer_nodes inst.now) ≤ most_customers }
     requires start { IfSome start (λ plan. IsFleetPlan inst.now 1 (stops_of plan.now.routes)) }
-    ensures { IfOk result (λ p. IsPlanFound inst.now (option_map (λ plan. plan.now) start.entry)
+    ensures found { IfOk result (λ p. IsPlanFound inst.now (option_map (λ plan. plan.now) start.entry)
         p.plan.items p.cert.items p.answer.status p.answer.text.items) }
+    ensures heard { IfOk result
+        (λ p. plan_heard p.answer.status p.answer.text.items p.answer.cause) }
 {
     // That the instance's network is one is told by its calls.
     let _nodes = inst.nodes();
@@ -99,18 +101,21 @@ fn report(
     ensures status { IfOk result (λ a. a.status ≡ plan_status cost bound) }
     ensures text { IfOk result
         (λ a. a.text.items ≡ found_text inst.now.denominator alone cost bound) }
+    ensures cause { IfOk result (λ a. a.cause ≡ found_cause alone bound) }
 {
     let mut text = Vec::new(alloc);
     push_found(alloc, &mut text, inst, alone, cost, bound)?;
     Ok(Answer {
         status: plan_status(cost, bound),
         text,
-        cause: cause_beside(alone, bound),
+        cause: found_cause(alone, bound),
     })
 }
 
 /// What the first line tells: that there is no fleet plan, or which customer is out of reach.
-fn cause_beside(alone: Option<usize>, bound: Option<u128>) -> Option<Cause> {
+fn found_cause(alone: Option<usize>, bound: Option<u128>) -> Option<Cause>
+    ensures { result ≡ found_cause alone bound }
+{
     match (bound, alone) {
         (None, _) => Some(Cause::NoFleet),
         (Some(_), Some(node)) => Some(Cause::Alone(node)),

@@ -11,11 +11,12 @@ use Rattle.fleet_steps.proofs.PlanFiles.{early_rule}
 use Rattle.fleet_steps.specs.PlanFile.{BreaksFirst, HasPlan, IsValid, routes_of}
 use Rattle.evroute_run.specs.Ended.{IsImproveEnded}
 use Rattle.job_frame.specs.Ended.{IsNetworkEnded}
-use Rattle.evroute_run.specs.ImproveAnswer.{ImproveAnswers, PutsAlone, PutsBrokenPlan, improve_task}
+use Rattle.evroute_run.specs.ImproveAnswer.{ImproveAnswers, PutsAlone, PutsBrokenPlan, improve_task, improve_heard}
 use Rattle.job_frame.specs.LimitedNetwork.{HasNetwork}
 use Rattle.job_frame.specs.declared.answer.Ended.{Ended}
 use Rattle.job_frame.specs.declared.answer.Ended.TheVariants.{Refused, Memory}
 use Rattle.job_frame.proofs.BehindReads.{IsFoundFor, no_write, one_write}
+use Rattle.job_frame.proofs.Hearing.{HearsOfFound}
 use Rattle.job_frame.proofs.FileReads.{finds, some_read}
 use Rattle.job_frame.specs.Faults.{FailsReading, HasFailedRead}
 use Rattle.job_frame.specs.Finds.{written_by}
@@ -145,9 +146,9 @@ answer_is_plain limit outfile bytes plan_bytes status.Stopped ws text p = absurd
 pub improve_found : {E : Type 0} (job : ImproveJob) (files : Option Files) (bytes plan_bytes outfile given : List ℕ) (made : Result Found E) →
     AreReadUpTo most_bytes files job.file bytes → AreReadUpTo most_bytes files job.plan plan_bytes → outfile ≡ job.outfile → given ≡ plan_bytes
     → IfOk made (λ f. ImproveAnswers job.limit outfile bytes given f.answer.status (map written_by f.files.items) f.answer.text.items)
-    → IfOk made (λ f. IsFoundFor (improve_task job) files f)
-improve_found {E} job files bytes plan_bytes outfile given (Err e) read read_plan named same answers = tt
-improve_found {E} job files bytes plan_bytes outfile given (Ok f) read read_plan named same answers =
+    → IfOk made (HearsOfFound improve_heard) → IfOk made (λ f. IsFoundFor (improve_task job) files f)
+improve_found {E} job files bytes plan_bytes outfile given (Err e) read read_plan named same answers heard = tt
+improve_found {E} job files bytes plan_bytes outfile given (Ok f) read read_plan named same answers heard =
     let ws = map written_by f.files.items in
     let plain = answer_is_plain job.limit outfile bytes given f.answer.status ws f.answer.text.items answers in
     let here = subst (λ (bs : List ℕ). ImproveAnswers job.limit outfile bytes bs f.answer.status ws f.answer.text.items) same answers in
@@ -158,6 +159,7 @@ improve_found {E} job files bytes plan_bytes outfile given (Ok f) read read_plan
         read = (read, (read_plan, tt));
         answer = subst (λ (name : List ℕ). ImproveAnswers job.limit name bytes plan_bytes f.answer.status ws f.answer.text.items) named here;
       };
+      heard = heard;
       different = plain.1;
     }
 

@@ -1,5 +1,6 @@
 pub mod Task
 pub mod Endings
+pub mod Hearing
 pub mod OneCertificate
 pub mod AcceptedCertificates
 pub mod Refused

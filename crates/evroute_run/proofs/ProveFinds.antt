@@ -9,6 +9,8 @@ use Rattle.ev_model.specs.Feasible.{IsFeasible}
 use Rattle.ev_model.specs.Network.{Network}
 use Rattle.ev_outside.specs.Shelf.{Files}
 use Rattle.job_frame.proofs.BehindReads.{IsFoundFor, no_write, one_write}
+use Rattle.job_frame.proofs.Hearing.{HearsOfFound}
+use Rattle.job_frame.specs.Heard.{HearsRefusals}
 use Rattle.job_frame.proofs.FileReads.{finds}
 use Rattle.job_frame.specs.Finds.{written_by}
 use Rattle.job_frame.specs.Task.{AreReadUpTo, IsAnswered}
@@ -133,9 +135,9 @@ answer_is_plain options word cert bytes status.Stopped ws text p = absurd p
 pub prove_found : {E : Type 0} (job : ProofJob) (files : Option Files) (bytes given word cert : List ℕ) (made : Result Found E) →
     AreReadUpTo most_bytes files job.file bytes → given ≡ bytes → word ≡ job.route → cert ≡ job.cert
     → IfOk made (λ f. ProveAnswers job.options word cert given f.answer.status (map written_by f.files.items) f.answer.text.items)
-    → IfOk made (λ f. IsFoundFor (prove_task job) files f)
-prove_found {E} job files bytes given word cert (Err e) read same spelled named answers = tt
-prove_found {E} job files bytes given word cert (Ok f) read same spelled named answers =
+    → IfOk made (HearsOfFound HearsRefusals) → IfOk made (λ f. IsFoundFor (prove_task job) files f)
+prove_found {E} job files bytes given word cert (Err e) read same spelled named answers heard = tt
+prove_found {E} job files bytes given word cert (Ok f) read same spelled named answers heard =
     let ws = map written_by f.files.items in
     let plain = answer_is_plain job.options word cert given f.answer.status ws f.answer.text.items answers in
     let here = subst (λ (bs : List ℕ). ProveAnswers job.options word cert bs f.answer.status ws f.answer.text.items) same answers in
@@ -147,5 +149,6 @@ prove_found {E} job files bytes given word cert (Ok f) read same spelled named a
         read = (read, tt);
         answer = subst (λ (name : List ℕ). ProveAnswers job.options job.route name bytes f.answer.status ws f.answer.text.items) named worded;
       };
+      heard = heard;
       different = plain.1;
     }

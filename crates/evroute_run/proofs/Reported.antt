@@ -2,9 +2,9 @@
 use Rattle.std.proofs.Common.{◌≡◌, ℕ, List, Option, Result, Ok, Err, IfOk, subst, sym}
 use Rattle.bound_certificate.specs.declared.certificate.Certificate.{Certificate}
 use Rattle.ev_model.specs.Network.{Network}
-use Rattle.evroute_run.specs.CheckAnswer.{CheckAnswers, Holds, IsCertificateOf}
+use Rattle.evroute_run.specs.CheckAnswer.{CheckAnswers, Holds, IsCertificateOf, judged_status}
 use Rattle.fleet_steps.specs.PlanFile.{HasFleet}
-use Rattle.evroute_run.specs.Judged.{IsJudgementOf, judged_status}
+use Rattle.evroute_run.specs.Judged.{IsJudgementOf}
 use Rattle.job_frame.specs.declared.found.Answer.{Answer}
 use Rattle.job_frame.specs.declared.status.Status.{Status}
 use Rattle.plan_writer.specs.CheckText.{check_text}

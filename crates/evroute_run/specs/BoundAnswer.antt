@@ -15,6 +15,7 @@ use Rattle.evroute_run.specs.CheckBoundAnswer.{PutsAcceptedBound}
 use Rattle.fleet_steps.specs.NearFile.{HasNear}
 use Rattle.fleet_steps.specs.FleetNetwork.{HasFleetNetwork}
 use Rattle.evroute_run.specs.FleetRefusal.{PutsFleetRefusal}
+use Rattle.job_frame.specs.Heard.{HearsSearch}
 use Rattle.job_frame.specs.Task.{Outcome, Task}
 use Rattle.job_frame.specs.Writes.{Written}
 use Rattle.job_frame.specs.declared.status.Status.{Status}
@@ -76,6 +77,7 @@ bound_task job = record {
   reads = file_read job.file ∷ [];
   goes_on = λ before. Unit {0};
   answers = bound_answers job;
+  heard = HearsSearch;
   writes_first = λ ws. ⊥;
   is_open = ⊥;
   has_budget = ⊥;

@@ -1,5 +1,5 @@
 -- What `check` answers to the bytes of its instance, of its plan file and of its certificate.
-use Rattle.std.specs.Prelude.{◌≡◌, ◌≢◌, ℕ, ◌<◌, List, [], ◌∷◌, Option, Ok, Err}
+use Rattle.std.specs.Prelude.{◌≡◌, ◌≢◌, ◌⊎◌, ℕ, ◌<◌, List, [], ◌∷◌, Option, None, Some, Ok, Err}
 use Rattle.std.specs.List.{All}
 use Rattle.bound_certificate.specs.CertificateIn.{certificate_in}
 use Rattle.bound_certificate.specs.Kept.{IsKept}
@@ -26,7 +26,10 @@ use Rattle.instance_reader.specs.Instance.{most_customers}
 use Rattle.fleet_steps.specs.FleetNetwork.{HasFleetNetwork}
 use Rattle.fleet_steps.specs.PlanFile.{BreaksFirst, HasFleet, IsValid}
 use Rattle.job_frame.specs.LimitedNetwork.{HasNetwork, IsPastLimit}
+use Rattle.job_frame.specs.Heard.{HearsRefusal}
 use Rattle.job_frame.specs.Task.{Outcome, Task}
+use Rattle.job_frame.specs.declared.cause.Cause.{Cause}
+use Rattle.job_frame.specs.declared.cause.Cause.TheVariants as cause
 use Rattle.job_frame.specs.declared.status.Status.{Status}
 use Rattle.job_frame.specs.declared.status.Status.TheVariants as status
 
@@ -105,6 +108,31 @@ CheckAnswers limit bytes plan_bytes cert_bytes status.Refused text =
     PutsCheckRefusal limit bytes plan_bytes cert_bytes text
 CheckAnswers limit bytes plan_bytes cert_bytes other text = ⊥
 
+-- the status of what is found
+abbrev pub judged_status : Judgement → Status
+judged_status (judgement.Accepted cost bound) = status.Done
+judged_status found = status.Negative
+
+-- and its cause: the rule that is broken, where one is
+abbrev pub judged_cause : Judgement → Option Cause
+judged_cause (judgement.Accepted cost bound) = None
+judged_cause (judgement.Plan fault) = Some (cause.Plan fault)
+judged_cause (judgement.Certificate found) = Some (cause.Certificate found)
+
+-- the lines of what the judges find are put, and its cause is heard
+pub record HearsJudgement
+    (answered : Status) (text : List ℕ) (heard : Option Cause) : Type 0 where
+  pub denominator : ℕ
+  pub found : Judgement
+  pub status_is : answered ≡ judged_status found
+  pub text_is : text ≡ check_text denominator found
+  pub heard_is : heard ≡ judged_cause found
+
+-- what is heard of an answer
+abbrev pub check_heard : Status → List ℕ → Option Cause → Type 0
+check_heard answered text heard =
+    HearsRefusal answered text heard ⊎ HearsJudgement answered text heard
+
 -- `check` reads three files, and writes none
 abbrev pub check_answers : CheckJob → List (List ℕ) → Outcome → Type 0
 check_answers job (bytes ∷ plan_bytes ∷ cert_bytes ∷ []) o =
@@ -125,6 +153,7 @@ check_task job = record {
   reads = file_read job.file ∷ file_read job.plan ∷ certificate_read job.cert ∷ [];
   goes_on = check_goes_on job;
   answers = check_answers job;
+  heard = check_heard;
   writes_first = λ ws. ⊥;
   is_open = ⊥;
   has_budget = ⊥;

@@ -1,5 +1,5 @@
 -- What `check-bound` answers to the bytes of its instance and of its proof.
-use Rattle.std.specs.Prelude.{◌≡◌, ◌≢◌, ℕ, List, [], ◌∷◌, Option, Err}
+use Rattle.std.specs.Prelude.{◌≡◌, ◌≢◌, ◌⊎◌, ℕ, List, [], ◌∷◌, Option, None, Some, Err}
 use Rattle.command_line.specs.Words.{BoundCheckJob}
 use Rattle.ev_model.specs.Network.{Network}
 use Rattle.near_proof.specs.Accepted.{IsAccepted}
@@ -16,7 +16,10 @@ use Rattle.plan_writer.specs.declared.refusal.Refusal.TheVariants as refusal
 use Rattle.job_frame.specs.Caps.{certificate_read, file_read}
 use Rattle.fleet_steps.specs.FleetNetwork.{HasFleetNetwork, IsFleetRefused}
 use Rattle.fleet_steps.specs.NearFile.{HasNear}
+use Rattle.job_frame.specs.Heard.{HearsRefusal}
 use Rattle.job_frame.specs.Task.{Outcome, Task}
+use Rattle.job_frame.specs.declared.cause.Cause.{Cause}
+use Rattle.job_frame.specs.declared.cause.Cause.TheVariants as cause
 use Rattle.job_frame.specs.declared.status.Status.{Status}
 use Rattle.job_frame.specs.declared.status.Status.TheVariants as status
 
@@ -74,6 +77,26 @@ abbrev pub verdict_status : NearVerdict → Status
 verdict_status verdict.Accepted = status.Done
 verdict_status other = status.Negative
 
+-- and its cause: the rule that is broken, where one is
+abbrev pub verdict_cause : NearVerdict → Option Cause
+verdict_cause verdict.Accepted = None
+verdict_cause other = Some (cause.Near other)
+
+-- the line of what the judge finds is put, and its cause is heard
+pub record HearsNearVerdict
+    (answered : Status) (text : List ℕ) (heard : Option Cause) : Type 0 where
+  pub denominator : ℕ
+  pub bound : Option ℕ
+  pub found : NearVerdict
+  pub status_is : answered ≡ verdict_status found
+  pub text_is : text ≡ near_verdict_text denominator bound found
+  pub heard_is : heard ≡ verdict_cause found
+
+-- what is heard of an answer
+abbrev pub check_bound_heard : Status → List ℕ → Option Cause → Type 0
+check_bound_heard answered text heard =
+    HearsRefusal answered text heard ⊎ HearsNearVerdict answered text heard
+
 -- `check-bound` reads two files, and writes none
 abbrev pub check_bound_answers : BoundCheckJob → List (List ℕ) → Outcome → Type 0
 check_bound_answers job (bytes ∷ cert_bytes ∷ []) o =
@@ -91,6 +114,7 @@ check_bound_task job = record {
   reads = file_read job.file ∷ certificate_read job.cert ∷ [];
   goes_on = check_bound_goes_on job;
   answers = check_bound_answers job;
+  heard = check_bound_heard;
   writes_first = λ ws. ⊥;
   is_open = ⊥;
   has_budget = ⊥;

@@ -1,5 +1,5 @@
 -- What `check-route` answers to the bytes of its instance and of its proof.
-use Rattle.std.specs.Prelude.{◌≡◌, ◌≢◌, ℕ, List, [], ◌∷◌, Option, None, Some, Ok, Err}
+use Rattle.std.specs.Prelude.{◌≡◌, ◌≢◌, ◌⊎◌, ℕ, List, [], ◌∷◌, Option, None, Some, Ok, Err}
 use Rattle.command_line.specs.Words.{ProofJob}
 use Rattle.command_line.specs.declared.Options.{Options}
 use Rattle.ev_model.specs.Network.{Network}
@@ -18,7 +18,10 @@ use Rattle.route_proof.specs.declared.verdict.RouteVerdict.TheVariants as verdic
 use Rattle.route_steps.specs.Trips.{Journey}
 use Rattle.job_frame.specs.Caps.{certificate_read, file_read}
 use Rattle.evroute_run.specs.FixedAnswer.{IsRefused, IsTask, start_of}
+use Rattle.job_frame.specs.Heard.{HearsDone, HearsRefusal}
 use Rattle.job_frame.specs.Task.{Outcome, Task}
+use Rattle.job_frame.specs.declared.cause.Cause.{Cause}
+use Rattle.job_frame.specs.declared.cause.Cause.TheVariants as cause
 use Rattle.job_frame.specs.declared.status.Status.{Status}
 use Rattle.job_frame.specs.declared.status.Status.TheVariants as status
 
@@ -87,6 +90,22 @@ CheckRouteAnswers options word bytes cert_bytes status.Refused text =
     PutsCheckRouteRefusal options word bytes cert_bytes text
 CheckRouteAnswers options word bytes cert_bytes other text = ⊥
 
+-- the line of a rule that a proof breaks is put, and the rule is heard
+pub record HearsBrokenProof
+    (answered : Status) (text : List ℕ) (heard : Option Cause) : Type 0 where
+  pub denominator : ℕ
+  pub found : RouteVerdict
+  pub broken : found ≢ verdict.Accepted
+  pub status_is : answered ≡ status.Negative
+  pub text_is : text ≡ verdict_text denominator None found
+  pub heard_is : heard ≡ Some (cause.Route found)
+
+-- what is heard of an answer
+abbrev pub check_route_heard : Status → List ℕ → Option Cause → Type 0
+check_route_heard answered text heard =
+    HearsRefusal answered text heard ⊎ HearsBrokenProof answered text heard
+    ⊎ HearsDone answered text heard
+
 -- `check-route` reads two files, and writes none
 abbrev pub check_route_answers : ProofJob → List (List ℕ) → Outcome → Type 0
 check_route_answers job (bytes ∷ cert_bytes ∷ []) o =
@@ -105,6 +124,7 @@ check_route_task job = record {
   reads = file_read job.file ∷ certificate_read job.cert ∷ [];
   goes_on = check_route_goes_on job;
   answers = check_route_answers job;
+  heard = check_route_heard;
   writes_first = λ ws. ⊥;
   is_open = ⊥;
   has_budget = ⊥;

@@ -7,6 +7,7 @@ use Rattle.plan_writer.specs.RefusalText.{IsRule, refusal_text}
 use Rattle.plan_writer.specs.declared.refusal.Refusal.{Refusal}
 use Rattle.plan_writer.specs.declared.refusal.Refusal.TheVariants as refusal
 use Rattle.job_frame.specs.Caps.{file_read}
+use Rattle.job_frame.specs.Heard.{HearsRefusals}
 use Rattle.job_frame.specs.Task.{Outcome, Task}
 use Rattle.job_frame.specs.Writes.{Written}
 use Rattle.job_frame.specs.declared.status.Status.{Status}
@@ -56,6 +57,7 @@ convert_task job = record {
   reads = file_read job.file ∷ [];
   goes_on = λ before. Unit {0};
   answers = convert_answers job;
+  heard = HearsRefusals;
   writes_first = λ ws. ⊥;
   is_open = ⊥;
   has_budget = ⊥;

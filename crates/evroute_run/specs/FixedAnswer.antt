@@ -17,6 +17,7 @@ use Rattle.route_plan.specs.RouteRules.{route_in}
 use Rattle.route_plan.specs.RouteWords.{SpellsRoute}
 use Rattle.job_frame.specs.Caps.{file_read}
 use Rattle.job_frame.specs.LimitedNetwork.{HasNetwork, IsPastLimit}
+use Rattle.job_frame.specs.Heard.{HearsRefusals}
 use Rattle.job_frame.specs.Task.{Outcome, Task}
 use Rattle.job_frame.specs.declared.status.Status.{Status}
 use Rattle.job_frame.specs.declared.status.Status.TheVariants as status
@@ -93,6 +94,7 @@ fixed_task job = record {
   reads = file_read job.file ∷ [];
   goes_on = λ before. Unit {0};
   answers = fixed_answers job;
+  heard = HearsRefusals;
   writes_first = λ ws. ⊥;
   is_open = ⊥;
   has_budget = ⊥;

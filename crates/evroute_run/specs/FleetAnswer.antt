@@ -27,6 +27,7 @@ use Rattle.job_frame.specs.Caps.{file_read}
 use Rattle.evroute_run.specs.CheckAnswer.{IsCertificateOf, PutsAccepted}
 use Rattle.fleet_steps.specs.FleetNetwork.{HasFleetNetwork}
 use Rattle.evroute_run.specs.FleetRefusal.{PutsFleetRefusal}
+use Rattle.job_frame.specs.Heard.{HearsSearch}
 use Rattle.job_frame.specs.Task.{Task}
 use Rattle.job_frame.specs.Task as task
 use Rattle.job_frame.specs.Writes.{Written}
@@ -144,6 +145,7 @@ fleet_task job = record {
   reads = file_read job.file ∷ [];
   goes_on = λ before. Unit {0};
   answers = fleet_answers job;
+  heard = HearsSearch;
   writes_first = λ ws. ⊥;
   is_open = Unit {0};
   has_budget = job.nodes ≢ None;

@@ -16,8 +16,12 @@ use Rattle.route_plan.specs.declared.plan.FleetPlan.{FleetPlan}
 use Rattle.job_frame.specs.Caps.{file_read}
 use Rattle.fleet_steps.specs.PlanFile.{BreaksFirst, HoldsPlan, IsTextRefused, IsValid, routes_of}
 use Rattle.job_frame.specs.LimitedNetwork.{HasNetwork}
+use Rattle.fleet_steps.specs.Heard.{HearsBrokenPlan}
+use Rattle.job_frame.specs.Heard.{HearsDone, HearsRefusal}
 use Rattle.job_frame.specs.Task.{Outcome, Task}
 use Rattle.job_frame.specs.Writes.{Written}
+use Rattle.job_frame.specs.declared.cause.Cause.{Cause}
+use Rattle.job_frame.specs.declared.cause.Cause.TheVariants as cause
 use Rattle.job_frame.specs.declared.status.Status.{Status}
 use Rattle.job_frame.specs.declared.status.Status.TheVariants as status
 
@@ -78,6 +82,19 @@ ImproveAnswers limit outfile bytes plan_bytes status.Refused ws text =
     PutsImproveRefusal limit bytes plan_bytes ws text
 ImproveAnswers limit outfile bytes plan_bytes other ws text = ⊥
 
+-- the line of a customer out of reach is put, and the customer is heard
+pub record HearsAlone (answered : Status) (text : List ℕ) (heard : Option Cause) : Type 0 where
+  pub node : ℕ
+  pub status_is : answered ≡ status.Negative
+  pub text_is : text ≡ alone_text node
+  pub heard_is : heard ≡ Some (cause.Alone node)
+
+-- what is heard of an answer
+abbrev pub improve_heard : Status → List ℕ → Option Cause → Type 0
+improve_heard answered text heard =
+    HearsRefusal answered text heard ⊎ HearsBrokenPlan answered text heard
+    ⊎ HearsAlone answered text heard ⊎ HearsDone answered text heard
+
 -- `improve` reads two files
 abbrev pub improve_answers : ImproveJob → List (List ℕ) → Outcome → Type 0
 improve_answers job (bytes ∷ plan_bytes ∷ []) o =
@@ -95,6 +112,7 @@ improve_task job = record {
   reads = file_read job.file ∷ file_read job.plan ∷ [];
   goes_on = improve_goes_on job;
   answers = improve_answers job;
+  heard = improve_heard;
   writes_first = λ ws. ⊥;
   is_open = ⊥;
   has_budget = ⊥;

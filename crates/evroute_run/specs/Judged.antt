@@ -9,16 +9,9 @@ use Rattle.plan_writer.specs.declared.check.Judgement.TheVariants as judgement
 use Rattle.route_plan.specs.declared.plan.FleetPlan.{FleetPlan}
 use Rattle.evroute_run.specs.CheckAnswer.{IsRejection}
 use Rattle.fleet_steps.specs.PlanFile.{IsValid}
-use Rattle.job_frame.specs.declared.status.Status.{Status}
-use Rattle.job_frame.specs.declared.status.Status.TheVariants as status
 
 -- both are accepted, or the first broken rule is found
 abbrev pub IsJudgementOf : Network → Option FleetPlan → Certificate → Judgement → Type 0
 IsJudgementOf g plan c (judgement.Accepted cost bound) =
     IsValid g plan cost × IsAccepted g c × IsTrueCertificate g c × (bound ≡ c.bound)
 IsJudgementOf g plan c found = IsRejection g plan c found
-
--- the status of what is found
-abbrev pub judged_status : Judgement → Status
-judged_status (judgement.Accepted cost bound) = status.Done
-judged_status found = status.Negative

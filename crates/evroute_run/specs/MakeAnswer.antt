@@ -12,6 +12,7 @@ use Rattle.plan_writer.specs.MakeText.{make_text}
 use Rattle.plan_writer.specs.RefusalText.{IsRule, refusal_text}
 use Rattle.plan_writer.specs.declared.refusal.Refusal.{Refusal}
 use Rattle.plan_writer.specs.declared.refusal.Refusal.TheVariants as refusal
+use Rattle.job_frame.specs.Heard.{HearsRefusals}
 use Rattle.job_frame.specs.Task.{Outcome, Task}
 use Rattle.job_frame.specs.Writes.{Written}
 use Rattle.job_frame.specs.declared.status.Status.{Status}
@@ -88,6 +89,7 @@ make_task job = record {
   reads = [];
   goes_on = λ before. ⊥;
   answers = make_answers job;
+  heard = HearsRefusals;
   writes_first = λ ws. (HasNoInstance job → ⊥) × (ws ≡ made_file job ∷ []);
   is_open = ⊥;
   has_budget = ⊥;

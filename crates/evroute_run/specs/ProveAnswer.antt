@@ -20,6 +20,7 @@ use Rattle.route_proof.specs.declared.verdict.RouteVerdict.TheVariants as verdic
 use Rattle.job_frame.specs.Caps.{file_read}
 use Rattle.evroute_run.specs.CheckRouteAnswer.{PutsAcceptedProof, journey_of, listed_time}
 use Rattle.evroute_run.specs.FixedAnswer.{IsRefused, IsTask, start_of}
+use Rattle.job_frame.specs.Heard.{HearsRefusals}
 use Rattle.job_frame.specs.Task.{Outcome, Task}
 use Rattle.job_frame.specs.Writes.{Written}
 use Rattle.job_frame.specs.declared.status.Status.{Status}
@@ -92,6 +93,7 @@ prove_task job = record {
   reads = file_read job.file ∷ [];
   goes_on = λ before. Unit {0};
   answers = prove_answers job;
+  heard = HearsRefusals;
   writes_first = λ ws. ⊥;
   is_open = ⊥;
   has_budget = ⊥;

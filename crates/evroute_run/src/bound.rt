@@ -8,6 +8,7 @@ ghost use Rattle.command_line.specs.declared.Job.TheVariants.{Bound};
 ghost use Rattle.evroute_run.specs.BoundAnswer.{IsBoundFound, IsReadBack, bound_status};
 ghost use Rattle.evroute_run.specs.Run.{task_of};
 ghost use Rattle.job_frame.specs.Finds.{Finds, written_by};
+ghost use Rattle.job_frame.specs.Heard.{HearsSearch, cause_beside};
 ghost use Rattle.instance_reader.specs.Instance.{most_customers};
 ghost use Rattle.near_proof.specs.Ranges.{NearFits};
 ghost use Rattle.near_text.specs.NearIn.{IsKept};
@@ -58,9 +59,11 @@ fn bound_on<W: JobWatcher>(
     watcher: &mut W,
 ) -> Result<Found, AllocError>
     requires { customer_count inst.now ≤ most_customers }
-    ensures { IfOk result (λ f.
+    ensures found { IfOk result (λ f.
         IsBoundFound inst.now job.now.near (string_bytes job.now.cert)
         f.answer.status (map written_by f.files.items) f.answer.text.items) }
+    ensures heard { IfOk result
+        (λ f. HearsSearch f.answer.status f.answer.text.items f.answer.cause) }
 {
     watcher.begin(inst.denominator());
     let proof = near_bound_watched(alloc, inst, job.near as usize, watcher)?;
@@ -87,6 +90,7 @@ fn tell(alloc: Global, inst: &Instance, bound: Option<u128>) -> Result<Answer, A
     ensures status { IfOk result (λ a. a.status ≡ bound_status bound) }
     ensures text { IfOk result
         (λ a. a.text.items ≡ near_bound_text inst.now.denominator bound) }
+    ensures cause { IfOk result (λ a. a.cause ≡ cause_beside bound) }
 {
     let mut text = Vec::new(alloc);
     push_near_bound(alloc, &mut text, inst, bound)?;

@@ -6,7 +6,7 @@ ghost use Rattle.command_line.specs.JobValue.{job_value};
 ghost use Rattle.command_line.specs.declared.Job.TheVariants.{CheckBound};
 ghost use Rattle.job_frame.specs.Caps.{most_bytes};
 ghost use Rattle.instance_reader.specs.Instance.{most_customers};
-ghost use Rattle.evroute_run.specs.CheckBoundAnswer.{CheckBoundAnswers, verdict_status};
+ghost use Rattle.evroute_run.specs.CheckBoundAnswer.{CheckBoundAnswers, check_bound_heard, verdict_cause, verdict_status};
 ghost use Rattle.fleet_steps.specs.NearFile.{HasNear};
 ghost use Rattle.fleet_steps.specs.FleetNetwork.{HasFleetNetwork};
 ghost use Rattle.evroute_run.specs.Run.{task_of};
@@ -75,6 +75,7 @@ fn judge_text(alloc: Global, inst: &Instance, bytes: &[u8]) -> Result<Answer, Al
     ensures answered { IfOk result (λ a. IsAnswered a.status) }
     ensures answers { (limit : Option ℕ) (file : List ℕ) → HasFleetNetwork limit file inst.now
         → IfOk result (λ a. CheckBoundAnswers limit file bytes.now a.status a.text.items) }
+    ensures heard { IfOk result (λ a. check_bound_heard a.status a.text.items a.cause) }
 {
     match proof_of(alloc, inst, bytes) {
         Ok(proof) => judge(alloc, inst, &proof),
@@ -91,6 +92,7 @@ fn judge(alloc: Global, inst: &Instance, proof: &NearProof) -> Result<Answer, Al
     ensures answers { (limit : Option ℕ) (file bytes : List ℕ)
         → HasFleetNetwork limit file inst.now → HasNear inst.now bytes proof.now
         → IfOk result (λ a. CheckBoundAnswers limit file bytes a.status a.text.items) }
+    ensures heard { IfOk result (λ a. check_bound_heard a.status a.text.items a.cause) }
 {
     let verdict = check_near(alloc, inst, proof)?;
     let mut text = Vec::new(alloc);
@@ -103,7 +105,9 @@ fn judge(alloc: Global, inst: &Instance, proof: &NearProof) -> Result<Answer, Al
 }
 
 /// The rule that a proof breaks, where it breaks one.
-fn cause_of(verdict: NearVerdict) -> Option<Cause> {
+fn cause_of(verdict: NearVerdict) -> Option<Cause>
+    ensures { result ≡ verdict_cause verdict }
+{
     match verdict {
         NearVerdict::Accepted => None,
         _ => Some(Cause::Near(verdict)),

@@ -1,6 +1,6 @@
 //! What `check-route` finds: a proof of one route of an instance is judged.
 
-ghost use Rattle.std.specs.Prelude.{◌≡◌, ◌≤◌, IfErr, IfOk, IfSome, List, None, string_bytes, ℕ};
+ghost use Rattle.std.specs.Prelude.{◌≡◌, ◌≤◌, IfErr, IfOk, IfSome, List, None, Some, string_bytes, ℕ};
 ghost use Rattle.command_line.specs.JobValue.{job_value};
 ghost use Rattle.command_line.specs.declared.Job.TheVariants.{CheckRoute};
 ghost use Rattle.command_line.specs.declared.Options.{Options};
@@ -8,7 +8,7 @@ ghost use Rattle.ev_model.specs.Feasible.{IsFeasible};
 ghost use Rattle.ev_model.specs.Route.{IsRoute};
 ghost use Rattle.ev_model.specs.Time.{time_of};
 ghost use Rattle.job_frame.specs.Caps.{most_bytes};
-ghost use Rattle.evroute_run.specs.CheckRouteAnswer.{CheckRouteAnswers, listed_time};
+ghost use Rattle.evroute_run.specs.CheckRouteAnswer.{CheckRouteAnswers, check_route_heard, listed_time};
 ghost use Rattle.evroute_run.specs.Ended.{IsCheckRouteEnded};
 ghost use Rattle.job_frame.specs.Ended.{IsRuleOrMemory};
 ghost use Rattle.evroute_run.specs.FixedAnswer.{IsTask, start_of};
@@ -103,6 +103,7 @@ fn judge_text(
         → start ≡ start_of inst.now options.charge
         → IfOk result (λ a.
         CheckRouteAnswers options word file bytes.now a.status a.text.items) }
+    ensures heard { IfOk result (λ a. check_route_heard a.status a.text.items a.cause) }
 {
     match proof_of(alloc, inst, route, bytes) {
         Ok(proof) => judge(alloc, inst, route, start, &proof),
@@ -152,6 +153,7 @@ fn judge(
         → proof_in inst.now route.now bytes ≡ Ok proof.now
         → SpellsProof inst.now route.now bytes proof.now
         → IfOk result (λ a. CheckRouteAnswers options word file bytes a.status a.text.items) }
+    ensures heard { IfOk result (λ a. check_route_heard a.status a.text.items a.cause) }
 {
     let verdict = fixed_certificate::check_route(alloc, inst, route, start, proof)?;
     match verdict {
@@ -171,6 +173,7 @@ fn accept(
     ensures status { IfOk result (λ a. a.status ≡ Status.Done) }
     ensures text { IfOk result (λ a. a.text.items ≡ verdict_text inst.now.denominator
         (listed_time inst.now start plan.now) verdict.Accepted) }
+    ensures cause { IfOk result (λ a. a.cause ≡ None) }
 {
     let time = time_listed(inst, start, plan);
     let mut text = Vec::new(alloc);
@@ -210,6 +213,7 @@ fn reject(alloc: Global, inst: &Instance, verdict: &RouteVerdict) -> Result<Answ
     ensures status { IfOk result (λ a. a.status ≡ Status.Negative) }
     ensures text { IfOk result (λ a. a.text.items
         ≡ verdict_text inst.now.denominator None verdict.now) }
+    ensures cause { IfOk result (λ a. a.cause ≡ Some (Cause.Route verdict.now)) }
 {
     let mut text = Vec::new(alloc);
     push_route_verdict(alloc, &mut text, inst, None, verdict)?;

@@ -5,6 +5,7 @@ ghost use Rattle.command_line.specs.JobValue.{job_value};
 ghost use Rattle.command_line.specs.declared.Job.TheVariants.{Convert};
 ghost use Rattle.evroute_run.specs.Run.{task_of};
 ghost use Rattle.job_frame.specs.Finds.{Finds, written_by};
+ghost use Rattle.job_frame.specs.Heard.{HearsRefusals};
 
 use command_line::ConvertWords;
 use decimal_import::ImportFault;
@@ -48,6 +49,8 @@ fn write_whole(alloc: Global, outfile: &str, whole: Vec<u8>) -> Result<Found, Al
     ensures text { IfOk result (λ f. f.answer.text.items ≡ []) }
     ensures files { IfOk result (λ f. map written_by f.files.items
         ≡ record { name = outfile.now; bytes = whole.items } ∷ []) }
+    ensures heard { IfOk result
+        (λ f. HearsRefusals f.answer.status f.answer.text.items f.answer.cause) }
 {
     let answer = Answer {
         status: Status::Done,

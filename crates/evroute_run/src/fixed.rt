@@ -11,6 +11,7 @@ ghost use Rattle.evroute_run.specs.Ended.{IsEnded};
 ghost use Rattle.evroute_run.specs.FixedAnswer.{FixedAnswers, IsTask, start_of};
 ghost use Rattle.evroute_run.specs.Run.{task_of};
 ghost use Rattle.job_frame.specs.Finds.{Finds};
+ghost use Rattle.job_frame.specs.Heard.{HearsRefusals};
 ghost use Rattle.job_frame.specs.Task.{IsAnswered};
 ghost use Rattle.plan_writer.specs.FixedText.{fixed_text};
 
@@ -49,6 +50,7 @@ fn answer_to(
     ensures answered { IfOk result (λ a. IsAnswered a.status) }
     ensures answers { IfOk result
         (λ a. FixedAnswers options word.now bytes.now a.status a.text.items) }
+    ensures heard { IfOk result (λ a. HearsRefusals a.status a.text.items a.cause) }
 {
     match charge_file(alloc, bytes, word, options) {
         Ok(answer) => Ok(answer),
@@ -61,6 +63,7 @@ fn answer_to(
 fn charge_file(alloc: Global, bytes: &[u8], word: &str, options: Options) -> Result<Answer, Ended>
     ensures ok { IfOk result (λ a. FixedAnswers options word.now bytes.now a.status a.text.items) }
     ensures answered { IfOk result (λ a. IsAnswered a.status) }
+    ensures heard { IfOk result (λ a. HearsRefusals a.status a.text.items a.cause) }
     ensures ended { IfErr result (IsEnded options word.now bytes.now) }
 {
     match trip_of(alloc, bytes, word, options) {
@@ -81,6 +84,7 @@ fn charge_from(alloc: Global, inst: &Instance, route: &[usize], start: u64) -> R
         → IsTask options word bytes inst.now route.now
         → IfErr result (IsEnded options word bytes) }
     ensures answered { IfOk result (λ a. IsAnswered a.status) }
+    ensures heard { IfOk result (λ a. HearsRefusals a.status a.text.items a.cause) }
 {
     let Ok(plan) = solve_route(alloc, inst, route, start) else {
         return Err(Ended::Memory);
@@ -104,6 +108,7 @@ pub(crate) fn report_plan(
     ensures text { IfOk result (λ a. a.text.items
         ≡ fixed_text inst.now.denominator
         (Some (plan.now.stops, time_of inst.now 1 start plan.now.stops))) }
+    ensures heard { IfOk result (λ a. HearsRefusals a.status a.text.items a.cause) }
     ensures memory { IfErr result (λ e. e ≡ Ended.Memory) }
 {
     let Ok(walk) = walk(inst, start, plan.stops.as_slice()) else {
@@ -125,6 +130,7 @@ pub(crate) fn report_plan(
 pub(crate) fn infeasible(alloc: Global, inst: &Instance) -> Result<Answer, Ended>
     ensures status { IfOk result (λ a. a.status ≡ Status.Negative) }
     ensures text { IfOk result (λ a. a.text.items ≡ fixed_text inst.now.denominator None) }
+    ensures heard { IfOk result (λ a. HearsRefusals a.status a.text.items a.cause) }
     ensures memory { IfErr result (λ e. e ≡ Ended.Memory) }
 {
     let mut text = Vec::new(alloc);

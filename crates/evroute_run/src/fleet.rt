@@ -8,6 +8,7 @@ ghost use Rattle.command_line.specs.declared.Job.TheVariants.{Fleet};
 ghost use Rattle.evroute_run.specs.FleetAnswer.{IsFound};
 ghost use Rattle.evroute_run.specs.Run.{task_of};
 ghost use Rattle.job_frame.specs.Finds.{Finds, written_by};
+ghost use Rattle.job_frame.specs.Heard.{HearsSearch};
 ghost use Rattle.instance_reader.specs.Instance.{most_customers};
 
 use crate::planning::plan_all;
@@ -55,12 +56,14 @@ fn plan_on<W: JobWatcher>(
 ) -> Result<Found, AllocError>
     requires few { customer_count inst.now ≤ most_customers }
     requires nodes { IfSome job.now.nodes (λ most. 1 ≤ most) }
-    ensures { IfOk result (λ f. (plan_bytes cert_bytes : List ℕ)
+    ensures found { IfOk result (λ f. (plan_bytes cert_bytes : List ℕ)
         × IsFound inst.now job.now.nodes plan_bytes cert_bytes
         f.answer.status f.answer.text.items
         × (map written_by f.files.items
         ≡ record { name = string_bytes job.now.plan; bytes = plan_bytes }
         ∷ record { name = string_bytes job.now.cert; bytes = cert_bytes } ∷ [])) }
+    ensures heard { IfOk result
+        (λ f. HearsSearch f.answer.status f.answer.text.items f.answer.cause) }
 {
     let planned = plan_all(alloc, inst, job.nodes, watcher)?;
     // By a name of its own its answer and its files are told apart.

@@ -1,12 +1,12 @@
 //! What `improve` finds: the plan of a file is made cheaper, and is written into another.
 
-ghost use Rattle.std.specs.Prelude.{◌≡◌, ◌∷◌, [], IfErr, IfOk, List, Option, Some, map, option_map, string_bytes, ℕ};
+ghost use Rattle.std.specs.Prelude.{◌≡◌, ◌∷◌, [], IfErr, IfOk, List, None, Option, Some, map, option_map, string_bytes, ℕ};
 ghost use Rattle.command_line.specs.JobValue.{job_value};
 ghost use Rattle.command_line.specs.declared.Job.TheVariants.{Improve};
 ghost use Rattle.ev_model.specs.Fleet.{cost_of};
 ghost use Rattle.job_frame.specs.Caps.{most_bytes};
 ghost use Rattle.fleet_steps.specs.PlanFile.{HasPlan, IsValid};
-ghost use Rattle.evroute_run.specs.ImproveAnswer.{ImproveAnswers};
+ghost use Rattle.evroute_run.specs.ImproveAnswer.{ImproveAnswers, improve_heard};
 ghost use Rattle.job_frame.specs.LimitedNetwork.{HasNetwork};
 ghost use Rattle.evroute_run.specs.Run.{task_of};
 ghost use Rattle.job_frame.specs.Finds.{Finds, written_by};
@@ -83,6 +83,8 @@ fn improve_text<W: JobWatcher>(
     ensures answers { (limit : Option ℕ) (file : List ℕ) → HasNetwork limit file inst.now
         → IfOk result (λ f. ImproveAnswers limit outfile.now file bytes.now
         f.answer.status (map written_by f.files.items) f.answer.text.items) }
+    ensures heard { IfOk result
+        (λ f. improve_heard f.answer.status f.answer.text.items f.answer.cause) }
     ensures memory { IfErr result (λ fault. fault ≡ ShelfFault.Memory) }
 {
     match plan_of(alloc, bytes) {
@@ -103,10 +105,12 @@ fn improve_plan<W: JobWatcher>(
     outfile: &str,
     watcher: &mut W,
 ) -> Result<Found, AllocError>
-    ensures { (limit : Option ℕ) (file plan_bytes : List ℕ)
+    ensures answers { (limit : Option ℕ) (file plan_bytes : List ℕ)
         → HasPlan limit file plan_bytes inst.now (option_map (λ p. p.now) plan.entry)
         → IfOk result (λ f. ImproveAnswers limit outfile.now file plan_bytes
         f.answer.status (map written_by f.files.items) f.answer.text.items) }
+    ensures heard { IfOk result
+        (λ f. improve_heard f.answer.status f.answer.text.items f.answer.cause) }
 {
     match cost_of(alloc, inst, plan) {
         Ok(was) => make_cheaper(alloc, inst, plan, was, outfile, watcher),
@@ -126,10 +130,12 @@ fn make_cheaper<W: JobWatcher>(
     watcher: &mut W,
 ) -> Result<Found, AllocError>
     requires { IsValid inst.now (option_map (λ p. p.now) plan) was }
-    ensures { (limit : Option ℕ) (file plan_bytes : List ℕ)
+    ensures answers { (limit : Option ℕ) (file plan_bytes : List ℕ)
         → HasPlan limit file plan_bytes inst.now (option_map (λ p. p.now) plan.entry)
         → IfOk result (λ f. ImproveAnswers limit outfile.now file plan_bytes
         f.answer.status (map written_by f.files.items) f.answer.text.items) }
+    ensures heard { IfOk result
+        (λ f. improve_heard f.answer.status f.answer.text.items f.answer.cause) }
 {
     watcher.begin(inst.denominator());
     match improve_watched(alloc, inst, plan, watcher) {
@@ -154,6 +160,7 @@ fn write_better(
         ≡ record { name = outfile.now; bytes = fleet_plan_text (Some better.now) } ∷ []) }
     ensures text { IfOk result (λ f. f.answer.text.items ≡ improved_text inst.now.denominator
         (cost_of inst.now 1 (stops_of better.now.routes)) was) }
+    ensures cause { IfOk result (λ f. f.answer.cause ≡ None) }
 {
     let cost = cost_after(alloc, inst, better)?;
     let mut text = Vec::new(alloc);
@@ -186,6 +193,7 @@ fn put_alone(alloc: Global, node: usize) -> Result<Found, AllocError>
     ensures status { IfOk result (λ f. f.answer.status ≡ Status.Negative) }
     ensures files { IfOk result (λ f. map written_by f.files.items ≡ []) }
     ensures text { IfOk result (λ f. f.answer.text.items ≡ alone_text node) }
+    ensures cause { IfOk result (λ f. f.answer.cause ≡ Some (Cause.Alone node)) }
 {
     let mut text = Vec::new(alloc);
     push_alone(alloc, &mut text, node)?;

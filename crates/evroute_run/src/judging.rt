@@ -2,12 +2,12 @@
 
 ghost use Rattle.std.specs.Prelude.{◌≡◌, ◌≤◌, IfErr, IfOk, List, Option, option_map, ℕ};
 ghost use Rattle.bound_certificate.specs.Ranges.{Fits, customer_count};
-ghost use Rattle.evroute_run.specs.CheckAnswer.{CheckAnswers, IsCertificateOf};
+ghost use Rattle.evroute_run.specs.CheckAnswer.{CheckAnswers, IsCertificateOf, check_heard, judged_cause, judged_status};
 ghost use Rattle.fleet_steps.specs.PlanFile.{BreaksFirst, HasFleet, IsValid};
 ghost use Rattle.evroute_run.specs.Ended.{IsCheckEnded};
 ghost use Rattle.instance_reader.specs.Instance.{most_customers};
 ghost use Rattle.job_frame.specs.Ended.{IsRuleOrMemory};
-ghost use Rattle.evroute_run.specs.Judged.{IsJudgementOf, judged_status};
+ghost use Rattle.evroute_run.specs.Judged.{IsJudgementOf};
 ghost use Rattle.job_frame.specs.Task.{IsAnswered};
 ghost use Rattle.plan_writer.specs.CheckText.{IsJudged, check_text};
 
@@ -34,6 +34,7 @@ pub fn judge_text(
         → HasFleet limit file plan_bytes inst.now (option_map (λ p. p.now) plan.entry)
         → IfOk result (λ a.
         CheckAnswers limit file plan_bytes bytes.now a.status a.text.items) }
+    ensures heard { IfOk result (λ a. check_heard a.status a.text.items a.cause) }
 {
     match certificate_of(alloc, inst, bytes) {
         Ok(cert) => report_on(alloc, inst, plan, &cert),
@@ -72,6 +73,7 @@ fn report_on(
         → HasFleet limit file plan_bytes inst.now (option_map (λ p. p.now) plan.entry)
         → IsCertificateOf inst.now bytes cert.now
         → IfOk result (λ a. CheckAnswers limit file plan_bytes bytes a.status a.text.items) }
+    ensures heard { IfOk result (λ a. check_heard a.status a.text.items a.cause) }
 {
     let judgement = judge(alloc, inst, plan, cert)?;
     report(alloc, inst, &judgement)
@@ -125,6 +127,7 @@ fn report(alloc: Global, inst: &Instance, judgement: &Judgement) -> Result<Answe
     ensures status { IfOk result (λ a. a.status ≡ judged_status judgement.now) }
     ensures text { IfOk result
         (λ a. a.text.items ≡ check_text inst.now.denominator judgement.now) }
+    ensures cause { IfOk result (λ a. a.cause ≡ judged_cause judgement.now) }
 {
     let mut text = Vec::new(alloc);
     push_check_report(alloc, &mut text, inst, judgement)?;
@@ -140,7 +143,9 @@ fn report(alloc: Global, inst: &Instance, judgement: &Judgement) -> Result<Answe
 }
 
 /// The rule that is broken, where one is.
-fn cause_of(judgement: &Judgement) -> Option<Cause> {
+fn cause_of(judgement: &Judgement) -> Option<Cause>
+    ensures { result ≡ judged_cause judgement.now }
+{
     match judgement {
         Judgement::Accepted { .. } => None,
         Judgement::Plan(fault) => Some(Cause::Plan(*fault)),

@@ -10,6 +10,7 @@ ghost use Rattle.ev_model.specs.Network.{IsNetwork};
 ghost use Rattle.evroute_run.specs.FleetAnswer.{IsFound, IsReadBack, TellsRootOf, outcomes_of, search_status};
 ghost use Rattle.fleet_model.specs.Prices.{price_total};
 ghost use Rattle.instance_reader.specs.Instance.{most_customers};
+ghost use Rattle.job_frame.specs.Heard.{HearsSearch, cause_beside};
 ghost use Rattle.plan_writer.specs.FleetText.{IsExactLine, IsLowestLine, fleet_text};
 
 use crate::watcher::JobWatcher;
@@ -35,8 +36,10 @@ pub fn plan_all<W: JobWatcher>(
 ) -> Result<Planned, AllocError>
     requires few { customer_count inst.now ≤ most_customers }
     requires nodes { IfSome nodes (λ most. 1 ≤ most) }
-    ensures { IfOk result (λ p. IsFound inst.now nodes p.plan.items p.cert.items
+    ensures found { IfOk result (λ p. IsFound inst.now nodes p.plan.items p.cert.items
         p.answer.status p.answer.text.items) }
+    ensures heard { IfOk result
+        (λ p. HearsSearch p.answer.status p.answer.text.items p.answer.cause) }
 {
     watcher.begin(inst.denominator());
     let outcome = plan_fleet_watched(alloc, inst, nodes, watcher)?;
@@ -70,6 +73,7 @@ fn report(alloc: Global, inst: &Instance, outcome: &Outcome) -> Result<Answer, A
         × TellsRootOf inst.now outcome.now.certificate told
         × (a.text.items ≡ fleet_text inst.now.denominator
         (outcomes_of inst.now outcome.now told))) }
+    ensures cause { IfOk result (λ a. a.cause ≡ cause_beside outcome.now.certificate.bound) }
 {
     let outcomes = Outcomes {
         cost: outcome.cost,

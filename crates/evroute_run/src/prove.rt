@@ -11,6 +11,7 @@ ghost use Rattle.evroute_run.specs.FixedAnswer.{IsTask, start_of};
 ghost use Rattle.evroute_run.specs.ProveAnswer.{ProveAnswers, fixed_status, timed_plan};
 ghost use Rattle.evroute_run.specs.Run.{task_of};
 ghost use Rattle.job_frame.specs.Finds.{Finds, written_by};
+ghost use Rattle.job_frame.specs.Heard.{HearsRefusals};
 ghost use Rattle.plan_writer.specs.FixedText.{fixed_text};
 ghost use Rattle.route_proof.specs.ProofTexts.{proof_text};
 
@@ -54,6 +55,8 @@ fn prove_text(
 ) -> Result<Found, ShelfFault>
     ensures answers { IfOk result (λ f. ProveAnswers options word.now cert.now bytes.now
         f.answer.status (map written_by f.files.items) f.answer.text.items) }
+    ensures heard { IfOk result
+        (λ f. HearsRefusals f.answer.status f.answer.text.items f.answer.cause) }
     ensures memory { IfErr result (λ fault. fault ≡ ShelfFault.Memory) }
 {
     match trip_of(alloc, bytes, word, options) {
@@ -76,11 +79,13 @@ fn prove_trip(
 ) -> Result<Found, AllocError>
     requires route { IsRoute inst.now route.now }
     requires start { start ≤ inst.now.capacity }
-    ensures { (options : Options) (word bytes : List ℕ)
+    ensures answers { (options : Options) (word bytes : List ℕ)
         → IsTask options word bytes inst.now route.now
         → start ≡ start_of inst.now options.charge
         → IfOk result (λ f. ProveAnswers options word cert.now bytes
         f.answer.status (map written_by f.files.items) f.answer.text.items) }
+    ensures heard { IfOk result
+        (λ f. HearsRefusals f.answer.status f.answer.text.items f.answer.cause) }
 {
     // That the instance's network is one is told by its calls; on it rests that the proof is read.
     let _nodes = inst.nodes();
@@ -103,6 +108,7 @@ fn tell(
     ensures status { IfOk result (λ a. a.status ≡ fixed_status plan.now) }
     ensures text { IfOk result (λ a. a.text.items
         ≡ fixed_text inst.now.denominator (timed_plan inst.now start plan.now)) }
+    ensures heard { IfOk result (λ a. HearsRefusals a.status a.text.items a.cause) }
 {
     let told = match plan {
         Some(plan) => report_plan(alloc, inst, start, plan),

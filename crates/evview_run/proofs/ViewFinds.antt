@@ -156,6 +156,7 @@ view_found {E} job files bytes plan_bytes given (Ok f) differ read read_plan sam
         read = (read, (read_plan, tt));
         answer = subst (λ (bs : List ℕ). ViewAnswers job bytes bs f.answer.status ws f.answer.text.items) same answers;
       };
+      heard = tt;
       different = plain.1;
     }
 

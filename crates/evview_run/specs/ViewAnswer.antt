@@ -122,6 +122,8 @@ view_task job = record {
   reads = file_read job.file ∷ file_read job.plan ∷ [];
   goes_on = view_goes_on job;
   answers = view_answers job;
+  -- nobody hears why an answer isn't the one that was asked for
+  heard = λ answered text heard. Unit {0};
   writes_first = λ ws. ⊥;
   is_open = ⊥;
   has_budget = ⊥;

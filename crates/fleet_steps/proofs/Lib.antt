@@ -3,3 +3,4 @@ pub mod Instances
 pub mod Plans
 pub mod PlanFiles
 pub mod Nears
+pub mod Hearing

@@ -1,3 +1,4 @@
 pub mod FleetNetwork
 pub mod PlanFile
 pub mod NearFile
+pub mod Heard

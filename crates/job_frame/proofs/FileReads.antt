@@ -6,7 +6,7 @@ use Rattle.ev_outside.specs.declared.shelf.ShelfFault.{ShelfFault}
 use Rattle.ev_outside.specs.declared.shelf.ShelfFault.TheVariants.{Failed, Memory}
 use Rattle.job_frame.proofs.FileWrites.{counts_since}
 use Rattle.job_frame.specs.Faults.{FailsReading, HasFailedRead}
-use Rattle.job_frame.specs.Finds.{Finds, outcome_of, written_by}
+use Rattle.job_frame.specs.Finds.{Finds, Hears, outcome_of, written_by}
 use Rattle.job_frame.specs.Task.{Answers, AreRead, AreReadUpTo, IsAnswered, Outcome, Read, Task, Tells}
 use Rattle.job_frame.specs.Writes.{AreDifferent, Written}
 use Rattle.job_frame.specs.declared.found.Found.{Found}
@@ -69,11 +69,12 @@ never_fall_since before later after p q = record {
 
 -- an answer, or want of memory, behind reads that did not fail
 pub finds : (task : Task) (before after : ShelfState) (found : Result Found ShelfFault) → IfOk found (λ f. IsAnswered f.answer.status)
-    → IfOk found (λ f. Answers task before.files (outcome_of f)) → IfOk found (λ f. AreDifferent (outcome_of f).writes) → IfErr found (λ fault. fault ≡ Memory)
+    → IfOk found (λ f. Answers task before.files (outcome_of f)) → IfOk found (Hears task) → IfOk found (λ f. AreDifferent (outcome_of f).writes) → IfErr found (λ fault. fault ≡ Memory)
     → CountsStay before after → CountsNeverFall before after → after.files ≡ before.files → Finds task before after found
-finds task before after found answered answers different memory stays falls files = record {
+finds task before after found answered answers heard different memory stays falls files = record {
   answered = answered;
   answers = answers;
+  heard = heard;
   different = different;
   fault = λ failed. absurd (memory_is_no_failure found memory failed);
   stays = λ none. stays;
@@ -92,15 +93,15 @@ outcome_is : (o : Outcome) (f : Found) → f.answer.status ≡ o.status → map 
 outcome_is o f status writes text = same_outcome f.answer.status o.status (map written_by f.files.items) o.writes f.answer.text.items o.text status writes text
 
 -- what was found stands for an outcome that is an answer
-pub finds_as : (task : Task) (before after : ShelfState) (o : Outcome) (found : Result Found ShelfFault) → Answers task before.files o → IsAnswered o.status → AreDifferent o.writes
+pub finds_as : (task : Task) (before after : ShelfState) (o : Outcome) (found : Result Found ShelfFault) → Answers task before.files o → IsAnswered o.status → IfOk found (Hears task) → AreDifferent o.writes
     → IfOk found (λ f. f.answer.status ≡ o.status) → IfOk found (λ f. map written_by f.files.items ≡ o.writes) → IfOk found (λ f. f.answer.text.items ≡ o.text)
     → IfErr found (λ fault. fault ≡ Memory) → CountsStay before after → CountsNeverFall before after → after.files ≡ before.files → Finds task before after found
-finds_as task before after o (Err fault) answers answered different status writes text memory stays falls files =
-    finds task before after (Err fault) tt tt tt memory stays falls files
-finds_as task before after o (Ok f) answers answered different status writes text memory stays falls files =
+finds_as task before after o (Err fault) answers answered heard different status writes text memory stays falls files =
+    finds task before after (Err fault) tt tt tt tt memory stays falls files
+finds_as task before after o (Ok f) answers answered heard different status writes text memory stays falls files =
     let same : outcome_of f ≡ o = outcome_is o f status writes text in
     finds task before after (Ok f) (subst (λ (s : Status). IsAnswered s) (sym status) answered)
-    (subst (λ (x : Outcome). Answers task before.files x) (sym same) answers) (subst (λ (ws : List Written). AreDifferent ws) (sym writes) different) tt stays falls files
+    (subst (λ (x : Outcome). Answers task before.files x) (sym same) answers) heard (subst (λ (ws : List Written). AreDifferent ws) (sym writes) different) tt stays falls files
 
 no_files : (found : Result Found ShelfFault) → IfOk found (λ f. f.files.items ≡ []) → IfOk found (λ f. map written_by f.files.items ≡ [])
 no_files (Err fault) none = tt
@@ -108,11 +109,11 @@ no_files (Ok f) none = ap (λ (files : List NewFile). map written_by files) none
 
 -- the same where no file is written
 pub finds_alone : (task : Task) (before after : ShelfState) (answered : Status) (text : List ℕ) (found : Result Found ShelfFault)
-    → Answers task before.files (record { status = answered; writes = []; text = text }) → IsAnswered answered
+    → Answers task before.files (record { status = answered; writes = []; text = text }) → IsAnswered answered → IfOk found (Hears task)
     → IfOk found (λ f. f.answer.status ≡ answered) → IfOk found (λ f. f.answer.text.items ≡ text) → IfOk found (λ f. f.files.items ≡ [])
     → IfErr found (λ fault. fault ≡ Memory) → CountsStay before after → CountsNeverFall before after → after.files ≡ before.files → Finds task before after found
-finds_alone task before after answered text found answers is status text_is none memory stays falls files =
-    finds_as task before after (record { status = answered; writes = []; text = text }) found answers is tt status (no_files found none) text_is memory stays falls files
+finds_alone task before after answered text found answers is heard status text_is none memory stays falls files =
+    finds_as task before after (record { status = answered; writes = []; text = text }) found answers is heard tt status (no_files found none) text_is memory stays falls files
 
 -- the next file that is read failed, or memory was refused
 pub finds_none : {A : Type 0} (task : Task) (before after : ShelfState) (fault : ShelfFault)
@@ -122,6 +123,7 @@ pub finds_none : {A : Type 0} (task : Task) (before after : ShelfState) (fault :
 finds_none {A} task before after fault failed stays falls files = record {
   answered = tt;
   answers = tt;
+  heard = tt;
   different = tt;
   fault = λ is. failed (ap {B = Result A ShelfFault} (λ (e : ShelfFault). Err e) (same_error fault Failed is));
   stays = λ none. stays (λ is. none (ap {B = Result Found ShelfFault} (λ (e : ShelfFault). Err e) (same_error fault Failed is)));
@@ -157,6 +159,7 @@ pub finds_since : (task : Task) (before later after : ShelfState) (found : Resul
     later.files ≡ before.files → CountsStay before later → CountsNeverFall before later → Finds task later after found → Finds task before after found
 finds_since task before later after found same stays falls finds = record {
   answered = finds.answered;
+  heard = finds.heard;
   answers = found_since task before.files later.files found same finds.answers;
   different = finds.different;
   fault = λ failed. fails_since task before later after same stays (finds.fault failed);

@@ -6,3 +6,4 @@ pub mod OneStatus
 pub mod ReadRules
 pub mod LimitedNetworks
 pub mod Endings
+pub mod Hearing

@@ -20,12 +20,18 @@ outcome_of found = record {
   text = found.answer.text.items;
 }
 
+-- what is heard of it is what the task tells of such an answer
+abbrev pub Hears : Task → Found → Type 0
+Hears task found =
+    task.heard found.answer.status found.answer.text.items found.answer.cause
+
 -- the answer to the task's files, which were read in order; or why there is none: one of them
 -- failed, or memory was refused
 pub record Finds
     (task : Task) (before after : ShelfState) (found : Result Found ShelfFault) : Type 0 where
   pub answered : IfOk found (λ f. IsAnswered f.answer.status)
   pub answers : IfOk found (λ f. Answers task before.files (outcome_of f))
+  pub heard : IfOk found (Hears task)
   pub different : IfOk found (λ f. AreDifferent (outcome_of f).writes)
   pub fault : IsErrOf found Failed → FailsReading task before after
   pub stays : (IsErrOf found Failed → ⊥) → CountsStay before after

@@ -7,3 +7,4 @@ pub mod Performs
 pub mod Caps
 pub mod LimitedNetwork
 pub mod Ended
+pub mod Heard

@@ -2,6 +2,7 @@
 use Rattle.std.specs.Prelude.{◌≡◌, ℕ, ◌≤◌, List, [], ◌∷◌, length, take, Option, None, Some}
 use Rattle.ev_outside.specs.Shelf.{Files, bytes_under}
 use Rattle.job_frame.specs.Writes.{Written}
+use Rattle.job_frame.specs.declared.cause.Cause.{Cause}
 use Rattle.job_frame.specs.declared.status.Status.{Status}
 use Rattle.job_frame.specs.declared.status.Status.TheVariants as status
 
@@ -23,6 +24,8 @@ pub record Task : Type 1 where
   pub goes_on : List (List ℕ) → Type 0
   -- what is answered to the bytes of all of them
   pub answers : List (List ℕ) → Outcome → Type 0
+  -- what is heard of an answer with this status and this text, if anything is
+  pub heard : Status → List ℕ → Option Cause → Type 0
   -- these files are written before an answer is sought
   pub writes_first : List Written → Type 0
   -- these bytes leave open what is found, and so the status: the written files tell it

@@ -33,8 +33,13 @@ pub enum Cause {
 }
 
 impl Cause {
+    ghost use Rattle.std.specs.Prelude.{◌≡◌};
+    ghost use Rattle.job_frame.specs.Heard.{cause_beside};
+
     /// That there is no plan of the fleet, where a bound says so.
-    pub fn beside(bound: Option<u128>) -> Option<Cause> {
+    pub fn beside(bound: Option<u128>) -> Option<Cause>
+        ensures { result ≡ cause_beside bound }
+    {
         match bound {
             None => Some(Cause::NoFleet),
             Some(_) => None,

@@ -15,8 +15,8 @@ use Rattle.mixed_model.specs.Plans.{mixed_cost}
 use Rattle.mixed_model.specs.Truth.{IsTrueBound}
 use Rattle.mixed_model.specs.declared.proof.MixedProof.{MixedProof}
 use Rattle.mixed_model.specs.declared.proof.MixedRoute.{MixedRoute}
-use Rattle.mixed_run.specs.CheckMixedAnswer.{CheckMixedAnswers, HasPlan, HasProof, HoldsMixed, IsCheckMixedRefused, IsValid, judgement_text}
-use Rattle.mixed_run.specs.Judged.{IsJudgementOf, IsPlanEnded, IsProofEnded, judged_status}
+use Rattle.mixed_run.specs.CheckMixedAnswer.{CheckMixedAnswers, HasPlan, HasProof, HoldsMixed, IsCheckMixedRefused, IsValid, judged_status, judgement_text}
+use Rattle.mixed_run.specs.Judged.{IsJudgementOf, IsPlanEnded, IsProofEnded}
 use Rattle.mixed_run.specs.KindFiles.{HasKinds}
 use Rattle.mixed_run.specs.declared.judging.MixedJudgement.{MixedJudgement}
 use Rattle.mixed_run.specs.declared.judging.MixedJudgement.TheVariants as judgement

@@ -120,6 +120,7 @@ unfolding halt_of
 stopped_finds {A} task limit names Refuses before after halt shelf.Failed is halted fails stays falls files = record {
   answered = tt;
   answers = tt;
+  heard = tt;
   different = tt;
   fault = λ failed. fails halted;
   stays = λ none. absurd (none refl);
@@ -129,6 +130,7 @@ stopped_finds {A} task limit names Refuses before after halt shelf.Failed is hal
 stopped_finds {A} task limit names Refuses before after halt shelf.Memory is halted fails stays falls files = record {
   answered = tt;
   answers = tt;
+  heard = tt;
   different = tt;
   fault = λ failed. absurd (cc);
   stays = λ none. stays (λ failed. let same : halt ≡ Stopped shelf.Failed = ap (λ (made : Result A Halt). halt_of made) failed in cc);

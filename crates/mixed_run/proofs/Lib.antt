@@ -3,6 +3,7 @@ pub mod FileSteps
 pub mod CheckMixedFinds
 pub mod AcceptedAnswers
 pub mod Different
+pub mod Hearing
 pub mod MixedFinds
 pub mod Found
 pub mod KindLaws

@@ -3,6 +3,8 @@ use Rattle.std.specs.Prelude.{◌≡◌, ◌≢◌, ℕ, ◌⊎◌, ◌<◌, Lis
 use Rattle.ev_model.specs.Network.{Network}
 use Rattle.certificate_parts.specs.declared.cert_text.CertText.{CertText}
 use Rattle.job_frame.specs.Task.{Outcome, Read, Task}
+use Rattle.job_frame.specs.declared.cause.Cause.{Cause}
+use Rattle.job_frame.specs.declared.cause.Cause.TheVariants as cause
 use Rattle.job_frame.specs.declared.status.Status.{Status}
 use Rattle.job_frame.specs.declared.status.Status.TheVariants as status
 use Rattle.job_frame.specs.Caps.{certificate_read, file_read}
@@ -27,7 +29,7 @@ use Rattle.plan_writer.specs.declared.check.Judgement.TheVariants as plain
 use Rattle.plan_writer.specs.declared.refusal.Refusal.TheVariants as refusal
 use Rattle.route_plan.specs.declared.text.plan_text.PlanText.{PlanText}
 use Rattle.command_line.specs.Words.{MixedJob}
-use Rattle.mixed_run.specs.KindFiles.{HasKinds, HaveNetworks, IsKindsRefused, IsMixedRule, kind_reads, mixed_refusal_text}
+use Rattle.mixed_run.specs.KindFiles.{HasKinds, HaveNetworks, HearsMixedRefusal, IsKindsRefused, IsMixedRule, kind_reads, mixed_refusal_text}
 use Rattle.mixed_run.specs.declared.judging.MixedJudgement.{MixedJudgement}
 use Rattle.mixed_run.specs.declared.judging.MixedJudgement.TheVariants as judgement
 use Rattle.mixed_run.specs.declared.refusal.MixedRefusal.{MixedRefusal}
@@ -112,6 +114,17 @@ judgement_text denominator (judgement.Accepted cost bound) =
 judgement_text denominator (judgement.Plan fault) = check_text denominator (plain.Plan fault)
 judgement_text denominator (judgement.Proof found) = mixed_verdict_text found
 
+-- the status of what is found
+abbrev pub judged_status : MixedJudgement → Status
+judged_status (judgement.Accepted cost bound) = status.Done
+judged_status found = status.Negative
+
+-- and its cause: the rule that is broken, where one is
+abbrev pub judged_cause : MixedJudgement → Option Cause
+judged_cause (judgement.Accepted cost bound) = None
+judged_cause (judgement.Plan fault) = Some (cause.Plan fault)
+judged_cause (judgement.Proof found) = Some (cause.Mixed found)
+
 -- ---- the answers
 
 -- The plan is one of a fleet of these kinds, or the file says that there is none, and the proof is
@@ -154,6 +167,20 @@ CheckMixedAnswers limit files plan_bytes cert_bytes status.Negative text =
 CheckMixedAnswers limit files plan_bytes cert_bytes status.Refused text =
     PutsCheckMixedRefusal limit files plan_bytes cert_bytes text
 CheckMixedAnswers limit files plan_bytes cert_bytes other text = ⊥
+
+-- the lines of what the judges find are put, and its cause is heard
+pub record HearsMixedJudgement
+    (answered : Status) (text : List ℕ) (heard : Option Cause) : Type 0 where
+  pub denominator : ℕ
+  pub found : MixedJudgement
+  pub status_is : answered ≡ judged_status found
+  pub text_is : text ≡ judgement_text denominator found
+  pub heard_is : heard ≡ judged_cause found
+
+-- what is heard of an answer
+abbrev pub check_mixed_heard : Status → List ℕ → Option Cause → Type 0
+check_mixed_heard answered text heard =
+    HearsMixedRefusal answered text heard ⊎ HearsMixedJudgement answered text heard
 
 -- ---- the task
 
@@ -198,6 +225,7 @@ check_mixed_task job = record {
   reads = check_mixed_reads job;
   goes_on = λ bytes. AmongFiles job bytes ⊎ BehindFiles job bytes ⊎ BehindPlan job bytes;
   answers = AnswersCheckMixed job;
+  heard = check_mixed_heard;
   writes_first = λ ws. ⊥;
   is_open = ⊥;
   has_budget = ⊥;

@@ -2,8 +2,6 @@
 use Rattle.std.specs.Prelude.{◌≡◌, ◌≢◌, ◌<◌, ℕ, Err, IfSome, List, Option, length}
 use Rattle.std.specs.List.{All}
 use Rattle.ev_model.specs.Network.{Network}
-use Rattle.job_frame.specs.declared.status.Status.{Status}
-use Rattle.job_frame.specs.declared.status.Status.TheVariants as status
 use Rattle.job_frame.specs.declared.answer.Ended.{Ended}
 use Rattle.job_frame.specs.declared.answer.Ended.TheVariants.{Refused, Memory}
 use Rattle.certificate_parts.specs.declared.cert_text.CertText.{CertText}
@@ -33,11 +31,6 @@ abbrev pub HasLines : MixedJudgement → Type 0
 HasLines (judgement.Accepted cost bound) = IsBoundOf cost bound
 HasLines (judgement.Plan fault) = Unit {0}
 HasLines (judgement.Proof found) = found ≢ verdict.Accepted
-
--- the status of what is found
-abbrev pub judged_status : MixedJudgement → Status
-judged_status (judgement.Accepted cost bound) = status.Done
-judged_status found = status.Negative
 
 -- a plan that is held has routes of the kinds that there are
 abbrev pub AreKnown : List Network → Option (List MixedRoute) → Type 0

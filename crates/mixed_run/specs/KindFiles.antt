@@ -1,6 +1,6 @@
 -- The files of kinds of vehicles: each is an instance that takes the limit of the words, they
 -- agree, and there aren't too many customers; or the first rule that is broken.
-use Rattle.std.specs.Prelude.{◌≡◌, ℕ, ◌⊎◌, ◌<◌, ◌≤◌, List, [], ◌∷◌, Option, codes, map}
+use Rattle.std.specs.Prelude.{◌≡◌, ℕ, ◌⊎◌, ◌<◌, ◌≤◌, List, [], ◌∷◌, Option, Some, codes, map}
 use Rattle.std.specs.List.{All}
 use Rattle.certificate_parts.specs.Ranges.{customer_count}
 use Rattle.ev_model.specs.Network.{IsNetwork, Network}
@@ -14,6 +14,8 @@ use Rattle.plan_writer.specs.RefusalText.{IsRule, refusal_text}
 use Rattle.plan_writer.specs.declared.refusal.Refusal.TheVariants as refusal
 use Rattle.job_frame.specs.declared.cause.Cause.{Cause}
 use Rattle.job_frame.specs.declared.cause.Cause.TheVariants as cause
+use Rattle.job_frame.specs.declared.status.Status.{Status}
+use Rattle.job_frame.specs.declared.status.Status.TheVariants as status
 use Rattle.report_lines.specs.Lines.{number_line}
 use Rattle.mixed_run.specs.declared.refusal.MixedRefusal.{MixedRefusal}
 use Rattle.mixed_run.specs.declared.refusal.MixedRefusal.TheVariants.{Plain, Kinds}
@@ -42,6 +44,14 @@ mixed_refusal_text (Kinds kind) = number_line (codes "refused kinds ") kind
 abbrev pub mixed_cause : MixedRefusal → Cause
 mixed_cause (Plain r) = cause.Refused r
 mixed_cause (Kinds kind) = cause.Kinds kind
+
+-- the line of a broken rule is put, and its cause is heard
+pub record HearsMixedRefusal
+    (answered : Status) (text : List ℕ) (heard : Option Cause) : Type 0 where
+  pub refusal : MixedRefusal
+  pub status_is : answered ≡ status.Refused
+  pub text_is : text ≡ mixed_refusal_text refusal
+  pub heard_is : heard ≡ Some (mixed_cause refusal)
 
 -- the refusal names a rule: no want of memory stands in it
 abbrev pub IsMixedRule : MixedRefusal → Type 0

@@ -1,10 +1,12 @@
 -- What `mixed` writes and puts on the bytes of its instances.
-use Rattle.std.specs.Prelude.{◌≡◌, ◌↔◌, ℕ, ◌*◌, ◌≤◌, List, [], ◌∷◌, Option, None, Some, length}
+use Rattle.std.specs.Prelude.{◌≡◌, ◌↔◌, ◌⊎◌, ℕ, ◌*◌, ◌≤◌, List, [], ◌∷◌, Option, None, Some, length}
 use Rattle.certificate_parts.specs.Limits.{most_bytes}
 use Rattle.ev_model.specs.Network.{Network}
 use Rattle.fleet_model.specs.Prices.{price_total}
+use Rattle.job_frame.specs.Heard.{HearsElse, search_cause}
 use Rattle.job_frame.specs.Task.{Task}
 use Rattle.job_frame.specs.Writes.{Written}
+use Rattle.job_frame.specs.declared.cause.Cause.{Cause}
 use Rattle.job_frame.specs.declared.status.Status.{Status}
 use Rattle.job_frame.specs.declared.status.Status.TheVariants as status
 use Rattle.mixed_fleet.specs.Outcome.{IsOutcome}
@@ -25,7 +27,7 @@ use Rattle.plan_writer.specs.declared.fleet.RootLine.TheVariants as line
 use Rattle.route_plan.specs.Limits.{most_bytes as most_plan_bytes}
 use Rattle.command_line.specs.Words.{MixedJob}
 use Rattle.mixed_run.specs.CheckMixedAnswer.{HasProof, PutsMixedAccepted, judgement_text}
-use Rattle.mixed_run.specs.KindFiles.{HasKinds, HaveNetworks, IsKindsRefused, IsMixedRule, kind_reads, mixed_refusal_text}
+use Rattle.mixed_run.specs.KindFiles.{HasKinds, HaveNetworks, HearsMixedRefusal, IsKindsRefused, IsMixedRule, kind_reads, mixed_refusal_text}
 use Rattle.mixed_run.specs.declared.judging.MixedJudgement.TheVariants as judgement
 use Rattle.mixed_run.specs.declared.refusal.MixedRefusal.{MixedRefusal}
 
@@ -116,6 +118,11 @@ MixedAnswers job files status.Negative ws text = PutsMixedFound job files status
 MixedAnswers job files status.Refused ws text = PutsKindsRefusal job.limit files ws text
 MixedAnswers job files other ws text = ⊥
 
+-- what is heard of an answer: the rule that is broken, or that there is no plan
+abbrev pub mixed_heard : Status → List ℕ → Option Cause → Type 0
+mixed_heard answered text heard =
+    HearsMixedRefusal answered text heard ⊎ HearsElse search_cause answered text heard
+
 -- the instances are read in order, as long as each takes the limit; what a search finds is left
 -- open
 abbrev pub mixed_task : MixedJob → Task
@@ -123,6 +130,7 @@ mixed_task job = record {
   reads = kind_reads job.files;
   goes_on = λ bytes. (kinds : List Network) × HaveNetworks job.limit bytes kinds;
   answers = λ bytes o. MixedAnswers job bytes o.status o.writes o.text;
+  heard = mixed_heard;
   writes_first = λ ws. ⊥;
   is_open = Unit {0};
   has_budget = ⊥;

@@ -9,7 +9,7 @@ ghost use Rattle.job_frame.specs.Finds.{Finds, written_by};
 ghost use Rattle.instance_reader.specs.Instance.{most_customers};
 ghost use Rattle.mixed_model.specs.Kinds.{AreKinds, first_of};
 ghost use Rattle.command_line.specs.JobValue.{IsMixedJob, mixed_value};
-ghost use Rattle.mixed_run.specs.MixedAnswer.{IsMixedFound, mixed_task};
+ghost use Rattle.mixed_run.specs.MixedAnswer.{IsMixedFound, mixed_heard, mixed_task};
 
 use crate::kinds::kinds_of_files;
 use crate::planning::plan_all;
@@ -54,11 +54,13 @@ fn plan_on<W: RoundWatcher + ScaleWatcher>(
     requires networks { All IsNetwork kinds.now }
     requires kinds { AreKinds kinds.now }
     requires few { customer_count (first_of kinds.now) ≤ most_customers }
-    ensures { IfOk result (λ f. (plan_bytes cert_bytes : List ℕ)
+    ensures found { IfOk result (λ f. (plan_bytes cert_bytes : List ℕ)
         × IsMixedFound kinds.now plan_bytes cert_bytes f.answer.status f.answer.text.items
         × (map written_by f.files.items
         ≡ record { name = (mixed_value job.now).plan; bytes = plan_bytes }
         ∷ record { name = (mixed_value job.now).cert; bytes = cert_bytes } ∷ [])) }
+    ensures heard { IfOk result
+        (λ f. mixed_heard f.answer.status f.answer.text.items f.answer.cause) }
 {
     let planned = plan_all(alloc, kinds, watcher)?;
     planned.found(alloc, job.plan.as_str(), job.cert.as_str())

@@ -7,8 +7,8 @@ ghost use Rattle.instance_reader.specs.Instance.{most_customers};
 ghost use Rattle.job_frame.specs.Ended.{IsRuleOrMemory};
 ghost use Rattle.mixed_model.specs.Kinds.{AreKinds, first_of};
 ghost use Rattle.mixed_model.specs.Ranges.{MixedFits};
-ghost use Rattle.mixed_run.specs.CheckMixedAnswer.{BreaksFirst, CheckMixedAnswers, HasPlan, HasProof, IsValid, judgement_text};
-ghost use Rattle.mixed_run.specs.Judged.{AreKnown, HasLines, IsJudgementOf, IsProofEnded, judged_status};
+ghost use Rattle.mixed_run.specs.CheckMixedAnswer.{BreaksFirst, CheckMixedAnswers, HasPlan, HasProof, IsValid, check_mixed_heard, judged_cause, judged_status, judgement_text};
+ghost use Rattle.mixed_run.specs.Judged.{AreKnown, HasLines, IsJudgementOf, IsProofEnded};
 
 use instance_reader::Instance;
 use job_frame::{Answer, Cause, Ended, Status, refuse};
@@ -48,6 +48,7 @@ pub fn judge_text(
         → HasPlan limit files plan_bytes kinds.now (option_map (λ p. p.now) plan.entry)
         → IfOk result (λ a.
         CheckMixedAnswers limit files plan_bytes bytes.now a.status a.text.items) }
+    ensures heard { IfOk result (λ a. check_mixed_heard a.status a.text.items a.cause) }
 {
     match proof_of(alloc, kinds, bytes) {
         Ok(proof) => report_on(alloc, kinds, plan, &proof),
@@ -88,6 +89,7 @@ fn report_on(
         → HasPlan limit files plan_bytes kinds.now (option_map (λ p. p.now) plan.entry)
         → HasProof kinds.now bytes proof.now
         → IfOk result (λ a. CheckMixedAnswers limit files plan_bytes bytes a.status a.text.items) }
+    ensures heard { IfOk result (λ a. check_mixed_heard a.status a.text.items a.cause) }
 {
     let judgement = judge(alloc, kinds, plan, proof)?;
     report(alloc, &kinds[0], &judgement)
@@ -146,6 +148,7 @@ fn report(alloc: Global, first: &Instance, judgement: &MixedJudgement) -> Result
     ensures status { IfOk result (λ a. a.status ≡ judged_status judgement.now) }
     ensures text { IfOk result
         (λ a. a.text.items ≡ judgement_text first.now.denominator judgement.now) }
+    ensures cause { IfOk result (λ a. a.cause ≡ judged_cause judgement.now) }
 {
     let mut text = Vec::new(alloc);
     push_judgement(alloc, &mut text, first, judgement)?;
@@ -161,7 +164,9 @@ fn report(alloc: Global, first: &Instance, judgement: &MixedJudgement) -> Result
 }
 
 /// The rule that is broken, where one is.
-fn cause_of(judgement: &MixedJudgement) -> Option<Cause> {
+fn cause_of(judgement: &MixedJudgement) -> Option<Cause>
+    ensures { result ≡ judged_cause judgement.now }
+{
     match judgement {
         MixedJudgement::Accepted { .. } => None,
         MixedJudgement::Plan(fault) => Some(Cause::Plan(*fault)),

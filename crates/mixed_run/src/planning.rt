@@ -5,12 +5,13 @@ ghost use Rattle.std.specs.List.{All};
 ghost use Rattle.certificate_parts.specs.Ranges.{customer_count};
 ghost use Rattle.ev_model.specs.Network.{IsNetwork};
 ghost use Rattle.instance_reader.specs.Instance.{most_customers};
+ghost use Rattle.job_frame.specs.Heard.{cause_beside};
 ghost use Rattle.mixed_fleet.specs.Outcome.{IsOutcome};
 ghost use Rattle.mixed_fleet.specs.Proofs.{IsBestProof};
 ghost use Rattle.mixed_model.specs.Kinds.{AreKinds, first_of};
 ghost use Rattle.mixed_model.specs.Ranges.{MixedFits};
 ghost use Rattle.mixed_text.specs.MixedIn.{HaveSets};
-ghost use Rattle.mixed_run.specs.MixedAnswer.{IsMixedFound, IsReadBack, TellsRoot, mixed_status, outcomes_of};
+ghost use Rattle.mixed_run.specs.MixedAnswer.{IsMixedFound, IsReadBack, TellsRoot, mixed_heard, mixed_status, outcomes_of};
 ghost use Rattle.plan_writer.specs.FleetText.{IsLowestLine, fleet_text};
 ghost use Rattle.plan_writer.specs.declared.fleet.RootLine.{RootLine};
 
@@ -33,8 +34,10 @@ pub fn plan_all<W: RoundWatcher + ScaleWatcher>(
     requires networks { All IsNetwork kinds.now }
     requires kinds { AreKinds kinds.now }
     requires few { customer_count (first_of kinds.now) ≤ most_customers }
-    ensures { IfOk result (λ p. IsMixedFound kinds.now p.plan.items p.cert.items
+    ensures found { IfOk result (λ p. IsMixedFound kinds.now p.plan.items p.cert.items
         p.answer.status p.answer.text.items) }
+    ensures heard { IfOk result
+        (λ p. mixed_heard p.answer.status p.answer.text.items p.answer.cause) }
 {
     watcher.begin(kinds[0].denominator());
     let outcome = plan_mixed_watched(alloc, kinds, watcher)?;
@@ -78,6 +81,7 @@ fn report(alloc: Global, kinds: &[Instance], outcome: &MixedOutcome) -> Result<A
         × TellsRoot kinds.now outcome.now.proof outcome.now.proof.root told
         × (a.text.items ≡ fleet_text (first_of kinds.now).denominator
         (outcomes_of kinds.now outcome.now told))) }
+    ensures cause { IfOk result (λ a. a.cause ≡ cause_beside outcome.now.proof.bound) }
 {
     let outcomes = Outcomes {
         cost: outcome.cost,

@@ -53,6 +53,7 @@ pub fn refuse_mixed_job(alloc: Global, refusal: MixedRefusal) -> Result<Found, S
     requires { IsMixedRule refusal }
     ensures status { IfOk result (λ f. f.answer.status ≡ Status.Refused) }
     ensures text { IfOk result (λ f. f.answer.text.items ≡ mixed_refusal_text refusal) }
+    ensures cause { IfOk result (λ f. f.answer.cause ≡ Some (mixed_cause refusal)) }
     ensures files { IfOk result (λ f. f.files.items ≡ []) }
     ensures memory { IfErr result (λ fault. fault ≡ ShelfFault.Memory) }
 {

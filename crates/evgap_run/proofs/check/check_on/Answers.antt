@@ -3,6 +3,7 @@ use Rattle.std.specs.Option.{option_map}
 use Rattle.evgap_run.proofs.CheckFinds.{plan_fails, refused_by_plan}
 use Rattle.gap_words.specs.JobValue.{check_value}
 use Rattle.job_frame.proofs.BehindReads.{finds_behind, finds_refused, read_fails}
+use Rattle.job_frame.proofs.Hearing.{its_rule}
 use Rattle.job_frame.proofs.FileReads.{named_read, read_still}
 use Rattle.route_plan.specs.PlanTexts.{SpellsFleetPlan}
 use Rattle.route_plan.specs.declared.plan.FleetPlan.{FleetPlan}
@@ -32,5 +33,5 @@ returns-in-Err-Refused g c = λ bytes read fleet.
     let read_plan = named_read _ _ _ _ _ c.as_str.ensures.value c.in-Ok.ensures.bytes in
     let line = refused_by_plan (check_value c.args.job.now) before.files bytes plan_bytes c.as_slice.result.now c.args.inst.now c.in-Err-Refused.field-0 c.in-Err-Refused.refusal
     read read_plan fleet c.as_slice.ensures.value c.in-Err-Refused.field-0-is c.in-Err-Refused.ensures.rule c.in-Err-Refused.ensures.ended in
-    finds_refused line c.refuse_job.ensures.status c.refuse_job.ensures.text c.refuse_job.ensures.files c.refuse_job.ensures.memory
+    finds_refused line (its_rule c.in-Err-Refused.refusal) c.refuse_job.ensures.cause c.refuse_job.ensures.status c.refuse_job.ensures.text c.refuse_job.ensures.files c.refuse_job.ensures.memory
     c.in-Ok.ensures.stays c.in-Ok.ensures.falls c.in-Ok.ensures.files

@@ -21,5 +21,5 @@ returns-in-Ok-judge_text g c = λ bytes plan_bytes read read_plan fleet.
     let read_proof = named_read _ _ _ _ _ c.as_str.ensures.value c.in-Ok.ensures.bytes in
     let found = check_found job before.files bytes plan_bytes proof_bytes c.as_slice.result.now answer.status answer.text.items read read_plan read_proof c.as_slice.ensures.value
     (c.in-Ok-judge_text.ensures.answers job.limit bytes plan_bytes fleet) in
-    finds_told found c.in-Ok-judge_text.ensures.answered c.alone.ensures.answer c.alone.ensures.files
+    finds_told found c.in-Ok-judge_text.ensures.answered c.in-Ok-judge_text.ensures.heard c.alone.ensures.answer c.alone.ensures.files
     c.in-Ok.ensures.stays c.in-Ok.ensures.falls c.in-Ok.ensures.files

@@ -1,12 +1,17 @@
 use Rattle.std.specs.Option.{option_map}
 use Rattle.evgap_run.proofs.PlanFinds.{puts_plan, start_costs}
+use Rattle.evgap_run.specs.PlanAnswer.{plan_heard}
 use Rattle.gap_words.specs.JobValue.{plan_value}
+use Rattle.job_frame.proofs.Hearing.{found_is_heard}
 use Rattle.evgap_run.proofs.plan.plan_judged.Goals as goal
 
-pub returns : goal.returns
-returns g c = λ bytes more has.
+pub returns-clause-answers : goal.returns-clause-answers
+returns-clause-answers g c = λ bytes more has.
     let start = option_map (λ p. p.now) c.args.start in
     let valid = start_costs c.args.inst.now c.args.start c.requires.start in
     let planned = c.in_ok-planned.planned in
     puts_plan (plan_value c.args.job.now) bytes more c.args.inst.now start valid.0 planned.plan.items planned.cert.items c.as_str.result.now c.as_str-2.result.now planned.answer c.found.result
-    has valid.1 c.in_ok-planned.ensures c.as_str.ensures.value c.as_str-2.ensures.value c.found.ensures.answer c.found.ensures.files
+    has valid.1 c.in_ok-planned.ensures.found c.as_str.ensures.value c.as_str-2.ensures.value c.found.ensures.answer c.found.ensures.files
+
+pub returns-clause-heard : goal.returns-clause-heard
+returns-clause-heard g c = found_is_heard plan_heard c.in_ok-planned.planned.answer c.found.result c.found.ensures.answer c.in_ok-planned.ensures.heard

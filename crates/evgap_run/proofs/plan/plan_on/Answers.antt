@@ -16,5 +16,5 @@ returns-in-None g c = λ bytes read fleet.
     let none = unnamed_start c.args.job.now c.in-None.is in
     finds_made {bytes = bytes} c.plan_from_none.result
     (found_from_none job before.files bytes c.plan_from_none.result c.requires.files none read
-    (c.plan_from_none.ensures.answers bytes [] (has_none job bytes c.args.inst.now none fleet)))
+    (c.plan_from_none.ensures.answers bytes [] (has_none job bytes c.args.inst.now none fleet)) c.plan_from_none.ensures.heard)
     c.plan_from_none.ensures.memory (λ failed. nothing_fails before) (nothing_falls before) refl

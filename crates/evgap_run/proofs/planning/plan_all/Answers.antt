@@ -1,4 +1,4 @@
-use Rattle.std.proofs.Common.{◌≡◌, Option, subst, sym}
+use Rattle.std.proofs.Common.{◌≡◌, Option, subst, sym, inr}
 use Rattle.std.specs.Option.{option_map}
 use Rattle.evgap_run.proofs.Outcomes.{bound_of, held_is_improved, is_found}
 use Rattle.evgap_run.proofs.Written.{held_fits}
@@ -21,11 +21,23 @@ plan_text-requires g c =
     subst (λ (p : Option FleetPlan). FitsFile p) (sym c.plan_held.ensures)
     (held_fits c.args.inst.now (option_map (λ p. p.now.routes) c.args.start) c.in_ok-outcome.outcome.plan c.in_ok-outcome.ensures.plan)
 
-pub returns : goal.returns
-returns g c =
+pub returns-clause-found : goal.returns-clause-found
+returns-clause-found g c =
     let o = c.in_ok-outcome.outcome in
     let answer = c.in_ok-answer.answer in
     let plan_is = subst (λ (p : Option FleetPlan). c.in_ok-plan.plan.items ≡ fleet_plan_text p) c.plan_held.ensures c.in_ok-plan.ensures in
     is_found c.args.inst.now c.args.start o c.in_ok-cost.cost c.alone_in.result c.in_ok-plan.plan.items c.in_ok-cert.cert.items answer.text.items answer.status
     c.nodes-nodes.ensures.network c.in_ok-outcome.ensures c.in_ok-cost.ensures.cost c.alone_in.ensures plan_is c.in_ok-cert.ensures
     c.in_ok-answer.ensures.status c.in_ok-answer.ensures.text
+
+pub returns-clause-heard : goal.returns-clause-heard
+returns-clause-heard g c =
+    inr (inr (record {
+      denominator = c.args.inst.now.denominator;
+      alone = c.alone_in.result;
+      cost = c.in_ok-cost.cost;
+      bound = c.in_ok-outcome.outcome.proof.bound;
+      status_is = c.in_ok-answer.ensures.status;
+      text_is = c.in_ok-answer.ensures.text;
+      heard_is = c.in_ok-answer.ensures.cause;
+    }))

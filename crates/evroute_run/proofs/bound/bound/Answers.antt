@@ -6,6 +6,7 @@ use Rattle.evroute_run.proofs.BoundFinds.{bound_found, bound_refused, found_is_a
 use Rattle.job_frame.proofs.BehindReads.{finds_found, finds_refused, first_fails}
 use Rattle.job_frame.proofs.FileReads.{named_read}
 use Rattle.job_frame.specs.Finds.{outcome_of}
+use Rattle.job_frame.proofs.Hearing.{its_rule}
 use Rattle.evroute_run.proofs.bound.bound.Goals as goal
 
 pub returns-in-Err : goal.returns-in-Err
@@ -20,11 +21,12 @@ returns-in-Ok-bound_on g c =
     let read = named_read _ _ _ _ _ c.as_str.ensures.value c.in-Ok.ensures.bytes in
     let o = outcome_of c.in-Ok-bound_on.found in
     let inst = c.in-Ok-fleet_instance.inst in
-    let told = c.in-Ok-bound_on.ensures in
+    let told = c.in-Ok-bound_on.ensures.found in
     finds_found
     (found_is_answered inst job.near job.cert o.status o.writes o.text told)
     (bound_found job before.files bytes c.as_slice.result.now inst o.status o.writes o.text
     read c.as_slice.ensures.value c.in-Ok-fleet_instance.ensures.ok told)
+    c.in-Ok-bound_on.ensures.heard
     (found_writes_one inst job.near job.cert o.status o.writes o.text told)
     c.in-Ok.ensures.stays c.in-Ok.ensures.falls c.in-Ok.ensures.files
 
@@ -38,7 +40,7 @@ returns-in-Err-Refused g c =
     finds_refused
     (bound_refused job before.files bytes c.as_slice.result.now c.in-Err-Refused.field-0 c.in-Err-Refused.refusal
     read c.as_slice.ensures.value c.in-Err-Refused.field-0-is c.in-Err-Refused.ensures.ended)
-    c.refuse_job.ensures.status c.refuse_job.ensures.text c.refuse_job.ensures.files c.refuse_job.ensures.memory
+    (its_rule c.in-Err-Refused.refusal) c.refuse_job.ensures.cause c.refuse_job.ensures.status c.refuse_job.ensures.text c.refuse_job.ensures.files c.refuse_job.ensures.memory
     c.in-Ok.ensures.stays c.in-Ok.ensures.falls c.in-Ok.ensures.files
 
 pub returns-in-Ok-fleet_instance : goal.returns-in-Ok-fleet_instance

@@ -1,4 +1,4 @@
-use Rattle.std.proofs.Common.{List, Option, ℕ, subst, sym, arith}
+use Rattle.std.proofs.Common.{List, Option, ℕ, subst, sym, arith, refl}
 use Rattle.std.proofs.lemmas.Grind.{common_steps}
 use Rattle.std.specs.Option.{option_map}
 use Rattle.std.specs.Prelude.{string_bytes}
@@ -9,6 +9,7 @@ use Rattle.job_frame.proofs.BehindReads.{finds_behind, finds_refused, read_fails
 use Rattle.job_frame.proofs.FileReads.{named_read, read_still}
 use Rattle.route_plan.specs.PlanTexts.{SpellsFleetPlan}
 use Rattle.route_plan.specs.declared.plan.FleetPlan.{FleetPlan}
+use Rattle.job_frame.proofs.Hearing.{its_rule}
 use Rattle.evroute_run.proofs.check.check_on.Goals as goal
 
 pub returns-in-Err : goal.returns-in-Err
@@ -40,7 +41,7 @@ returns-in-Err-Refused g c = λ bytes read fleet.
     let line = refused_by_plan job before.files bytes plan_bytes c.as_slice.result.now c.in-Err-Refused.field-0 c.in-Err-Refused.refusal
     read read_plan c.as_slice.ensures.value c.in-Err-Refused.field-0-is
     (λ cert_bytes. check_at_plan w.limit bytes c.as_slice.result.now cert_bytes c.args.inst.now c.in-Err-Refused.field-0 fleet c.in-Err-Refused.ensures.rule c.in-Err-Refused.ensures.ended) in
-    finds_refused line c.refuse_job.ensures.status c.refuse_job.ensures.text c.refuse_job.ensures.files c.refuse_job.ensures.memory
+    finds_refused line (its_rule c.in-Err-Refused.refusal) c.refuse_job.ensures.cause c.refuse_job.ensures.status c.refuse_job.ensures.text c.refuse_job.ensures.files c.refuse_job.ensures.memory
     c.in-Ok.ensures.stays c.in-Ok.ensures.falls c.in-Ok.ensures.files
 
 pub returns : goal.returns

@@ -26,7 +26,7 @@ returns-in-Ok-judge_text g c = λ bytes read fleet.
     let read_cert = named_read _ _ _ _ _ c.as_str.ensures.value c.in-Ok.ensures.bytes in
     let found = check_bound_found job before.files bytes cert_bytes c.as_slice.result.now answer.status answer.text.items read read_cert c.as_slice.ensures.value
     (c.in-Ok-judge_text.ensures.answers w.limit bytes fleet) in
-    finds_told found c.in-Ok-judge_text.ensures.answered c.alone.ensures.answer c.alone.ensures.files
+    finds_told found c.in-Ok-judge_text.ensures.answered c.in-Ok-judge_text.ensures.heard c.alone.ensures.answer c.alone.ensures.files
     c.in-Ok.ensures.stays c.in-Ok.ensures.falls c.in-Ok.ensures.files
 
 pub returns : goal.returns

@@ -28,7 +28,7 @@ returns-in-Ok-judged g c = λ bytes read task start.
     let here = subst (λ (r : List ℕ). IsTask w.options job.route bytes c.args.trip.now.inst r) (sym c.as_slice.ensures.value) task in
     let found = check_route_found job before.files bytes cert_bytes c.as_slice-2.result.now answer.status answer.text.items read read_cert c.as_slice-2.ensures.value
     (c.in-Ok-judged.ensures.answers w.options job.route bytes here start) in
-    finds_told found c.in-Ok-judged.ensures.answered c.alone.ensures.answer c.alone.ensures.files
+    finds_told found c.in-Ok-judged.ensures.answered c.in-Ok-judged.ensures.heard c.alone.ensures.answer c.alone.ensures.files
     c.in-Ok.ensures.stays c.in-Ok.ensures.falls c.in-Ok.ensures.files
 
 pub returns : goal.returns

@@ -1,4 +1,8 @@
+use Rattle.std.proofs.Common.{◌⊎◌}
 use Rattle.evroute_run.proofs.CheckRouteFinds.{refused_answers}
+use Rattle.evroute_run.specs.CheckRouteAnswer.{HearsBrokenProof}
+use Rattle.job_frame.proofs.Hearing.{refusal_is_heard}
+use Rattle.job_frame.specs.Heard.{HearsDone}
 use Rattle.evroute_run.proofs.check_route.judge_text.Goals as goal
 
 pub returns-in-Ok-clause-answers : goal.returns-in-Ok-clause-answers
@@ -9,3 +13,8 @@ pub returns-in-Err-Refused-clause-answers : goal.returns-in-Err-Refused-clause-a
 returns-in-Err-Refused-clause-answers c = λ options word file task start.
     refused_answers options word file c.args.bytes.now c.in-Err-Refused.field-0 c.in-Err-Refused.refusal c.refuse.result
     c.in-Err-Refused.field-0-is (c.in-Err-Refused.ensures.ended options word file task) c.refuse.ensures.status c.refuse.ensures.text
+
+pub returns-in-Err-Refused-clause-heard : goal.returns-in-Err-Refused-clause-heard
+returns-in-Err-Refused-clause-heard c =
+    refusal_is_heard (λ s text heard. HearsBrokenProof s text heard ⊎ HearsDone s text heard) c.in-Err-Refused.refusal c.refuse.result
+    c.refuse.ensures.status c.refuse.ensures.text c.refuse.ensures.cause

@@ -10,6 +10,8 @@ use Rattle.job_frame.proofs.FileReads.{finds_as, named_read, ok_is_no_error}
 use Rattle.job_frame.specs.Finds.{written_by}
 use Rattle.job_frame.specs.Writes.{Written}
 use Rattle.job_frame.specs.declared.status.Status.TheVariants as status
+use Rattle.plan_writer.specs.declared.refusal.Refusal.TheVariants as refusal
+use Rattle.job_frame.proofs.Hearing.{its_rule}
 use Rattle.evroute_run.proofs.convert.convert.Goals as goal
 
 pub returns-in-Err : goal.returns-in-Err
@@ -28,7 +30,7 @@ returns-in-Ok-write_whole g c =
     let named = subst (λ (n : List ℕ). map written_by c.in-Ok-write_whole.found.files.items ≡ record { name = n; bytes = whole } ∷ []) c.as_str-in-Ok-whole.ensures.value c.in-Ok-write_whole.ensures.files in
     finds_as (convert_task job) before after (record { status = status.Done; writes = file ∷ []; text = [] }) _
     (convert_becomes job before.files bytes c.as_slice.result.now whole read c.as_slice.ensures.value c.in-Ok-whole.ensures.ok c.in-Ok-whole.ensures.converted)
-    tt (tt, tt) c.in-Ok-write_whole.ensures.status named c.in-Ok-write_whole.ensures.text tt
+    tt c.in-Ok-write_whole.ensures.heard (tt, tt) c.in-Ok-write_whole.ensures.status named c.in-Ok-write_whole.ensures.text tt
     (c.in-Ok.ensures.stays (λ failed. ok_is_no_error failed)) c.in-Ok.ensures.falls c.in-Ok.ensures.files
 
 pub returns : goal.returns
@@ -41,6 +43,7 @@ returns g c =
     let rule : c.in-Err-whole.fault ≢ faults.Memory = search rules in
     finds_refused
     (convert_refused job before.files bytes c.as_slice.result.now c.in-Err-whole.fault read c.as_slice.ensures.value rule c.in-Err-whole.ensures.fault)
+    (its_rule (refusal.Literal c.in-Err-whole.fault)) c.refuse_job.ensures.cause
     c.refuse_job.ensures.status c.refuse_job.ensures.text c.refuse_job.ensures.files c.refuse_job.ensures.memory
     c.in-Ok.ensures.stays c.in-Ok.ensures.falls c.in-Ok.ensures.files
 

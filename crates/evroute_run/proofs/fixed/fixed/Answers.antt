@@ -22,7 +22,7 @@ returns-in-Ok-answer_to g c =
     let worded = subst (λ (word : List ℕ). FixedAnswers w.options word c.as_slice.result.now answer.status answer.text.items) c.as_str-2.ensures.value c.in-Ok-answer_to.ensures.answers in
     finds_told
     (fixed_found job before.files bytes c.as_slice.result.now answer.status answer.text.items read c.as_slice.ensures.value worded)
-    c.in-Ok-answer_to.ensures.answered c.alone.ensures.answer c.alone.ensures.files
+    c.in-Ok-answer_to.ensures.answered c.in-Ok-answer_to.ensures.heard c.alone.ensures.answer c.alone.ensures.files
     c.in-Ok.ensures.stays c.in-Ok.ensures.falls c.in-Ok.ensures.files
 
 pub returns : goal.returns

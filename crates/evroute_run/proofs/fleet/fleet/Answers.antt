@@ -7,6 +7,7 @@ use Rattle.job_frame.proofs.BehindReads.{finds_found, finds_refused, first_fails
 use Rattle.job_frame.proofs.FileReads.{named_read}
 use Rattle.job_frame.specs.Finds.{outcome_of}
 use Rattle.plan_writer.specs.RefusalText.{refusal_text}
+use Rattle.job_frame.proofs.Hearing.{its_rule}
 use Rattle.evroute_run.proofs.fleet.fleet.Goals as goal
 
 pub returns-in-Err : goal.returns-in-Err
@@ -21,11 +22,12 @@ returns-in-Ok-plan_on g c =
     let read = named_read _ _ _ _ _ c.as_str.ensures.value c.in-Ok.ensures.bytes in
     let found = c.in-Ok-plan_on.found in
     let o = outcome_of found in
-    let told = c.in-Ok-plan_on.ensures in
+    let told = c.in-Ok-plan_on.ensures.found in
     finds_found
     (found_is_answered c.in-Ok-fleet_instance.inst w.nodes told.0 told.1 o.status o.text told.2)
     (fleet_found job before.files bytes c.as_slice.result.now c.in-Ok-fleet_instance.inst told.0 told.1 o.status o.writes o.text
     read c.as_slice.ensures.value c.in-Ok-fleet_instance.ensures.ok told.2 told.3)
+    c.in-Ok-plan_on.ensures.heard
     (both_differ job told.0 told.1 o.writes c.requires.files told.3)
     c.in-Ok.ensures.stays c.in-Ok.ensures.falls c.in-Ok.ensures.files
 
@@ -40,7 +42,7 @@ returns-in-Err-Refused g c =
     finds_refused
     (fleet_refused job before.files bytes c.as_slice.result.now c.in-Err-Refused.field-0 c.in-Err-Refused.refusal
     read c.as_slice.ensures.value c.in-Err-Refused.field-0-is c.in-Err-Refused.ensures.ended)
-    c.refuse_job.ensures.status text c.refuse_job.ensures.files c.refuse_job.ensures.memory
+    (its_rule c.in-Err-Refused.refusal) c.refuse_job.ensures.cause c.refuse_job.ensures.status text c.refuse_job.ensures.files c.refuse_job.ensures.memory
     c.in-Ok.ensures.stays c.in-Ok.ensures.falls c.in-Ok.ensures.files
 
 pub returns-in-Ok-fleet_instance : goal.returns-in-Ok-fleet_instance

@@ -23,6 +23,6 @@ returns g c = λ bytes read network.
     let read_plan = named_read _ _ _ _ _ c.as_str.ensures.value c.in-Ok.ensures.bytes in
     finds_made c.improve_text.result
     (improve_found job before.files bytes plan_bytes c.as_str-2.result.now c.as_slice.result.now c.improve_text.result
-    read read_plan c.as_str-2.ensures.value c.as_slice.ensures.value (c.improve_text.ensures.answers w.limit bytes network))
+    read read_plan c.as_str-2.ensures.value c.as_slice.ensures.value (c.improve_text.ensures.answers w.limit bytes network) c.improve_text.ensures.heard)
     c.improve_text.ensures.memory
     c.in-Ok.ensures.stays c.in-Ok.ensures.falls c.in-Ok.ensures.files

@@ -2,6 +2,7 @@ use Rattle.std.proofs.Common.{List, Option, subst, arith}
 use Rattle.std.proofs.lemmas.Grind.{common_steps}
 use Rattle.std.specs.Option.{option_map}
 use Rattle.ev_model.specs.Fleet.{cost_of}
+use Rattle.evroute_run.proofs.Hearing.{alone_is_heard, improved_is_heard}
 use Rattle.evroute_run.proofs.ImproveFinds.{no_plan_of, puts_alone, puts_improved, same_routes}
 use Rattle.plan_check.specs.FleetRules.{stops_of}
 use Rattle.route_improve.specs.Improved.{CostsNoMore, IsAnswer}
@@ -9,8 +10,8 @@ use Rattle.route_improve.specs.declared.improving.Improved.{Improved}
 use Rattle.route_plan.specs.declared.plan.RoutePlan.{RoutePlan}
 use Rattle.evroute_run.proofs.improve.make_cheaper.Goals as goal
 
-pub returns-in-Ok-Plan : goal.returns-in-Ok-Plan
-returns-in-Ok-Plan t c = λ limit file plan_bytes has.
+pub returns-in-Ok-Plan-clause-answers : goal.returns-in-Ok-Plan-clause-answers
+returns-in-Ok-Plan-clause-answers t c = λ limit file plan_bytes has.
     let g = c.args.inst.now in
     let better = c.in-Ok-Plan.better in
     let answer = subst (λ (found : Improved). IsAnswer g (option_map (λ p. p.now.routes) c.args.plan) found) c.in-Ok-Plan.field-0-is c.in-Ok-Plan.ensures in
@@ -18,8 +19,8 @@ returns-in-Ok-Plan t c = λ limit file plan_bytes has.
     puts_improved limit c.args.outfile.now file plan_bytes g (option_map (λ p. p.now) c.args.plan) c.args.was better c.write_better.result
     has c.requires answer.0 no_more c.write_better.ensures.status c.write_better.ensures.files c.write_better.ensures.text
 
-pub returns-in-Ok-Alone : goal.returns-in-Ok-Alone
-returns-in-Ok-Alone t c = λ limit file plan_bytes has.
+pub returns-in-Ok-Alone-clause-answers : goal.returns-in-Ok-Alone-clause-answers
+returns-in-Ok-Alone-clause-answers t c = λ limit file plan_bytes has.
     let g = c.args.inst.now in
     let answer = subst (λ (found : Improved). IsAnswer g (option_map (λ p. p.now.routes) c.args.plan) found) c.in-Ok-Alone.field-0-is c.in-Ok-Alone.ensures in
     puts_alone limit c.args.outfile.now file plan_bytes g (option_map (λ p. p.now) c.args.plan) c.in-Ok-Alone.node c.put_alone.result
@@ -27,3 +28,9 @@ returns-in-Ok-Alone t c = λ limit file plan_bytes has.
 
 pub write_better-requires : goal.write_better-requires
 write_better-requires = grind (arith, common_steps)
+
+pub returns-in-Ok-Plan-clause-heard : goal.returns-in-Ok-Plan-clause-heard
+returns-in-Ok-Plan-clause-heard t c = improved_is_heard c.write_better.result c.write_better.ensures.status c.write_better.ensures.cause
+
+pub returns-in-Ok-Alone-clause-heard : goal.returns-in-Ok-Alone-clause-heard
+returns-in-Ok-Alone-clause-heard t c = alone_is_heard c.in-Ok-Alone.node c.put_alone.result c.put_alone.ensures.status c.put_alone.ensures.text c.put_alone.ensures.cause

@@ -1,4 +1,5 @@
 use Rattle.std.specs.Option.{option_map}
+use Rattle.evroute_run.proofs.Hearing.{judgement_is_heard}
 use Rattle.evroute_run.proofs.Reported.{report_answers}
 use Rattle.evroute_run.proofs.judging.report_on.Goals as goal
 
@@ -6,3 +7,6 @@ pub returns-clause-answers : goal.returns-clause-answers
 returns-clause-answers c = λ limit file plan_bytes bytes fleet read.
     report_answers limit file plan_bytes bytes c.args.inst.now (option_map (λ p. p.now) c.args.plan) c.args.cert.now
     c.in_ok-judgement.judgement c.report.result fleet read c.in_ok-judgement.ensures.found c.report.ensures.status c.report.ensures.text
+
+pub returns-clause-heard : goal.returns-clause-heard
+returns-clause-heard c = judgement_is_heard c.args.inst.now.denominator c.in_ok-judgement.judgement c.report.result c.report.ensures.status c.report.ensures.text c.report.ensures.cause

@@ -6,7 +6,9 @@ use Rattle.evroute_run.proofs.MakeFinds.{make_refused, makes_network}
 use Rattle.evroute_run.proofs.MakeLaw.{make_lawful}
 use Rattle.evroute_run.specs.MakeAnswer.{HasNoInstance, made_file, make_task}
 use Rattle.job_frame.proofs.FileReads.{finds_alone, nothing_fails, nothing_falls, ok_is_no_error}
+use Rattle.job_frame.proofs.Hearing.{refused_job_is_heard}
 use Rattle.job_frame.proofs.Performed.{performs_unwritten}
+use Rattle.job_frame.specs.Heard.{HearsElse, no_cause}
 use Rattle.job_frame.proofs.FileWrites.{at_once_fails, is_written, leaves_one}
 use Rattle.job_frame.specs.declared.status.Status.TheVariants as status
 use Rattle.plan_writer.specs.RefusalText.{refusal_text}
@@ -44,6 +46,7 @@ returns-in-Err-Range-clause-job g c =
     c.finish.ensures.job (MakeInstance job) shelf
     (finds_alone (make_task job) shelf shelf status.Refused (refusal_text refusal.Maker) c.refuse_job.result
     (make_refused job shelf.files (c.in-Err-Range.ensures.range.0 (search rules))) tt
+    (refused_job_is_heard (HearsElse no_cause) refusal.Maker c.refuse_job.result c.refuse_job.ensures.status c.refuse_job.ensures.text c.refuse_job.ensures.cause)
     c.refuse_job.ensures.status c.refuse_job.ensures.text c.refuse_job.ensures.files c.refuse_job.ensures.memory (nothing_fails shelf) (nothing_falls shelf) refl)
 
 pub returns-in-Err-Failed-clause-stays : goal.returns-in-Err-Failed-clause-stays

@@ -3,13 +3,14 @@ use Rattle.std.proofs.lemmas.Grind.{common_steps}
 use Rattle.std.specs.Option.{option_map}
 use Rattle.bound_certificate.specs.CertificateTexts.{certificate_text}
 use Rattle.bound_certificate.specs.Written.{written}
+use Rattle.evroute_run.proofs.Hearing.{fleet_is_heard}
 use Rattle.evroute_run.proofs.SearchReports.{appended, held_fits, is_found}
 use Rattle.route_plan.specs.PlanTexts.{FitsFile, fleet_plan_text}
 use Rattle.route_plan.specs.declared.plan.FleetPlan.{FleetPlan}
 use Rattle.evroute_run.proofs.planning.plan_all.Goals as goal
 
-pub returns : goal.returns
-returns t c =
+pub returns-clause-found : goal.returns-clause-found
+returns-clause-found t c =
     let g = c.args.inst.now in
     let o = c.in_ok-outcome.outcome in
     let given = option_map (λ p. p.now) c.as_ref.result in
@@ -35,3 +36,8 @@ push_fleet_plan-requires t c =
 
 pub report-requires-clause-outcome : goal.report-requires-clause-outcome
 report-requires-clause-outcome = grind (arith, common_steps)
+
+pub returns-clause-heard : goal.returns-clause-heard
+returns-clause-heard t c =
+    let o = c.in_ok-outcome.outcome in
+    fleet_is_heard o.certificate.bound o.stopped c.in_ok-answer.answer c.in_ok-answer.ensures.status c.in_ok-answer.ensures.cause

@@ -18,6 +18,6 @@ returns g c =
     let read = named_read _ _ _ _ _ c.as_str.ensures.value c.in-Ok.ensures.bytes in
     finds_made c.prove_text.result
     (prove_found job before.files bytes c.as_slice.result.now c.as_str-2.result.now c.as_str-3.result.now c.prove_text.result
-    read c.as_slice.ensures.value c.as_str-2.ensures.value c.as_str-3.ensures.value c.prove_text.ensures.answers)
+    read c.as_slice.ensures.value c.as_str-2.ensures.value c.as_str-3.ensures.value c.prove_text.ensures.answers c.prove_text.ensures.heard)
     c.prove_text.ensures.memory
     c.in-Ok.ensures.stays c.in-Ok.ensures.falls c.in-Ok.ensures.files

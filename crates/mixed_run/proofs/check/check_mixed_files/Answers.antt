@@ -2,7 +2,8 @@ use Rattle.job_frame.proofs.FileReads.{finds_alone}
 use Rattle.job_frame.specs.declared.status.Status.TheVariants as status
 use Rattle.mixed_run.proofs.CheckMixedFinds.{file_fails, refused_early}
 use Rattle.mixed_run.proofs.FileSteps.{halt_is, refused_is_no_failure, stopped_finds}
-use Rattle.mixed_run.specs.CheckMixedAnswer.{check_mixed_task}
+use Rattle.mixed_run.proofs.Hearing.{refused_job_is_heard}
+use Rattle.mixed_run.specs.CheckMixedAnswer.{HearsMixedJudgement, check_mixed_task}
 use Rattle.command_line.specs.JobValue.{mixed_value}
 use Rattle.command_line.specs.Words.{MixedJob}
 use Rattle.mixed_run.specs.KindFiles.{IsKindsRefused, mixed_refusal_text}
@@ -17,6 +18,7 @@ returns-in-Err-Refused g c =
     let r = c.in-Err-Refused.refusal in
     let halted = halt_is job.limit (IsKindsRefused job.limit) c.as_slice.result.now c.args.job.now.files.items before after c.in-Err-Refused.field-0 (Refused r) c.as_slice.ensures.value c.in-Err-Refused.field-0-is c.in-Err-Refused.ensures.halt in
     finds_alone (check_mixed_task job) before after status.Refused (mixed_refusal_text r) c.refuse_mixed_job.result (refused_early job before.files r halted) tt
+    (refused_job_is_heard HearsMixedJudgement r c.refuse_mixed_job.result c.refuse_mixed_job.ensures.status c.refuse_mixed_job.ensures.text c.refuse_mixed_job.ensures.cause)
     c.refuse_mixed_job.ensures.status c.refuse_mixed_job.ensures.text c.refuse_mixed_job.ensures.files c.refuse_mixed_job.ensures.memory
     (c.in-Err-Refused.ensures.stays (refused_is_no_failure c.in-Err-Refused.field-0 r c.in-Err-Refused.field-0-is)) c.in-Err-Refused.ensures.falls c.in-Err-Refused.ensures.files
 

@@ -1,4 +1,4 @@
-use Rattle.std.proofs.Common.{length, refl, arith}
+use Rattle.std.proofs.Common.{inl, length, refl, arith}
 use Rattle.std.proofs.lemmas.Grind.{common_steps}
 use Rattle.job_frame.proofs.BehindReads.{finds_refused, read_fails}
 use Rattle.job_frame.proofs.Endings.{rule_of}
@@ -28,7 +28,7 @@ returns-in-Err-Refused g c = λ files read has.
     let read_plan = named_read _ _ _ _ _ c.as_str.ensures.value c.in-Ok.ensures.bytes in
     let line = refused_by_plan job before.files files plan_bytes (Plain r) read read_plan (rule_of why r c.in-Err-Refused.field-0-is c.in-Err-Refused.ensures.rule)
     (plan_refused job.limit files c.args.kinds.now (length c.args.kinds.now) plan_bytes c.as_slice.result.now why r has refl c.as_slice.ensures.value c.in-Err-Refused.field-0-is c.in-Err-Refused.ensures.ended) in
-    finds_refused line c.refuse_job.ensures.status c.refuse_job.ensures.text c.refuse_job.ensures.files c.refuse_job.ensures.memory
+    finds_refused line (inl (record { refusal = Plain r; status_is = refl; text_is = refl; heard_is = refl })) c.refuse_job.ensures.cause c.refuse_job.ensures.status c.refuse_job.ensures.text c.refuse_job.ensures.files c.refuse_job.ensures.memory
     c.in-Ok.ensures.stays c.in-Ok.ensures.falls c.in-Ok.ensures.files
 
 pub returns : goal.returns

@@ -25,7 +25,7 @@ returns-in-Ok-judge_text g c = λ files plan_bytes read read_plan has.
     let read_cert = named_read _ _ _ _ _ c.as_str.ensures.value c.in-Ok.ensures.bytes in
     let found = check_mixed_found job before.files files plan_bytes cert_bytes c.as_slice.result.now answer.status answer.text.items read read_plan read_cert c.as_slice.ensures.value
     (c.in-Ok-judge_text.ensures.answers job.limit files plan_bytes has) in
-    finds_told found c.in-Ok-judge_text.ensures.answered c.alone.ensures.answer c.alone.ensures.files
+    finds_told found c.in-Ok-judge_text.ensures.answered c.in-Ok-judge_text.ensures.heard c.alone.ensures.answer c.alone.ensures.files
     c.in-Ok.ensures.stays c.in-Ok.ensures.falls c.in-Ok.ensures.files
 
 pub returns : goal.returns

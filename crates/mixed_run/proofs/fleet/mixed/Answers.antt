@@ -31,11 +31,12 @@ returns-in-Ok-plan_on g c =
     let kinds = c.in-Ok.kinds.items in
     let o = outcome_of c.in-Ok-plan_on.found in
     let has = c.in-Ok.ensures.ok in
-    let told = c.in-Ok-plan_on.ensures in
+    let told = c.in-Ok-plan_on.ensures.found in
     let are = subst (λ (fs : List (String Global)). AreRead before.files (kind_reads (names_of fs)) has.0) c.as_slice.ensures.value has.1 in
     let found = subst (λ (ks : List Network). IsMixedFound ks told.0 told.1 o.status o.text) c.as_slice-in-Ok.ensures.value told.2 in
     finds (mixed_task job) before after (Ok c.in-Ok-plan_on.found)
     (found_is_answered kinds told.0 told.1 o.status o.text found)
     (mixed_found job before.files has.0 kinds told.0 told.1 o.status o.writes o.text are has.2 found told.3)
+    c.in-Ok-plan_on.ensures.heard
     (both_differ w told.0 told.1 o.writes c.requires told.3)
     tt (c.in-Ok.ensures.stays (λ failed. cc)) c.in-Ok.ensures.falls c.in-Ok.ensures.files
