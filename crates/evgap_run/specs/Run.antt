@@ -1,15 +1,13 @@
 -- What the program owes for its words.
-use Rattle.std.specs.Prelude.{◌≡◌, List, map, Option, String, string_bytes}
+use Rattle.std.specs.Prelude.{List, map, Option, String, string_bytes}
 use Rattle.std.specs.declared.alloc.Global.{Global}
-use Rattle.ev_outside.specs.Counts.{Rose}
 use Rattle.ev_outside.specs.Shelf.{ShelfState}
-use Rattle.ev_outside.specs.Sink.{Adds, AddsPrefix, SinkState}
+use Rattle.ev_outside.specs.Sink.{SinkState}
 use Rattle.gap_words.specs.Usage.{usage_text}
 use Rattle.gap_words.specs.Words.{Checking, Job, Planning, job_of}
-use Rattle.job_frame.specs.Performs.{EndsUnlessHindered}
+use Rattle.job_ending.specs.Running.{TellsUsageOf}
 use Rattle.job_frame.specs.Task.{Task}
 use Rattle.job_frame.specs.declared.status.Status.{Status}
-use Rattle.job_frame.specs.declared.status.Status.TheVariants as status
 use Rattle.evgap_run.specs.CheckAnswer.{check_task}
 use Rattle.evgap_run.specs.PlanAnswer.{plan_task}
 
@@ -23,15 +21,5 @@ task_of (Planning job) = plan_task job
 task_of (Checking job) = check_task job
 
 -- what the program owes where its words name no job: it tells how it is called
-pub record TellsUsage
-    (before after : ShelfState) (old new : SinkState) (ended : Status) : Type 0 where
-  -- the status tells that, unless the output failed or memory was refused
-  pub ends : EndsUnlessHindered status.Words ended
-  -- then the usage text was put
-  pub whole : ended ≡ status.Words → Adds old.written new.written usage_text
-  -- however it ends, nothing else is put than this text, or a prefix of it
-  pub part : AddsPrefix old.written new.written usage_text
-  -- a fault comes only where the output failed
-  pub fault : ended ≡ status.Fault → Rose old.faults new.faults
-  -- no file is read or written
-  pub shelf : after ≡ before
+abbrev pub TellsUsage : ShelfState → ShelfState → SinkState → SinkState → Status → Type 0
+TellsUsage before after old new ended = TellsUsageOf usage_text before after old new ended

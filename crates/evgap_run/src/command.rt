@@ -11,13 +11,12 @@ ghost use Rattle.job_frame.specs.declared.status.Status.{Status};
 
 use crate::check::check;
 use crate::clock::{JobClock, Never};
-use crate::finish::finish;
 use crate::plan::plan;
-use crate::usage::put_usage;
 use crate::watcher::Nobody;
 use ev_outside::{Shelf, Sink};
 use gap_search::GapWatcher;
-use gap_words::{Job, job_words};
+use gap_words::{Job, job_words, usage};
+use job_ending::{finish, put_usage};
 use job_frame::{CauseListener, ScaleWatcher, Status};
 use std::alloc::{AllocError, Global};
 
@@ -82,7 +81,7 @@ where
 {
     match job_words(alloc, words) {
         Ok(Some(job)) => perform(alloc, &job, shelf, out, clock, watcher),
-        Ok(None) => put_usage(out),
+        Ok(None) => put_usage(usage(), out),
         Err(AllocError) => Status::Memory,
     }
 }

@@ -5,12 +5,10 @@ mod check;
 mod clock;
 mod command;
 mod ending;
-mod finish;
 mod judging;
 mod plan;
 mod planning;
 mod report;
-mod usage;
 mod watcher;
 
 pub use clock::{AtOnce, JobClock, Never};

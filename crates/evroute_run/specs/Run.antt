@@ -1,11 +1,10 @@
 -- What the program owes for its words.
-use Rattle.std.specs.Prelude.{◌≡◌, List, map, Option, String, string_bytes}
+use Rattle.std.specs.Prelude.{List, map, Option, String, string_bytes}
 use Rattle.std.specs.declared.alloc.Global.{Global}
 use Rattle.command_line.specs.Usage.{usage_text}
 use Rattle.command_line.specs.Words.{BoundFleets, CheckBound, CheckMixed, CheckPlan, CheckRoute, ConvertFile, FixedRoute, ImprovePlan, Job, MakeInstance, PlanFleet, PlanMixed, ProveRoute, job_of}
-use Rattle.ev_outside.specs.Counts.{Rose}
 use Rattle.ev_outside.specs.Shelf.{ShelfState}
-use Rattle.ev_outside.specs.Sink.{Adds, AddsPrefix, SinkState}
+use Rattle.ev_outside.specs.Sink.{SinkState}
 use Rattle.evroute_run.specs.BoundAnswer.{bound_task}
 use Rattle.evroute_run.specs.CheckAnswer.{check_task}
 use Rattle.evroute_run.specs.CheckBoundAnswer.{check_bound_task}
@@ -16,10 +15,9 @@ use Rattle.evroute_run.specs.FleetAnswer.{fleet_task}
 use Rattle.evroute_run.specs.ImproveAnswer.{improve_task}
 use Rattle.evroute_run.specs.MakeAnswer.{make_task}
 use Rattle.evroute_run.specs.ProveAnswer.{prove_task}
-use Rattle.job_frame.specs.Performs.{EndsUnlessHindered}
+use Rattle.job_ending.specs.Running.{TellsUsageOf}
 use Rattle.job_frame.specs.Task.{Task}
 use Rattle.job_frame.specs.declared.status.Status.{Status}
-use Rattle.job_frame.specs.declared.status.Status.TheVariants as status
 use Rattle.mixed_run.specs.CheckMixedAnswer.{check_mixed_task}
 use Rattle.mixed_run.specs.MixedAnswer.{mixed_task}
 
@@ -43,15 +41,5 @@ task_of (PlanMixed job) = mixed_task job
 task_of (CheckMixed job) = check_mixed_task job
 
 -- what the program owes where its words name no job: it tells how it is called
-pub record TellsUsage
-    (before after : ShelfState) (old new : SinkState) (ended : Status) : Type 0 where
-  -- the status tells that, unless the output failed or memory was refused
-  pub ends : EndsUnlessHindered status.Words ended
-  -- then the usage text was put
-  pub whole : ended ≡ status.Words → Adds old.written new.written usage_text
-  -- however it ends, nothing else is put than this text, or a prefix of it
-  pub part : AddsPrefix old.written new.written usage_text
-  -- a fault comes only where the output failed
-  pub fault : ended ≡ status.Fault → Rose old.faults new.faults
-  -- no file is read or written
-  pub shelf : after ≡ before
+abbrev pub TellsUsage : ShelfState → ShelfState → SinkState → SinkState → Status → Type 0
+TellsUsage before after old new ended = TellsUsageOf usage_text before after old new ended

@@ -14,16 +14,15 @@ use crate::check::check;
 use crate::check_bound::check_bound;
 use crate::check_route::check_route;
 use crate::convert::convert;
-use crate::finish::finish;
 use crate::fixed::fixed;
 use crate::fleet::fleet;
 use crate::improve::improve;
 use crate::make::make;
 use crate::prove::prove;
-use crate::usage::put_usage;
 use crate::watcher::{JobWatcher, Nobody};
-use command_line::{Job, job_words};
+use command_line::{Job, job_words, usage};
 use ev_outside::{Shelf, Sink};
+use job_ending::{finish, put_usage};
 use job_frame::{Cause, Status};
 use mixed_run::{check_mixed_files, mixed};
 use std::alloc::{AllocError, Global};
@@ -128,7 +127,7 @@ pub fn run_watched<S: Shelf, K: Sink, W: JobWatcher>(
         Ok(Some(job)) => perform(alloc, &job, shelf, out, watcher),
         Ok(None) => {
             watcher.hear(Cause::Words);
-            put_usage(out)
+            put_usage(usage(), out)
         }
         Err(AllocError) => Status::Memory,
     }

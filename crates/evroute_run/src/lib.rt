@@ -8,7 +8,6 @@ mod check_route;
 mod command;
 mod convert;
 mod ending;
-mod finish;
 mod fixed;
 mod fleet;
 mod improve;
@@ -18,7 +17,6 @@ mod planning;
 mod prove;
 mod sure;
 mod trip;
-mod usage;
 mod watcher;
 
 pub use command::{exit_code, run, run_watched};

@@ -16,12 +16,12 @@ ghost use Rattle.job_frame.specs.Task.{IsAnswered};
 ghost use Rattle.job_frame.specs.Writes.{Leaves, Written};
 ghost use Rattle.plan_writer.specs.MakeText.{make_text};
 
-use crate::finish::finish;
 use command_line::MakeWords;
 use ev_outside::{Shelf, ShelfFault, Sink};
 use frvcp_labels::solve_route;
 use instance_maker::MakerFault;
 use instance_reader::Instance;
+use job_ending::finish;
 use job_frame::{Answer, CauseListener, Status, put_answer, refuse_job};
 use made_instances::made_instance;
 use plan_writer::{Refusal, push_make_report};

@@ -1,4 +1,3 @@
 pub mod ViewFinds
 pub mod ViewLaw
-pub mod Performed
 pub mod Shown

@@ -10,13 +10,12 @@ ghost use Rattle.job_frame.specs.Performs.{NothingFailed, Performs};
 ghost use Rattle.job_frame.specs.declared.status.Status.{Status};
 ghost use Rattle.view_words.specs.JobValue.{IsJob, job_value};
 
-use crate::finish::finish;
-use crate::usage::put_usage;
 use crate::view::view;
 use ev_outside::{Shelf, Sink};
+use job_ending::{Unheard, finish, put_usage};
 use job_frame::Status;
 use std::alloc::{AllocError, Global};
-use view_words::{Job, job_words};
+use view_words::{Job, job_words, usage};
 
 /// The program: its words after its name, the files and the output.
 ///
@@ -66,7 +65,7 @@ pub(crate) fn run_job<S: Shelf, K: Sink>(
 {
     match job_words(alloc, words) {
         Ok(Some(job)) => perform(alloc, &job, shelf, out),
-        Ok(None) => put_usage(out),
+        Ok(None) => put_usage(usage(), out),
         Err(AllocError) => Status::Memory,
     }
 }
@@ -99,5 +98,5 @@ fn perform<S: Shelf, K: Sink>(alloc: Global, job: &Job, shelf: &mut S, out: &mut
     ensures memory { K.takes_memory ≡ false → result ≡ Status.Memory
         → K.state out.new ≡ K.state out.old }
 {
-    finish(view(alloc, job, shelf), shelf, out)
+    finish(view(alloc, job, shelf), shelf, out, &mut Unheard {})
 }

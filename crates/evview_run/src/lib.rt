@@ -3,9 +3,7 @@
 
 mod command;
 mod ending;
-mod finish;
 mod showing;
-mod usage;
 mod view;
 
 pub use command::{exit_code, run};

@@ -5,9 +5,11 @@
 mod diagnostics;
 mod ending;
 mod failing;
+mod finishing;
 mod message;
 
 pub use diagnostics::{Diagnostics, SystemDiagnostics};
 pub use ending::{end_run, end_without_words};
 pub use failing::{FailingShelf, FailingSink};
+pub use finishing::{Unheard, finish, put_usage};
 pub use message::Message;

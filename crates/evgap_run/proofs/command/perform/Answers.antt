@@ -2,7 +2,7 @@ use Rattle.evgap_run.proofs.Performed.{finished}
 use Rattle.evgap_run.proofs.command.perform.Goals as goal
 
 pub returns-in-Plan-clause-job : goal.returns-in-Plan-clause-job
-returns-in-Plan-clause-job g c = finished _ _ c.finish.ensures.job c.in-Plan.is c.plan.ensures
+returns-in-Plan-clause-job g c = finished _ _ c.finish.ensures.words c.finish.ensures.finishes c.in-Plan.is c.plan.ensures
 
 pub returns-in-Check-clause-job : goal.returns-in-Check-clause-job
-returns-in-Check-clause-job g c = finished _ _ c.finish-in-Check.ensures.job c.in-Check.is c.check.ensures
+returns-in-Check-clause-job g c = finished _ _ c.finish-in-Check.ensures.words c.finish-in-Check.ensures.finishes c.in-Check.is c.check.ensures

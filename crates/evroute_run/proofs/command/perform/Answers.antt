@@ -2,37 +2,37 @@ use Rattle.evroute_run.proofs.Performed.{finished, value_performs}
 use Rattle.evroute_run.proofs.command.perform.Goals as goal
 
 pub returns-in-Fixed-clause-job : goal.returns-in-Fixed-clause-job
-returns-in-Fixed-clause-job g c = finished _ _ c.finish.ensures.job c.in-Fixed.is c.fixed.ensures
+returns-in-Fixed-clause-job g c = finished _ _ c.finish.ensures.words c.finish.ensures.finishes c.in-Fixed.is c.fixed.ensures
 
 pub returns-in-Fleet-clause-job : goal.returns-in-Fleet-clause-job
-returns-in-Fleet-clause-job g c = finished _ _ c.finish-in-Fleet.ensures.job c.in-Fleet.is c.fleet.ensures
+returns-in-Fleet-clause-job g c = finished _ _ c.finish-in-Fleet.ensures.words c.finish-in-Fleet.ensures.finishes c.in-Fleet.is c.fleet.ensures
 
 pub returns-in-Check-clause-job : goal.returns-in-Check-clause-job
-returns-in-Check-clause-job g c = finished _ _ c.finish-in-Check.ensures.job c.in-Check.is c.check.ensures
+returns-in-Check-clause-job g c = finished _ _ c.finish-in-Check.ensures.words c.finish-in-Check.ensures.finishes c.in-Check.is c.check.ensures
 
 pub returns-in-Convert-clause-job : goal.returns-in-Convert-clause-job
-returns-in-Convert-clause-job g c = finished _ _ c.finish-in-Convert.ensures.job c.in-Convert.is c.convert.ensures
+returns-in-Convert-clause-job g c = finished _ _ c.finish-in-Convert.ensures.words c.finish-in-Convert.ensures.finishes c.in-Convert.is c.convert.ensures
 
 pub returns-in-Make-clause-job : goal.returns-in-Make-clause-job
 returns-in-Make-clause-job g c = value_performs _ _ c.in-Make.is c.make.ensures.job
 
 pub returns-in-Bound-clause-job : goal.returns-in-Bound-clause-job
-returns-in-Bound-clause-job g c = finished _ _ c.finish-in-Bound.ensures.job c.in-Bound.is c.bound.ensures
+returns-in-Bound-clause-job g c = finished _ _ c.finish-in-Bound.ensures.words c.finish-in-Bound.ensures.finishes c.in-Bound.is c.bound.ensures
 
 pub returns-in-CheckBound-clause-job : goal.returns-in-CheckBound-clause-job
-returns-in-CheckBound-clause-job g c = finished _ _ c.finish-in-CheckBound.ensures.job c.in-CheckBound.is c.check_bound.ensures
+returns-in-CheckBound-clause-job g c = finished _ _ c.finish-in-CheckBound.ensures.words c.finish-in-CheckBound.ensures.finishes c.in-CheckBound.is c.check_bound.ensures
 
 pub returns-in-Prove-clause-job : goal.returns-in-Prove-clause-job
-returns-in-Prove-clause-job g c = finished _ _ c.finish-in-Prove.ensures.job c.in-Prove.is c.prove.ensures
+returns-in-Prove-clause-job g c = finished _ _ c.finish-in-Prove.ensures.words c.finish-in-Prove.ensures.finishes c.in-Prove.is c.prove.ensures
 
 pub returns-in-CheckRoute-clause-job : goal.returns-in-CheckRoute-clause-job
-returns-in-CheckRoute-clause-job g c = finished _ _ c.finish-in-CheckRoute.ensures.job c.in-CheckRoute.is c.check_route.ensures
+returns-in-CheckRoute-clause-job g c = finished _ _ c.finish-in-CheckRoute.ensures.words c.finish-in-CheckRoute.ensures.finishes c.in-CheckRoute.is c.check_route.ensures
 
 pub returns-in-Improve-clause-job : goal.returns-in-Improve-clause-job
-returns-in-Improve-clause-job g c = finished _ _ c.finish-in-Improve.ensures.job c.in-Improve.is c.improve.ensures
+returns-in-Improve-clause-job g c = finished _ _ c.finish-in-Improve.ensures.words c.finish-in-Improve.ensures.finishes c.in-Improve.is c.improve.ensures
 
 pub returns-in-Mixed-clause-job : goal.returns-in-Mixed-clause-job
-returns-in-Mixed-clause-job g c = finished _ _ c.finish-in-Mixed.ensures.job c.in-Mixed.is c.mixed.ensures
+returns-in-Mixed-clause-job g c = finished _ _ c.finish-in-Mixed.ensures.words c.finish-in-Mixed.ensures.finishes c.in-Mixed.is c.mixed.ensures
 
 pub returns-in-CheckMixed-clause-job : goal.returns-in-CheckMixed-clause-job
-returns-in-CheckMixed-clause-job g c = finished _ _ c.finish-in-CheckMixed.ensures.job c.in-CheckMixed.is c.check_mixed_files.ensures
+returns-in-CheckMixed-clause-job g c = finished _ _ c.finish-in-CheckMixed.ensures.words c.finish-in-CheckMixed.ensures.finishes c.in-CheckMixed.is c.check_mixed_files.ensures

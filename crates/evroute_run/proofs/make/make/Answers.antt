@@ -1,10 +1,11 @@
 use Rattle.std.proofs.Common.{◌∙◌, [], ◌∷◌, refl, rules, arith}
 use Rattle.std.proofs.lemmas.Grind.{common_steps}
 use Rattle.std.specs.Prelude.{string_bytes}
-use Rattle.command_line.specs.Words.{MakeInstance, MakeJob, make_job_of}
+use Rattle.command_line.specs.Words.{MakeJob, make_job_of}
 use Rattle.evroute_run.proofs.MakeFinds.{make_refused, makes_network}
 use Rattle.evroute_run.proofs.MakeLaw.{make_lawful}
 use Rattle.evroute_run.specs.MakeAnswer.{HasNoInstance, made_file, make_task}
+use Rattle.job_ending.proofs.Finished.{performs_finished}
 use Rattle.job_frame.proofs.FileReads.{finds_alone, nothing_fails, nothing_falls, ok_is_no_error}
 use Rattle.job_frame.proofs.Hearing.{refused_job_is_heard}
 use Rattle.job_frame.proofs.Performed.{performs_unwritten}
@@ -43,11 +44,12 @@ returns-in-Err-Range-clause-job g c =
     let w = c.args.job.now in
     let job : MakeJob = make_job_of w.seed w.customers w.stations (string_bytes w.outfile) in
     let shelf = g.S.Shelf.state c.args.shelf.now in
-    c.finish.ensures.job (MakeInstance job) shelf
+    performs_finished (make_task job) (make_lawful job) c.refuse_job.result
     (finds_alone (make_task job) shelf shelf status.Refused (refusal_text refusal.Maker) c.refuse_job.result
     (make_refused job shelf.files (c.in-Err-Range.ensures.range.0 (search rules))) tt
     (refused_job_is_heard (HearsElse no_cause) refusal.Maker c.refuse_job.result c.refuse_job.ensures.status c.refuse_job.ensures.text c.refuse_job.ensures.cause)
     c.refuse_job.ensures.status c.refuse_job.ensures.text c.refuse_job.ensures.files c.refuse_job.ensures.memory (nothing_fails shelf) (nothing_falls shelf) refl)
+    c.finish.ensures.words c.finish.ensures.finishes
 
 pub returns-in-Err-Failed-clause-stays : goal.returns-in-Err-Failed-clause-stays
 returns-in-Err-Failed-clause-stays = grind (arith, common_steps)

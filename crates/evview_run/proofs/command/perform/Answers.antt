@@ -1,5 +1,10 @@
+use Rattle.evview_run.proofs.ViewLaw.{view_lawful}
+use Rattle.evview_run.specs.ViewAnswer.{view_task}
+use Rattle.job_ending.proofs.Finished.{performs_finished}
 use Rattle.view_words.specs.JobValue.{job_value}
 use Rattle.evview_run.proofs.command.perform.Goals as goal
 
 pub returns-clause-job : goal.returns-clause-job
-returns-clause-job g c = c.finish.ensures.job (job_value c.args.job.now) (g.S.Shelf.state c.args.shelf.now) c.view.ensures
+returns-clause-job g c =
+    let job = job_value c.args.job.now in
+    performs_finished (view_task job) (view_lawful job) c.view.result c.view.ensures c.finish.ensures.words c.finish.ensures.finishes
