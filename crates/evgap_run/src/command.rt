@@ -17,7 +17,7 @@ use ev_outside::{Shelf, Sink};
 use gap_search::GapWatcher;
 use gap_words::{Job, job_words, usage};
 use job_ending::{finish, put_usage};
-use job_frame::{CauseListener, ScaleWatcher, Status};
+use job_frame::{Cause, CauseListener, ScaleWatcher, Status};
 use std::alloc::{AllocError, Global};
 
 /// The program: its words after its name, the files and the output.
@@ -81,7 +81,10 @@ where
 {
     match job_words(alloc, words) {
         Ok(Some(job)) => perform(alloc, &job, shelf, out, clock, watcher),
-        Ok(None) => put_usage(usage(), out),
+        Ok(None) => {
+            watcher.hear(Cause::Words);
+            put_usage(usage(), out)
+        }
         Err(AllocError) => Status::Memory,
     }
 }

@@ -14,6 +14,8 @@ mod effort;
 #[cfg(test)]
 mod files;
 #[cfg(test)]
+mod heard;
+#[cfg(test)]
 mod judged;
 #[cfg(test)]
 mod planned;

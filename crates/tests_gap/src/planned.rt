@@ -8,7 +8,7 @@ use worked_instances::{DEPOT_ALONE, NO_STATION, ONE_STATION, THREE_CUSTOMERS, TW
 const NONE: &str = "evroute plan 1\nnone\n";
 
 /// A depot and two customers, of whom the first is reached in time by way of the second alone.
-const BEHIND: &str =
+pub const BEHIND: &str =
     r#"{"max_q":10,"css":[],"breakpoints_by_type":[],"process_times":[0,0,0],"energy_matrix":[[0,1,1],[1,0,1],[1,1,0]],"time_matrix":[[0,100,2],[2,0,2],[2,2,0]]}"#;
 
 /// A route for each of three customers.

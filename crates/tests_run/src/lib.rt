@@ -15,6 +15,8 @@ mod files;
 #[cfg(test)]
 mod fleets;
 #[cfg(test)]
+mod heard;
+#[cfg(test)]
 mod improved;
 #[cfg(test)]
 mod instances;

@@ -20,7 +20,7 @@ use worked_instances::{ONE_STATION, THREE_CUSTOMERS};
 /// A clock that goes on by some milliseconds each time it is read, or fails; and a standard error
 /// that keeps its lines, each behind the milliseconds that the clock showed.
 #[derive(Drop)]
-struct Desk {
+pub struct Desk {
     alloc: Global,
     step: Option<u64>,
     now: Cell<u64>,
@@ -28,7 +28,7 @@ struct Desk {
 }
 
 impl Desk {
-    fn new(alloc: Global, step: Option<u64>) -> Self {
+    pub fn new(alloc: Global, step: Option<u64>) -> Self {
         Desk {
             alloc,
             step,
