@@ -1,7 +1,6 @@
 -- What is reported of a search for a plan of several kinds of vehicles.
 use Rattle.std.proofs.Common.{◌≡◌, ◌∙◌, ◌↔◌, ℕ, ◌*◌, ◌<◌, ◌≤◌, ◌++◌, List, [], Option, None, Some, IfSome, ap, length, refl, subst, sym}
 use Rattle.std.proofs.lemmas.List.Elements.{All-weaker}
-use Rattle.std.specs.List.{All}
 use Rattle.ev_model.specs.Network.{Network}
 use Rattle.fleet_model.specs.Prices.{price_total}
 use Rattle.job_frame.specs.declared.status.Status.{Status}
@@ -13,7 +12,6 @@ use Rattle.mixed_fleet.specs.declared.outcome.MixedOutcome.{MixedOutcome}
 use Rattle.mixed_model.specs.Accepted.{RootHolds}
 use Rattle.mixed_model.specs.Kinds.{first_of}
 use Rattle.mixed_model.specs.Meaning.{kind_plans}
-use Rattle.mixed_model.specs.Plans.{IsMixedPlan}
 use Rattle.mixed_model.specs.Truth.{IsTrueBound, IsTrueRoot}
 use Rattle.mixed_model.specs.declared.proof.MixedProof.{MixedProof}
 use Rattle.mixed_model.specs.declared.proof.MixedRoot.{MixedRoot}

@@ -1,5 +1,5 @@
 -- What was charged is found again by its order.
-use Rattle.std.proofs.Common.{◌≡◌, ℕ, Bool, true, false, inl, inr, refl, sym, subst, List, [], ◌∷◌, bytes_eq, if◌then◌else◌, Option, Some, Vec}
+use Rattle.std.proofs.Common.{◌≡◌, ℕ, Bool, true, false, inl, inr, refl, sym, subst, List, [], ◌∷◌, bytes_eq, if◌then◌else◌, Some, Vec}
 use Rattle.std.proofs.lemmas.Bool.{cases_Bool}
 use Rattle.std.proofs.lemmas.List.Elements.{All-cons, All-head, All-nil, All-tail}
 use Rattle.std.proofs.lemmas.Option.{none-some}
