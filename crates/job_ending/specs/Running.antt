@@ -23,9 +23,9 @@ pub record TellsUsageOf (usage : List ℕ)
   -- no file is read or written
   pub shelf : after ≡ before
 
--- what is owed for words that name this job, if they name one, of which each is a task: from the
--- shelf before to the shelf after, from the old output to the new one, putting on which takes
--- memory or none
+-- what is owed for words that name this job, or none, where each job is a task: from the shelf
+-- before to the shelf after, from the old output to the new one, putting on which takes memory or
+-- none
 pub record RunsFor {Job : Type 0} (usage_text : List ℕ) (task_of : Job → Task)
     (words : List (String Global)) (named : Option Job) (takes_memory : Bool)
     (before after : ShelfState) (old new : SinkState) (ended : Status) : Type 0 where
