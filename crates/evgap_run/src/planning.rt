@@ -33,7 +33,8 @@ pub fn plan_all<C: GapClock, W: GapWatcher>(
 ) -> Result<Planned, AllocError>
     requires few { length (customer_nodes inst.now) ≤ most_customers }
     requires start { IfSome start (λ plan. IsFleetPlan inst.now 1 (stops_of plan.now.routes)) }
-    ensures found { IfOk result (λ p. IsPlanFound inst.now (option_map (λ plan. plan.now) start.entry)
+    ensures found { IfOk result (λ p. IsPlanFound inst.now
+        (option_map (λ plan. plan.now) start.entry)
         p.plan.items p.cert.items p.answer.status p.answer.text.items) }
     ensures heard { IfOk result
         (λ p. plan_heard p.answer.status p.answer.text.items p.answer.cause) }

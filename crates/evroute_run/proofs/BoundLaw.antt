@@ -1,5 +1,5 @@
 -- The causes of the statuses of `bound` exclude each other.
-use Rattle.std.proofs.Common.{◌≡◌, ◌∙◌, ℕ, List, [], ◌∷◌, Option, None, Some, refl, subst, sym}
+use Rattle.std.proofs.Common.{◌≡◌, ℕ, List, [], ◌∷◌, Option, None, Some, refl, subst}
 use Rattle.command_line.specs.Words.{BoundJob}
 use Rattle.ev_model.specs.Network.{Network}
 use Rattle.fleet_steps.proofs.Instances.{fleet_refused_not, same_fleet}

@@ -25,7 +25,7 @@ use Rattle.evroute_run.specs.CheckRouteAnswer.{CheckRouteAnswers, IsCheckRouteRe
 use Rattle.evroute_run.specs.Ended.{IsCheckRouteEnded, IsEnded}
 use Rattle.evroute_run.specs.FixedAnswer.{IsRefused, IsTask, start_of}
 use Rattle.job_frame.specs.declared.answer.Ended.{Ended}
-use Rattle.job_frame.specs.declared.answer.Ended.TheVariants.{Memory, Refused}
+use Rattle.job_frame.specs.declared.answer.Ended.TheVariants.{Refused}
 
 -- ---- the answer to a proof that was read
 

@@ -1,10 +1,9 @@
 -- The causes of the statuses of `check-route` exclude each other.
-use Rattle.std.proofs.Common.{◌≡◌, ◌≢◌, ◌∙◌, ℕ, zero, suc, ◌<◌, ◌≤◌, List, [], ◌∷◌, Option, None, Some, Ok, Err, ap, arith, refl, subst, sym}
+use Rattle.std.proofs.Common.{◌≡◌, ◌≢◌, ◌∙◌, ℕ, zero, suc, List, [], ◌∷◌, Option, None, Some, Ok, Err, ap, arith, refl, subst, sym}
 use Rattle.std.specs.List.{Contains}
 use Rattle.std.specs.Prelude.{slice_get}
 use Rattle.command_line.specs.Words.{ProofJob}
 use Rattle.command_line.specs.declared.Options.{Options}
-use Rattle.ev_model.specs.Feasible.{IsFeasible}
 use Rattle.ev_model.specs.Network.{Network}
 use Rattle.ev_text.proofs.Results.{Err-ne-Ok, Ok-injective}
 use Rattle.job_frame.proofs.OneStatus.{ExcludeEachOther, IsPlain, lawful, nothing_excludes}

@@ -1,5 +1,5 @@
 -- What is heard of an answer that was made, by its status, its text and its cause.
-use Rattle.std.proofs.Common.{◌≡◌, ◌≢◌, ◌⊎◌, ℕ, Bool, true, false, None, Option, Some, Result, Ok, Err, IfOk, inl, inr, refl}
+use Rattle.std.proofs.Common.{◌≡◌, ◌≢◌, ℕ, Bool, true, false, None, Option, Some, Result, Ok, Err, IfOk, inl, inr, refl}
 use Rattle.evroute_run.specs.BoundAnswer.{bound_status}
 use Rattle.evroute_run.specs.CheckAnswer.{check_heard, judged_cause, judged_status}
 use Rattle.evroute_run.specs.CheckRouteAnswer.{check_route_heard}

@@ -17,7 +17,7 @@ use Rattle.job_frame.specs.declared.answer.Ended.{Ended}
 use Rattle.job_frame.specs.declared.answer.Ended.TheVariants.{Refused, Memory}
 use Rattle.job_frame.proofs.BehindReads.{IsFoundFor, no_write, one_write}
 use Rattle.job_frame.proofs.Hearing.{HearsOfFound}
-use Rattle.job_frame.proofs.FileReads.{finds, some_read}
+use Rattle.job_frame.proofs.FileReads.{some_read}
 use Rattle.job_frame.specs.Faults.{FailsReading, HasFailedRead}
 use Rattle.job_frame.specs.Finds.{written_by}
 use Rattle.job_frame.specs.Task.{Answers, AreReadUpTo, IsAnswered}

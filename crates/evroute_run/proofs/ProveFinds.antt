@@ -11,7 +11,6 @@ use Rattle.ev_outside.specs.Shelf.{Files}
 use Rattle.job_frame.proofs.BehindReads.{IsFoundFor, no_write, one_write}
 use Rattle.job_frame.proofs.Hearing.{HearsOfFound}
 use Rattle.job_frame.specs.Heard.{HearsRefusals}
-use Rattle.job_frame.proofs.FileReads.{finds}
 use Rattle.job_frame.specs.Finds.{written_by}
 use Rattle.job_frame.specs.Task.{AreReadUpTo, IsAnswered}
 use Rattle.job_frame.specs.Writes.{AreDifferent, Written}
