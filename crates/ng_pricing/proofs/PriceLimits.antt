@@ -1,6 +1,7 @@
 -- What routes that were met allow the price of a customer to be.
-use Rattle.std.proofs.Common.{◌≡◌, ◌∙◌, ℕ, ◌+◌, ◌-◌, ◌*◌, ◌/◌, ◌<◌, ◌≤◌, ◌^◌, refl, sym, ap, subst, List, [], ◌∷◌, ◌++◌, ◌⊎◌, get_or, length, set, Option, None, Some, IfNone, IfSome, arith, inl, inr}
+use Rattle.std.proofs.Common.{◌≡◌, ◌∙◌, ℕ, ◌+◌, ◌-◌, ◌*◌, ◌/◌, ◌<◌, ◌≤◌, ◌^◌, refl, sym, ap, subst, List, [], ◌∷◌, ◌++◌, ◌⊎◌, get_or, length, set, Option, None, Some, Result, Ok, Err, IfNone, IfOk, IfSome, arith, inl, inr}
 use Rattle.std.specs.List.{All}
+use Rattle.std.specs.declared.alloc.AllocError.{AllocError}
 use Rattle.std.specs.Prelude.{slice_get}
 use Rattle.std.proofs.Math.Nat.{div-add-mod, lt_of_mul-lt-mul_left, mod-lt, mul-le-mul_left}
 use Rattle.std.proofs.lemmas.Bool.{cases_lt}
@@ -9,20 +10,23 @@ use Rattle.std.proofs.lemmas.List.Elements.{All-append, All-cons, All-nil, All-s
 use Rattle.std.proofs.lemmas.Option.{get_or_from_slice_get, slice_get_read, slice_get_within}
 use Rattle.certificate_parts.specs.Ranges.{ColumnFits}
 use Rattle.ev_model.specs.Fleet.{customers_of, times_in}
-use Rattle.ev_model.specs.Network.{Network, scaled_limit}
+use Rattle.ev_model.specs.Network.{IsNetwork, Network, scaled_limit}
 use Rattle.fleet_model.specs.Places.{customer_number, numbers_of}
 use Rattle.fleet_model.proofs.Numbers.{counted}
 use Rattle.instance_reader.specs.Instance.{customer_nodes, most_customers}
 use Rattle.instance_reader.proofs.ListLemmas.{slice_get-seam}
+use Rattle.near_pricing.specs.Answers.{AreClosedLabels}
 use Rattle.near_proof.specs.Accepted.{IsTight}
 use Rattle.near_proof.specs.Routes.{IsNearRoute}
 use Rattle.near_proof.specs.Terms.{earned_by}
 use Rattle.near_proof.specs.Truth.{NearRoutesPay}
 use Rattle.route_plan.specs.declared.plan.RoutePlan.{RoutePlan}
+use Rattle.ng_pricing.specs.Fixing.{IsFixed}
 use Rattle.ng_pricing.specs.Met.{AreMet, IsAllowed, IsLimit, IsMeasured, IsMet, Pays}
 use Rattle.ng_pricing.specs.Rising.{terms_at}
 use Rattle.ng_pricing.specs.declared.met.Limit.{Limit}
 use Rattle.ng_pricing.specs.declared.met.MetRoute.{MetRoute}
+use Rattle.ng_pricing.specs.declared.raising.Fixed.{Fixed}
 use Rattle.ng_pricing.proofs.Earnings.{earned_set}
 
 -- ---- one route
@@ -144,6 +148,20 @@ module _ (g : Network) (sets : List (List ℕ)) where
       let once : l.price * 1 ≤ l.price * times_in r.numbers c = mul-le-mul_left l.price (limit.allowed.serves) in
       omega (arith, now, once, limit.allowed.pays, is.measured.time, is.route.feasible.in_time)
 
+  -- a limit with its route, at which labels are closed, unless it is the price that is known to be
+  -- paid
+  pub fixed_by : (prices : List ℕ) (c paid : ℕ) (met : List MetRoute) (l : Limit) (f : Fixed) → IsNetwork g → c < length prices → get_or prices c 0 ≡ 0 → AreMet g sets met → IsLimit prices c met l → f.price ≡ l.price → ((r : MetRoute) → slice_get met l.route ≡ Some r → f.tight ≡ r.plan) → IfSome f.labels (AreClosedLabels g (terms_at sets (set prices c l.price))) → IfNone f.labels (l.price ≡ paid) → IsFixed g sets prices c paid f
+  fixed_by prices c paid met l f network less free are limit price tight labels same =
+      let route = tight limit.route limit.is in
+      let low = limit_is_small prices c met l less free are limit in
+      record {
+        small = omega (arith, price, low, network.small_limit);
+        labels = subst (λ p. IfSome f.labels (AreClosedLabels g (terms_at sets (set prices c p)))) (sym price) labels;
+        same = subst (λ p. IfNone f.labels (p ≡ paid)) (sym price) same;
+        tight = subst (λ p. IsTight g (terms_at sets (set prices c p)) c f.tight.stops) (sym price) (subst (λ (plan : RoutePlan). IsTight g (terms_at sets (set prices c l.price)) c plan.stops) (sym route) (limit_is_tight prices c met l are limit));
+        fits = subst ColumnFits (sym route) (limit_fits prices c met l are limit);
+      }
+
 -- the limit of the route that was met last
 pub limit_last : (prices : List ℕ) (c : ℕ) (met : List MetRoute) (r : MetRoute) (l : Limit) → l.route ≡ length met → IsAllowed prices c r l.price → IsLimit prices c (met ++ r ∷ []) l
 limit_last prices c met r l at allowed = record {
@@ -212,3 +230,8 @@ small_set limit c price prices small all low =
 
 pub no_less : (time earned : ℕ) → 1 * time < earned → earned ≡ 0 → ⊥
 no_less time earned less none = omega (arith, less, none)
+
+-- what follows of a price that is fixed, where there was memory for it
+pub if_ok : (r : Result Fixed AllocError) (A B C D : Fixed → Type 0) → IfOk r A → IfOk r B → IfOk r C → ((f : Fixed) → A f → B f → C f → D f) → IfOk r D
+if_ok (Ok f) A B C D a b c so = so f a b c
+if_ok (Err e) A B C D a b c so = tt

@@ -1,5 +1,5 @@
 -- Near routes that were met, and what they allow a customer's price to be.
-use Rattle.std.specs.Prelude.{◌≡◌, ℕ, ◌+◌, ◌<◌, ◌≤◌, List, Some, length, set, slice_get}
+use Rattle.std.specs.Prelude.{◌≡◌, ℕ, ◌+◌, ◌<◌, ◌≤◌, List, Some, get_or, length, set, slice_get}
 use Rattle.std.specs.List.{All}
 use Rattle.certificate_parts.specs.Ranges.{ColumnFits}
 use Rattle.ev_model.specs.Fleet.{times_in}
@@ -44,3 +44,12 @@ pub record IsLimit (prices : List ℕ) (c : ℕ) (met : List MetRoute) (l : Limi
   pub route : MetRoute
   pub is : slice_get met l.route ≡ Some route
   pub allowed : IsAllowed prices c route l.price
+
+-- prices of which one is lowered by a route: one higher, the route would earn more than it takes
+pub record IsLowered (r : MetRoute) (old lowered : List ℕ) : Type 0 where
+  pub c : ℕ
+  pub price : ℕ
+  pub customer : c < length old
+  pub less : price < get_or old c 0
+  pub needed : r.time < earned_by (set old c (price + 1)) r.numbers
+  pub is : lowered ≡ set old c price

@@ -1,10 +1,11 @@
 //! Near routes that were met.
 
-ghost use Rattle.std.specs.Prelude.{◌≡◌, ◌<◌, ◌≤◌, IfNone, IfOk, IfSome, get_or, length, set};
+ghost use Rattle.std.specs.Prelude.{◌≡◌, ℕ, ◌+◌, ◌<◌, ◌≤◌, IfNone, IfOk, IfSome, get_or, length, set};
 ghost use Rattle.std.specs.List.{All};
 ghost use Rattle.ev_model.specs.Feasible.{IsFeasible};
 ghost use Rattle.ev_model.specs.Fleet.{times_in};
-ghost use Rattle.ng_pricing.specs.Met.{IsAllowed, IsLimit, IsMeasured, Pays};
+ghost use Rattle.near_proof.specs.Terms.{earned_by};
+ghost use Rattle.ng_pricing.specs.Met.{IsAllowed, IsLimit, IsLowered, IsMeasured, Pays};
 
 use ev_list::Listed;
 use instance_reader::Instance;
@@ -68,4 +69,56 @@ impl MetRoute {
         let rest = u128::from(self.time) - earned_by(prices, numbers);
         Some((rest / times as u128) as u64)
     }
+    /// Lowers the greatest price of a customer whom the route serves, which earns more than it
+    /// takes: to the greatest one at which it doesn't, or to 0 where there is none.
+    pub(crate) fn lower(&self, prices: &mut [u64])
+        requires known { All (λ c. c < length prices.old) self.now.numbers }
+        requires few { length self.now.numbers ≤ 128 }
+        requires earns { self.now.time < earned_by prices.old self.now.numbers }
+        ensures { IsLowered self.now prices.old prices.new }
+    {
+        let customer = dearest(prices, self.numbers.as_slice());
+        prices[customer] = 0;
+        prices[customer] = self.paid(prices, customer);
+    }
+
+    /// The greatest price of a customer whom the route serves at which it takes at least what it
+    /// earns, and 0 where there is none; among the prices the customer's is 0.
+    fn paid(&self, prices: &[u64], customer: usize) -> u64
+        requires customer { customer < length prices.now }
+        requires known { All (λ c. c < length prices.now) self.now.numbers }
+        requires few { length self.now.numbers ≤ 128 }
+        requires free { get_or prices.now customer 0 ≡ 0 }
+        requires serves { 1 ≤ times_in self.now.numbers customer }
+        ensures least { (price : ℕ) → 0 < price →
+            self.now.time < earned_by (set prices.now customer price) self.now.numbers →
+            result < price }
+        ensures most { self.now.time
+            < earned_by (set prices.now customer (result + 1)) self.now.numbers }
+    {
+        if earned_by(prices, self.numbers.as_slice()) > u128::from(self.time) {
+            return 0;
+        }
+        match self.allowed(prices, customer) {
+            Some(price) => price,
+            None => unreachable!(),
+        }
+    }
+}
+
+/// One of some customers with the greatest price, which is above 0.
+fn dearest(prices: &[u64], numbers: &[usize]) -> usize
+    requires known { All (λ c. c < length prices.now) numbers.now }
+    requires earns { 0 < earned_by prices.now numbers.now }
+    ensures known { result < length prices.now }
+    ensures serves { 1 ≤ times_in numbers.now result }
+    ensures some { 0 < get_or prices.now result 0 }
+{
+    let mut dearest = numbers[0];
+    for number in numbers {
+        if prices[*number] > prices[dearest] {
+            dearest = *number;
+        }
+    }
+    dearest
 }

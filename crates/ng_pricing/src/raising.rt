@@ -1,24 +1,28 @@
 //! Rising prices: fixed customer by customer, each at the greatest at which every near route pays.
 
-ghost use Rattle.std.specs.Prelude.{◌≡◌, ◌+◌, ◌<◌, IfNone, IfOk, IfSome, length};
+ghost use Rattle.std.specs.Prelude.{◌≡◌, ◌+◌, ◌<◌, ◌≤◌, ◌^◌, IfNone, IfOk, IfSome, length, set, slice_get};
+ghost use Rattle.std.specs.List.{All};
 ghost use Rattle.instance_reader.specs.Instance.{customer_nodes};
 ghost use Rattle.near_pricing.specs.Answers.{AreClosedLabels};
 ghost use Rattle.near_proof.specs.Truth.{NearRoutesPay};
 ghost use Rattle.ng_pricing.specs.Fixing.{IsFixed, IsOpen, IsRaised, IsRising, IsSetting, IsUnserved};
 ghost use Rattle.ng_pricing.specs.Met.{AreMet, IsLimit};
 ghost use Rattle.ng_pricing.specs.Rising.{terms_at};
+ghost use Rattle.ng_pricing.specs.declared.met.MetRoute.{MetRoute};
 
 use crate::limits::First;
+use crate::lowering::Begun;
 use crate::met::{Limit, MetRoute};
-use crate::setting::{ClosedAt, Setting, no_prices, prices_with};
+use crate::setting::{ClosedAt, Setting, copy_of, prices_with};
 use crate::watcher::{PriceWatcher, progress_of};
 use ev_list::Listed;
-use near_pricing::{NearPriced, Prices, near_price};
+use near_pricing::{NearPriced, near_price};
 use near_proof::NearLabel;
 use route_plan::RoutePlan;
 use std::alloc::{AllocError, Global};
 
-/// Prices by the customers' numbers, of which the first are fixed and the later ones 0.
+/// Prices by the customers' numbers, of which the first are fixed, and the later ones are those
+/// with which the prices begin to rise.
 #[derive(Drop)]
 pub(crate) struct Rising {
     pub(crate) prices: Vec<u64>,
@@ -30,12 +34,12 @@ pub(crate) struct Rising {
     pub(crate) met: Vec<MetRoute>,
 }
 
-/// The price of a customer, labels that are closed at it, and a route that shows that it can't be
-/// higher.
+/// The price of a customer, and a route that shows that it can't be higher.
 #[derive(Drop)]
 pub(crate) struct Fixed {
     pub(crate) price: u64,
-    pub(crate) labels: Listed<NearLabel>,
+    /// Closed at the price; `None` where it is the one with which the customer began.
+    pub(crate) labels: Option<Listed<NearLabel>>,
     pub(crate) tight: RoutePlan,
 }
 
@@ -48,19 +52,32 @@ pub(crate) enum Raised {
 }
 
 impl Setting<'_> {
-    /// Raises the prices of the customers one by one, in rising order. The watcher is told behind
-    /// each.
+    /// Lowers the prices until no near route earns by them, and then raises those of the customers
+    /// one by one, in rising order. The watcher is told behind each.
     pub(crate) fn raised<W: PriceWatcher>(
         &self,
         alloc: Global,
+        start: Vec<u64>,
         watcher: &mut W,
     ) -> Result<Raised, AllocError>
-        requires { IsSetting self.now }
-        ensures { IfOk result (IsRaised self.now.inst.now self.now.sets.now) }
+        requires setting { IsSetting self.now }
+        requires one_price { length start.items ≡ length (customer_nodes self.now.inst.now) }
+        requires small { All (λ price. price ≤ 10 ^ 18) start.items }
+        ensures { IfOk result (IsRaised self.now.inst.now self.now.sets.now start.items) }
     {
-        let mut rising = self.begin(alloc)?;
+        let Begun {
+            prices: base,
+            labels,
+            met,
+        } = self.begun(alloc, start)?;
+        let mut rising = Rising {
+            prices: copy_of(alloc, &base)?,
+            labels,
+            tight: Vec::new(alloc),
+            met,
+        };
         for customer in 0..self.inst.customers().len() {
-            if let Some(at) = self.fix(alloc, &mut rising, customer)? {
+            if let Some(at) = self.fix(alloc, &base, &mut rising, customer)? {
                 return Ok(Raised::Nowhere { at });
             }
             watcher.watch_prices(progress_of(&rising.prices, customer + 1));
@@ -68,56 +85,49 @@ impl Setting<'_> {
         Ok(Raised::Priced { rising })
     }
 
-    /// No price is fixed yet.
-    fn begin(&self, alloc: Global) -> Result<Rising, AllocError>
-        requires { IsSetting self.now }
-        ensures { IfOk result (IsRising self.now.inst.now self.now.sets.now 0) }
-    {
-        let asked = Prices {
-            weight: 1,
-            of: Listed::from_vec(no_prices(alloc, self.inst.customers().len())?),
-        };
-        match near_price(alloc, self.inst, self.sets, &asked)? {
-            NearPriced::Closed { labels } => Ok(Rising {
-                prices: asked.of.into_vec(),
-                labels,
-                tight: Vec::new(alloc),
-                met: Vec::new(alloc),
-            }),
-            NearPriced::Better { .. } => unreachable!(),
-        }
-    }
-
     /// Fixes the price of a customer, where those of the customers before are fixed; or answers
     /// labels that show that some customer stands on no near route.
     fn fix(
         &self,
         alloc: Global,
+        base: &[u64],
         rising: &mut Rising,
         customer: usize,
     ) -> Result<Option<ClosedAt>, AllocError>
         requires setting { IsSetting self.now }
         requires customer { customer < length (customer_nodes self.now.inst.now) }
-        requires before { IsRising self.now.inst.now self.now.sets.now customer rising.old }
+        requires before { IsRising self.now.inst.now self.now.sets.now base.now customer
+            rising.old }
         ensures fixed { IfOk result (λ found. IfNone found
-            (IsRising self.now.inst.now self.now.sets.now (customer + 1) rising.new)) }
+            (IsRising self.now.inst.now self.now.sets.now base.now (customer + 1) rising.new)) }
         ensures unserved { IfOk result (λ found. IfSome found
             (IsUnserved self.now.inst.now self.now.sets.now)) }
     {
+        let paid = base[customer];
+        rising.prices[customer] = 0;
         let first = self.first_limit(alloc, &rising.prices, &mut rising.met, customer)?;
         let limit = match first {
             First::Limited { limit } => limit,
             First::Unserved { at } => return Ok(Some(at)),
         };
-        let fixed = self.lowered(alloc, &rising.prices, &mut rising.met, customer, limit)?;
+        let fixed = self.lowered(
+            alloc,
+            &rising.prices,
+            &mut rising.met,
+            customer,
+            limit,
+            paid,
+        )?;
         rising.tight.push(fixed.tight)?;
         rising.prices[customer] = fixed.price;
-        rising.labels = fixed.labels;
+        if let Some(labels) = fixed.labels {
+            rising.labels = labels;
+        }
         Ok(None)
     }
 
     /// Lowers the price of a customer to what the routes allow that pricing finds, until it finds
-    /// none.
+    /// none, or the price is one that all near routes are known to pay.
     fn lowered(
         &self,
         alloc: Global,
@@ -125,6 +135,7 @@ impl Setting<'_> {
         met: &mut Vec<MetRoute>,
         customer: usize,
         first: Limit,
+        paid: u64,
     ) -> Result<Fixed, AllocError>
         requires setting { IsSetting self.now }
         requires open { IsOpen self.now.inst.now self.now.sets.now prices.now customer }
@@ -133,24 +144,41 @@ impl Setting<'_> {
         ensures met { IfOk result (λ _.
             AreMet self.now.inst.now self.now.sets.now met.new.items) }
         ensures fixed { IfOk result
-            (IsFixed self.now.inst.now self.now.sets.now prices.now customer) }
+            (IsFixed self.now.inst.now self.now.sets.now prices.now customer paid) }
     {
         let mut limit = first;
-        'lower: loop {
+        'lower: while limit.price != paid {
             let asked = prices_with(alloc, prices, customer, limit.price)?;
             match near_price(alloc, self.inst, self.sets, &asked)? {
                 NearPriced::Better { plan } => {
                     limit = self.meet(alloc, prices, met, customer, plan)?;
                 }
                 NearPriced::Closed { labels } => {
-                    let tight = met[limit.route].plan.copy(alloc)?;
-                    return Ok(Fixed {
-                        price: limit.price,
-                        labels,
-                        tight,
-                    });
+                    return fixed_at(alloc, met.as_slice(), limit, Some(labels));
                 }
             }
         }
+        fixed_at(alloc, met.as_slice(), limit, None)
     }
+}
+
+/// The price of a limit, with its route.
+fn fixed_at(
+    alloc: Global,
+    met: &[MetRoute],
+    limit: Limit,
+    labels: Option<Listed<NearLabel>>,
+) -> Result<Fixed, AllocError>
+    requires { limit.route < length met.now }
+    ensures price { IfOk result (λ fixed. fixed.price ≡ limit.price) }
+    ensures labels { IfOk result (λ fixed. fixed.labels ≡ labels) }
+    ensures tight { IfOk result (λ fixed. (route : MetRoute) →
+        slice_get met.now limit.route ≡ Some route → fixed.tight ≡ route.plan) }
+{
+    let tight = met[limit.route].plan.copy(alloc)?;
+    Ok(Fixed {
+        price: limit.price,
+        labels,
+        tight,
+    })
 }

@@ -24,6 +24,26 @@ pub(crate) struct ClosedAt {
     pub(crate) labels: Listed<NearLabel>,
 }
 
+/// The same prices.
+pub(crate) fn copy_of(alloc: Global, prices: &[u64]) -> Result<Vec<u64>, AllocError>
+    ensures { IfOk result (λ of. of.items ≡ prices.now) }
+{
+    let mut of = Vec::with_capacity(alloc, prices.len())?;
+    of.extend_from_slice(prices)?;
+    Ok(of)
+}
+
+/// The prices at weight 1.
+pub(crate) fn prices_at(alloc: Global, prices: &[u64]) -> Result<Prices, AllocError>
+    ensures { IfOk result (λ asked. asked ≡ record { weight = 1; of = prices.now }) }
+{
+    let of = copy_of(alloc, prices)?;
+    Ok(Prices {
+        weight: 1,
+        of: Listed::from_vec(of),
+    })
+}
+
 /// The prices at weight 1, with another price for one customer.
 pub(crate) fn prices_with(
     alloc: Global,
@@ -35,8 +55,7 @@ pub(crate) fn prices_with(
     ensures { IfOk result (λ asked.
         asked ≡ record { weight = 1; of = set prices.now customer price }) }
 {
-    let mut of = Vec::with_capacity(alloc, prices.len())?;
-    of.extend_from_slice(prices)?;
+    let mut of = copy_of(alloc, prices)?;
     of[customer] = price;
     Ok(Prices {
         weight: 1,

@@ -7,7 +7,8 @@ pub struct PriceProgress {
     pub customers: u64,
     /// Of how many the price is fixed.
     pub fixed: u64,
-    /// The sum of the fixed prices, which is scaled as times are.
+    /// The sum of all prices, which is scaled as times are: those that aren't fixed yet are the
+    /// ones with which the customers begin, 0 where no start prices are told.
     pub bound: u128,
 }
 
@@ -25,7 +26,7 @@ impl PriceWatcher for Nobody {
     fn watch_prices(&mut self, _progress: PriceProgress) {}
 }
 
-/// How far the bound is where the prices of so many customers are fixed, and the later ones are 0.
+/// How far the bound is where the prices of so many customers are fixed.
 pub(crate) fn progress_of(prices: &[u64], fixed: usize) -> PriceProgress {
     let mut bound: u128 = 0;
     for price in prices {

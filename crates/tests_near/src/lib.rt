@@ -18,6 +18,8 @@ mod levels;
 #[cfg(test)]
 mod orders;
 #[cfg(test)]
+mod starts;
+#[cfg(test)]
 mod tightness;
 #[cfg(test)]
 mod told;
