@@ -6,7 +6,7 @@ ghost use Rattle.gap_search.specs.Gap.{IsGapOutcome, IsGapProof};
 ghost use Rattle.instance_reader.specs.Instance.{customer_nodes, most_customers};
 ghost use Rattle.plan_check.specs.FleetRules.{stops_of};
 
-use crate::judged::judged_proof;
+use crate::judged::{Judged, judge};
 use crate::offers::cost_of_plan;
 use crate::outcome::GapOutcome;
 use crate::plans::{FoundRoutes, cheaper};
@@ -14,13 +14,13 @@ use crate::watcher::{GapProgress, GapWatcher};
 use instance_reader::Instance;
 use near_columns::{GapClock, NearFound, search_near};
 use near_proof::NearProof;
-use ng_pricing::{PriceWatcher, near_bound_watched};
+use ng_pricing::{PriceWatcher, near_bound_from, near_bound_watched};
 use route_improve::{Improved, improve_watched};
 use route_plan::FleetPlan;
 use std::alloc::{AllocError, Global};
 
 /// How many other customers stand in a near set of the proof that stands in where the search finds
-/// none.
+/// none in its ranges.
 const FEW_NEAR: usize = 4;
 
 /// A fleet plan, and a proof of what no fleet plan costs less than.
@@ -32,7 +32,8 @@ const FEW_NEAR: usize = 4;
 /// long, and no plan that is held costs less than its bound. How close the two are isn't promised.
 ///
 /// The clock is asked whether the search stops. Where the search finds no proof that is accepted,
-/// one of few near customers stands in, which takes its time, whatever the clock says. The only
+/// one from the prices and by the near sets of what it found stands in, and where that is no proof
+/// in its ranges, one of few near customers; it takes its time, whatever the clock says. The only
 /// `Err` is want of memory.
 pub fn close_gap<C: GapClock, W: GapWatcher>(
     alloc: Global,
@@ -69,7 +70,8 @@ fn tell_first<W: GapWatcher>(inst: &Instance, first: &Improved, watcher: &mut W)
     }
 }
 
-/// A proof that is accepted: the candidate, where it is one, and else one of few near customers.
+/// A proof that is accepted: the candidate, where it is one; else one from its prices and by its
+/// near sets, where it is read, and else one of few near customers.
 fn proof_of<W: PriceWatcher>(
     alloc: Global,
     inst: &Instance,
@@ -79,10 +81,15 @@ fn proof_of<W: PriceWatcher>(
     requires { length (customer_nodes inst.now) ≤ most_customers }
     ensures { IfOk result (IsGapProof inst.now) }
 {
-    if let Some(candidate) = candidate {
-        if let Some(proof) = judged_proof(alloc, inst, &candidate)? {
-            return Ok(proof);
+    let Some(candidate) = candidate else {
+        return near_bound_watched(alloc, inst, FEW_NEAR, watcher);
+    };
+    match judge(alloc, inst, &candidate)? {
+        Judged::Accepted { proof } => Ok(proof),
+        Judged::Rejected { proof } => {
+            let NearProof { prices, sets, .. } = proof;
+            near_bound_from(alloc, inst, sets.into_vec(), prices.into_vec(), watcher)
         }
+        Judged::Unread => near_bound_watched(alloc, inst, FEW_NEAR, watcher),
     }
-    near_bound_watched(alloc, inst, FEW_NEAR, watcher)
 }
