@@ -6,6 +6,7 @@ ghost use Rattle.gap_search.specs.Gap.{IsGapOutcome, IsGapProof};
 ghost use Rattle.instance_reader.specs.Instance.{customer_nodes, most_customers};
 ghost use Rattle.plan_check.specs.FleetRules.{stops_of};
 
+use crate::few_near::few_near_from;
 use crate::judged::{Judged, judge};
 use crate::offers::cost_of_plan;
 use crate::outcome::GapOutcome;
@@ -14,14 +15,10 @@ use crate::watcher::{GapProgress, GapWatcher};
 use instance_reader::Instance;
 use near_columns::{GapClock, NearFound, search_near};
 use near_proof::NearProof;
-use ng_pricing::{PriceWatcher, near_bound_from, near_bound_watched};
+use ng_pricing::{PriceWatcher, near_bound_from};
 use route_improve::{Improved, improve_watched};
 use route_plan::FleetPlan;
 use std::alloc::{AllocError, Global};
-
-/// How many other customers stand in a near set of the proof that stands in where the search finds
-/// none in its ranges.
-const FEW_NEAR: usize = 4;
 
 /// A fleet plan, and a proof of what no fleet plan costs less than.
 ///
@@ -33,8 +30,8 @@ const FEW_NEAR: usize = 4;
 ///
 /// The clock is asked whether the search stops. Where the search finds no proof that is accepted,
 /// one from the prices and by the near sets of what it found stands in, and where that is no proof
-/// in its ranges, one of few near customers; it takes its time, whatever the clock says. The only
-/// `Err` is want of memory.
+/// in its ranges, one of few near customers from its last prices; it takes its time, whatever the
+/// clock says. The only `Err` is want of memory.
 pub fn close_gap<C: GapClock, W: GapWatcher>(
     alloc: Global,
     inst: &Instance,
@@ -51,10 +48,11 @@ pub fn close_gap<C: GapClock, W: GapWatcher>(
     tell_first(inst, &first, watcher);
     let NearFound {
         proof: candidate,
+        prices,
         orders,
         dives,
     } = search_near(alloc, inst, clock, watcher)?;
-    let proof = proof_of(alloc, inst, candidate, watcher)?;
+    let proof = proof_of(alloc, inst, candidate, &prices, watcher)?;
     let found = FoundRoutes { orders, dives };
     let plan = cheaper(alloc, inst, first, found, &proof, clock, watcher)?;
     Ok(GapOutcome { plan, proof })
@@ -71,18 +69,19 @@ fn tell_first<W: GapWatcher>(inst: &Instance, first: &Improved, watcher: &mut W)
 }
 
 /// A proof that is accepted: the candidate, where it is one; else one from its prices and by its
-/// near sets, where it is read, and else one of few near customers.
+/// near sets, where it is read, and else one of few near customers from the prices that are told.
 fn proof_of<W: PriceWatcher>(
     alloc: Global,
     inst: &Instance,
     candidate: Option<NearProof>,
+    prices: &[u64],
     watcher: &mut W,
 ) -> Result<NearProof, AllocError>
     requires { length (customer_nodes inst.now) ≤ most_customers }
     ensures { IfOk result (IsGapProof inst.now) }
 {
     let Some(candidate) = candidate else {
-        return near_bound_watched(alloc, inst, FEW_NEAR, watcher);
+        return few_near_from(alloc, inst, prices, watcher);
     };
     match judge(alloc, inst, &candidate)? {
         Judged::Accepted { proof } => Ok(proof),
@@ -90,6 +89,6 @@ fn proof_of<W: PriceWatcher>(
             let NearProof { prices, sets, .. } = proof;
             near_bound_from(alloc, inst, sets.into_vec(), prices.into_vec(), watcher)
         }
-        Judged::Unread => near_bound_watched(alloc, inst, FEW_NEAR, watcher),
+        Judged::Unread => few_near_from(alloc, inst, prices, watcher),
     }
 }

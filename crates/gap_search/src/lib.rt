@@ -7,6 +7,7 @@
 
 mod choosing;
 mod closing;
+mod few_near;
 mod judged;
 mod offers;
 mod outcome;

@@ -2,7 +2,7 @@
 
 use crate::clock::{GapClock, NoClock};
 use crate::orders::{NearOrder, Orders};
-use crate::proving::proof_of;
+use crate::proving::{all_prices, proof_of};
 use crate::rounds::{Rounds, RoundsEnd};
 use crate::starting::first_rounds;
 use crate::watcher::RoundsWatcher;
@@ -19,6 +19,9 @@ const MOST_LACKING: i64 = 1 << 16;
 pub struct NearFound {
     /// A proof that may be accepted.
     pub proof: Option<NearProof>,
+    /// The last price of each customer, by number, whether or not a proof was made of them; none
+    /// where nothing was looked for.
+    pub prices: Vec<u64>,
     /// Routes of which plans may be made, no two of them with the same customers.
     pub orders: Vec<NearOrder>,
     /// Routes that may make plans together, plan by plan: no two of a plan serve the same customer.
@@ -52,6 +55,7 @@ pub fn search_near<C: GapClock, W: RoundsWatcher>(
 fn nothing(alloc: Global) -> NearFound {
     NearFound {
         proof: None,
+        prices: Vec::new(alloc),
         orders: Vec::new(alloc),
         dives: Vec::new(alloc),
     }
@@ -95,6 +99,7 @@ impl Rounds {
         clock: &mut C,
     ) -> Result<NearFound, AllocError> {
         let proof = self.proof(alloc, inst, is_settled)?;
+        let prices = all_prices(alloc, &self.pricing.prices)?;
         let mut orders = Orders::new(alloc);
         if is_settled {
             orders.add_optimum(alloc, &self)?;
@@ -104,6 +109,7 @@ impl Rounds {
         orders.add_pool(alloc, &self)?;
         Ok(NearFound {
             proof,
+            prices,
             orders: orders.into_all(),
             dives,
         })

@@ -80,7 +80,7 @@ fn needed_labels(
 }
 
 /// The prices, as a proof lists them.
-fn all_prices(alloc: Global, prices: &[i64]) -> Result<Vec<u64>, AllocError> {
+pub(crate) fn all_prices(alloc: Global, prices: &[i64]) -> Result<Vec<u64>, AllocError> {
     let mut all = Vec::with_capacity(alloc, prices.len())?;
     for price in prices {
         all.push(unsigned(*price))?;

@@ -62,6 +62,7 @@ fn assert_found(rt: &impl Abort, alloc: Global, text: &str, bound: u128) {
     let (found, rounds) = found_on(alloc, &inst).expect(rt, "memory");
     let proof = found.proof.as_ref().expect(rt, "a proof");
     assert_eq!(rt; proof.bound, Some(bound));
+    assert_eq!(rt; found.prices.as_slice(), proof.prices.as_slice());
     let verdict = judged(alloc, &inst, proof).expect(rt, "a verdict");
     assert_eq!(rt; verdict, NearVerdict::Accepted);
     assert!(rt; rounds > 0 && !found.dives.is_empty());
