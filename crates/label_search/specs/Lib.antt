@@ -1,0 +1,5 @@
+pub mod Space
+pub mod Steps
+pub mod Laws
+pub mod Tree
+pub mod Answers
