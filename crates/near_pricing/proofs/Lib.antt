@@ -1,9 +1,6 @@
 mod Customers
-mod Homeward
-mod LeavingValues
-mod GrownTrees
-mod WaysBack
-mod StartLabels
-mod SearchState
+mod Fastest
+mod LabelRanges
+mod Lawful
 mod ListFaults
-mod SearchEnds
+mod NoSteps

@@ -2,6 +2,5 @@ pub mod Answers
 pub mod Questions
 pub mod Inside
 pub mod Better
-pub mod Steps
 pub mod Placed
-pub mod Tree
+pub mod Labels

@@ -3,22 +3,24 @@
 ghost use Rattle.std.specs.Prelude.{◌≡◌, ◌<◌, ◌≤◌, ◌+◌, ◌^◌, IfOk, length};
 ghost use Rattle.std.specs.List.{All};
 ghost use Rattle.instance_reader.specs.Instance.{customer_nodes, most_customers};
+ghost use Rattle.label_search.specs.Steps.{IsListed};
 ghost use Rattle.near_proof.specs.Closed.{AreClosed};
 ghost use Rattle.near_proof.specs.Ranges.{NearLabelFits, SetsFit};
 ghost use Rattle.near_pricing.specs.Answers.{IsNearPriced};
-ghost use Rattle.near_pricing.specs.Tree.{IsSearch};
+ghost use Rattle.near_pricing.specs.Labels.{IsBetterPlan, near_space};
 
 use crate::asked::Question;
-use crate::coverage::Care;
+use crate::hopeless::hopeless_labels;
 use crate::listing::{closed_with, list_all};
 use crate::priced::{NearPriced, Prices};
-use crate::search::Search;
 use crate::table::completion_of;
 use completion_bounds::Completion;
 use customer_sets::CustSet;
 use ev_list::Listed;
 use instance_reader::Instance;
+use label_search::{Care, Closing, close, seek, seek_labels};
 use near_proof::{NearLabel, NearTerms};
+use route_plan::RoutePlan;
 use std::alloc::{AllocError, Global};
 
 /// A list is mended so often at the most, where a table tells what can still earn.
@@ -76,29 +78,29 @@ fn priced_by(
 ) -> Result<NearPriced, AllocError>
     ensures { IfOk result (IsNearPriced pricing.now.network pricing.now.terms) }
 {
-    let quick = found_with(alloc, pricing, table, Care::Quick)?;
-    if !quick.routes.is_empty() {
+    let quick = seek(alloc, pricing, table, Care::Quick)?;
+    if !quick.is_empty() {
         return Ok(better_of(pricing, quick));
     }
-    let exact = found_with(alloc, pricing, table, Care::Exact)?;
+    let exact = seek_labels(alloc, pricing, table, Care::Exact)?;
     if !exact.routes.is_empty() {
-        return Ok(better_of(pricing, exact));
+        return Ok(better_of(pricing, exact.routes));
     }
-    closed_after(alloc, pricing, table, &exact)
+    closed_after(alloc, pricing, table, exact.labels)
 }
 
-/// The answer once an exact search has found no route.
+/// The answer once an exact search, which took these labels, has found no route.
 fn closed_after(
     alloc: Global,
     pricing: &Question<'_>,
     table: &Completion,
-    exact: &Search<'_>,
+    exact: Vec<NearLabel>,
 ) -> Result<NearPriced, AllocError>
-    requires { IsSearch pricing.now exact.now }
+    requires { All (IsListed (near_space pricing.now)) exact.items }
     ensures { IfOk result (IsNearPriced pricing.now.network pricing.now.terms) }
 {
-    let mut labels = pricing.hopeless(alloc, table)?;
-    list_all(pricing, &mut labels, exact.labels(alloc, pricing)?)?;
+    let mut labels = hopeless_labels(alloc, pricing.instance(), table)?;
+    list_all(pricing, &mut labels, exact)?;
     match closed_with(alloc, pricing, labels, most_mends(table))? {
         Some(labels) => Ok(closed_by(pricing, labels)),
         None => certain(alloc, pricing),
@@ -114,39 +116,15 @@ fn most_mends(table: &Completion) -> usize {
     }
 }
 
-/// A search that has come to its end.
-fn found_with<'a>(
-    alloc: Global,
-    pricing: &Question<'_>,
-    table: &'a Completion,
-    care: Care,
-) -> Result<Search<'a>, AllocError>
-    ensures { IfOk result (IsSearch pricing.now) }
-{
-    let mut search = Search::new(alloc, pricing, table, care)?;
-    search.run(alloc, pricing)?;
-    Ok(search)
-}
-
 /// The answer of the search whose labels are all real, and make each other needless only where
 /// they cover each other's states.
 fn certain(alloc: Global, pricing: &Question<'_>) -> Result<NearPriced, AllocError>
     ensures { IfOk result (IsNearPriced pricing.now.network pricing.now.terms) }
 {
-    let none = Completion::none(alloc);
-    let mut search = Search::new(alloc, pricing, &none, Care::Certain)?;
-    while search.routes.is_empty() {
-        search.run(alloc, pricing)?;
-        if !search.routes.is_empty() {
-            return Ok(better_of(pricing, search));
-        }
-        let labels = search.labels(alloc, pricing)?;
-        let Some(fault) = pricing.first_fault(alloc, &labels)? else {
-            return Ok(closed_by(pricing, labels));
-        };
-        search.mend(alloc, pricing, &labels, fault)?;
+    match close(alloc, pricing, &Completion::none(alloc), Care::Certain)? {
+        Closing::Better { routes } => Ok(better_of(pricing, routes)),
+        Closing::Closed { labels } => Ok(closed_by(pricing, labels)),
     }
-    Ok(better_of(pricing, search))
 }
 
 /// The labels, which are closed.
@@ -161,23 +139,13 @@ fn closed_by(pricing: &Question<'_>, labels: Vec<NearLabel>) -> NearPriced
     }
 }
 
-/// The best route that a search found.
-fn better_of(pricing: &Question<'_>, search: Search<'_>) -> NearPriced
-    requires search { IsSearch pricing.now search }
-    requires some { 0 < length search.routes.items }
+/// The last of the routes that a search found, which is the best.
+fn better_of(pricing: &Question<'_>, mut routes: Vec<RoutePlan>) -> NearPriced
+    requires routes { All (IsBetterPlan pricing.now) routes.items }
+    requires some { 0 < length routes.items }
     ensures { IsNearPriced pricing.now.network pricing.now.terms result }
 {
     let _ = pricing;
-    let Search {
-        care: _,
-        table: _,
-        tree: _,
-        queue: _,
-        listed: _,
-        mut routes,
-        homes: _,
-        gain: _,
-    } = search;
     let Some(plan) = routes.pop() else {
         unreachable!();
     };

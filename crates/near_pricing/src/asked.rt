@@ -7,8 +7,6 @@ ghost use Rattle.near_proof.specs.Faults.{TellsFault, terms_in};
 ghost use Rattle.near_proof.specs.Ranges.{NearLabelFits, SetsFit};
 ghost use Rattle.near_pricing.specs.Questions.{IsQuestion, most_price};
 
-use crate::hopeless_labels;
-use completion_bounds::Completion;
 use instance_reader::Instance;
 use near_proof::{NearLabel, NearLabelFault, NearTerms, first_fault};
 use std::alloc::{AllocError, Global};
@@ -17,8 +15,8 @@ use std::marker::Model;
 /// What near routes are judged by, on an instance. Contracts see these.
 #[derive(Drop)]
 pub(crate) struct Question<'a> {
-    inst: &'a Instance,
-    terms: NearTerms<'a>,
+    pub(crate) inst: &'a Instance,
+    pub(crate) terms: NearTerms<'a>,
 }
 
 impl<'a> Model for Question<'a> {
@@ -61,17 +59,6 @@ impl<'a> Question<'a> {
         ensures question { IsQuestion self.now }
     {
         self.terms
-    }
-
-    /// Labels that stand for all states that a table leaves out.
-    pub(crate) fn hopeless(
-        &self,
-        alloc: Global,
-        table: &Completion,
-    ) -> Result<Vec<NearLabel>, AllocError>
-        ensures { IfOk result (λ labels. All (NearLabelFits self.now.network) labels.items) }
-    {
-        hopeless_labels(alloc, self.inst, table)
     }
 
     /// The first place where labels are not closed.

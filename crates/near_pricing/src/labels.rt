@@ -1,253 +1,167 @@
-//! The labels of the entries of a table.
+//! The labels of near routes: who is remembered, what was earned, and by how many services.
 
-ghost use Rattle.std.specs.Prelude.{◌≡◌, ◌<◌, ◌≤◌, IfOk, OnOk, length};
-ghost use Rattle.std.specs.List.{All};
-ghost use Rattle.ev_model.specs.Network.{node_count};
-ghost use Rattle.instance_reader.specs.Instance.{customer_nodes, most_customers};
-ghost use Rattle.near_proof.specs.Ranges.{AreAmong, NearLabelFits};
-
-use crate::value::value_after;
-use completion_bounds::{Completion, Rest};
+use crate::asked::Question;
+use crate::gain::gain_at_home;
+use crate::steps::{Target, target_at};
+use crate::table::{is_left_out, signed};
+use completion_bounds::Completion;
 use customer_sets::CustSet;
 use instance_reader::Instance;
-use near_proof::NearLabel;
+use label_search::{Care, ListFault, Resources, fastest_along};
+use near_proof::{NearLabel, NearLabelFault, earns_at_home, first_fault};
+use piece_fn::PieceFn;
+use route_plan::RoutePlan;
 use std::alloc::{AllocError, Global};
 
-/// The most that a label has earned.
-const MOST_EARNED: u128 = 1 << 96;
+impl Resources for Question<'_> {
+    type Label = NearLabel;
 
-/// States at a node from which no way home earns.
-#[derive(Clone, Copy)]
-struct States {
-    node: usize,
-    /// Whom each of them remembers.
-    memory: CustSet,
-    /// The least time of each, less what its level is worth.
-    least: i128,
-    /// The most that a way home earns from there.
-    rest: i128,
-}
+    type Target = Target;
 
-impl States {
-    fn new(node: usize, memory: CustSet, least: i128, rest: i128) -> States
-        ensures node { result.node ≡ node }
-        ensures memory { result.memory ≡ memory }
-    {
-        States {
+    /// What a table of ways home says of the label's value.
+    type Leaving = u64;
+
+    type Route = RoutePlan;
+
+    ghost use Rattle.near_pricing.specs.Labels.{near_space};
+
+    ghost space = { near_space };
+
+    fn instance(&self) -> &Instance {
+        self.inst
+    }
+
+    fn weight(&self) -> u64 {
+        self.terms.weight
+    }
+
+    fn start(&self, alloc: Global) -> NearLabel {
+        NearLabel {
+            node: 0,
+            memory: CustSet::empty(),
+            count: 0,
+            earned: 0,
+            value: PieceFn::point(alloc, self.inst.max_q(), 0),
+        }
+    }
+
+    fn copy(&self, alloc: Global, label: &NearLabel) -> Result<NearLabel, AllocError> {
+        Ok(NearLabel {
+            node: label.node,
+            memory: label.memory,
+            count: label.count,
+            earned: label.earned,
+            value: PieceFn::from_points(alloc, label.value.points())?,
+        })
+    }
+
+    fn node(&self, label: &NearLabel) -> usize {
+        label.node
+    }
+
+    fn value<'b>(&self, label: &'b NearLabel) -> &'b PieceFn {
+        &label.value
+    }
+
+    fn memory(&self, label: &NearLabel) -> CustSet {
+        label.memory
+    }
+
+    fn customers(&self) -> usize {
+        self.terms.prices.len()
+    }
+
+    fn groups(&self) -> usize {
+        self.inst.nodes()
+    }
+
+    fn group(&self, label: &NearLabel) -> usize {
+        label.node
+    }
+
+    /// Each level counts: the labels are to be closed with those that stand for what the table
+    /// leaves out.
+    fn least_level(&self, _table: &Completion, _label: &NearLabel) -> u64 {
+        0
+    }
+
+    fn latest_first(&self) -> bool {
+        true
+    }
+
+    /// Certainly, where it was served no more often.
+    fn covers(&self, care: Care, own: &NearLabel, other: &NearLabel) -> bool {
+        care != Care::Certain || own.count <= other.count
+    }
+
+    fn leaving(&self, _label: &NearLabel, budget: u64) -> u64 {
+        budget
+    }
+
+    fn may_lead(&self, table: &Completion, from: &NearLabel, leaving: &u64, node: usize) -> bool {
+        !is_left_out(self, table, from, node, *leaving)
+    }
+
+    fn target(&self, from: &NearLabel, _earned: i128, node: usize) -> Option<Target> {
+        target_at(self, from, node)
+    }
+
+    fn target_memory(&self, target: &Target) -> CustSet {
+        target.memory
+    }
+
+    fn target_earned(&self, target: &Target) -> i128 {
+        let earned = signed(target.earned);
+        if earned.unsigned_abs() > 1 << 91 {
+            0
+        } else {
+            earned
+        }
+    }
+
+    fn label(&self, target: &Target, node: usize, value: PieceFn) -> NearLabel {
+        NearLabel {
             node,
-            memory,
-            least,
-            rest,
+            memory: target.memory,
+            count: target.count,
+            earned: target.earned,
+            value,
         }
     }
 
-    /// Whether those of the layer above, which begin earlier, have a label that covers these, by
-    /// what ways home earn there. Where a label begins before time 0 at low levels, it covers none
-    /// there that has earned something.
-    fn are_told(&self, earlier: i128, above: Option<i128>) -> bool {
-        let Some(rest) = above else {
-            return false;
+    fn gain(&self, label: &NearLabel, _earned: i128) -> Result<Option<u128>, AllocError> {
+        let weight = self.terms.weight;
+        if !earns_at_home(self.inst, weight, label)? {
+            return Ok(None);
+        }
+        Ok(Some(gain_at_home(self.inst, weight, label)?))
+    }
+
+    fn keeps(&self, gain: u128, best: u128) -> bool {
+        gain > best
+    }
+
+    fn route(&self, alloc: Global, order: Vec<usize>) -> Result<RoutePlan, AllocError> {
+        let Some(plan) = fastest_along(alloc, self.inst, &order)? else {
+            unreachable!();
         };
-        let begin = earlier.max(rest);
-        rest == self.rest && (begin >= 0 || begin == self.least.max(rest))
+        Ok(plan)
     }
-}
 
-/// Labels that cover the states that a table leaves out, as far as the limit lets them be. The
-/// table is that of the instance, with the limit as its horizon and a weight of 0 or 1.
-pub fn hopeless_labels(
-    alloc: Global,
-    inst: &Instance,
-    table: &Completion,
-) -> Result<Vec<NearLabel>, AllocError>
-    requires few { length (customer_nodes inst.now) ≤ most_customers }
-    ensures { IfOk result (λ labels. All (NearLabelFits inst.now) labels.items) }
-{
-    let mut labels = Vec::new(alloc);
-    for node in 0..inst.nodes() {
-        push_labels_at(alloc, &mut labels, inst, table, node)?;
-    }
-    Ok(labels)
-}
-
-/// Appends the labels at a node.
-fn push_labels_at(
-    alloc: Global,
-    labels: &mut Vec<NearLabel>,
-    inst: &Instance,
-    table: &Completion,
-    node: usize,
-) -> Result<(), AllocError>
-    requires few { length (customer_nodes inst.now) ≤ most_customers }
-    requires node { node < node_count inst.now }
-    requires labels { All (NearLabelFits inst.now) labels.old.items }
-    ensures { OnOk result (All (NearLabelFits inst.now) labels.new.items) }
-{
-    let layers = table.rests(node).len();
-    for layer in 0..layers {
-        push_labels_in(alloc, labels, inst, table, node, layer)?;
-    }
-    Ok(())
-}
-
-/// Appends the labels of a layer at a node.
-fn push_labels_in(
-    alloc: Global,
-    labels: &mut Vec<NearLabel>,
-    inst: &Instance,
-    table: &Completion,
-    node: usize,
-    layer: usize,
-) -> Result<(), AllocError>
-    requires few { length (customer_nodes inst.now) ≤ most_customers }
-    requires node { node < node_count inst.now }
-    requires labels { All (NearLabelFits inst.now) labels.old.items }
-    ensures { OnOk result (All (NearLabelFits inst.now) labels.new.items) }
-{
-    let rests = table.rests(node);
-    let Some(rest) = rests.get(layer) else {
-        return Ok(());
-    };
-    let above = match layer.checked_add(1) {
-        Some(next) => rests.get(next),
-        None => None,
-    };
-    let own = own_memory(inst, node);
-    let least = earliest(inst, table, layer as u64);
-    let best = States::new(node, own, least, rest.best);
-    push_untold(alloc, labels, inst, table, best, layer, best_of(above))?;
-    if !has_second(rest) {
-        return Ok(());
-    }
-    let memory = with_known(inst, own, rest.first);
-    let second = States::new(node, memory, least, rest.second);
-    push_untold(
-        alloc,
-        labels,
-        inst,
-        table,
-        second,
-        layer,
-        second_above(rest, above),
-    )
-}
-
-/// Appends the label of states of a layer, unless that of the layer above covers them, by what ways
-/// home earn there.
-fn push_untold(
-    alloc: Global,
-    labels: &mut Vec<NearLabel>,
-    inst: &Instance,
-    table: &Completion,
-    states: States,
-    layer: usize,
-    above: Option<i128>,
-) -> Result<(), AllocError>
-    requires node { states.node < node_count inst.now }
-    requires memory { AreAmong (length (customer_nodes inst.now)) states.memory }
-    requires labels { All (NearLabelFits inst.now) labels.old.items }
-    ensures { OnOk result (All (NearLabelFits inst.now) labels.new.items) }
-{
-    let next = (layer as u64).saturating_add(1);
-    if states.are_told(earliest(inst, table, next), above) {
-        return Ok(());
-    }
-    push_label(alloc, labels, inst, table, states)
-}
-
-/// What the layer above says of all ways.
-fn best_of(above: Option<&Rest>) -> Option<i128> {
-    match above {
-        Some(above) => Some(above.best),
-        None => None,
-    }
-}
-
-/// The least time in a layer, less what the level is worth: not less than that of the start.
-fn earliest(inst: &Instance, table: &Completion, layer: u64) -> i128 {
-    let worth = i128::from(table.rate()).saturating_mul(i128::from(inst.max_q()));
-    table.least_time(layer).max(worth.saturating_neg())
-}
-
-/// Whether ways that begin with another customer than the first one earn less.
-fn has_second(rest: &Rest) -> bool {
-    rest.first.is_some() && rest.second < rest.best
-}
-
-/// What the layer above says of ways that begin with another customer than the first one, where it
-/// has the same first one.
-fn second_above(rest: &Rest, above: Option<&Rest>) -> Option<i128> {
-    let above = above?;
-    if above.first == rest.first {
-        Some(above.second)
-    } else {
-        None
-    }
-}
-
-/// Whom each vehicle at a node remembers: the customer there.
-fn own_memory(inst: &Instance, node: usize) -> CustSet
-    requires few { length (customer_nodes inst.now) ≤ most_customers }
-    requires node { node < node_count inst.now }
-    ensures { AreAmong (length (customer_nodes inst.now)) result }
-{
-    with_known(inst, CustSet::empty(), inst.customer_number(node))
-}
-
-/// A set with a customer, if there is one.
-fn with_known(inst: &Instance, set: CustSet, customer: Option<usize>) -> CustSet
-    requires few { length (customer_nodes inst.now) ≤ most_customers }
-    requires set { AreAmong (length (customer_nodes inst.now)) set }
-    ensures { AreAmong (length (customer_nodes inst.now)) result }
-{
-    match customer {
-        Some(number) => {
-            if number < inst.customers().len() {
-                set.with(number)
-            } else {
-                set
-            }
+    fn first_fault(
+        &self,
+        alloc: Global,
+        labels: &[NearLabel],
+    ) -> Result<Option<ListFault>, AllocError> {
+        match first_fault(alloc, self.inst, self.terms, labels)? {
+            None => Ok(None),
+            Some(NearLabelFault::Start) => Ok(Some(ListFault::Start)),
+            Some(NearLabelFault::Step { label, node }) => Ok(Some(ListFault::Step { label, node })),
+            Some(NearLabelFault::End { label }) => Ok(Some(ListFault::End { label })),
         }
-        None => set,
     }
-}
 
-/// Appends the label of states, unless the limit lets none of them be.
-fn push_label(
-    alloc: Global,
-    labels: &mut Vec<NearLabel>,
-    inst: &Instance,
-    table: &Completion,
-    states: States,
-) -> Result<(), AllocError>
-    requires node { states.node < node_count inst.now }
-    requires memory { AreAmong (length (customer_nodes inst.now)) states.memory }
-    requires labels { All (NearLabelFits inst.now) labels.old.items }
-    ensures { OnOk result (All (NearLabelFits inst.now) labels.new.items) }
-{
-    let Some((time, earned)) = time_and_earned(table.weight(), states.least, states.rest) else {
-        return Ok(());
-    };
-    let Some(value) = value_after(alloc, inst, table.rate(), time)? else {
-        return Ok(());
-    };
-    labels.push(NearLabel {
-        node: states.node,
-        memory: states.memory,
-        count: 0,
-        earned: earned.min(MOST_EARNED),
-        value,
-    })?;
-    Ok(())
-}
-
-/// The least time beside what the level is worth, and what a label has earned there, so that ways
-/// home that earn `rest` at the most don't pay.
-fn time_and_earned(weight: u64, least: i128, rest: i128) -> Option<(i128, u128)> {
-    if weight == 0 {
-        return u128::try_from(rest.checked_neg()?).ok().map(|e| (least, e));
+    fn goes_on(&self) -> bool {
+        true
     }
-    let time = least.max(rest);
-    let earned = time.checked_sub(rest)?;
-    Some((time, u128::try_from(earned).unwrap_or(0)))
 }

@@ -13,7 +13,8 @@ ghost use Rattle.near_proof.specs.Closed.{AreClosed};
 ghost use Rattle.near_proof.specs.Ranges.{AreAmong, NearLabelFits};
 
 use crate::asked::Question;
-use crate::steps::{Target, target_at, values_at};
+use crate::steps::{Target, target_at};
+use label_search::values_at;
 use near_proof::{NearLabel, NearLabelFault};
 use piece_fn::PieceFn;
 use std::alloc::{AllocError, Global};
@@ -93,7 +94,8 @@ fn list_step(
     if target.earned > MOST_EARNED {
         return Ok(false);
     }
-    let values = values_at(alloc, pricing, from, node)?;
+    let inst = pricing.instance();
+    let values = values_at(alloc, inst, &from.value, from.node, node)?;
     let lists_some = !values.is_empty();
     list_values(pricing, labels, node, &target, values)?;
     Ok(lists_some)

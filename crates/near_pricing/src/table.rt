@@ -46,12 +46,6 @@ fn table_of<'a>(
     Completion::new(alloc, &terms)
 }
 
-/// Whether no way home earns from a label, by the table.
-pub(crate) fn is_beyond(table: &Completion, label: &NearLabel) -> bool {
-    let budget = table.budget(&label.value);
-    table.is_beyond(budget, label.node, label.memory, signed(label.earned))
-}
-
 /// Whether no way home earns from behind the arc from a label with a budget to a customer, by the
 /// table, whoever else is remembered there. It spares most steps the look at who is.
 pub(crate) fn is_left_out(

@@ -1,22 +1,17 @@
 -- Customers in order, each of whom is new.
 use Rattle.std.proofs.Common.{◌≡◌, ◌≢◌, ◌∙◌, ℕ, ◌<◌, ◌≤◌, true, false, refl, sym, ap, subst, List, [], ◌∷◌, ◌++◌, map, arith, inl, inr, nat_eq, nat_lt, ◌||◌}
-use Rattle.std.specs.Prelude.{filter, ℤ, ◌+ℤ◌}
+use Rattle.std.specs.Prelude.{ℤ, ◌+ℤ◌}
 use Rattle.std.specs.List.{All}
 use Rattle.std.proofs.lemmas.Bool.{cases_Bool, cases_eq, eq-eqb, ne_eqb, false≢true}
 use Rattle.std.proofs.lemmas.Int.{ints}
-use Rattle.std.proofs.lemmas.List.Elements.{All-append, All-cons, All-nil}
 use Rattle.customer_sets.specs.CustSet.{has, with_customer}
 use Rattle.ev_model.specs.Fleet.{times_in}
 use Rattle.ev_model.specs.Network.{is_customer, Network, node_count}
 use Rattle.ev_model.specs.Route.{IsRoute, Moves}
 use Rattle.fleet_model.specs.Places.{customer_number}
 use Rattle.fleet_model.specs.Prices.{price_of, price_sum}
+use Rattle.label_search.proofs.Orders.{customer_moves, makes_route}
 use Rattle.fleet_model.proofs.Counts.{AreCustomers, AreNew, count_numbers}
-
--- nodes of the network
-abbrev pub AreKnown : Network → List ℕ → Type 0
-AreKnown g [] = Unit {0}
-AreKnown g (x ∷ xs) = (x < node_count g) × AreKnown g xs
 
 -- which numbers are new depends on the members before alone
 pub new_same : (a b xs : List ℕ) → ((c : ℕ) → has a c ≡ has b c) → AreNew a xs → AreNew b xs
@@ -59,17 +54,9 @@ module _ (g : Network) where
       let numbers = (new_once before (map (customer_number g) order) (customer_number g node) new).once in
       omega (arith, numbers, count_numbers g order node are is)
 
-  -- all of them are customers
-  pub all_served : (order : List ℕ) → AreCustomers g order → filter (is_customer g) (order ++ 0 ∷ []) ≡ order
-  all_served [] are = refl
-  all_served (x ∷ xs) are = rw (are.0, all_served xs are.1) refl
-
-  pub customer_moves : (x : ℕ) → is_customer g x ≡ true → x ≢ 0
-  customer_moves x is zero_is = grind (arith, is, zero_is)
-
   -- none follows itself
   moves_on : (x : ℕ) (before order : List ℕ) → is_customer g x ≡ true → AreCustomers g order → AreNew (customer_number g x ∷ before) (map (customer_number g) order) → Moves (x ∷ order ++ 0 ∷ [])
-  moves_on x before [] is are new = ((λ e. customer_moves x is (sym e)), tt)
+  moves_on x before [] is are new = ((λ e. customer_moves g x is (sym e)), tt)
   moves_on x before (y ∷ ys) is are new = (
     (λ e.
         let there : has (customer_number g x ∷ before) (customer_number g y) ≡ true = ap (λ t. t || has before (customer_number g y)) (eq-eqb (customer_number g x) (customer_number g y) (ap (customer_number g) (sym e))) in
@@ -77,31 +64,13 @@ module _ (g : Network) where
     moves_on y (customer_number g x ∷ before) ys are.0 are.1 new.1,
   )
 
-  all_known : (order : List ℕ) → AreKnown g order → All (λ node. node < node_count g) order
-  all_known [] are = All-nil (λ node. node < node_count g)
-  all_known (x ∷ xs) are = All-cons (λ node. node < node_count g) x xs are.0 (all_known xs are.1)
-
-  none_depot : (order : List ℕ) → AreCustomers g order → All (λ node. node ≢ 0) order
-  none_depot [] are = All-nil (λ (node : ℕ). node ≢ 0)
-  none_depot (x ∷ xs) are = All-cons (λ (node : ℕ). node ≢ 0) x xs (customer_moves x are.0) (none_depot xs are.1)
-
   all_move : (before order : List ℕ) → order ≢ [] → AreCustomers g order → AreNew before (map (customer_number g) order) → Moves (0 ∷ order ++ 0 ∷ [])
   all_move before [] some are new = absurd (some refl)
-  all_move before (x ∷ xs) some are new = (customer_moves x are.0, moves_on x before xs are.0 are.1 new.1)
+  all_move before (x ∷ xs) some are new = (customer_moves g x are.0, moves_on x before xs are.0 are.1 new.1)
 
   -- a route of new customers
-  pub makes_route : (before order : List ℕ) → 1 ≤ node_count g → order ≢ [] → AreCustomers g order → AreKnown g order → AreNew before (map (customer_number g) order) → IsRoute g (0 ∷ order ++ 0 ∷ [])
-  makes_route before order depot some are known new =
-      let P = λ (node : ℕ). node < node_count g in
-      let end : All P (0 ∷ []) = All-cons P 0 [] (omega (arith, depot)) (All-nil P) in (
-        order,
-        record {
-          ends = refl;
-          known = All-cons P 0 (order ++ 0 ∷ []) (omega (arith, depot)) (All-append P order (0 ∷ []) (all_known order known) end);
-          no_depot = none_depot order are;
-          moves = all_move before order some are new;
-        },
-      )
+  pub new_route : (before order : List ℕ) → 1 ≤ node_count g → order ≢ [] → AreCustomers g order → All (λ x. x < node_count g) order → AreNew before (map (customer_number g) order) → IsRoute g (0 ∷ order ++ 0 ∷ [])
+  new_route before order depot some are known new = makes_route g order depot are known (all_move before order some are new)
 
 -- the prices of a set with a new customer
 pub with_sum : (prices : List ℤ) (c : ℕ) (set : List ℕ) → has set c ≡ false → price_sum prices (with_customer c set) ≡ price_of prices c +ℤ price_sum prices set

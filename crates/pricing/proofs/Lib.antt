@@ -1,9 +1,5 @@
 mod Customers
-mod Homeward
-mod LeavingValues
-mod GrownTrees
-mod WaysBack
-mod StartLabels
-mod SearchState
+mod Lawful
+mod Fastest
 mod ListFaults
-mod SearchEnds
+mod Listed

@@ -1,4 +1,4 @@
 pub mod Better
 pub mod Answers
-pub mod Steps
-pub mod Tree
+pub mod Labels
+pub mod Inside

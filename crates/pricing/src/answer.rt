@@ -2,18 +2,18 @@
 
 ghost use Rattle.std.specs.Prelude.{◌≡◌, ◌<◌, ◌≤◌, ◌^◌, [], All, IfOk, length, unsigned_abs};
 ghost use Rattle.instance_reader.specs.Instance.{customer_nodes, most_customers};
+ghost use Rattle.label_search.specs.Answers.{AreClosed};
 ghost use Rattle.pricing.specs.Answers.{IsBetterRoute, IsPriced};
-ghost use Rattle.pricing.specs.Tree.{IsSearch};
+ghost use Rattle.pricing.specs.Labels.{route_space};
 
-use crate::arcs::Arcs;
 use crate::completion::table_of;
-use crate::coverage::Care;
+use crate::labels::RouteLabels;
 use crate::priced::{Priced, PricedRoute, Prices};
-use crate::search::Search;
-use closed_lists::{Question, check_closed};
 use completion_bounds::Completion;
 use customer_sets::Pairs;
 use instance_reader::Instance;
+use label_search::{Care, Closing, close};
+use piece_fn::Label;
 use std::alloc::{AllocError, Global};
 
 /// Routes that earn more by the prices of their customers than they take, or a closed list of
@@ -49,13 +49,12 @@ pub fn price(
     })) }
 {
     let of = prices.of.as_slice();
-    let question = Question::new(alloc, inst, pairs, prices.weight, of, &[])?;
-    let arcs = Arcs::new(alloc, &question)?;
-    let routes = sought(alloc, &question, &arcs)?;
+    let labels = RouteLabels::new(alloc, inst, pairs, prices.weight, of)?;
+    let routes = sought(alloc, &labels)?;
     if !routes.is_empty() {
-        return Ok(better_of(&question, routes));
+        return Ok(better_of(&labels, routes));
     }
-    closed(alloc, inst, pairs, prices, &question, &arcs)
+    closed(alloc, &labels)
 }
 
 /// Routes that earn more by the prices of their customers than they take, as `price` finds them,
@@ -83,109 +82,49 @@ pub fn seek(
     })) routes.items) }
 {
     let of = prices.of.as_slice();
-    let question = Question::new(alloc, inst, pairs, prices.weight, of, &[])?;
-    let arcs = Arcs::new(alloc, &question)?;
-    sought(alloc, &question, &arcs)
+    let labels = RouteLabels::new(alloc, inst, pairs, prices.weight, of)?;
+    sought(alloc, &labels)
 }
 
 /// Routes that earn: those of a quick search, or of an exact one where it finds none. Both
 /// leave out what can't earn, by a table.
-fn sought(
-    alloc: Global,
-    question: &Question<'_>,
-    arcs: &Arcs,
-) -> Result<Vec<PricedRoute>, AllocError>
-    ensures { IfOk result (λ routes. All (IsBetterRoute question.now) routes.items) }
+fn sought(alloc: Global, labels: &RouteLabels<'_>) -> Result<Vec<PricedRoute>, AllocError>
+    ensures { IfOk result (λ routes. All (IsBetterRoute labels.now) routes.items) }
 {
-    let table = table_of(alloc, question)?;
-    let quick = routes_with(alloc, question, arcs, &table, Care::Quick)?;
+    let table = table_of(alloc, labels.question())?;
+    let quick = label_search::seek(alloc, labels, &table, Care::Quick)?;
     if !quick.is_empty() {
         return Ok(quick);
     }
-    routes_with(alloc, question, arcs, &table, Care::Exact)
-}
-
-/// The routes that one search finds.
-fn routes_with(
-    alloc: Global,
-    question: &Question<'_>,
-    arcs: &Arcs,
-    table: &Completion,
-    care: Care,
-) -> Result<Vec<PricedRoute>, AllocError>
-    ensures { IfOk result (λ routes. All (IsBetterRoute question.now) routes.items) }
-{
-    let mut search = Search::new(alloc, question, table, arcs, care)?;
-    search.run(alloc, question)?;
-    Ok(routes_of(question, search))
+    label_search::seek(alloc, labels, &table, Care::Exact)
 }
 
 /// The answer of the exact search that leaves nothing out.
-fn closed(
-    alloc: Global,
-    inst: &Instance,
-    pairs: &Pairs,
-    prices: &Prices,
-    question: &Question<'_>,
-    arcs: &Arcs,
-) -> Result<Priced, AllocError>
-    requires few { length (customer_nodes inst.now) ≤ most_customers }
-    requires pairs { pairs.now.customers ≡ length (customer_nodes inst.now) }
-    requires weight { prices.now.weight ≤ 2 ^ 40 }
-    requires one_price { length prices.now.of.items ≡ length (customer_nodes inst.now) }
-    requires small_prices { All (λ price. unsigned_abs price ≤ 2 ^ 84) prices.now.of.items }
-    requires question { question.now ≡ record {
-      network = inst.now;
-      pairs = pairs.now;
-      weight = prices.now.weight;
-      prices = prices.now.of.items;
-      labels = [];
-    } }
-    ensures { IfOk result (IsPriced question.now) }
+fn closed(alloc: Global, labels: &RouteLabels<'_>) -> Result<Priced, AllocError>
+    ensures { IfOk result (IsPriced labels.now) }
 {
-    let of = prices.of.as_slice();
-    let none = Completion::none(alloc);
-    let mut search = Search::new(alloc, question, &none, arcs, Care::Exact)?;
-    while search.routes.is_empty() {
-        search.run(alloc, question)?;
-        if !search.routes.is_empty() {
-            return Ok(better_of(question, routes_of(question, search)));
-        }
-        let labels = search.labels(alloc, question)?;
-        match check_closed(alloc, inst, pairs, prices.weight, of, &labels) {
-            Ok(()) => return Ok(Priced::Closed { labels }),
-            Err(fault) => search.mend(alloc, question, &labels, fault)?,
-        }
+    match close(alloc, labels, &Completion::none(alloc), Care::Exact)? {
+        Closing::Better { routes } => Ok(better_of(labels, routes)),
+        Closing::Closed { labels: list } => Ok(closed_by(labels, list)),
     }
-    Ok(better_of(question, routes_of(question, search)))
 }
 
-/// The routes that a search found.
-fn routes_of(question: &Question<'_>, search: Search<'_>) -> Vec<PricedRoute>
-    requires { IsSearch question.now search }
-    ensures same { result.items ≡ search.entry.routes.items }
-    ensures earn { All (IsBetterRoute question.now) result.items }
+/// The answer with labels that are closed.
+fn closed_by(labels: &RouteLabels<'_>, list: Vec<Label>) -> Priced
+    requires { AreClosed (route_space labels.now) list.items }
+    ensures { IsPriced labels.now result }
 {
-    let _terms = question;
-    let Search {
-        table: _,
-        arcs: _,
-        tree: _,
-        queue: _,
-        listed: _,
-        routes,
-        left_out: _,
-    } = search;
-    routes
+    let _ = labels;
+    Priced::Closed { labels: list }
 }
 
 /// The answer with routes that earn.
-fn better_of(question: &Question<'_>, mut routes: Vec<PricedRoute>) -> Priced
-    requires earn { All (IsBetterRoute question.now) routes.items }
+fn better_of(labels: &RouteLabels<'_>, mut routes: Vec<PricedRoute>) -> Priced
+    requires earn { All (IsBetterRoute labels.now) routes.items }
     requires some { 0 < length routes.items }
-    ensures { IsPriced question.now result }
+    ensures { IsPriced labels.now result }
 {
-    let _terms = question;
+    let _ = labels;
     let Some(last) = routes.pop() else {
         unreachable!();
     };

@@ -36,8 +36,8 @@ pub(crate) struct Arcs {
 
 /// A label that steps are made from.
 #[derive(Clone, Copy, Drop)]
-pub(crate) struct Start {
-    pub(crate) node: usize,
+pub(crate) struct Leaving {
+    node: usize,
     /// The greatest level.
     top: u64,
     /// The scaled time that is left.
@@ -46,8 +46,6 @@ pub(crate) struct Start {
     set: CustSet,
     /// Who may be served next.
     next: CustSet,
-    /// What the table of ways home says of its value.
-    pub(crate) budget: u64,
 }
 
 impl Arcs {
@@ -66,12 +64,12 @@ impl Arcs {
         })
     }
 
-    /// The start of the steps from a label with a budget.
-    pub(crate) fn start(&self, label: &Label, budget: u64) -> Start {
+    /// What the steps from a label have in common.
+    pub(crate) fn leaving(&self, label: &Label) -> Leaving {
         let (_, time) = label.value.least();
         let points = label.value.points();
         let (top, _) = points[points.len() - 1];
-        Start {
+        Leaving {
             node: label.node,
             top,
             left: self.limit.saturating_sub(time),
@@ -81,23 +79,22 @@ impl Arcs {
                 .get(label.last)
                 .copied()
                 .unwrap_or(CustSet::empty()),
-            budget,
         }
     }
 
     /// Whether a step to a node may be made.
-    pub(crate) fn lead(&self, start: &Start, node: usize) -> bool {
-        let Some(row) = self.all.get(start.node) else {
+    pub(crate) fn may_lead(&self, from: &Leaving, node: usize) -> bool {
+        let Some(row) = self.all.get(from.node) else {
             return false;
         };
         let Some(arc) = row.get(node) else {
             return false;
         };
-        if arc.level > start.top || arc.time > start.left {
+        if arc.level > from.top || arc.time > from.left {
             return false;
         }
         match arc.customer {
-            Some(number) => number < 128 && start.next.has(number) && !start.set.has(number),
+            Some(number) => number < 128 && from.next.has(number) && !from.set.has(number),
             None => true,
         }
     }

@@ -7,13 +7,8 @@
 mod answer;
 mod arcs;
 mod completion;
-mod coverage;
-mod found;
-mod groups;
+mod labels;
 mod priced;
-mod route;
-mod search;
-mod steps;
 
 pub use answer::{price, seek};
 pub use priced::{Priced, PricedRoute, Prices};

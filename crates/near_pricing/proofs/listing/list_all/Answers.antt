@@ -2,7 +2,8 @@ use Rattle.std.proofs.Common.{List, sym, subst}
 use Rattle.std.specs.List.{All}
 use Rattle.near_proof.specs.Ranges.{NearLabelFits}
 use Rattle.near_proof.specs.declared.proof.NearLabel.{NearLabel}
-use Rattle.near_pricing.proofs.SearchState.{all_but_last, of_last, one_more, uncounted_fits}
+use Rattle.near_pricing.proofs.LabelRanges.{uncounted_fits}
+use Rattle.label_search.proofs.Lists.{all_but_last, of_last, one_more}
 use Rattle.near_pricing.proofs.listing.list_all.Goals as goal
 
 pub loop-label-preserved : goal.loop-label-preserved

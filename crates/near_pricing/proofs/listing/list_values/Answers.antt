@@ -3,7 +3,7 @@ use Rattle.std.specs.List.{All}
 use Rattle.label_steps.specs.Arrivals.{IsWithin}
 use Rattle.near_proof.specs.Ranges.{NearLabelFits}
 use Rattle.near_proof.specs.declared.proof.NearLabel.{NearLabel}
-use Rattle.near_pricing.proofs.SearchState.{all_but_last, of_last, one_more}
+use Rattle.label_search.proofs.Lists.{all_but_last, of_last, one_more}
 use Rattle.near_pricing.proofs.listing.list_values.Goals as goal
 
 pub without_count-requires-clause-value : goal.without_count-requires-clause-value

@@ -1,5 +1,5 @@
 use Rattle.std.proofs.Common.{arith}
-use Rattle.near_pricing.proofs.SearchState.{value_fits}
+use Rattle.near_pricing.proofs.LabelRanges.{value_fits}
 use Rattle.near_pricing.proofs.listing.without_count.Goals as goal
 
 pub returns : goal.returns

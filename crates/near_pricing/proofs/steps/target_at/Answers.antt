@@ -6,7 +6,7 @@ use Rattle.fleet_model.specs.Places.{customer_count, customer_number}
 use Rattle.fleet_model.proofs.Numbers.{counted, numbered}
 use Rattle.instance_reader.specs.Instance.{customer_nodes, IsCustomerNumber}
 use Rattle.near_pricing.specs.Placed.{IsServedAt}
-use Rattle.near_pricing.proofs.LeavingValues.{served_enough, served_again}
+use Rattle.near_pricing.proofs.NoSteps.{served_enough, served_again}
 use Rattle.near_pricing.proofs.steps.target_at.Goals as goal
 
 pub returns-clause-leads : goal.returns-clause-leads
@@ -20,14 +20,16 @@ returns-clause-leads c value =
     let few = c.if-from-customers.false in
     record {
       moves = c.if-node-from.false;
-      kind = inl (record {
-        customer = told.0;
-        memory = served.memory;
-        new = subst (λ n. has c.args.from.now.memory n ≡ false) number (sym c.has.ensures.value ∙ c.if-has.false);
-        count = served.count;
-        fewer = omega (arith, few, count);
-        earned = served.earned;
-      });
+      kind = inl (
+        told.0,
+        record {
+          memory = served.memory;
+          new = subst (λ n. has c.args.from.now.memory n ≡ false) number (sym c.has.ensures.value ∙ c.if-has.false);
+          count = served.count;
+          fewer = omega (arith, few, count);
+          earned = served.earned;
+        },
+      );
     }
 
 pub returns-then-has-clause-none : goal.returns-then-has-clause-none

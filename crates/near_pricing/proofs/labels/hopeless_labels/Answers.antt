@@ -1,6 +1,0 @@
-use Rattle.std.proofs.Common.{arith}
-use Rattle.std.proofs.lemmas.Grind.{common_steps}
-use Rattle.near_pricing.proofs.labels.hopeless_labels.Goals as goal
-
-pub loop-node-init : goal.loop-node-init
-loop-node-init = grind (arith, common_steps)

@@ -1,6 +1,0 @@
-use Rattle.std.proofs.Common.{arith}
-use Rattle.std.proofs.lemmas.Grind.{common_steps}
-use Rattle.pricing.proofs.search.Search.add.Goals as goal
-
-pub returns-clause-search : goal.returns-clause-search
-returns-clause-search = grind (arith, common_steps)
