@@ -1,5 +1,5 @@
 -- Visits have the levels and the times of their plan.
-use Rattle.std.proofs.Common.{◌≡◌, ◌∙◌, ℕ, ◌+◌, ◌*◌, ◌^◌, ◌≤◌, List, [], ◌∷◌, length, map, refl, sym, ap, arith}
+use Rattle.std.proofs.Common.{◌≡◌, ◌∙◌, ℕ, ◌+◌, ◌*◌, ◌^◌, ◌≤◌, List, [], ◌∷◌, length, map, take, zero, suc, refl, sym, ap, arith}
 use Rattle.std.specs.List.{All}
 use Rattle.std.proofs.lemmas.List.Elements.{All-head, All-tail}
 use Rattle.ev_model.specs.Feasible.{IsFeasible}
@@ -27,10 +27,13 @@ levels_behind g v (s ∷ ss) =
     ap (λ ls. (level_at g v s + s.added) ∷ ls) (levels_behind g (visit_at g v s) ss)
     ∙ ap (λ l. l ∷ levels_from g 1 s.node l ss) (sym left)
 
+at_depot_first : (g : Network) (first : Stop) (stops : List Stop) → IsFeasible g 1 g.capacity (first ∷ stops) → first.node ≡ 0
+at_depot_first g first stops feasible = ap (λ (s : Stop). s.node) feasible.plan.1
+
 pub levels_are : (g : Network) (stops : List Stop) → IsFeasible g 1 g.capacity stops → map (λ w. w.level_left) (visits_of g stops) ≡ levels_of g 1 g.capacity stops
 levels_are g [] feasible = refl
 levels_are g (first ∷ stops) feasible =
-    let at_depot : first.node ≡ 0 = ap (λ (s : Stop). s.node) feasible.plan.1 in
+    let at_depot = at_depot_first g first stops feasible in
     let once : 1 * g.capacity ≡ g.capacity = omega arith in
     ap (λ ls. g.capacity ∷ ls) (levels_behind g (start_of g) stops)
     ∙ ap (λ l. l ∷ levels_from g 1 0 l stops) (sym once)
@@ -47,9 +50,8 @@ end_behind g v (s ∷ ss) =
     rest ∙ sum
 
 -- the time of a plan, by the depot and a full battery
-time_is : (g : Network) (first : Stop) (stops : List Stop) → IsFeasible g 1 g.capacity (first ∷ stops) → time_from g 1 0 g.capacity stops ≡ time_of g 1 g.capacity (first ∷ stops)
-time_is g first stops feasible =
-    let at_depot : first.node ≡ 0 = ap (λ (s : Stop). s.node) feasible.plan.1 in
+time_is : (g : Network) (first : Stop) (stops : List Stop) → first.node ≡ 0 → time_from g 1 0 g.capacity stops ≡ time_of g 1 g.capacity (first ∷ stops)
+time_is g first stops at_depot =
     let once : 1 * g.capacity ≡ g.capacity = omega arith in
     sym (ap (λ n. time_from g 1 n (1 * g.capacity) stops) at_depot ∙ ap (λ l. time_from g 1 0 l stops) once)
 
@@ -57,7 +59,21 @@ pub end_is : (g : Network) (stops : List Stop) → IsFeasible g 1 g.capacity sto
 end_is g [] feasible = refl
 end_is g (first ∷ stops) feasible =
     let zero_more : 0 + time_from g 1 0 g.capacity stops ≡ time_from g 1 0 g.capacity stops = omega arith in
-    end_behind g (start_of g) stops ∙ zero_more ∙ time_is g first stops feasible
+    end_behind g (start_of g) stops ∙ zero_more ∙ time_is g first stops (at_depot_first g first stops feasible)
+
+-- the first visits are those of the first stops
+first_behind : (g : Network) (v : Visit) (n : ℕ) (ss : List Stop) → take n (visits_behind g v ss) ≡ visits_behind g v (take n ss)
+first_behind g v zero ss = refl
+first_behind g v (suc n) [] = refl
+first_behind g v (suc n) (s ∷ ss) = ap (λ vs. visit_at g v s ∷ vs) (first_behind g (visit_at g v s) n ss)
+
+pub each_is : (g : Network) (n : ℕ) (stops : List Stop) → IsFeasible g 1 g.capacity stops → end_of (take n (visits_of g stops)) ≡ time_of g 1 g.capacity (take n stops)
+each_is g zero stops feasible = refl
+each_is g (suc n) [] feasible = refl
+each_is g (suc n) (first ∷ stops) feasible =
+    let zero_more : 0 + time_from g 1 0 g.capacity (take n stops) ≡ time_from g 1 0 g.capacity (take n stops) = omega arith in
+    ap (λ vs. end_of (start_of g ∷ vs)) (first_behind g (start_of g) n stops)
+    ∙ end_behind g (start_of g) (take n stops) ∙ zero_more ∙ time_is g first (take n stops) (at_depot_first g first stops feasible)
 
 -- what the sums of a visit say of its time
 takes : (g : Network) (v : Visit) (s : Stop) → (of_visit (visit_at g v s)).time ≡ stop_time g 1 v.node v.level_left s
@@ -78,7 +94,7 @@ pub sum_is : (g : Network) (stops : List Stop) → IsFeasible g 1 g.capacity sto
 sum_is g [] feasible = refl
 sum_is g (first ∷ stops) feasible =
     let none : 0 + 0 + 0 + 0 + 0 + time_from g 1 0 g.capacity stops ≡ time_from g 1 0 g.capacity stops = omega arith in
-    sum_behind g (start_of g) stops (plus nothing (of_visit (start_of g))) ∙ none ∙ time_is g first stops feasible
+    sum_behind g (start_of g) stops (plus nothing (of_visit (start_of g))) ∙ none ∙ time_is g first stops (at_depot_first g first stops feasible)
 
 -- the parts of a time
 abbrev Adds : Totals → Type 0

@@ -1,6 +1,6 @@
 //! Laws of timetables. Each is the contract of an empty function.
 
-ghost use Rattle.std.specs.Prelude.{◌≡◌, ◌+◌, List, map};
+ghost use Rattle.std.specs.Prelude.{ℕ, ◌≡◌, ◌+◌, List, map, take};
 ghost use Rattle.std.specs.List.{All};
 ghost use Rattle.ev_model.specs.Feasible.{IsFeasible};
 ghost use Rattle.ev_model.specs.Fleet.{cost_of};
@@ -18,11 +18,13 @@ pub fn levels_are_those_of_the_plan()
         map (λ v. v.level_left) (visits_of g stops) ≡ levels_of g 1 g.capacity stops }
 {}
 
-/// The last visit of a route leaves at the time of its plan, which the times of driving, serving,
-/// plugging in and charging add up to.
+/// Each visit of a route leaves at the time of the plan up to it, the last at that of the whole plan,
+/// which the times of driving, serving, plugging in and charging add up to.
 pub fn times_are_those_of_the_plan()
     ensures end { (g : Network) (stops : List Stop) → IsFeasible g 1 g.capacity stops →
         end_of (visits_of g stops) ≡ time_of g 1 g.capacity stops }
+    ensures each { (g : Network) (stops : List Stop) (n : ℕ) → IsFeasible g 1 g.capacity stops →
+        end_of (take n (visits_of g stops)) ≡ time_of g 1 g.capacity (take n stops) }
     ensures sum { (g : Network) (stops : List Stop) → IsFeasible g 1 g.capacity stops →
         (route_totals (visits_of g stops)).time ≡ time_of g 1 g.capacity stops }
     ensures parts { (g : Network) (stops : List Stop) →
