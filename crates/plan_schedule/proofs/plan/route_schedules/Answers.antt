@@ -1,4 +1,4 @@
-use Rattle.std.proofs.Common.{◌∙◌, [], ◌∷◌, List, sym, subst, ap}
+use Rattle.std.proofs.Common.{◌∙◌, [], ◌∷◌, List, sym, subst, ap, arith}
 use Rattle.std.specs.List.{All}
 use Rattle.std.proofs.lemmas.List.Elements.{All-append, All-cons, All-nil}
 use Rattle.ev_model.specs.Feasible.{IsFeasible}
@@ -7,6 +7,7 @@ use Rattle.plan_check.specs.FleetRules.{stops_of}
 use Rattle.plan_schedule.specs.Schedules.{HasSmallTotals, route_schedule, route_schedules}
 use Rattle.plan_schedule.specs.declared.schedule.RouteSchedule.{RouteSchedule}
 use Rattle.plan_schedule.proofs.RoutesInTurn.{feasible_behind, feasible_here, told_next}
+use Rattle.std.proofs.lemmas.Grind.{common_steps}
 use Rattle.plan_schedule.proofs.plan.route_schedules.Goals as goal
 
 pub route_schedule-requires : goal.route_schedule-requires
@@ -28,3 +29,6 @@ loop-number-preserved c =
       feasible = feasible_behind g c.args.plans.now p i c.index-plans-number.is c.loop-number-test.true c.loop-number.invariant.feasible;
       small = subst (λ (xs : List RouteSchedule). All HasSmallTotals xs) (sym c.in_ok-push.ensures.items) (All-append HasSmallTotals old (r ∷ []) c.loop-number.invariant.small (All-cons HasSmallTotals r [] c.in_ok-route.ensures.small (All-nil HasSmallTotals)));
     }
+
+pub returns-clause-value : goal.returns-clause-value
+returns-clause-value = grind (arith, common_steps)

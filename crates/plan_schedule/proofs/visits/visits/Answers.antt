@@ -5,6 +5,7 @@ use Rattle.ev_model.specs.declared.Stop.{Stop}
 use Rattle.plan_schedule.specs.Visits.{IsWithin, visits_of}
 use Rattle.plan_schedule.specs.declared.schedule.Visit.{Visit}
 use Rattle.plan_schedule.proofs.GoesOn.{goes_next, goes_to_next, told_next}
+use Rattle.std.proofs.lemmas.Grind.{common_steps}
 use Rattle.plan_schedule.proofs.visits.visits.Goals as goal
 
 pub visit-before-requires-clause-in_time : goal.visit-before-requires-clause-in_time
@@ -26,3 +27,18 @@ loop-at-preserved c =
       goes = goes_next g c.loop-at.before w c.args.stops.now d c.loop-at.at c.loop-at-test.true c.visit-before.ensures.value c.loop-at.invariant.goes;
       within = subst (λ (xs : List Visit). All P xs) (sym c.in_ok-push-2.ensures.items) (All-append P old (w ∷ []) c.loop-at.invariant.within (All-cons P w [] c.visit-before.ensures.within (All-nil P)));
     }
+
+pub visit-before-requires-clause-known : goal.visit-before-requires-clause-known
+visit-before-requires-clause-known = grind (arith, common_steps)
+
+pub visit-before-requires-clause-reached : goal.visit-before-requires-clause-reached
+visit-before-requires-clause-reached = grind (arith, common_steps)
+
+pub visit-before-requires-clause-full : goal.visit-before-requires-clause-full
+visit-before-requires-clause-full = grind (arith, common_steps)
+
+pub returns-clause-value : goal.returns-clause-value
+returns-clause-value = grind (arith, common_steps)
+
+pub loop-at-init : goal.loop-at-init
+loop-at-init = grind (arith, common_steps)
