@@ -1,5 +1,5 @@
 -- Numbers that the program holds.
-use Rattle.std.proofs.Common.{◌≡◌, ℕ, ◌+◌, ◌*◌, ◌/◌, ◌%◌, ◌^◌, ◌<◌, ◌≤◌, inl, inr, sym, subst, arith}
+use Rattle.std.proofs.Common.{◌≡◌, ℕ, ◌+◌, ◌*◌, ◌/◌, ◌%◌, ◌^◌, ◌<◌, ◌≤◌, inl, inr, subst, arith}
 use Rattle.std.proofs.Math.Nat.{div-le_self, div-mul-le_self, div-one, mod-lt, mod-one, mul-le-mul}
 use Rattle.std.proofs.lemmas.Bool.{cases_lt}
 use Rattle.schedule_texts.specs.Decimals.{part_of}

@@ -1,5 +1,5 @@
 -- The line that a level follows: it goes straight through the points of its corners.
-use Rattle.std.specs.Prelude.{ℕ, ◌++◌, Bool, List, [], codes, decimal, if◌then◌else◌}
+use Rattle.std.specs.Prelude.{ℕ, ◌++◌, List, [], codes, decimal, if◌then◌else◌}
 use Rattle.ev_text.specs.Texts.{joined_texts}
 use Rattle.plan_schedule.specs.declared.schedule.Corner.{Corner}
 use Rattle.schedule_texts.specs.Scales.{x_at, y_at}

@@ -1,4 +1,4 @@
-use Rattle.std.proofs.Common.{◌≡◌, ◌∙◌, ℕ, ◌++◌, ◌+◌, ◌-◌, ◌*◌, ◌/◌, List, ap, codes, decimal}
+use Rattle.std.proofs.Common.{◌≡◌, ◌∙◌, ℕ, ◌++◌, List, ap, codes, decimal}
 use Rattle.plan_schedule.specs.declared.schedule.Visit.{Visit}
 use Rattle.schedule_texts.specs.JsonTexts.{items_from, totals_text, visit_text}
 use Rattle.schedule_texts.specs.JsonTexts.{route_text}

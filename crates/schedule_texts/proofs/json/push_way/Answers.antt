@@ -1,4 +1,4 @@
-use Rattle.std.proofs.Common.{◌≡◌, ◌∙◌, ℕ, ◌++◌, ◌+◌, ◌-◌, ◌*◌, ◌/◌, List, ap, codes, decimal}
+use Rattle.std.proofs.Common.{◌≡◌, ℕ, ◌++◌, List, codes, decimal}
 use Rattle.schedule_texts.specs.JsonTexts.{way_fields}
 use Rattle.schedule_texts.proofs.Joined.{join}
 use Rattle.schedule_texts.proofs.json.push_way.Goals as goal

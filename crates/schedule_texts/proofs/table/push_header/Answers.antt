@@ -1,4 +1,4 @@
-use Rattle.std.proofs.Common.{◌≡◌, ◌∙◌, ℕ, ◌++◌, ◌+◌, ◌-◌, ◌*◌, ◌/◌, List, ap, codes, decimal}
+use Rattle.std.proofs.Common.{◌≡◌, ℕ, ◌++◌, List, codes}
 use Rattle.schedule_texts.specs.Decimals.{cell}
 use Rattle.schedule_texts.specs.Tables.{header_text}
 use Rattle.schedule_texts.proofs.Joined.{join}

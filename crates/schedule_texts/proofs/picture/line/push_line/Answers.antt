@@ -1,4 +1,4 @@
-use Rattle.std.proofs.Common.{◌≡◌, ◌∙◌, ℕ, ◌++◌, ◌+◌, ◌-◌, ◌*◌, ◌/◌, List, ap, codes, decimal}
+use Rattle.std.proofs.Common.{◌≡◌, ℕ, ◌++◌, List, codes}
 use Rattle.ev_text.specs.Texts.{joined_texts}
 use Rattle.schedule_texts.specs.LevelLines.{point_text}
 use Rattle.schedule_texts.specs.LevelLines.{line_text}

@@ -1,4 +1,4 @@
-use Rattle.std.proofs.Common.{◌≡◌, ◌∙◌, ℕ, ◌++◌, ◌+◌, ◌-◌, ◌*◌, ◌/◌, List, ap, codes, decimal}
+use Rattle.std.proofs.Common.{◌≡◌, ℕ, ◌++◌, List, codes, decimal}
 use Rattle.schedule_texts.specs.LevelLines.{ring_at}
 use Rattle.schedule_texts.proofs.Joined.{join}
 use Rattle.schedule_texts.proofs.picture.line.push_ring_at.Goals as goal

@@ -1,4 +1,4 @@
-use Rattle.std.proofs.Common.{◌≡◌, ◌∙◌, ℕ, ◌++◌, ◌+◌, ◌-◌, ◌*◌, ◌/◌, List, ap, codes, decimal}
+use Rattle.std.proofs.Common.{◌≡◌, ℕ, ◌++◌, ◌+◌, ◌*◌, List}
 use Rattle.schedule_texts.specs.Pictures.{size_text}
 use Rattle.schedule_texts.specs.declared.picture.page.TheConstants.{LEGEND}
 use Rattle.schedule_texts.specs.Pictures.{head_text}

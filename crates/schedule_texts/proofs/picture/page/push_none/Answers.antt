@@ -1,4 +1,4 @@
-use Rattle.std.proofs.Common.{◌≡◌, ◌∙◌, ℕ, ◌++◌, ◌+◌, ◌-◌, ◌*◌, ◌/◌, List, ap, codes, decimal}
+use Rattle.std.proofs.Common.{◌≡◌, ℕ, ◌++◌, List, codes}
 use Rattle.schedule_texts.specs.Pictures.{head_text}
 use Rattle.schedule_texts.specs.Pictures.{none_text}
 use Rattle.schedule_texts.proofs.Joined.{join}

@@ -1,4 +1,4 @@
-use Rattle.std.proofs.Common.{◌≡◌, ◌∙◌, ℕ, ◌++◌, ◌+◌, ◌-◌, ◌*◌, ◌/◌, List, ap, codes, decimal}
+use Rattle.std.proofs.Common.{◌≡◌, ℕ, ◌++◌, List, codes, decimal}
 use Rattle.schedule_texts.specs.Decimals.{decimal_text}
 use Rattle.schedule_texts.specs.Panels.{heading_text}
 use Rattle.schedule_texts.proofs.Joined.{join}

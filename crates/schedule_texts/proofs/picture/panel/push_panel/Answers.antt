@@ -1,4 +1,4 @@
-use Rattle.std.proofs.Common.{◌≡◌, ◌∙◌, ℕ, ◌++◌, ◌+◌, ◌-◌, ◌*◌, ◌/◌, List, ap, codes, decimal}
+use Rattle.std.proofs.Common.{◌≡◌, ◌∙◌, ℕ, ◌++◌, List, ap}
 use Rattle.plan_schedule.specs.declared.schedule.Corner.{Corner}
 use Rattle.plan_schedule.specs.declared.schedule.Visit.{Visit}
 use Rattle.schedule_texts.specs.Axes.{axis_text}

@@ -1,4 +1,4 @@
-use Rattle.std.proofs.Common.{◌≡◌, ◌∙◌, ℕ, ◌++◌, ◌+◌, ◌-◌, ◌*◌, ◌/◌, List, ap, codes, decimal}
+use Rattle.std.proofs.Common.{◌≡◌, ℕ, ◌++◌, List, codes, decimal}
 use Rattle.schedule_texts.specs.Shapes.{circle_text}
 use Rattle.schedule_texts.proofs.Joined.{join}
 use Rattle.schedule_texts.proofs.picture.stops.push_circle.Goals as goal
