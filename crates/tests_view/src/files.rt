@@ -5,6 +5,13 @@ use evview_run::{Status, run};
 use std::alloc::{AllocError, Global};
 use std::process::Abort;
 
+/// A depot and a customer who is reached and left in a time of 8, past the instance's limit of 7.
+pub const NARROW: &str =
+    r#"{"t_max":7,"max_q":10,"css":[],"breakpoints_by_type":[],"process_times":[0,0],"energy_matrix":[[0,1],[1,0]],"time_matrix":[[0,4],[4,0]]}"#;
+
+/// A plan of one customer without a station.
+pub const OUT: &str = "evroute plan 1\nroutes 1\nroute 0 1 0\n";
+
 /// Files in memory where `A` holds an instance and `P` a plan, and the calls with these numbers
 /// fail.
 pub fn shelf_with(

@@ -1,14 +1,11 @@
 //! What is put where a rule is broken, and that nothing is written then.
 
-use crate::files::{assert_file, assert_run, run_with, shelf_with};
+use crate::files::{NARROW, OUT, assert_file, assert_run, run_with, shelf_with};
 use evview_run::Status;
 use worked_instances::{NO_STATION, ONE_STATION, TWO_CUSTOMERS};
 
 /// The plan of the one customer with a station on the way.
 const BY_STATION: &str = "evroute plan 1\nroutes 1\nroute 0 v2+1 1 0\n";
-
-/// A plan of the one customer without a station.
-const OUT: &str = "evroute plan 1\nroutes 1\nroute 0 1 0\n";
 
 /// A plan file that holds no plan.
 const NONE: &str = "evroute plan 1\nnone\n";
@@ -102,6 +99,13 @@ fn the_first_broken_rule_is_put_and_nothing_is_written(rt: HostRuntime) {
             "rejected plan 1 route 0 walk 7 at 3\n",
         ),
         (
+            "A P --svg S --json J",
+            NARROW,
+            OUT,
+            Status::Negative,
+            "rejected plan 1 route 0 walk 7 at 2\n",
+        ),
+        (
             "A P --svg S --json J --route 0",
             NO_STATION,
             "evroute plan 1\nroutes 2\nroute 0 1 0\nroute 0 1 0\n",
@@ -154,22 +158,20 @@ fn the_first_broken_rule_is_put_and_nothing_is_written(rt: HostRuntime) {
 #[test]
 fn a_call_that_fails_is_a_fault(rt: HostRuntime) {
     let alloc = rt.alloc();
-    for failing in 0..4 {
-        let mut shelf = shelf_with(alloc, ONE_STATION, BY_STATION, &[failing]).expect(
-            &rt, "memory",
-        );
+    // the calls of the files and of the output that fail, and whether that is behind both files
+    for &(call, put, behind_both) in &[
+        (0, 1, false),
+        (1, 1, false),
+        (2, 1, false),
+        (3, 1, false),
+        (4, 0, true),
+    ] {
+        let mut shelf = shelf_with(alloc, ONE_STATION, BY_STATION, &[call]).expect(&rt, "memory");
         let line = "A P --svg S --json J";
-        let ended = run_with(alloc, line, &mut shelf, &[]).expect(&rt, "memory");
-        assert_eq!(rt; ended.0, Status::Fault, "{failing}");
-        assert!(rt; ended.1.is_empty(), "{failing}");
+        let ended = run_with(alloc, line, &mut shelf, &[put]).expect(&rt, "memory");
+        assert_eq!(rt; ended.0, Status::Fault, "{call}");
+        assert!(rt; ended.1.is_empty() || behind_both, "{call}");
+        let written = shelf.get("S").is_some() && shelf.get("J").is_some();
+        assert!(rt; written || !behind_both, "{call}");
     }
-}
-
-#[test]
-fn an_output_that_fails_is_a_fault_behind_both_files(rt: HostRuntime) {
-    let alloc = rt.alloc();
-    let mut shelf = shelf_with(alloc, ONE_STATION, BY_STATION, &[]).expect(&rt, "memory");
-    let ended = run_with(alloc, "A P --svg S --json J", &mut shelf, &[0]).expect(&rt, "memory");
-    assert_eq!(rt; ended.0, Status::Fault);
-    assert!(rt; shelf.get("S").is_some() && shelf.get("J").is_some());
 }

@@ -1,8 +1,9 @@
 //! What is put and written of plans.
 
-use crate::files::{assert_file, assert_run, run_with, shelf_with};
+use crate::files::{NARROW, OUT, assert_file, assert_run, run_with, shelf_with};
+use ev_outside::MemoryShelf;
 use evview_run::Status;
-use std::alloc::Global;
+use std::process::Abort;
 use worked_instances::{DEPOT_ALONE, NO_STATION, ONE_STATION, PLUG_TIME, TWO_CUSTOMERS};
 
 /// The plan of the one customer with a station on the way.
@@ -46,32 +47,16 @@ fn the_schedule_is_put_as_tables(rt: HostRuntime) {
             "total of the plan: time 0.00, driving 0.00, serving 0.00, plugging in 0.00, charging 0.00, energy driven 0, energy charged 0, stops 0\n",
         ),
         ("A P --exact", NO_STATION, NONE, "no plan\n"),
+        (
+            "A P --exact --limit 8",
+            NARROW,
+            OUT,
+            "route 0\n  stop  node  what        arrival  level  plug time   from     to    leaving\n     0     0  depot           0/1     10          -      -      -        0/1\n     1     1  customer        4/1      9          -      -      -        4/1\n     2     0  depot           8/1      8          -      -      -        8/1\ntotal of route 0: time 8/1, driving 8/1, serving 0/1, plugging in 0/1, charging 0/1, energy driven 2, energy charged 0, stops 3\n\ntotal of the plan: time 8/1, driving 8/1, serving 0/1, plugging in 0/1, charging 0/1, energy driven 2, energy charged 0, stops 3\n",
+        ),
     ] {
         let mut shelf = shelf_with(alloc, instance, plan, &[]).expect(&rt, "memory");
         assert_run(&rt, alloc, line, &mut shelf, Status::Done, put);
     }
-}
-
-#[test]
-fn a_wider_limit_shows_a_plan_that_needs_it(rt: HostRuntime) {
-    let alloc = rt.alloc();
-    let narrow = NO_STATION
-        .replacen(alloc, "{", "{\"t_max\":7,", 1)
-        .expect(&rt, "memory");
-    for &(line, status) in &[("A P", Status::Negative), ("A P --limit 8", Status::Done)] {
-        let plan = "evroute plan 1\nroutes 1\nroute 0 1 0\n";
-        let mut shelf = shelf_with(alloc, narrow.as_str(), plan, &[]).expect(&rt, "memory");
-        let ended = run_with(alloc, line, &mut shelf, &[]).expect(&rt, "memory");
-        assert_eq!(rt; ended.0, status, "{line}");
-    }
-}
-
-/// The text of JSON that is written for words, or the empty text.
-fn json_of(alloc: Global, line: &str, instance: &str, plan: &str) -> Option<String> {
-    let mut shelf = shelf_with(alloc, instance, plan, &[]).ok()?;
-    let _ = run_with(alloc, line, &mut shelf, &[]).ok()?;
-    let bytes = shelf.get("J").unwrap_or(b"");
-    String::from_utf8(Vec::from_slice(alloc, bytes).ok()?).ok()
 }
 
 #[test]
@@ -81,7 +66,7 @@ fn the_schedule_is_written_as_json(rt: HostRuntime) {
         (
             "A P --json J",
             NO_STATION,
-            "evroute plan 1\nroutes 1\nroute 0 1 0\n",
+            OUT,
             "{\"format\":\"evview schedule 1\",\"denominator\":1,\"full\":10,\"reserve\":0,\"home\":0,\"routes\":[\n{\"route\":0,\"stops\":[\n{\"node\":0,\"kind\":\"depot\",\"inserted\":false,\"energy\":0,\"driving\":0,\"arrival\":0,\"level\":10,\"service\":0,\"plugging\":0,\"charging\":0,\"charged\":0,\"level_left\":10,\"leaving\":0},\n{\"node\":1,\"kind\":\"customer\",\"inserted\":false,\"energy\":1,\"driving\":4,\"arrival\":4,\"level\":9,\"service\":0,\"plugging\":0,\"charging\":0,\"charged\":0,\"level_left\":9,\"leaving\":4},\n{\"node\":0,\"kind\":\"depot\",\"inserted\":false,\"energy\":1,\"driving\":4,\"arrival\":8,\"level\":8,\"service\":0,\"plugging\":0,\"charging\":0,\"charged\":0,\"level_left\":8,\"leaving\":8}],\"totals\":{\"time\":8,\"driving\":8,\"serving\":0,\"plugging\":0,\"charging\":0,\"energy_driven\":2,\"energy_charged\":0,\"stops\":3}}],\"totals\":{\"time\":8,\"driving\":8,\"serving\":0,\"plugging\":0,\"charging\":0,\"energy_driven\":2,\"energy_charged\":0,\"stops\":3}}\n",
         ),
         (
@@ -97,46 +82,43 @@ fn the_schedule_is_written_as_json(rt: HostRuntime) {
             "{\"format\":\"evview schedule 1\",\"denominator\":1,\"full\":10,\"reserve\":0,\"home\":0,\"routes\":[],\"totals\":{\"time\":0,\"driving\":0,\"serving\":0,\"plugging\":0,\"charging\":0,\"energy_driven\":0,\"energy_charged\":0,\"stops\":0}}\n",
         ),
     ] {
-        let json = json_of(alloc, line, instance, plan);
-        let told = json.as_ref().map(|text| text.as_str()).unwrap_or("");
-        assert_eq!(rt; told, want, "{line}");
+        let mut shelf = shelf_with(alloc, instance, plan, &[]).expect(&rt, "memory");
+        let ended = run_with(alloc, line, &mut shelf, &[]).expect(&rt, "memory");
+        assert_eq!(rt; ended.0, Status::Done, "{line}");
+        assert_file(&rt, &shelf, "J", Some(want));
     }
 }
 
+/// A file is there, and begins so, or is not there, or the test fails.
+fn assert_begins(rt: &impl Abort, shelf: &MemoryShelf, name: &str, is_there: bool, start: &str) {
+    assert_eq!(rt; shelf.get(name).is_some(), is_there, "{name}");
+    let text = shelf.get(name).unwrap_or(start.as_bytes());
+    assert!(rt; text.starts_with(start.as_bytes()), "{name}");
+}
+
 #[test]
-fn each_file_holds_its_own_text(rt: HostRuntime) {
+fn each_file_that_is_asked_for_holds_its_own_text(rt: HostRuntime) {
     let alloc = rt.alloc();
-    for &(instance, plan) in &[
-        (ONE_STATION, BY_STATION),
-        (TWO_CUSTOMERS, OUT_AND_BACK),
-        (DEPOT_ALONE, EMPTY),
-        (NO_STATION, NONE),
+    for &(line, instance, plan, svg, json) in &[
+        ("A P --svg S --json J", ONE_STATION, BY_STATION, true, true),
+        (
+            "A P --json J --svg S",
+            TWO_CUSTOMERS,
+            OUT_AND_BACK,
+            true,
+            true,
+        ),
+        ("A P --svg S --json J", DEPOT_ALONE, EMPTY, true, true),
+        ("A P --svg S --json J", NO_STATION, NONE, true, true),
+        ("A P", ONE_STATION, BY_STATION, false, false),
+        ("A P --svg S", ONE_STATION, BY_STATION, true, false),
+        ("A P --json J", ONE_STATION, BY_STATION, false, true),
     ] {
         let mut shelf = shelf_with(alloc, instance, plan, &[]).expect(&rt, "memory");
-        let line = "A P --svg S --json J";
         let ended = run_with(alloc, line, &mut shelf, &[]).expect(&rt, "memory");
-        assert_eq!(rt; ended.0, Status::Done, "{plan}");
-        let (svg, json) = (shelf.get("S").unwrap_or(b""), shelf.get("J").unwrap_or(b""));
-        assert!(rt;
-            svg.starts_with(b"<svg ") && svg.ends_with(b"</svg>\n"),
-            "{plan}"
-        );
-        assert!(rt; json.starts_with(b"{\"format\":"), "{plan}");
-    }
-}
-
-#[test]
-fn only_what_is_asked_for_is_written(rt: HostRuntime) {
-    let alloc = rt.alloc();
-    for &(line, svg, json) in &[
-        ("A P", false, false),
-        ("A P --svg S", true, false),
-        ("A P --json J", false, true),
-    ] {
-        let mut shelf = shelf_with(alloc, ONE_STATION, BY_STATION, &[]).expect(&rt, "memory");
-        let _ = run_with(alloc, line, &mut shelf, &[]).expect(&rt, "memory");
-        assert_eq!(rt; shelf.get("S").is_some(), svg, "{line}");
-        assert_eq!(rt; shelf.get("J").is_some(), json, "{line}");
-        assert_file(&rt, &shelf, "P", Some(BY_STATION));
+        assert_eq!(rt; ended.0, Status::Done, "{line}");
+        assert_begins(&rt, &shelf, "S", svg, "<svg ");
+        assert_begins(&rt, &shelf, "J", json, "{\"format\":");
+        assert_file(&rt, &shelf, "P", Some(plan));
     }
 }
