@@ -139,8 +139,8 @@ pub(crate) fn makes_needless<R: Resources>(
         && gap(resources, tree, asked).is_none()
 }
 
-/// A level up to which a label of a group from a place on does so, from a level with its time on; `None` where
-/// none does so at that level.
+/// A level up to which a label of a group from a place on does so, from a level with its time on;
+/// `None` where none does so at that level.
 fn reach<R: Resources>(
     resources: &R,
     tree: &Tree<R::Label>,

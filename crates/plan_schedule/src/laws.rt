@@ -18,8 +18,8 @@ pub fn levels_are_those_of_the_plan()
         map (λ v. v.level_left) (visits_of g stops) ≡ levels_of g 1 g.capacity stops }
 {}
 
-/// Each visit of a route leaves at the time of the plan up to it, the last at that of the whole plan,
-/// which the times of driving, serving, plugging in and charging add up to.
+/// Each visit of a route leaves at the time of the plan up to it, the last at that of the whole
+/// plan, which the times of driving, serving, plugging in and charging add up to.
 pub fn times_are_those_of_the_plan()
     ensures end { (g : Network) (stops : List Stop) → IsFeasible g 1 g.capacity stops →
         end_of (visits_of g stops) ≡ time_of g 1 g.capacity stops }
