@@ -1,4 +1,4 @@
-//! `evview`: timetables and pictures of plans for electric delivery fleets.
+//! `evview`: schedules and pictures of plans for electric delivery fleets.
 #![tactic(auto)]
 
 use ev_outside::{FileShelf, OutSink};

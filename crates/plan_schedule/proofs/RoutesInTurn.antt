@@ -26,7 +26,7 @@ pub feasible_behind : (g : Network) (plans : List RoutePlan) (p : RoutePlan) (i 
 feasible_behind g plans p i is within all =
     rw add-one (All-tail (IsFeasible g 1 g.capacity) p.stops (stops_of (drop (suc i) plans)) (subst (λ ps. AreFeasible g ps) (cut_at plans p i is within) all))
 
--- one timetable more was made
+-- one schedule more was made
 pub told_next : (g : Network) (items more : List RouteSchedule) (r : RouteSchedule) (all : List RouteSchedule) (plans : List RoutePlan) (p : RoutePlan) (i : ℕ) → p ≡ get_or plans i p → i < length plans → more ≡ items ++ r ∷ [] → r ≡ route_schedule g i p.stops → items ++ route_schedules g i (stops_of (drop i plans)) ≡ all → more ++ route_schedules g (i + 1) (stops_of (drop (i + 1) plans)) ≡ all
 told_next g items more r all plans p i is within pushed made told =
     let rest = route_schedules g (i + 1) (stops_of (drop (suc i) plans)) in
@@ -35,7 +35,7 @@ told_next g items more r all plans p i is within pushed made told =
     let same : route_schedules g (i + 1) (stops_of (drop (i + 1) plans)) ≡ rest = ap (λ n. route_schedules g (i + 1) (stops_of (drop n plans))) (add-one i) in
     ap (λ xs. more ++ xs) same ∙ ap (λ xs. xs ++ rest) pushed ∙ append_assoc items (r ∷ []) rest ∙ told_r
 
--- as many timetables as plans
+-- as many schedules as plans
 many_from : (g : Network) (number : ℕ) (plans : List (List Stop)) → length (route_schedules g number plans) ≡ length plans
 many_from g number [] = refl
 many_from g number (stops ∷ plans) = ap suc (many_from g (number + 1) plans)

@@ -1,4 +1,4 @@
--- The timetable of a plan.
+-- The schedule of a plan.
 use Rattle.std.specs.Prelude.{ℕ, ◌+◌, ◌^◌, ◌≤◌, List, [], ◌∷◌, drop, take}
 use Rattle.ev_model.specs.Network.{Network}
 use Rattle.ev_model.specs.declared.Stop.{Stop}
@@ -8,7 +8,7 @@ use Rattle.plan_schedule.specs.Visits.{visits_of}
 use Rattle.plan_schedule.specs.declared.schedule.RouteSchedule.{RouteSchedule}
 use Rattle.plan_schedule.specs.declared.schedule.Schedule.{Schedule}
 
--- the timetable of the route with this number
+-- the schedule of the route with this number
 abbrev pub route_schedule : Network → ℕ → List Stop → RouteSchedule
 route_schedule g number stops = record {
   number = number;
@@ -17,13 +17,13 @@ route_schedule g number stops = record {
   totals = route_totals (visits_of g stops);
 }
 
--- the timetables of routes, of which the first has this number
+-- the schedules of routes, of which the first has this number
 abbrev pub route_schedules : Network → ℕ → List (List Stop) → List RouteSchedule
 route_schedules g number [] = []
 route_schedules g number (stops ∷ plans) =
     route_schedule g number stops ∷ route_schedules g (number + 1) plans
 
--- the timetable of a plan of a vehicle a route
+-- the schedule of a plan of a vehicle a route
 abbrev pub schedule_of : Network → List (List Stop) → Schedule
 schedule_of g plans = record {
   denominator = g.denominator;

@@ -1,4 +1,4 @@
-//! Laws of timetables. Each is the contract of an empty function.
+//! Laws of schedules. Each is the contract of an empty function.
 
 ghost use Rattle.std.specs.Prelude.{ℕ, ◌≡◌, ◌+◌, List, map, take};
 ghost use Rattle.std.specs.List.{All};

@@ -1,4 +1,4 @@
-//! The timetable of a fleet plan: for each route its visits, with times and levels of the battery,
+//! The schedule of a fleet plan: for each route its visits, with times and levels of the battery,
 //! the line that the level follows over time, and totals.
 //!
 //! Each number is that of the walk along the plan, by the definitions of the problem. Scaled times

@@ -1,4 +1,4 @@
-//! The timetable of a plan, whole or of one route alone.
+//! The schedule of a plan, whole or of one route alone.
 
 ghost use Rattle.std.specs.Prelude.{◌≡◌, ◌<◌, ◌≤◌, IfNone, IfOk, IfSome, length};
 ghost use Rattle.std.specs.List.{All};
@@ -17,7 +17,7 @@ use instance_reader::Instance;
 use route_plan::{FleetPlan, RoutePlan};
 use std::alloc::{AllocError, Global};
 
-/// The timetable of a fleet plan whose routes are feasible from full, as those of each plan that
+/// The schedule of a fleet plan whose routes are feasible from full, as those of each plan that
 /// [`plan_check::check_large`] accepts. The only refusal is want of memory.
 pub fn schedule_plan(
     alloc: Global,
@@ -41,7 +41,7 @@ pub fn schedule_plan(
     })
 }
 
-/// The timetables of the routes of a plan.
+/// The schedules of the routes of a plan.
 fn route_schedules(
     alloc: Global,
     inst: &Instance,
@@ -60,7 +60,7 @@ fn route_schedules(
     Ok(routes)
 }
 
-/// The timetable of a route that is feasible from full.
+/// The schedule of a route that is feasible from full.
 fn route_schedule(
     alloc: Global,
     inst: &Instance,
@@ -84,7 +84,7 @@ fn route_schedule(
     })
 }
 
-/// The timetable of one route alone, beside the totals of the whole plan; `None` exactly where
+/// The schedule of one route alone, beside the totals of the whole plan; `None` exactly where
 /// there is no route of this number, counted from 0. It takes no memory.
 pub fn only_route(schedule: Schedule, route: usize) -> Option<Schedule>
     ensures value { IfSome result (λ s. s ≡ only schedule route) }

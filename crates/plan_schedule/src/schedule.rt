@@ -1,4 +1,4 @@
-//! What a timetable is made of.
+//! What a schedule is made of.
 
 use ev_list::Listed;
 
@@ -71,7 +71,7 @@ pub struct Totals {
     pub stops: u128,
 }
 
-/// The timetable of a route.
+/// The schedule of a route.
 #[derive(Drop)]
 pub struct RouteSchedule {
     /// The number of the route in its plan, from 0.
@@ -82,7 +82,7 @@ pub struct RouteSchedule {
     pub totals: Totals,
 }
 
-/// The timetable of a fleet plan.
+/// The schedule of a fleet plan.
 #[derive(Drop)]
 pub struct Schedule {
     /// The number by which times are multiplied to be scaled times: 1 or more.

@@ -1,4 +1,4 @@
--- The timetable as one JSON text. Times are scaled.
+-- The schedule as one JSON text. Times are scaled.
 use Rattle.std.specs.Prelude.{ℕ, ◌+◌, ◌++◌, Bool, List, [], ◌∷◌, Option, None, Some, codes, decimal, nat_lt, if◌then◌else◌}
 use Rattle.plan_schedule.specs.declared.schedule.PlaceKind.{PlaceKind}
 use Rattle.plan_schedule.specs.declared.schedule.PlaceKind.TheVariants.{Depot, Customer, Station}

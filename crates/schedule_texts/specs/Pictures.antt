@@ -1,4 +1,4 @@
--- The timetable as a picture in SVG.
+-- The schedule as a picture in SVG.
 use Rattle.std.specs.Prelude.{ℕ, ◌+◌, ◌*◌, ◌/◌, ◌++◌, List, [], ◌∷◌, Option, None, Some, codes, decimal, length}
 use Rattle.plan_schedule.specs.declared.schedule.RouteSchedule.{RouteSchedule}
 use Rattle.plan_schedule.specs.declared.schedule.Schedule.{Schedule}

@@ -1,4 +1,4 @@
--- The timetable as a table.
+-- The schedule as a table.
 use Rattle.std.specs.Prelude.{ℕ, ◌+◌, ◌++◌, Bool, List, [], ◌∷◌, Option, None, Some, codes, decimal, length, max, nat_lt, if◌then◌else◌}
 use Rattle.ev_text.specs.Texts.{joined_texts}
 use Rattle.report_lines.specs.Lines.{number_line}

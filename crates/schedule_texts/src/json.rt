@@ -1,4 +1,4 @@
-//! The timetable as one JSON text.
+//! The schedule as one JSON text.
 
 ghost use Rattle.std.specs.Prelude.{◌≡◌, ◌++◌, OnOk, IfOk, option_map};
 ghost use Rattle.schedule_texts.specs.JsonTexts.{inserted_field, items_from, json_text, kind_field, mark, place_fields, route_text, schedule_text, stay_fields, totals_text, visit_text, way_fields};
@@ -7,7 +7,7 @@ use plan_schedule::{PlaceKind, RouteSchedule, Schedule, Totals, Visit};
 use report_lines::{push_numbered, push_word};
 use std::alloc::{AllocError, Global};
 
-/// The timetable as one JSON text, as `docs/schedule.md` has it: times are scaled, whole numbers
+/// The schedule as one JSON text, as `docs/schedule.md` has it: times are scaled, whole numbers
 /// over the denominator. Without a plan its routes are `null`. The only refusal is want of memory.
 pub fn schedule_json(alloc: Global, schedule: Option<&Schedule>) -> Result<Vec<u8>, AllocError>
     ensures { IfOk result

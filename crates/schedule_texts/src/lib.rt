@@ -1,7 +1,7 @@
-//! The timetable of a fleet plan as texts: a table to read, a picture of the levels of the
+//! The schedule of a fleet plan as texts: a table to read, a picture of the levels of the
 //! batteries over time, and one JSON text.
 //!
-//! Each text is a function of the timetable, in ASCII, and ends with a line feed. Decimals have two
+//! Each text is a function of the schedule, in ASCII, and ends with a line feed. Decimals have two
 //! digits, rounded to the nearest hundredth, a half up.
 #![tactic(auto)]
 

@@ -1,4 +1,4 @@
-//! The timetable as a picture: the levels of the batteries over time, a panel a route.
+//! The schedule as a picture: the levels of the batteries over time, a panel a route.
 //!
 //! Lengths are in tenths of a pixel, so that all of them are whole.
 

@@ -1,4 +1,4 @@
-//! The timetable as a table.
+//! The schedule as a table.
 
 ghost use Rattle.std.specs.Prelude.{◌≡◌, ◌≤◌, ◌++◌, OnOk, IfOk, option_map};
 ghost use Rattle.ev_text.specs.Texts.{joined_texts};
@@ -21,7 +21,7 @@ struct Columns {
     level: usize,
 }
 
-/// The timetable as a table: for each route a line a stop, and the sums; below them those of the
+/// The schedule as a table: for each route a line a stop, and the sums; below them those of the
 /// plan. Without a plan it is the line `no plan`.
 ///
 /// Times are `X/D` where they are to be exact, and else decimals. The only refusal is want of

@@ -31,7 +31,7 @@ fill:#222222}.h{font-size:140px;font-weight:bold}.k{font-size:180px;font-weight:
 <circle class='b' cx='4500' cy='600' r='26'/>\
 <text x='4580' y='640'>breakpoint of a charging curve</text>\n";
 
-/// The timetable as a picture in SVG: for each route a panel with the level of its battery over
+/// The schedule as a picture in SVG: for each route a panel with the level of its battery over
 /// time. Without a plan it says so. The only refusal is want of memory.
 pub fn schedule_picture(alloc: Global, schedule: Option<&Schedule>) -> Result<Vec<u8>, AllocError>
     requires { AreTimed (option_map (λ s. s.now) schedule) }
