@@ -1,0 +1,11 @@
+pub mod Stands
+pub mod NearSteps
+pub mod Rests
+pub mod Sums
+pub mod Sound
+pub mod Crossings
+pub mod Descent
+pub mod Fleets
+pub mod Wholes
+pub mod Leaves
+pub mod Test

@@ -1,0 +1,5 @@
+pub mod Labels
+pub mod ThreeCustomers
+pub mod Shortcut
+pub mod DepotStation
+pub mod OutOfReach

@@ -1,0 +1,11 @@
+pub mod Pairs
+pub mod Entries
+pub mod Sections
+pub mod Branches
+pub mod Follows
+pub mod Steps
+pub mod Covered
+pub mod Closed
+pub mod Trees
+pub mod Bounds
+pub mod Examples

@@ -1,0 +1,18 @@
+//! Trees over near sections: lower bounds on the cost of a fleet by near routes, on which customers
+//! are forgotten, branched on who follows whom and on how often routes enter a set of customers.
+//!
+//! The definitions stand in `specs/`. What stands here are laws that say that they prove what they
+//! should, and worked examples, computed from the definitions.
+#![tactic(auto)]
+
+mod examples;
+mod laws;
+
+pub use examples::{
+    a_leaf_of_weight_0_shows_that_no_plan_goes_there, an_entry_price_may_be_below_0,
+    anybody_stands_in_at_a_station, the_depot_may_be_a_station,
+};
+pub use laws::{
+    a_fleet_costs_the_bound_of_a_near_tree, a_fleet_costs_the_bound_of_its_leaf,
+    a_fleet_goes_to_some_leaf, a_near_route_pays_at_a_leaf, who_stands_for_whom,
+};
