@@ -46,10 +46,17 @@ mark_fits h d small few =
     let most : h * d ≤ 2 ^ 71 * 10 ^ 9 = mul-le-mul up_to few in
     omega (arith, most)
 
-pub mark_small : (h d : ℕ) → h < 2 ^ 71 → d ≤ 10 ^ 9 → h * d / 100 < 2 ^ 102
-mark_small h d small few =
-    let most = mark_fits h d small few in
-    let less : h * d / 100 ≤ h * d = div-le_self (h * d) 100 in
+pub mark_wide : (h d width : ℕ) → h < 2 ^ 71 → d ≤ 10 ^ 9 → width ≤ 32000 → h * d * width < 2 ^ 117
+mark_wide h d width small few narrow =
+    let fits = mark_fits h d small few in
+    let up_to : h * d ≤ 2 ^ 102 = omega (arith, fits) in
+    let most : h * d * width ≤ 2 ^ 102 * 32000 = mul-le-mul up_to narrow in
+    omega (arith, most)
+
+pub mark_small : (h d width over : ℕ) → h < 2 ^ 71 → d ≤ 10 ^ 9 → width ≤ 32000 → h * d * width / over < 2 ^ 117
+mark_small h d width over small few narrow =
+    let most = mark_wide h d width small few narrow in
+    let less : h * d * width / over ≤ h * d * width = div-le_self (h * d * width) over in
     omega (arith, most, less)
 
 pub span_small : (latest d : ℕ) → latest < 2 ^ 64 → latest * 100 / d < 2 ^ 71
@@ -71,4 +78,4 @@ x_small time width latest small narrow =
 
 pub ruleset x_sizes = (x_fits, x_small)
 
-pub ruleset mark_sizes = (mark_fits, mark_small)
+pub ruleset mark_sizes = (mark_fits, mark_wide, mark_small)

@@ -1,14 +1,21 @@
 -- The axis of time: a mark at each multiple of a step, one a hundred pixels at most.
-use Rattle.std.specs.Prelude.{ℕ, zero, suc, ◌+◌, ◌*◌, ◌/◌, ◌%◌, ◌^◌, ◌++◌, List, [], ◌∷◌, codes, decimal, max, nat_eq, nat_lt, if◌then◌else◌}
+use Rattle.std.specs.Prelude.{ℕ, zero, suc, ◌+◌, ◌*◌, ◌/◌, ◌%◌, ◌++◌, List, [], codes, decimal, nat_eq, nat_lt, if◌then◌else◌}
 use Rattle.schedule_texts.specs.Decimals.{hundredths_text}
-use Rattle.schedule_texts.specs.Scales.{x_at}
-use Rattle.schedule_texts.specs.declared.picture.axis.TheConstants.{STEPS}
+use Rattle.schedule_texts.specs.Scales.{mark_at}
 use Rattle.schedule_texts.specs.declared.picture.scale.Scale.{Scale}
 
--- the first of the steps that is above a number; the greatest of all where none is
-abbrev pub step_above : ℕ → List ℕ → ℕ
-step_above least [] = 10 ^ 20
-step_above least (step ∷ steps) = if nat_lt least step then step else step_above least steps
+-- the first number above another one among 1, 2 and 5 times so many powers of ten, from this power on; the power behind them if none is
+abbrev pub step_from : ℕ → ℕ → ℕ → ℕ
+step_from zero power least = power
+step_from (suc powers) power least =
+    if nat_lt least power then power
+    else if nat_lt least (2 * power) then 2 * power
+    else if nat_lt least (5 * power) then 5 * power
+    else step_from powers (10 * power) least
+
+-- the first of 1, 2, 5, 10, 20, 50, .., 10 ^ 20 above a number
+unfoldable pub step_above : ℕ → ℕ
+step_above least = step_from 20 1 least
 
 -- the time at the right end, in hundredths
 abbrev pub span_of : Scale → ℕ
@@ -16,17 +23,13 @@ span_of scale = scale.latest * 100 / scale.denominator
 
 -- the hundredths of a unit of time from mark to mark: 1, 2 or 5 times a power of ten
 abbrev pub step_of : Scale → ℕ
-step_of scale = max (step_above (span_of scale / (scale.width / 1000)) STEPS) 1
+step_of scale = step_above (span_of scale / (scale.width / 1000))
 
 -- a time in hundredths: whole where all marks are
 abbrev pub label_text : ℕ → ℕ → List ℕ
 label_text step hundredths =
     if nat_eq (step % 100) 0 then decimal (hundredths / 100)
     else hundredths_text (hundredths / 100) (hundredths % 100)
-
--- where a time in hundredths stands
-abbrev pub mark_at : Scale → ℕ → ℕ
-mark_at scale hundredths = x_at scale (hundredths * scale.denominator / 100)
 
 -- the lines of a mark, and how the element of its label begins
 unfoldable pub mark_open : ℕ → List ℕ

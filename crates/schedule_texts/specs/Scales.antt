@@ -30,6 +30,11 @@ pub record IsScale (scale : Scale) : Type 0 where
 abbrev pub x_at : Scale → ℕ → ℕ
 x_at scale time = 1200 + time * scale.width / max scale.latest 1
 
+-- where a time in hundredths of a unit stands, scaled or not: nothing but its place is rounded
+abbrev pub mark_at : Scale → ℕ → ℕ
+mark_at scale hundredths =
+    1200 + hundredths * scale.denominator * scale.width / (100 * max scale.latest 1)
+
 -- where a level stands, from the top of the panel: a full battery at the top of its axis, an empty one at its bottom
 abbrev pub y_at : Scale → ℕ → ℕ
 y_at scale level = 2200 - level * 1600 / max scale.full 1

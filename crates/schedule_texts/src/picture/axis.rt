@@ -5,73 +5,9 @@ ghost use Rattle.schedule_texts.specs.Axes.{axis_text, label_text, mark_open, ma
 ghost use Rattle.schedule_texts.specs.Scales.{IsScale};
 
 use crate::decimals::push_hundredths;
-use crate::picture::scale::{Scale, x_at};
+use crate::picture::scale::{Scale, mark_at};
 use report_lines::{push_numbered, push_word};
 use std::alloc::{AllocError, Global};
-
-/// How far marks may stand apart, in hundredths of a unit of time.
-const STEPS: [u128; 60] = [
-    1,
-    2,
-    5,
-    10,
-    20,
-    50,
-    100,
-    200,
-    500,
-    1_000,
-    2_000,
-    5_000,
-    10_000,
-    20_000,
-    50_000,
-    100_000,
-    200_000,
-    500_000,
-    1_000_000,
-    2_000_000,
-    5_000_000,
-    10_000_000,
-    20_000_000,
-    50_000_000,
-    100_000_000,
-    200_000_000,
-    500_000_000,
-    1_000_000_000,
-    2_000_000_000,
-    5_000_000_000,
-    10_000_000_000,
-    20_000_000_000,
-    50_000_000_000,
-    100_000_000_000,
-    200_000_000_000,
-    500_000_000_000,
-    1_000_000_000_000,
-    2_000_000_000_000,
-    5_000_000_000_000,
-    10_000_000_000_000,
-    20_000_000_000_000,
-    50_000_000_000_000,
-    100_000_000_000_000,
-    200_000_000_000_000,
-    500_000_000_000_000,
-    1_000_000_000_000_000,
-    2_000_000_000_000_000,
-    5_000_000_000_000_000,
-    10_000_000_000_000_000,
-    20_000_000_000_000_000,
-    50_000_000_000_000_000,
-    100_000_000_000_000_000,
-    200_000_000_000_000_000,
-    500_000_000_000_000_000,
-    1_000_000_000_000_000_000,
-    2_000_000_000_000_000_000,
-    5_000_000_000_000_000_000,
-    10_000_000_000_000_000_000,
-    20_000_000_000_000_000_000,
-    50_000_000_000_000_000_000,
-];
 
 /// Appends the marks of the axis of time, each with its time, one a hundred pixels at most.
 #[tactic(auto, using(crate::proofs::Sizes::span_small))]
@@ -80,7 +16,7 @@ pub(crate) fn push_axis(alloc: Global, out: &mut Vec<u8>, scale: Scale) -> Resul
     ensures { OnOk result (out.new.items ≡ out.old.items ++ axis_text scale) }
 {
     let span = scale.latest as u128 * 100 / scale.denominator as u128;
-    let step = step_above(span / (scale.width as u128 / 1000), &STEPS).max(1);
+    let step = step_above(span / (scale.width as u128 / 1000));
     push_marks(alloc, out, scale, step, span)
 }
 
@@ -105,16 +41,26 @@ fn push_marks(
     Ok(())
 }
 
-/// The first of steps that is above a number; the greatest of all where none is.
-fn step_above(least: u128, steps: &[u128]) -> u128
-    ensures { result ≡ step_above least steps.now }
+/// The first of 1, 2, 5, 10, 20, 50 and so on up to 10^20 that is above a number; 10^20 where none
+/// is.
+fn step_above(least: u128) -> u128
+    ensures value { result ≡ step_above least }
+    ensures some { 1 ≤ result }
 {
-    for step in steps {
-        if least < *step {
-            return *step;
+    let mut power = 1;
+    for _ in 0..20_u32 {
+        if least < power {
+            return power;
         }
+        if least < 2 * power {
+            return 2 * power;
+        }
+        if least < 5 * power {
+            return 5 * power;
+        }
+        power *= 10;
     }
-    100_000_000_000_000_000_000
+    power
 }
 
 /// Appends the mark of a time, in hundredths, with lines to it.
@@ -130,8 +76,7 @@ fn push_mark(
     requires small { hundredths < 2 ^ 71 }
     ensures { OnOk result (out.new.items ≡ out.old.items ++ mark_text scale step hundredths) }
 {
-    let x = x_at(scale, hundredths * scale.denominator as u128 / 100);
-    open_mark(alloc, out, x)?;
+    open_mark(alloc, out, mark_at(scale, hundredths))?;
     push_label(alloc, out, step, hundredths)?;
     push_word(out, b"</text>\n")
 }

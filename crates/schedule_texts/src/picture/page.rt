@@ -3,7 +3,7 @@
 ghost use Rattle.std.specs.Prelude.{◌≡◌, ◌++◌, IfOk, OnOk, Some, option_map};
 ghost use Rattle.schedule_texts.specs.Options.{AreTimed};
 ghost use Rattle.plan_schedule.specs.Schedules.{IsTimed};
-ghost use Rattle.schedule_texts.specs.Pictures.{head_text, none_text, page_text, picture_text, routes_text, size_text};
+ghost use Rattle.schedule_texts.specs.Pictures.{head_text, legend_text, none_text, page_text, picture_text, routes_text, size_text, style_text};
 ghost use Rattle.schedule_texts.specs.Scales.{IsScale};
 
 use crate::picture::panel::push_panels;
@@ -12,8 +12,8 @@ use plan_schedule::{RouteSchedule, Schedule};
 use report_lines::{push_numbered, push_word};
 use std::alloc::{AllocError, Global};
 
-/// The colours and the type, and the line that says what the shapes are.
-const LEGEND: &[u8] = b"<style>text{font-family:Helvetica,Arial,sans-serif;font-size:120px;\
+/// The colours and the type.
+const STYLE: &[u8] = b"<style>text{font-family:Helvetica,Arial,sans-serif;font-size:120px;\
 fill:#222222}.h{font-size:140px;font-weight:bold}.k{font-size:180px;font-weight:bold}\
 .c{text-anchor:middle}.e{text-anchor:end}\
 .l{fill:none;stroke:#0b5394;stroke-width:20;stroke-linejoin:round}\
@@ -21,8 +21,10 @@ fill:#222222}.h{font-size:140px;font-weight:bold}.k{font-size:180px;font-weight:
 .a{stroke:#222222;stroke-width:12}.g{stroke:#e4e4e4;stroke-width:6}\
 .n{stroke:#9a9a9a;stroke-width:6;stroke-dasharray:16 24}\
 .p{fill:#ffffff;stroke:#222222;stroke-width:16}.s{fill:#e69f00;stroke:#222222;stroke-width:12}\
-.d{fill:#222222}.b{fill:#ffffff;stroke:#0b5394;stroke-width:12}</style>\n\
-<rect width='100%' height='100%' fill='#ffffff'/>\n\
+.d{fill:#222222}.b{fill:#ffffff;stroke:#0b5394;stroke-width:12}</style>\n";
+
+/// The title, and what the shapes are.
+const LEGEND: &[u8] = b"<rect width='100%' height='100%' fill='#ffffff'/>\n\
 <text class='k' x='1200' y='320'>Battery levels over time</text>\n\
 <path class='d' d='M1270 530l70 70l-70 70l-70 -70z'/><text x='1400' y='640'>depot</text>\n\
 <circle class='p' cx='2150' cy='600' r='50'/><text x='2260' y='640'>c: customer</text>\n\
@@ -98,8 +100,23 @@ fn push_head(alloc: Global, out: &mut Vec<u8>, width: u64, panels: usize) -> Res
     let across = width as u128 + 2700;
     let down = panels as u128 * 2800 + 1100;
     push_size(alloc, out, across, down)?;
-    push_word(out, LEGEND)?;
+    push_style(out)?;
+    push_legend(out)?;
     Ok(())
+}
+
+/// Appends the colours and the type.
+fn push_style(out: &mut Vec<u8>) -> Result<(), AllocError>
+    ensures { OnOk result (out.new.items ≡ out.old.items ++ style_text) }
+{
+    push_word(out, STYLE)
+}
+
+/// Appends the title, and what the shapes are.
+fn push_legend(out: &mut Vec<u8>) -> Result<(), AllocError>
+    ensures { OnOk result (out.new.items ≡ out.old.items ++ legend_text) }
+{
+    push_word(out, LEGEND)
 }
 
 /// Appends how a page of a size begins.

@@ -2,7 +2,7 @@
 
 ghost use Rattle.std.specs.Prelude.{◌≡◌, ◌≤◌, ◌<◌, ◌^◌};
 ghost use Rattle.plan_schedule.specs.Schedules.{IsTimed};
-ghost use Rattle.schedule_texts.specs.Scales.{IsScale, most_stops, scale_of, x_at, y_at};
+ghost use Rattle.schedule_texts.specs.Scales.{IsScale, mark_at, most_stops, scale_of, x_at, y_at};
 
 use crate::latest::latest_of;
 use plan_schedule::{RouteSchedule, Schedule};
@@ -57,6 +57,17 @@ pub(crate) fn x_at(scale: Scale, time: u128) -> u128
     ensures small { result < 2 ^ 120 }
 {
     1200 + time * scale.width as u128 / scale.latest.max(1) as u128
+}
+
+/// Where a time in hundredths of a unit stands, from the left.
+#[tactic(auto, using(crate::proofs::Sizes::mark_sizes))]
+pub(crate) fn mark_at(scale: Scale, hundredths: u128) -> u128
+    requires scale { IsScale scale }
+    requires small { hundredths < 2 ^ 71 }
+    ensures { result ≡ mark_at scale hundredths }
+{
+    let across = hundredths * scale.denominator as u128 * scale.width as u128;
+    1200 + across / (100 * scale.latest.max(1) as u128)
 }
 
 /// Where a level stands, from the top of the panel.
