@@ -51,9 +51,7 @@ fn curve(alloc: Global, entry: &CurveEntry, index: usize, max_q: u64) -> Result<
     ensures accepted { IfOk result IsAccepted }
     ensures err { IfErr result (Refuses (bad_curve max_q index (curve_view entry.now))) }
 {
-    let Ok(points) = points(alloc, entry) else {
-        return Err(ReadFault::Memory);
-    };
+    let points = points(alloc, entry)?;
     match Curve::new(alloc, points.as_slice(), max_q) {
         Ok(curve) => Ok(curve),
         Err(fault) => Err(read_fault(index, fault)),
@@ -76,9 +74,7 @@ pub(crate) fn curves(
     let mut curves = Vec::new(alloc);
     for (index, entry) in entries.iter().enumerate() {
         let curve = curve(alloc, entry, index, max_q)?;
-        if curves.push(curve).is_err() {
-            return Err(ReadFault::Memory);
-        }
+        curves.push(curve)?;
     }
     Ok(curves)
 }

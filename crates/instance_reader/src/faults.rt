@@ -3,6 +3,7 @@
 use crate::instance::Instance;
 use crate::places::{Key, Place};
 use charge_curve::CurveFault;
+use std::alloc::{AllocError, AllocFailed};
 
 /// The first broken rule of an instance file. The rules are tried in this order, and within a rule
 /// the places in the order of the fields: `max_q`, `css`, `breakpoints_by_type`, `process_times`,
@@ -38,6 +39,28 @@ pub enum ReadFault {
     Memory,
 }
 
+impl<T: Drop> From<AllocFailed<T>> for ReadFault {
+    ghost use Rattle.instance_reader.specs.declared.faults.ReadFault.TheVariants.{Memory};
+    ghost use Rattle.std.specs.Prelude.{◌≡◌};
+
+    ghost from_gives = { λ _ e. e ≡ Memory };
+
+    fn from(_refused: AllocFailed<T>) -> ReadFault {
+        ReadFault::Memory
+    }
+}
+
+impl From<AllocError> for ReadFault {
+    ghost use Rattle.instance_reader.specs.declared.faults.ReadFault.TheVariants.{Memory};
+    ghost use Rattle.std.specs.Prelude.{◌≡◌};
+
+    ghost from_gives = { λ _ e. e ≡ Memory };
+
+    fn from(_refused: AllocError) -> ReadFault {
+        ReadFault::Memory
+    }
+}
+
 /// Why a limit isn't taken: the instance's denominator times the limit is past 10^18. The instance
 /// is given back as it was.
 #[derive(Drop)]
@@ -51,4 +74,26 @@ pub struct LimitFault {
 pub(crate) enum PlaceFault {
     At { place: Place },
     Memory,
+}
+
+impl<T: Drop> From<AllocFailed<T>> for PlaceFault {
+    ghost use Rattle.instance_reader.specs.declared.faults.PlaceFault.TheVariants.{Memory};
+    ghost use Rattle.std.specs.Prelude.{◌≡◌};
+
+    ghost from_gives = { λ _ e. e ≡ Memory };
+
+    fn from(_refused: AllocFailed<T>) -> PlaceFault {
+        PlaceFault::Memory
+    }
+}
+
+impl From<AllocError> for PlaceFault {
+    ghost use Rattle.instance_reader.specs.declared.faults.PlaceFault.TheVariants.{Memory};
+    ghost use Rattle.std.specs.Prelude.{◌≡◌};
+
+    ghost from_gives = { λ _ e. e ≡ Memory };
+
+    fn from(_refused: AllocError) -> PlaceFault {
+        PlaceFault::Memory
+    }
 }

@@ -13,7 +13,7 @@ use crate::faults::PlaceFault;
 use crate::fields::{CurveEntry, Fields, StationEntry, TypeName};
 use crate::places::{Key, Part, Place};
 use serde_json::Value;
-use std::alloc::Global;
+use std::alloc::{AllocError, Global};
 
 /// A whole number.
 fn whole(value: Option<&Value>, place: Place) -> Result<u64, PlaceFault>
@@ -87,9 +87,7 @@ fn whole_items(alloc: Global, items: &[Value], place: Place) -> Result<Vec<u64>,
                 place: place.item(index),
             });
         };
-        if numbers.push(number).is_err() {
-            return Err(PlaceFault::Memory);
-        }
+        numbers.push(number)?;
     }
     Ok(numbers)
 }
@@ -119,9 +117,7 @@ fn row_items(alloc: Global, items: &[Value], place: Place) -> Result<Vec<Vec<u64
     let mut rows = Vec::new(alloc);
     for (index, item) in items.iter().enumerate() {
         let row = wholes(alloc, Some(item), place.item(index))?;
-        if rows.push(row).is_err() {
-            return Err(PlaceFault::Memory);
-        }
+        rows.push(row)?;
     }
     Ok(rows)
 }
@@ -148,7 +144,7 @@ fn type_name(alloc: Global, value: Option<&Value>, place: Place) -> Result<TypeN
     match value {
         Some(Value::String(text)) => match String::from_str(alloc, text.as_str()) {
             Ok(text) => Ok(TypeName::Text(text)),
-            Err(_) => Err(PlaceFault::Memory),
+            Err(AllocError) => Err(PlaceFault::Memory),
         },
         Some(value) => match value.as_u64() {
             Some(number) => Ok(TypeName::Whole(number)),
@@ -223,9 +219,7 @@ fn station_items(
     let mut stations = Vec::new(alloc);
     for (index, item) in items.iter().enumerate() {
         let station = station(alloc, item, place.item(index))?;
-        if stations.push(station).is_err() {
-            return Err(PlaceFault::Memory);
-        }
+        stations.push(station)?;
     }
     Ok(stations)
 }
@@ -239,9 +233,7 @@ fn curve_items(alloc: Global, items: &[Value], place: Place) -> Result<Vec<Curve
     let mut curves = Vec::new(alloc);
     for (index, item) in items.iter().enumerate() {
         let curve = curve(alloc, item, place.item(index))?;
-        if curves.push(curve).is_err() {
-            return Err(PlaceFault::Memory);
-        }
+        curves.push(curve)?;
     }
     Ok(curves)
 }

@@ -39,9 +39,7 @@ pub(crate) fn station_numbers(
     ensures err { IfErr result
         (RefusesAt (wrong_node_in nodes 0 [] (map station_view stations.now))) }
 {
-    let Ok(mut numbers) = vec![in alloc; None; nodes] else {
-        return Err(PlaceFault::Memory);
-    };
+    let mut numbers = vec![in alloc; None; nodes]?;
     for (index, station) in stations.iter().enumerate() {
         let node = station.node as usize;
         if is_wrong(&numbers, node) {

@@ -22,7 +22,7 @@ use crate::sizes::first_large;
 use crate::stations::curve_numbers;
 use charge_curve::{Curve, common_denominator};
 use serde_json::Value;
-use std::alloc::Global;
+use std::alloc::{AllocError, Global};
 
 /// The most bytes of an instance, and of a plan: 2^26.
 pub const MOST_BYTES: usize = 1 << 26;
@@ -129,11 +129,12 @@ fn read_fields(alloc: Global, fields: Fields) -> Result<Instance, ReadFault>
     if let Some(place) = first_level_past_full(&fields) {
         return Err(ReadFault::Level { place });
     }
-    let Ok(curves) = scaled(alloc, curves, denominator) else {
-        return Err(ReadFault::Memory);
+    let curves = match scaled(alloc, curves, denominator) {
+        Ok(curves) => curves,
+        Err(AllocError) => return Err(ReadFault::Memory),
     };
     match build(alloc, fields, curves, curve_numbers, denominator, limit) {
         Ok(instance) => Ok(instance),
-        Err(_) => Err(ReadFault::Memory),
+        Err(AllocError) => Err(ReadFault::Memory),
     }
 }

@@ -79,6 +79,6 @@ pub(crate) fn curve_numbers(alloc: Global, fields: &Fields) -> Result<Vec<Option
     };
     match by_node(alloc, stations.as_slice(), types.as_slice()) {
         Ok(numbers) => Ok(numbers),
-        Err(_) => Err(ReadFault::Memory),
+        Err(AllocError) => Err(ReadFault::Memory),
     }
 }

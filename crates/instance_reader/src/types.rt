@@ -10,7 +10,7 @@ use crate::faults::PlaceFault;
 use crate::fields::{CurveEntry, StationEntry, TypeName};
 use crate::places::{Key, Part, Place};
 use indexmap::IndexSet;
-use std::alloc::Global;
+use std::alloc::{AllocFailed, Global};
 
 /// The place of the type of an entry under a key.
 fn type_place(key: Key, index: usize) -> Place
@@ -40,7 +40,7 @@ fn number_names<'a>(
                     place: type_place(Key::Breaks, index),
                 });
             }
-            Err(_) => return Err(PlaceFault::Memory),
+            Err(AllocFailed { .. }) => return Err(PlaceFault::Memory),
         }
     }
     Ok(names)
@@ -78,9 +78,7 @@ fn type_numbers<'a>(
                 place: type_place(Key::Css, index),
             });
         };
-        if numbers.push(number).is_err() {
-            return Err(PlaceFault::Memory);
-        }
+        numbers.push(number)?;
     }
     Ok(numbers)
 }
