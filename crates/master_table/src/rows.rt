@@ -399,15 +399,11 @@ pub fn rows_after(
 {
     let mut out = Vec::new(alloc);
     for (i, row) in rows.iter().enumerate() {
-        let Ok(next) = row_after(alloc, n, r, col, turned, i, row) else {
-            return Err(TableFault::Memory);
-        };
+        let next = row_after(alloc, n, r, col, turned, i, row)?;
         if let Some(past) = past_in(&next, caps, n, i) {
             return Err(TableFault::Wide { row: i, col: past });
         }
-        if out.push(next).is_err() {
-            return Err(TableFault::Memory);
-        }
+        out.push(next)?;
     }
     Ok(out)
 }

@@ -65,9 +65,8 @@ impl Table {
         ensures value { IfOk result (λ t. t ≡ fresh n (limits_of caps)) }
         ensures memory { IfErr result (λ fault. fault ≡ TableFault.Memory) }
     {
-        let (Ok(rows), Ok(basis)) = (fresh_rows(alloc, n), fresh_basis(alloc, n)) else {
-            return Err(TableFault::Memory);
-        };
+        let rows = fresh_rows(alloc, n)?;
+        let basis = fresh_basis(alloc, n)?;
         Ok(Table {
             rows,
             basis,
@@ -95,15 +94,12 @@ impl Table {
         let alloc = *self.basis.allocator();
         let n = self.basis.len();
         let col = self.columns();
-        let Ok(entries) = new_entries(alloc, self.rows.as_slice(), n, set, cost) else {
-            return Err(TableFault::Memory);
-        };
+        let entries = new_entries(alloc, self.rows.as_slice(), n, set, cost)?;
         if let Some(row) = past_row(entries.as_slice(), self.caps, n) {
             return Err(TableFault::Wide { row, col });
         }
-        if make_room(&mut self.rows).is_err() || self.added.reserve(1).is_err() {
-            return Err(TableFault::Memory);
-        }
+        make_room(&mut self.rows)?;
+        self.added.reserve(1)?;
         push_entries(&mut self.rows, entries.as_slice());
         let pushed = self.added.push(AddedColumn { set, cost }).is_ok();
         prove!(pushed);
@@ -204,9 +200,7 @@ impl Table {
     {
         let alloc = *self.basis.allocator();
         let n = self.basis.len();
-        let Ok(turn) = turn_row(alloc, &self.rows[row], col) else {
-            return Err(TableFault::Memory);
-        };
+        let turn = turn_row(alloc, &self.rows[row], col)?;
         let rows = rows_after(alloc, self.rows.as_slice(), n, row, col, &turn, self.caps)?;
         self.rows = rows;
         self.basis[row] = col;

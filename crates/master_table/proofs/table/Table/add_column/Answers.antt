@@ -30,27 +30,30 @@ new_entries-requires-clause-weights c i d lt le =
     let small = few_weights c.self.inside c.args.self.now c.self.view_is c.self.invariant i d inside (omega arith) in
     subst (λ xs. unsigned_abs (get_or xs i d).weight ≤ 2 ^ 40) (sym slice) small
 
-pub returns-in_default-clause-tableau : goal.returns-in_default-clause-tableau
-returns-in_default-clause-tableau c = column_tableau c.self.inside c.args.self.now c.self.view_is c.self.invariant c.args.set c.args.cost
+pub returns-in_err-entries-clause-tableau : goal.returns-in_err-entries-clause-tableau
+returns-in_err-entries-clause-tableau c = column_tableau c.self.inside c.args.self.now c.self.view_is c.self.invariant c.args.set c.args.cost
 
 pub returns-in-Some-clause-tableau : goal.returns-in-Some-clause-tableau
 returns-in-Some-clause-tableau c = column_tableau c.self.inside c.args.self.now c.self.view_is c.self.invariant c.args.set c.args.cost
 
-pub returns-then-is_err-clause-tableau : goal.returns-then-is_err-clause-tableau
-returns-then-is_err-clause-tableau c = column_tableau c.self.inside c.args.self.now c.self.view_is c.self.invariant c.args.set c.args.cost
+pub returns-in_err-make_room-clause-tableau : goal.returns-in_err-make_room-clause-tableau
+returns-in_err-make_room-clause-tableau c = column_tableau c.self.inside c.args.self.now c.self.view_is c.self.invariant c.args.set c.args.cost
+
+pub returns-in_err-reserve-clause-tableau : goal.returns-in_err-reserve-clause-tableau
+returns-in_err-reserve-clause-tableau c = column_tableau c.self.inside c.args.self.now c.self.view_is c.self.invariant c.args.set c.args.cost
 
 pub push_entries-requires-clause-same : goal.push_entries-requires-clause-same
 push_entries-requires-clause-same c =
     let n : c.len-n.result ≡ length c.self.inside.basis.items = omega arith in
     let slice = c.as_slice.ensures.value in
-    let entries : c.as_slice-3.result.now ≡ new_entries c.len-n.result (route c.args.set c.args.cost) 0 (map equation_of c.as_slice.result.now) = c.as_slice-3.ensures.value ∙ c.in-Ok.ensures in
+    let entries : c.as_slice-3.result.now ≡ new_entries c.len-n.result (route c.args.set c.args.cost) 0 (map equation_of c.as_slice.result.now) = c.as_slice-3.ensures.value ∙ c.in_ok-entries.ensures in
     same_count c.self.inside c.args.self.now c.self.view_is c.self.invariant c.args.set c.args.cost c.as_slice.result.now slice c.len-n.result n c.as_slice-3.result.now entries c.make_room.new.rows.items c.make_room.ensures.same
 
 pub invariant_of-self-2 : goal.invariant_of-self-2
 invariant_of-self-2 c =
     let n : c.len-n.result ≡ length c.self.inside.basis.items = omega arith in
     let slice = c.as_slice.ensures.value in
-    let entries : c.as_slice-3.result.now ≡ new_entries c.len-n.result (route c.args.set c.args.cost) 0 (map equation_of c.as_slice.result.now) = c.as_slice-3.ensures.value ∙ c.in-Ok.ensures in
+    let entries : c.as_slice-3.result.now ≡ new_entries c.len-n.result (route c.args.set c.args.cost) 0 (map equation_of c.as_slice.result.now) = c.as_slice-3.ensures.value ∙ c.in_ok-entries.ensures in
     let no_place : c.past_row.result ≡ None = search rules in
     let none : past_row (limits_of c.self.inside.caps) c.len-n.result 0 c.as_slice-3.result.now ≡ None =
     ap (past_row (limits_of c.self.inside.caps) c.len-n.result 0) (c.as_slice-3.ensures.value ∙ sym c.as_slice-2.ensures.value) ∙ sym c.past_row.ensures ∙ no_place in
