@@ -13,12 +13,13 @@ use Rattle.ev_model.specs.Fleet.{cost_of, times_in}
 use Rattle.ev_model.specs.Network.{IsNetwork, Network}
 use Rattle.plan_check.specs.FleetRules.{IsCustomer, stops_of}
 use Rattle.route_plan.specs.declared.plan.RoutePlan.{RoutePlan}
+use Rattle.order_pricing.specs.Orders.{IsOrder, route_over}
 use Rattle.route_improve.specs.Arranged.{AreArranged, are_served, first_node, first_or_depot}
 use Rattle.route_improve.specs.Finished.{ArePlansOf, IsPlanOf}
 use Rattle.route_improve.specs.Improved.{IsFastestForOrder, IsImproved, IsOrderly}
 use Rattle.route_improve.specs.Moves.{IsSettled, has_customer}
-use Rattle.route_improve.specs.Orders.{orders_of, route_over}
-use Rattle.route_improve.specs.Routes.{AreRoutes, AreSettledTo, IsOrder, cost_of_routes, lists_of, stands_in}
+use Rattle.route_improve.specs.Orders.{orders_of}
+use Rattle.route_improve.specs.Routes.{AreRoutes, AreSettledTo, cost_of_routes, lists_of, stands_in}
 use Rattle.route_improve.specs.declared.route.Route.{Route}
 use Rattle.route_improve.proofs.AnswerRanges.{fits_file}
 use Rattle.route_improve.proofs.FinishedPlans.{plan_customers, plans_cost, plans_fleet, plans_orders}

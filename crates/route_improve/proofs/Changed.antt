@@ -9,9 +9,10 @@ use Rattle.ev_model.specs.Fleet.{times_in}
 use Rattle.ev_model.specs.Network.{Network}
 use Rattle.index_links.specs.Lists.{list_at}
 use Rattle.plan_check.specs.FleetRules.{IsCustomer}
-use Rattle.route_improve.specs.Orders.{AreLeastTimes, IsLeastTime}
-use Rattle.route_improve.specs.Pricing.{AreLess, AreNoLess}
-use Rattle.route_improve.specs.Routes.{AreCheaper, AreNoCheaper, AreRoutes, IsOrder, lists_of, stands_in}
+use Rattle.order_pricing.specs.Orders.{IsLeastTime, IsOrder}
+use Rattle.route_improve.specs.Orders.{AreLeastTimes}
+use Rattle.order_pricing.specs.Pricing.{AreLess, AreNoLess}
+use Rattle.route_improve.specs.Routes.{AreCheaper, AreNoCheaper, AreRoutes, lists_of, stands_in}
 use Rattle.route_improve.specs.Taking.{AreOfPair, AreOfRoute}
 use Rattle.route_improve.specs.declared.route.Route.{Route}
 use Rattle.route_improve.proofs.Prices.{TakesLeast, least_at, priced}

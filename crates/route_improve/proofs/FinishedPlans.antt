@@ -13,8 +13,9 @@ use Rattle.ev_model.specs.declared.Stop.{Stop}
 use Rattle.plan_check.proofs.VisitCounts.{times_in-append}
 use Rattle.plan_check.specs.FleetRules.{IsCustomer, stops_of}
 use Rattle.route_plan.specs.declared.plan.RoutePlan.{RoutePlan}
+use Rattle.order_pricing.specs.Orders.{IsLeastTime, route_over}
 use Rattle.route_improve.specs.Finished.{ArePlansOf, IsPlanOf}
-use Rattle.route_improve.specs.Orders.{IsLeastTime, orders_of, route_over}
+use Rattle.route_improve.specs.Orders.{orders_of}
 use Rattle.route_improve.specs.Routes.{cost_of_routes, lists_of, stands_in}
 use Rattle.route_improve.specs.declared.route.Route.{Route}
 use Rattle.route_improve.proofs.Prices.{TakesLeast, least_once}

@@ -14,8 +14,9 @@ use Rattle.plan_check.proofs.Walks.{plan_known}
 use Rattle.plan_check.specs.FleetRules.{IsCustomer, stops_of}
 use Rattle.plan_check.specs.Tallies.{AreKnown}
 use Rattle.route_plan.specs.declared.plan.RoutePlan.{RoutePlan}
+use Rattle.order_pricing.specs.Orders.{IsOrder}
 use Rattle.route_improve.specs.Begun.{AreRoutesOf, IsRouteOf}
-use Rattle.route_improve.specs.Routes.{AreRoutes, IsOrder, cost_of_routes, stands_in}
+use Rattle.route_improve.specs.Routes.{AreRoutes, cost_of_routes, stands_in}
 use Rattle.route_improve.specs.declared.route.Route.{Route}
 use Rattle.route_improve.proofs.Prices.{TakesLeast}
 

@@ -3,7 +3,6 @@ pub mod Changed
 pub mod MovedOrders
 pub mod Made
 pub mod TriedMoves
-pub mod OrderRoutes
 pub mod PlaceLooks
 pub mod RouteOrders
 pub mod Settled
@@ -12,5 +11,4 @@ pub mod FirstRoutes
 pub mod AnswerRanges
 pub mod Answered
 pub mod OwnRoutes
-pub mod Remembered
 pub mod Joined

@@ -13,8 +13,9 @@ use Rattle.ev_model.specs.Network.{Network, is_customer, node_count}
 use Rattle.instance_reader.specs.Instance.{customer_nodes}
 use Rattle.plan_check.proofs.CustomersOnce.{customer_once}
 use Rattle.plan_check.specs.FleetRules.{IsCustomer}
+use Rattle.order_pricing.specs.Orders.{IsLeastTime}
 use Rattle.route_improve.specs.Improved.{CostsNoMoreThanOwn, HasNoOwn, IsFirstAlone}
-use Rattle.route_improve.specs.Orders.{AreLeastTimes, IsLeastTime}
+use Rattle.route_improve.specs.Orders.{AreLeastTimes}
 use Rattle.route_improve.specs.Own.{AreOwn, IsOwn, IsOwnOrAlone}
 use Rattle.route_improve.specs.Routes.{AreRoutes, cost_of_routes, lists_of, stands_in}
 use Rattle.route_improve.specs.declared.route.Route.{Route}

@@ -4,7 +4,8 @@ use Rattle.std.specs.List.{All}
 use Rattle.std.proofs.lemmas.List.Elements.{All-head, All-tail}
 use Rattle.std.proofs.lemmas.List.Sums.{sum_by-cons}
 use Rattle.ev_model.specs.Network.{Network}
-use Rattle.route_improve.specs.Orders.{AreLeastTimes, IsLeastTime}
+use Rattle.order_pricing.specs.Orders.{IsLeastTime}
+use Rattle.route_improve.specs.Orders.{AreLeastTimes}
 use Rattle.route_improve.specs.Routes.{cost_of_routes, lists_of}
 use Rattle.route_improve.specs.declared.route.Route.{Route}
 

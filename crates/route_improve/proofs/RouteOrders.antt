@@ -7,9 +7,9 @@ use Rattle.std.proofs.lemmas.List.Sums.{sum_by-append, sum_by-cons}
 use Rattle.ev_model.specs.Fleet.{times_in}
 use Rattle.ev_model.specs.Network.{Network}
 use Rattle.plan_check.specs.FleetRules.{IsCustomer}
+use Rattle.order_pricing.specs.Orders.{IsLeastTime}
 use Rattle.route_improve.specs.Arranged.{AreArranged, are_served}
 use Rattle.route_improve.specs.Moves.{has_customer}
-use Rattle.route_improve.specs.Orders.{IsLeastTime}
 use Rattle.route_improve.specs.Routes.{AreRoutes, cost_of_routes}
 use Rattle.route_improve.specs.declared.route.Route.{Route}
 use Rattle.route_improve.proofs.Prices.{TakesLeast}

@@ -5,7 +5,7 @@ use Rattle.ev_model.specs.Network.{Network}
 use Rattle.ev_model.specs.Time.{time_of}
 use Rattle.ev_model.specs.declared.Stop.{Stop}
 use Rattle.route_plan.specs.declared.plan.RoutePlan.{RoutePlan}
-use Rattle.route_improve.specs.Orders.{IsLeastTime}
+use Rattle.order_pricing.specs.Orders.{IsLeastTime}
 use Rattle.route_improve.specs.declared.route.Route.{Route}
 
 -- the route has the customers of a plan, in order, and takes their least time, which is no more

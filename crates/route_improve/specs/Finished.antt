@@ -3,7 +3,7 @@ use Rattle.std.specs.Prelude.{List, [], ◌∷◌}
 use Rattle.ev_model.specs.Fastest.{IsFastest}
 use Rattle.ev_model.specs.Network.{Network}
 use Rattle.route_plan.specs.declared.plan.RoutePlan.{RoutePlan}
-use Rattle.route_improve.specs.Orders.{route_over}
+use Rattle.order_pricing.specs.Orders.{route_over}
 use Rattle.route_improve.specs.declared.route.Route.{Route}
 
 -- a fastest plan, from full, for the order of a route

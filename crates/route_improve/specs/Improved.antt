@@ -10,9 +10,10 @@ use Rattle.instance_reader.specs.Instance.{customer_nodes}
 use Rattle.plan_check.specs.FleetRules.{IsCustomer, stops_of}
 use Rattle.route_plan.specs.PlanTexts.{FitsFile}
 use Rattle.route_plan.specs.declared.plan.RoutePlan.{RoutePlan}
+use Rattle.order_pricing.specs.Orders.{route_over}
 use Rattle.route_improve.specs.Arranged.{first_or_depot}
 use Rattle.route_improve.specs.Moves.{IsSettled}
-use Rattle.route_improve.specs.Orders.{HaveCost, orders_of, route_over}
+use Rattle.route_improve.specs.Orders.{HaveCost, orders_of}
 use Rattle.route_improve.specs.declared.improving.Improved.{Improved}
 use Rattle.route_improve.specs.declared.improving.Improved.TheVariants.{Plan, Alone}
 use Rattle.route_improve.specs.declared.own.OwnFault.{OwnFault}

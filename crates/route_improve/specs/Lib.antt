@@ -1,6 +1,5 @@
 pub mod Orders
 pub mod Moves
-pub mod Pricing
 pub mod Routes
 pub mod Trying
 pub mod Taking
@@ -11,4 +10,3 @@ pub mod Finished
 pub mod Improved
 pub mod Own
 pub mod ImprovedText
-pub mod PricerView

@@ -1,8 +1,8 @@
 -- Routes for customers alone.
 use Rattle.std.specs.Prelude.{◌≡◌, ℕ, List, [], ◌∷◌, Option, None, Some}
 use Rattle.ev_model.specs.Network.{Network}
+use Rattle.order_pricing.specs.Orders.{IsLeastTime}
 use Rattle.route_improve.specs.Improved.{HasNoOwn}
-use Rattle.route_improve.specs.Orders.{IsLeastTime}
 use Rattle.route_improve.specs.declared.route.Route.{Route}
 
 -- the route of the customer alone, with its least time

@@ -5,8 +5,9 @@ use Rattle.ev_model.specs.Fleet.{times_in}
 use Rattle.ev_model.specs.Network.{Network}
 use Rattle.index_links.specs.Lists.{list_at}
 use Rattle.plan_check.specs.FleetRules.{IsCustomer}
+use Rattle.order_pricing.specs.Orders.{IsLeastTime}
 use Rattle.route_improve.specs.Moves.{exchanged, relocated, taken_out}
-use Rattle.route_improve.specs.Orders.{HaveCost, IsLeastTime}
+use Rattle.route_improve.specs.Orders.{HaveCost}
 use Rattle.route_improve.specs.declared.route.Route.{Route}
 
 abbrev pub lists_of : List Route → List (List ℕ)
@@ -19,11 +20,6 @@ cost_of_routes routes = sum_by (λ r. r.time) routes
 -- how often a node stands in the routes
 abbrev pub stands_in : List Route → ℕ → ℕ
 stands_in routes node = sum_by (λ r. times_in r.order.items node) routes
-
--- the nodes are customers, of which none stands twice
-pub record IsOrder (g : Network) (order : List ℕ) : Type 0 where
-  pub customers : All (IsCustomer g) order
-  pub once : (node : ℕ) → IsCustomer g node → times_in order node ≤ 1
 
 -- each route takes the least time of its order, and each customer stands on exactly one
 pub record AreRoutes (g : Network) (routes : List Route) : Type 0 where

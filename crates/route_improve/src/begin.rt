@@ -8,10 +8,11 @@ ghost use Rattle.ev_model.specs.Network.{is_customer, node_count};
 ghost use Rattle.ev_model.specs.Time.{time_of};
 ghost use Rattle.plan_check.specs.FleetRules.{stops_of};
 ghost use Rattle.plan_check.specs.Tallies.{AreKnown};
+ghost use Rattle.order_pricing.specs.Orders.{IsOrder};
 ghost use Rattle.route_improve.specs.Begun.{IsRouteOf};
-ghost use Rattle.route_improve.specs.Routes.{AreRoutes, IsOrder, cost_of_routes};
+ghost use Rattle.route_improve.specs.Routes.{AreRoutes, cost_of_routes};
 
-use crate::pricer::Pricer;
+use order_pricing::Pricer;
 use crate::route::Route;
 use ev_model::Stop;
 use instance_reader::Instance;

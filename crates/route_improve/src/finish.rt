@@ -1,12 +1,12 @@
 //! The plan of routes that no move makes cheaper.
 
 ghost use Rattle.std.specs.Prelude.{◌≡◌, ◌≢◌, [], IfOk};
+ghost use Rattle.order_pricing.specs.Orders.{IsLeastTime, IsOrder};
 ghost use Rattle.route_improve.specs.Finished.{ArePlansOf, IsPlanOf};
 ghost use Rattle.route_improve.specs.Arranged.{are_served};
-ghost use Rattle.route_improve.specs.Routes.{AreRoutes, IsOrder};
-ghost use Rattle.route_improve.specs.Orders.{IsLeastTime};
+ghost use Rattle.route_improve.specs.Routes.{AreRoutes};
 
-use crate::pricer::fastest_plan;
+use order_pricing::fastest_plan;
 use crate::route::Route;
 use ev_list::Listed;
 use instance_reader::Instance;

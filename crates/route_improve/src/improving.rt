@@ -9,7 +9,7 @@ ghost use Rattle.route_improve.specs.Routes.{AreRoutes, cost_of_routes};
 use crate::begin::routes_of;
 use crate::finish::plan_of;
 use crate::own::{OwnFault, own_routes};
-use crate::pricer::Pricer;
+use order_pricing::Pricer;
 use crate::route::Route;
 use crate::savings::join_routes;
 use crate::settling::settle;

@@ -7,7 +7,6 @@ mod improving;
 mod moves;
 mod own;
 mod pass;
-mod pricer;
 mod report;
 mod route;
 mod savings;

@@ -6,7 +6,7 @@ ghost use Rattle.route_improve.specs.Routes.{AreNoCheaper, AreRoutes, IsSettledA
 ghost use Rattle.route_improve.specs.Taking.{AreOfPair, AreOfRoute};
 ghost use Rattle.route_improve.specs.Trying.{AreTried, HaveMove, IsNoExchange, IsNoRelocation};
 
-use crate::pricer::Pricer;
+use order_pricing::Pricer;
 use crate::route::Route;
 use std::alloc::{AllocError, Global};
 

@@ -6,7 +6,7 @@ ghost use Rattle.plan_check.specs.FleetRules.{IsCustomer};
 ghost use Rattle.route_improve.specs.Improved.{IsFirstAlone, IsOwnFault};
 ghost use Rattle.route_improve.specs.Own.{AreOwn, IsOwn, IsOwnOrAlone};
 
-use crate::pricer::fastest_plan;
+use order_pricing::fastest_plan;
 use crate::route::Route;
 use instance_reader::Instance;
 use std::alloc::{AllocError, Global};

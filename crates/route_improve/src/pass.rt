@@ -5,7 +5,7 @@ ghost use Rattle.route_improve.specs.Routes.{AreCheaper, AreRoutes, AreSettledTo
 ghost use Rattle.route_improve.specs.Trying.{AreTried, HaveMove};
 
 use crate::moves::try_moves;
-use crate::pricer::Pricer;
+use order_pricing::Pricer;
 use crate::route::Route;
 use crate::watcher::{Course, MoveWatcher};
 use std::alloc::{AllocError, Global};

@@ -6,7 +6,7 @@ ghost use Rattle.ev_model.specs.Network.{node_count};
 ghost use Rattle.route_improve.specs.Routes.{AreCheaper, AreNoDearer, AreRoutes};
 
 use crate::moves::{copy_of, take_pair};
-use crate::pricer::Pricer;
+use order_pricing::Pricer;
 use crate::route::Route;
 use crate::watcher::{Course, MoveWatcher};
 use instance_reader::Instance;

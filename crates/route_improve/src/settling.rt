@@ -6,7 +6,7 @@ ghost use Rattle.route_improve.specs.Arranged.{AreArranged, AreSettled, are_serv
 ghost use Rattle.route_improve.specs.Routes.{AreRoutes, AreSettledTo, cost_of_routes};
 
 use crate::pass::pass;
-use crate::pricer::Pricer;
+use order_pricing::Pricer;
 use crate::route::Route;
 use crate::watcher::{Course, MoveWatcher};
 use std::alloc::{AllocError, Global};

@@ -10,7 +10,7 @@ ghost use Rattle.route_improve.specs.Routes.{AreCheaper, AreRoutes, cost_of_rout
 use crate::begin::routes_of;
 use crate::finish::plan_of;
 use crate::pass::improve_customer;
-use crate::pricer::Pricer;
+use order_pricing::Pricer;
 use crate::route::Route;
 use crate::savings::join_routes;
 use crate::settling::arranged;

@@ -3,8 +3,8 @@ use Rattle.ev_model.specs.Feasible.{IsFeasible}
 use Rattle.ev_model.specs.Fleet.{ServesOnly, customers_of}
 use Rattle.ev_model.specs.declared.Stop.{Stop}
 use Rattle.route_plan.specs.declared.plan.RoutePlan.{RoutePlan}
+use Rattle.order_pricing.specs.Orders.{IsOrder}
 use Rattle.route_improve.specs.Begun.{AreRoutesOf, IsRouteOf}
-use Rattle.route_improve.specs.Routes.{IsOrder}
 use Rattle.route_improve.proofs.FirstRoutes.{all_taken, at_plan, begun_cost, begun_more, begun_routes, order_at}
 use Rattle.route_improve.proofs.begin.routes_of.Goals as goal
 use Rattle.route_improve.proofs.begin.routes_of.Goals.{After-as_slice}

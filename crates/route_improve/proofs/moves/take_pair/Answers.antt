@@ -1,6 +1,6 @@
 use Rattle.std.proofs.Common.{◌+◌, arith, refl, subst, sym}
 use Rattle.std.proofs.lemmas.Grind.{common_steps}
-use Rattle.route_improve.specs.Routes.{IsOrder}
+use Rattle.order_pricing.specs.Orders.{IsOrder}
 use Rattle.route_improve.proofs.Changed.{pair_orders, take_pair_kept, take_pair_made}
 use Rattle.route_improve.proofs.TriedMoves.{tried_made, tried_not}
 use Rattle.route_improve.proofs.moves.take_pair.Goals as goal

@@ -1,7 +1,7 @@
 use Rattle.std.proofs.Common.{◌∙◌, subst, sym}
 use Rattle.ev_model.specs.Route.{IsRoute}
-use Rattle.route_improve.proofs.OrderRoutes.{route_of_order}
-use Rattle.route_improve.proofs.pricer.charge_below.Goals as goal
+use Rattle.order_pricing.proofs.OrderRoutes.{route_of_order}
+use Rattle.order_pricing.proofs.charging.charge_below.Goals as goal
 
 pub solve_below-requires-clause-route : goal.solve_below-requires-clause-route
 solve_below-requires-clause-route c =

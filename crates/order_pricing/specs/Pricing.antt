@@ -4,9 +4,9 @@ use Rattle.std.specs.Global.{Global}
 use Rattle.std.specs.List.{All}
 use Rattle.ev_model.specs.Fastest.{HasNoPlan}
 use Rattle.ev_model.specs.Network.{Network}
-use Rattle.route_improve.specs.Orders.{IsLeastTime, route_over}
-use Rattle.route_improve.specs.declared.pricer.Known.{Known}
-use Rattle.route_improve.specs.declared.pricer.Known.TheVariants.{Time, NotBelow}
+use Rattle.order_pricing.specs.Orders.{IsLeastTime, route_over}
+use Rattle.order_pricing.specs.declared.known.Known.{Known}
+use Rattle.order_pricing.specs.declared.known.Known.TheVariants.{Time, NotBelow}
 
 -- no plan, from full, serves the customers in this order, of whom there are some
 pub record HasNoTime (g : Network) (order : List ℕ) : Type 0 where

@@ -1,23 +1,21 @@
 //! What orders cost: the least times of routes.
 
-ghost use Rattle.std.specs.Prelude.{◌≡◌, ◌+◌, ◌<◌, ◌≤◌, ◌≢◌, List, [], ℕ, IfOk, IfSome, IsTrue, MatchOption};
-ghost use Rattle.ev_model.specs.Fastest.{HasNoPlan, IsFastest};
-ghost use Rattle.ev_model.specs.Network.{Network, scaled_limit};
-ghost use Rattle.route_improve.specs.Orders.{IsLeastTime, route_over};
-ghost use Rattle.route_improve.specs.Pricing.{AreKnown, AreLess, AreNoLess, IsKnownOf, IsTimeBelow, IsTimeOf, Tells};
-ghost use Rattle.route_improve.specs.Routes.{IsOrder};
+ghost use Rattle.std.specs.Prelude.{◌≡◌, ◌≤◌, ◌≢◌, [], ℕ, IfOk, MatchOption};
+ghost use Rattle.ev_model.specs.Network.{scaled_limit};
+ghost use Rattle.order_pricing.specs.Orders.{IsLeastTime, IsOrder};
+ghost use Rattle.order_pricing.specs.Pricing.{AreLess, AreNoLess, IsKnownOf, IsTimeBelow, IsTimeOf, Tells};
 
-use crate::moves::copy_of;
-use frvcp_labels::{RouteBounds, solve_below, solve_route};
+use crate::charging::{charge, charge_below};
+use crate::known::{Known, recall, remember};
+use frvcp_labels::RouteBounds;
 use indexmap::IndexMap;
 use instance_reader::Instance;
-use route_plan::RoutePlan;
 use std::alloc::{AllocError, Global};
 use std::marker::Model;
 
 /// Tells the least times of routes. Contracts see the network.
 #[derive(Drop)]
-pub(crate) struct Pricer<'a> {
+pub struct Pricer<'a> {
     inst: &'a Instance,
     bounds: RouteBounds<'a>,
     /// What was found out, by the order of the customers.
@@ -32,7 +30,7 @@ impl<'a> Model for Pricer<'a> {
 
     ghost Value = { Network };
 
-    ghost use Rattle.route_improve.specs.PricerView.{IsPricer};
+    ghost use Rattle.order_pricing.specs.PricerView.{IsPricer};
 
     ghost view = { λ p. p.inst.now };
 
@@ -41,7 +39,7 @@ impl<'a> Model for Pricer<'a> {
 
 impl<'a> Pricer<'a> {
     /// A pricer for an instance.
-    pub(crate) fn new(alloc: Global, inst: &'a Instance) -> Result<Pricer<'a>, AllocError>
+    pub fn new(alloc: Global, inst: &'a Instance) -> Result<Pricer<'a>, AllocError>
         ensures { IfOk result (λ pricer. pricer ≡ inst.now) }
     {
         let bounds = RouteBounds::new(alloc, inst)?;
@@ -56,13 +54,13 @@ impl<'a> Pricer<'a> {
 
     /// How much work was done, in customers looked at; charging an order of n customers takes as
     /// much as looking at n squared. It is for choices, and nothing is promised of it.
-    pub(crate) fn work(&self) -> u64 {
+    pub fn work(&self) -> u64 {
         self.work
     }
 
     /// The least times of two orders; `None` exactly where one has none, or where together they are
     /// no less than `than`. Each is charged only as far as it may matter.
-    pub(crate) fn least_times(
+    pub fn least_times(
         &mut self,
         alloc: Global,
         first: &[usize],
@@ -109,7 +107,7 @@ impl<'a> Pricer<'a> {
     }
 
     /// The least time of an order; `None` exactly where it has none. It is charged, and remembered.
-    pub(crate) fn least_time(
+    pub fn least_time(
         &mut self,
         alloc: Global,
         order: &[usize],
@@ -134,7 +132,7 @@ impl<'a> Pricer<'a> {
     ///
     /// What is found out is remembered. An order is charged below a bar once, and where that didn't
     /// tell enough, a second time below any bar.
-    fn time_below(
+    pub fn time_below(
         &mut self,
         alloc: Global,
         order: &[usize],
@@ -191,130 +189,4 @@ impl<'a> Pricer<'a> {
             .work
             .saturating_add(customers.saturating_mul(customers));
     }
-}
-
-/// What is known of the least time of an order.
-#[derive(Clone, Copy)]
-pub(crate) enum Known {
-    /// The least time.
-    Time(u64),
-    /// It has none below this time.
-    NotBelow(u128),
-}
-
-impl Known {
-    /// Whether it tells the least time below a bar, or that there is none.
-    fn tells(self, bar: u128) -> bool
-        ensures { IsTrue result → Tells bar self }
-    {
-        match self {
-            Known::Time(_) => true,
-            Known::NotBelow(least) => bar <= least,
-        }
-    }
-
-    /// The least time, where it is known and below a bar.
-    fn below(self, bar: u128) -> Option<u64>
-        requires { Tells bar self }
-        ensures { (g : Network) (order : List ℕ) → IsKnownOf g order self →
-            IsTimeBelow g order bar result }
-    {
-        match self {
-            Known::Time(time) if u128::from(time) < bar => Some(time),
-            _ => None,
-        }
-    }
-}
-
-/// How many orders are remembered at most.
-const MOST_KNOWN: usize = 1 << 16;
-
-/// What is known of an order.
-fn recall(inst: &Instance, known: &IndexMap<Vec<usize>, Known>, order: &[usize]) -> Option<Known>
-    requires { AreKnown inst.now known.now.entries }
-    ensures { IfSome result (IsKnownOf inst.now order.now) }
-{
-    match known.get(order) {
-        Some(told) => Some(*told),
-        None => None,
-    }
-}
-
-/// Remembers what is known of an order, while there is room.
-fn remember(
-    alloc: Global,
-    inst: &Instance,
-    known: &mut IndexMap<Vec<usize>, Known>,
-    order: &[usize],
-    told: Known,
-) -> Result<(), AllocError>
-    requires known { AreKnown inst.now known.old.entries }
-    requires told { IsKnownOf inst.now order.now told }
-    ensures { AreKnown inst.now known.new.entries }
-{
-    if known.len() < MOST_KNOWN {
-        known.insert(copy_of(alloc, order)?, told)?;
-    }
-    Ok(())
-}
-
-/// The least time of an order, found by a search.
-fn charge(alloc: Global, inst: &Instance, order: &[usize]) -> Result<Option<u64>, AllocError>
-    requires order { IsOrder inst.now order.now }
-    requires some { order.now ≢ [] }
-    ensures { IfOk result (IsTimeOf inst.now order.now) }
-{
-    match fastest_plan(alloc, inst, order)? {
-        Some(plan) => Ok(Some(plan.full_time(inst))),
-        None => Ok(None),
-    }
-}
-
-/// What a search below a bar tells of an order.
-fn charge_below(
-    alloc: Global,
-    inst: &Instance,
-    order: &[usize],
-    bar: u128,
-) -> Result<Known, AllocError>
-    requires order { IsOrder inst.now order.now }
-    requires some { order.now ≢ [] }
-    ensures known { IfOk result (IsKnownOf inst.now order.now) }
-    ensures tells { IfOk result (λ told. (least : ℕ) → least ≤ bar → Tells least told) }
-{
-    let _nodes = inst.nodes();
-    let route = route_over(alloc, order)?;
-    match solve_below(alloc, inst, &route, inst.max_q(), bar)? {
-        Some(plan) => Ok(Known::Time(plan.full_time(inst))),
-        None => Ok(Known::NotBelow(bar)),
-    }
-}
-
-/// A fastest plan, from full, that serves the customers in this order; `None` exactly where there
-/// is none.
-pub(crate) fn fastest_plan(
-    alloc: Global,
-    inst: &Instance,
-    order: &[usize],
-) -> Result<Option<RoutePlan>, AllocError>
-    requires order { IsOrder inst.now order.now }
-    requires some { order.now ≢ [] }
-    ensures { IfOk result (λ found. MatchOption found
-        (HasNoPlan inst.now (route_over order.now) inst.now.capacity)
-        (λ plan. IsFastest inst.now (route_over order.now) inst.now.capacity plan.stops)) }
-{
-    let _nodes = inst.nodes();
-    let route = route_over(alloc, order)?;
-    solve_route(alloc, inst, &route, inst.max_q())
-}
-
-/// The route from the depot over the customers to the depot.
-fn route_over(alloc: Global, order: &[usize]) -> Result<Vec<usize>, AllocError>
-    ensures { IfOk result (λ route. route.items ≡ route_over order.now) }
-{
-    let mut route = Vec::new(alloc);
-    route.push(0)?;
-    route.extend_from_slice(order)?;
-    route.push(0)?;
-    Ok(route)
 }

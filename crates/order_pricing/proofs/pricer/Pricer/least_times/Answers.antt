@@ -1,6 +1,6 @@
 use Rattle.std.proofs.Common.{arith}
 use Rattle.std.proofs.lemmas.Grind.{common_steps}
-use Rattle.route_improve.proofs.pricer.Pricer.least_times.Goals as goal
+use Rattle.order_pricing.proofs.pricer.Pricer.least_times.Goals as goal
 
 pub returns-clause-times : goal.returns-clause-times
 returns-clause-times = grind (arith, common_steps)

@@ -12,9 +12,8 @@ use Rattle.ev_model.specs.Time.{time_of}
 use Rattle.ev_model.specs.declared.Stop.{Stop}
 use Rattle.plan_check.specs.FleetRules.{IsCustomer}
 use Rattle.frvcp_labels.specs.Answers.{HasNoneBelow}
-use Rattle.route_improve.specs.Orders.{IsLeastTime, route_over}
-use Rattle.route_improve.specs.Pricing.{HasNoTime}
-use Rattle.route_improve.specs.Routes.{IsOrder}
+use Rattle.order_pricing.specs.Orders.{IsLeastTime, IsOrder, route_over}
+use Rattle.order_pricing.specs.Pricing.{HasNoTime}
 
 outside : (g : Network) (x : ℕ) → IsCustomer g x → x ≢ 0
 outside g x is home = false≢true (subst (λ n. is_customer g n ≡ true) home is.1)

@@ -8,8 +8,8 @@ use Rattle.std.specs.Global.{Global}
 use Rattle.std.specs.Map.{lookup}
 use Rattle.indexmap.specs.IndexMap.{insert_entry}
 use Rattle.ev_model.specs.Network.{Network}
-use Rattle.route_improve.specs.Pricing.{AreKnown, IsKnownOf}
-use Rattle.route_improve.specs.declared.pricer.Known.{Known}
+use Rattle.order_pricing.specs.Pricing.{AreKnown, IsKnownOf}
+use Rattle.order_pricing.specs.declared.known.Known.{Known}
 
 abbrev pub Entries : Type 0
 Entries = List (Vec ℕ Global × Known)

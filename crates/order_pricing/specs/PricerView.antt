@@ -1,7 +1,7 @@
 -- What a `Pricer` is, by its fields.
 use Rattle.std.specs.Prelude.{◌≡◌}
-use Rattle.route_improve.specs.Pricing.{AreKnown}
-use Rattle.route_improve.specs.declared.pricer.Pricer.TheInside.{Inside}
+use Rattle.order_pricing.specs.Pricing.{AreKnown}
+use Rattle.order_pricing.specs.declared.pricer.Pricer.TheInside.{Inside}
 
 -- its bounds are those of its instance, and what it remembers is true
 pub record IsPricer (p : Inside) : Type 0 where

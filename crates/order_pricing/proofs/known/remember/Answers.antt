@@ -1,7 +1,7 @@
 use Rattle.std.proofs.Common.{ℕ, List, subst, sym}
-use Rattle.route_improve.specs.Pricing.{AreKnown, IsKnownOf}
-use Rattle.route_improve.proofs.Remembered.{Entries, remembered}
-use Rattle.route_improve.proofs.pricer.remember.Goals as goal
+use Rattle.order_pricing.specs.Pricing.{AreKnown, IsKnownOf}
+use Rattle.order_pricing.proofs.Remembered.{Entries, remembered}
+use Rattle.order_pricing.proofs.known.remember.Goals as goal
 
 pub returns-in_ok-insert : goal.returns-in_ok-insert
 returns-in_ok-insert c =

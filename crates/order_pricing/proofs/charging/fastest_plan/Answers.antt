@@ -1,7 +1,7 @@
 use Rattle.std.proofs.Common.{◌∙◌, subst, sym}
 use Rattle.ev_model.specs.Route.{IsRoute}
-use Rattle.route_improve.proofs.OrderRoutes.{route_of_order}
-use Rattle.route_improve.proofs.pricer.fastest_plan.Goals as goal
+use Rattle.order_pricing.proofs.OrderRoutes.{route_of_order}
+use Rattle.order_pricing.proofs.charging.fastest_plan.Goals as goal
 
 pub solve_route-requires-clause-route : goal.solve_route-requires-clause-route
 solve_route-requires-clause-route c =

@@ -1,0 +1,2 @@
+pub mod OrderRoutes
+pub mod Remembered
