@@ -9,3 +9,4 @@ pub mod Closed
 pub mod Trees
 pub mod Bounds
 pub mod Examples
+pub mod OneLeaf
