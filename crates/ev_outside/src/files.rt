@@ -49,6 +49,8 @@ impl<S: Storage> StorageShelf<S> {
 }
 
 impl<S: Storage> Shelf for StorageShelf<S> {
+    ghost writes_take_memory = { false };
+
     ghost state = { λ shelf. shelf_of (S.told shelf.storage) (S.failed shelf.storage)
         (S.asked shelf.storage) };
 
