@@ -23,10 +23,13 @@ use std::rt::Files;
 /// Where Linux has the file that standard output goes to.
 const STANDARD_OUTPUT: &str = "/proc/self/fd/1";
 
+/// Where Linux has the file that standard error goes to.
+const STANDARD_ERROR: &str = "/proc/self/fd/2";
+
 /// The files of the system, which don't tell their bytes.
 ///
-/// A regular file that was read or written isn't written under another name, nor is the one that
-/// standard output goes to: such a write fails before the file is changed.
+/// A regular file that was read or written isn't written under another name, nor is one that
+/// standard output or standard error goes to: such a write fails before the file is changed.
 #[derive(Drop)]
 pub struct SystemFiles<'a, R: Files> {
     rt: &'a R,
@@ -44,6 +47,8 @@ pub struct SystemFiles<'a, R: Files> {
     /// Whether the file that was asked for last was opened to be written, so that it may hold a
     /// part.
     is_changed: bool,
+    /// Whether standard error goes to it.
+    is_standard_error: bool,
     /// The name that was asked for last, where there was memory for it.
     name: Option<String>,
     /// Why the last call on this file that failed did.
@@ -68,6 +73,7 @@ impl<'a, R: Files> SystemFiles<'a, R> {
             kept: None,
             known: KnownFiles::new(alloc),
             is_changed: false,
+            is_standard_error: false,
             name: None,
             cause: None,
             failed: 0,
@@ -84,13 +90,19 @@ impl<'a, R: Files> SystemFiles<'a, R> {
             (λ name. failure.name.now ≡ string_bytes name)) }
         ensures asked { IfSome result (λ failure.
             HasAsked failure.name.now (asked_by self.now.name)) }
+        ensures told { IfSome result (λ failure.
+            failure.is_standard_error ≡ self.now.is_standard_error) }
     {
         let cause = self.cause?;
         let name = match &self.name {
             Some(name) => name.as_str(),
             None => "a file",
         };
-        Some(Failure { name, cause })
+        Some(Failure {
+            name,
+            cause,
+            is_standard_error: self.is_standard_error,
+        })
     }
 
     /// Whether the file that was asked for last was opened to be written, and not left as it was.
@@ -113,6 +125,7 @@ impl<'a, R: Files> SystemFiles<'a, R> {
         self.name = String::from_str(self.alloc, name).ok();
         self.cause = None;
         self.is_changed = false;
+        self.is_standard_error = false;
         self.folder = None;
         self.emptied = None;
         self.kept = None;
@@ -174,7 +187,7 @@ impl<'a, R: Files> SystemFiles<'a, R> {
 
     /// Sees that the regular file that is open under this name may be written, and opens its
     /// folder. It fails where the file has bytes and was opened under another name before, and
-    /// where standard output goes to it.
+    /// where standard output or standard error goes to it.
     fn admit(&mut self, name: &str, found: &Metadata) -> io::Result<()>
         ensures kept { self.new.kept ≡ self.old.kept }
         ensures failed { self.new.failed ≡ self.old.failed }
@@ -183,14 +196,18 @@ impl<'a, R: Files> SystemFiles<'a, R> {
         ensures file { self.new.file ≡ self.old.file }
     {
         let id = FileId::of(found);
+        self.is_standard_error = goes_to(self.rt, STANDARD_ERROR, id);
 
         // An empty file has nothing to lose. One that was just made may have the number of a
         // file that was read and then deleted.
         if found.len() > 0 && !self.known.is_only_here(name, id) {
             return self.leave("this job read or wrote the same file under another name");
         }
-        if is_standard_output(self.rt, id) {
+        if goes_to(self.rt, STANDARD_OUTPUT, id) {
             return self.leave("standard output goes to this file");
+        }
+        if self.is_standard_error {
+            return self.leave("standard error goes to this file");
         }
         self.known.add(name, id)?;
         self.folder = folder_of(self.rt, self.alloc, name)?;
@@ -244,9 +261,9 @@ fn metadata_of<F: OpenFile>(file: &Option<F>) -> io::Result<Metadata> {
     }
 }
 
-/// Whether standard output goes to this file, as far as Linux tells it.
-fn is_standard_output<R: Files>(rt: &R, id: FileId) -> bool {
-    match fs::metadata(rt, STANDARD_OUTPUT) {
+/// Whether an output goes to this file, as far as Linux tells it.
+fn goes_to<R: Files>(rt: &R, output: &str, id: FileId) -> bool {
+    match fs::metadata(rt, output) {
         Ok(found) => FileId::of(&found) == id,
         Err(_) => false,
     }
@@ -448,6 +465,7 @@ impl<'a, R: Print> SystemOutput<'a, R> {
         Some(Failure {
             name: "standard output",
             cause,
+            is_standard_error: false,
         })
     }
 
