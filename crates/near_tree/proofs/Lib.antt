@@ -10,3 +10,4 @@ pub mod Wholes
 pub mod Leaves
 pub mod Test
 pub mod OneLeaf
+pub mod Rules

@@ -10,3 +10,4 @@ pub mod Trees
 pub mod Bounds
 pub mod Examples
 pub mod OneLeaf
+pub mod Rules

@@ -13,6 +13,7 @@ ghost use Rattle.near_tree.specs.Closed.{AreClosedAt};
 ghost use Rattle.near_tree.specs.Covered.{AreWithinFullAt};
 ghost use Rattle.near_tree.specs.Follows.{MayFollow, StandsFor};
 ghost use Rattle.near_tree.specs.OneLeaf.{CountsNothing, one_leaf};
+ghost use Rattle.near_tree.specs.Rules.{IsBroken, Place};
 ghost use Rattle.near_tree.specs.Sections.{after, anybody, Last, NearSection};
 ghost use Rattle.near_tree.specs.Trees.{AtSomeLeaf, IsSectionAt, IsTreeAt, NearTree};
 ghost use Rattle.near_proof.specs.Truth.{IsTrueNearBound};
@@ -71,4 +72,10 @@ pub fn a_near_proof_is_a_tree_of_one_leaf()
     ensures tree { (g : Network) (p : NearProof) → NearFits g p → IsTreeAt g whole (one_leaf g p) }
     ensures accepted { (g : Network) (p : NearProof) → CountsNothing p → IsAcceptedNear g p →
         IsAccepted g p.bound (one_leaf g p) }
+{}
+
+/// No rule of an accepted tree is broken, at no leaf.
+pub fn an_accepted_tree_breaks_no_rule()
+    ensures { (g : Network) (bound : Option ℕ) (t : NearTree) (at : Place) →
+        IsAccepted g bound t → IsBroken g bound t at → ⊥ }
 {}
