@@ -7,7 +7,7 @@ ghost use Rattle.charge_curve.specs.declared.fault.CurveFault.{CurveFault};
 ghost use Rattle.charge_curve.specs.declared.fault.CurveFault.TheVariants.{Memory};
 
 use crate::fault::{CurveFault, first_fault};
-use std::alloc::Global;
+use std::alloc::{AllocError, Global};
 use std::marker::Model;
 
 /// A charging curve up to a full battery.
@@ -53,7 +53,7 @@ impl Curve {
                 points,
                 full: max_q,
             }),
-            Err(_) => Err(CurveFault::Memory),
+            Err(AllocError) => Err(CurveFault::Memory),
         }
     }
 

@@ -30,8 +30,10 @@ pub fn estimate_node(
     requires pairs { pairs.now.customers ≡ length (customer_nodes inst.now) }
     requires pool { IsPool inst.now pool.now }
 {
-    let Ok(mut table) = Table::new(alloc, inst.customers().len(), CERTIFICATE_CAPS) else {
-        return Err(AllocError);
+    let mut table = match Table::new(alloc, inst.customers().len(), CERTIFICATE_CAPS) {
+        Ok(table) => table,
+        Err(TableFault::Memory) => return Err(AllocError),
+        Err(TableFault::Wide { .. }) => unreachable!(),
     };
     let places = kept_places(alloc, inst, pairs, pool)?;
     add_at(inst, pairs, pool, &mut table, pool.recent())?;

@@ -2,99 +2,29 @@
 use Rattle.std.proofs.Common.{◌≡◌, ◌∙◌, ℕ, zero, suc, ◌+◌, ◌*◌, ◌<◌, ◌≤◌, ◌^◌, Bool, true, false, ◌||◌, List, [], ◌∷◌, length, refl, sym, ap, arith, inl, inr, nat_eq}
 use Rattle.std.specs.Int.{bit_at}
 use Rattle.std.specs.Int.RustNames.{count_ones}
-use Rattle.std.specs.List.{All, range_with_len, sum_by}
-use Rattle.std.specs.List.Sorted.{IsStrictlyIncreasing}
-use Rattle.std.specs.Prelude.{bit_and}
+use Rattle.std.specs.List.{sum_by}
+use Rattle.std.specs.Prelude.{bit_and, filter, min, not, ◌&&◌}
+use Rattle.customer_sets.specs.Kept.{has_kept, kept, none_past, same_kept}
+use Rattle.customer_sets.proofs.Tests.{kept_both, kept_set, with_kept}
 use Rattle.std.proofs.lemmas.Bool.{cases_Bool, cases_eq, cases_lt, eq-eqb, eqb-true, ne_eqb, false≢true, lt-ltb, le-ltb}
-use Rattle.std.proofs.lemmas.List.Elements.{All-from_get_or, All-filter}
-use Rattle.std.proofs.lemmas.List.FromFn.{get_or-range_with_len, length-range_with_len}
-use Rattle.std.proofs.lemmas.List.Kept.{IsStrictlyIncreasing-filter}
 use Rattle.std.proofs.lemmas.List.Sums.{sum_by-cons}
 use Rattle.std.proofs.lemmas.Nat.{ones_cat}
 use Rattle.std.proofs.lemmas.Nat.Bits.{bit_at-lt, bit_at_and, same_from_bits_below}
 use Rattle.customer_sets.specs.CustSet.{has, IsCustomerSet, IsWithin, with_customer}
 use Rattle.customer_sets.specs.Members.{bits_of, bits_of-members, digits, digits-all, digits-suc, digits-zero, is_one, members, members_from}
 
--- no place of the range is below its first
-none_below : (bits n a c : ℕ) → c < a → has (members_from bits a n) c ≡ false
-unfolding members_from
-none_below bits zero a c less = refl
-none_below bits (suc n) a c less =
-    let apart : nat_eq a c ≡ false = ne_eqb a c (λ same. omega (arith, same, less)) in
-    let rest = none_below bits n (a + 1) c (omega (arith, less)) in
-    elim (cases_Bool (is_one bits a)) [
-      | inl one ↦ rw (one, apart) rest
-      | inr other ↦ rw other rest
-    ]
-
--- nor past its end
-none_past : (bits n a c : ℕ) → a + n ≤ c → has (members_from bits a n) c ≡ false
-unfolding members_from
-none_past bits zero a c past = refl
-none_past bits (suc n) a c past =
-    let apart : nat_eq a c ≡ false = ne_eqb a c (λ same. omega (arith, same, past)) in
-    let rest = none_past bits n (a + 1) c (omega (arith, past)) in
-    elim (cases_Bool (is_one bits a)) [
-      | inl one ↦ rw (one, apart) rest
-      | inr other ↦ rw other rest
-    ]
-
-has_from : (bits n a c : ℕ) → a ≤ c → c < a + n → has (members_from bits a n) c ≡ is_one bits c
-unfolding members_from
-has_from bits zero a c low high = absurd (omega (arith, low, high))
-has_from bits (suc n) a c low high = elim (cases_eq a c) [
-  | inl same ↦
-      let here : nat_eq a c ≡ true = eq-eqb a c same in
-      let none = none_below bits n (a + 1) c (omega (arith, same)) in
-      let at : is_one bits a ≡ is_one bits c = ap (λ x. is_one bits x) same in
-      elim (cases_Bool (is_one bits a)) [
-        | inl one ↦ rw (one, here) (sym one ∙ at)
-        | inr other ↦ rw other (none ∙ sym other ∙ at)
-      ]
-  | inr other ↦
-      let apart : nat_eq a c ≡ false = ne_eqb a c other in
-      let rest = has_from bits n (a + 1) c (omega (arith, low, other)) (omega (arith, high)) in
-      elim (cases_Bool (is_one bits a)) [
-        | inl one ↦ rw (one, apart) rest
-        | inr zero_is ↦ rw zero_is rest
-      ]
-]
-
 -- membership is one digit
 pub has-members : (bits c : ℕ) → c < 128 → has (members bits) c ≡ is_one bits c
-unfolding members
-has-members bits c small = has_from bits 128 0 c (omega arith) small
+unfolding members members_from
+has-members bits c small = has_kept (is_one bits) 128 0 c (omega arith) small
 
 pub none-members : (bits c : ℕ) → 128 ≤ c → has (members bits) c ≡ false
-unfolding members
-none-members bits c past = none_past bits 128 0 c past
-
--- the range
-range_rises : (n a : ℕ) → IsStrictlyIncreasing (range_with_len a n)
-range_rises n a k less =
-    let size = length-range_with_len a n in
-    let here = get_or-range_with_len a n k 0 (omega (arith, less, size)) in
-    let next = get_or-range_with_len a n (k + 1) 0 (omega (arith, less, size)) in
-    omega (arith, here, next)
-
-range_below : (n a : ℕ) → All (λ c. c < a + n) (range_with_len a n)
-range_below n a = All-from_get_or (λ (c : ℕ). c < a + n) (range_with_len a n) 0 (λ i less.
-    let inside : i < n = omega (arith, less, length-range_with_len a n) in
-    let here = get_or-range_with_len a n i 0 inside in
-    omega (arith, here, inside))
-
-set_from : (bits n : ℕ) → IsStrictlyIncreasing (members_from bits 0 n) × All (λ c. c < n) (members_from bits 0 n)
-unfolding members_from
-set_from bits n =
-    let same : 0 + n ≡ n = omega arith in
-    let below : All (λ (c : ℕ). c < n) (range_with_len 0 n) = rw same at (range_below n 0) in (
-      IsStrictlyIncreasing-filter (is_one bits) (range_with_len 0 n) (range_rises n 0),
-      All-filter (is_one bits) (λ (c : ℕ). c < n) (range_with_len 0 n) below,
-    )
+unfolding members members_from
+none-members bits c past = none_past (is_one bits) 128 0 c past
 
 pub is_set : (bits : ℕ) → IsCustomerSet (members bits)
-unfolding members
-is_set bits = let both = set_from bits 128 in record { rising = both.0; small = both.1 }
+unfolding members members_from
+is_set bits = let both = kept_set (is_one bits) 128 in record { rising = both.rising; small = both.small }
 
 -- how many places there are
 one_more : (d b : ℕ) → b < 2 → count_ones (d * 2 + b) ≡ count_ones d + b
@@ -117,66 +47,25 @@ length_from bits (suc n) a =
       | inr other ↦ rw (ne_eqb (bit_at bits a) 1 other) (omega (arith, more, rest, other, bit_at-lt bits a))
     ]
 
+pub count_from : (bits n : ℕ) → bits < 2 ^ n → count_ones bits ≡ length (kept (is_one bits) 0 n)
+unfolding members_from
+count_from bits n below = ap count_ones (sym (digits-all bits n below)) ∙ length_from bits n 0
+
 pub count-members : (bits : ℕ) → bits < 2 ^ 128 → count_ones bits ≡ length (members bits)
-unfolding members
-count-members bits below = ap count_ones (sym (digits-all bits 128 below)) ∙ length_from bits 128 0
-
--- numbers whose digits agree
-same_from : (bits other n a : ℕ) → ((c : ℕ) → a ≤ c → c < a + n → is_one bits c ≡ is_one other c) → members_from bits a n ≡ members_from other a n
-unfolding members_from
-same_from bits other zero a same = refl
-same_from bits other (suc n) a same =
-    let here = same a (omega arith) (omega arith) in
-    let rest = same_from bits other n (a + 1) (λ c low high. same c (omega (arith, low)) (omega (arith, high))) in
-    elim (cases_Bool (is_one other a)) [
-      | inl one ↦ rw (here, one) (ap (λ xs. a ∷ xs) rest)
-      | inr zero_is ↦ rw (here, zero_is) rest
-    ]
-
--- a customer comes before all later ones
-before_all : (bits n a c : ℕ) → c < a → with_customer c (members_from bits a n) ≡ c ∷ members_from bits a n
-unfolding members_from
-before_all bits zero a c less = refl
-before_all bits (suc n) a c less =
-    let rest = before_all bits n (a + 1) c (omega (arith, less)) in
-    elim (cases_Bool (is_one bits a)) [
-      | inl one ↦ rw (one, lt-ltb c a less) refl
-      | inr zero_is ↦ rw zero_is rest
-    ]
-
-with_from : (bits more n a c : ℕ) → is_one more c ≡ true → ((x : ℕ) → (x ≡ c → ⊥) → is_one more x ≡ is_one bits x) → a ≤ c → c < a + n
-    → members_from more a n ≡ with_customer c (members_from bits a n)
-unfolding members_from
-with_from bits more zero a c here others low high = absurd (omega (arith, low, high))
-with_from bits more (suc n) a c here others low high = elim (cases_eq a c) [
-  | inl same ↦
-      let set : is_one more a ≡ true = ap (λ x. is_one more x) same ∙ here in
-      let rest : members_from more (a + 1) n ≡ members_from bits (a + 1) n = same_from more bits n (a + 1) (λ x past high. others x (λ is. omega (arith, is, same, past))) in
-      let first : with_customer c (members_from bits (a + 1) n) ≡ c ∷ members_from bits (a + 1) n = before_all bits n (a + 1) c (omega (arith, same)) in
-      elim (cases_Bool (is_one bits a)) [
-        | inl one ↦ rw (set, one, le-ltb c a (omega (arith, same)), eq-eqb c a (sym same)) (ap (λ xs. a ∷ xs) rest)
-        | inr zero_is ↦ rw (set, zero_is) (ap (λ xs. a ∷ xs) rest ∙ ap (λ x. x ∷ members_from bits (a + 1) n) same ∙ sym first)
-      ]
-  | inr other ↦
-      let same : is_one more a ≡ is_one bits a = others a other in
-      let rest = with_from bits more n (a + 1) c here others (omega (arith, low, other)) (omega (arith, high)) in
-      elim (cases_Bool (is_one bits a)) [
-        | inl one ↦ rw (same, one, le-ltb c a low, ne_eqb c a (λ is. other (sym is))) (ap (λ xs. a ∷ xs) rest)
-        | inr zero_is ↦ rw (same, zero_is) rest
-      ]
-]
+unfolding members members_from
+count-members bits below = count_from bits 128 below
 
 pub with-members : (bits more c : ℕ) → c < 128 → bit_at more c ≡ 1 → ((x : ℕ) → (x ≡ c → ⊥) → bit_at more x ≡ bit_at bits x) → members more ≡ with_customer c (members bits)
-unfolding members
+unfolding members members_from
 with-members bits more c small here others =
-    with_from bits more 128 0 c (eq-eqb (bit_at more c) 1 here) (λ x other. ap (λ b. nat_eq b 1) (others x other)) (omega arith) small
+    with_kept (is_one bits) (is_one more) 128 0 c (eq-eqb (bit_at more c) 1 here) (λ x other. ap (λ b. nat_eq b 1) (others x other)) (omega arith) small
 
 -- the set is as before where the customer is in it
 pub same-members : (bits more c : ℕ) → c < 128 → has (members bits) c ≡ true → bit_at more c ≡ 1 → ((x : ℕ) → (x ≡ c → ⊥) → bit_at more x ≡ bit_at bits x) → members more ≡ members bits
-unfolding members
+unfolding members members_from
 same-members bits more c small in_it here others =
-    let was : is_one bits c ≡ true = sym (has_from bits 128 0 c (omega arith) small) ∙ in_it in
-    same_from more bits 128 0 (λ x low high. elim (cases_eq x c) [
+    let was : is_one bits c ≡ true = sym (has_kept (is_one bits) 128 0 c (omega arith) small) ∙ in_it in
+    same_kept (is_one more) (is_one bits) 128 0 (λ x low high. elim (cases_eq x c) [
       | inl same ↦ ap (λ y. is_one more y) same ∙ eq-eqb (bit_at more c) 1 here ∙ sym was ∙ ap (λ y. is_one bits y) (sym same)
       | inr other ↦ ap (λ b. nat_eq b 1) (others x other)
     ])
@@ -242,3 +131,56 @@ sum_by-with_customer f c (y ∷ ys) new = elim (cases_lt c y) [
 pub members-zero : members 0 ≡ []
 unfolding members members_from
 members-zero = refl
+
+-- numbers whose digits are those of both, or those but one
+both_pass : (x y z : ℕ) → x ≡ min y z → y < 2 → z < 2 → nat_eq x 1 ≡ (nat_eq y 1 && nat_eq z 1)
+both_pass x y z is low high = elim (cases_eq y 1) [
+  | inl one ↦ elim (cases_eq z 1) [
+    | inl too ↦ rw (eq-eqb x 1 (omega (arith, is, one, too)), eq-eqb y 1 one, eq-eqb z 1 too) refl
+    | inr none ↦ rw (ne_eqb x 1 (λ e. none (omega (arith, is, one, e))), eq-eqb y 1 one, ne_eqb z 1 none) refl
+  ]
+  | inr none ↦ rw (ne_eqb x 1 (λ e. none (omega (arith, is, e, low, high))), ne_eqb y 1 none) refl
+]
+
+pub is_one_both : (a b c : ℕ) → is_one (bit_and a b) c ≡ (is_one a c && is_one b c)
+is_one_both a b c = both_pass (bit_at (bit_and a b) c) (bit_at a c) (bit_at b c) (bit_at_and a b c) (bit_at-lt a c) (bit_at-lt b c)
+
+pub common-members : (a b : ℕ) → members (bit_and a b) ≡ filter (has (members b)) (members a)
+unfolding members members_from
+common-members a b =
+    same_kept (is_one (bit_and a b)) (λ c. is_one a c && has (members b) c) 128 0 (λ c low high.
+    is_one_both a b c ∙ ap (λ t. is_one a c && t) (sym (has-members b c high)))
+    ∙ sym (kept_both (is_one a) (has (members b)) 128 0)
+
+pub without_passes : (was is : Bool) (x c : ℕ) → (x ≡ c → is ≡ false) → ((x ≡ c → ⊥) → is ≡ was) → is ≡ (was && not (nat_eq x c))
+without_passes was is x c here others = elim (cases_eq x c) [
+  | inl same ↦ rw (here same, eq-eqb x c same) (elim was as (λ t. false ≡ (t && false)) [ true ↦ refl | false ↦ refl ])
+  | inr apart ↦ rw (others apart, ne_eqb x c apart) (elim was as (λ t. t ≡ (t && true)) [ true ↦ refl | false ↦ refl ])
+]
+
+pub without-members : (bits less c : ℕ) → bit_at less c ≡ 0 → ((x : ℕ) → x < 128 → (x ≡ c → ⊥) → bit_at less x ≡ bit_at bits x) → members less ≡ filter (λ x. not (nat_eq x c)) (members bits)
+unfolding members members_from
+without-members bits less c here others =
+    same_kept (is_one less) (λ x. is_one bits x && not (nat_eq x c)) 128 0 (λ x low high.
+    without_passes (is_one bits x) (is_one less x) x c
+    (λ same. ap (λ y. is_one less y) same ∙ ne_eqb (bit_at less c) 1 (λ e. omega (arith, e, here)))
+    (λ apart. ap (λ b. nat_eq b 1) (others x high apart)))
+    ∙ sym (kept_both (is_one bits) (λ x. not (nat_eq x c)) 128 0)
+
+-- who is in a part of a set
+pub has-filter : (test : ℕ → Bool) (set : List ℕ) (c : ℕ) → has (filter test set) c ≡ (has set c && test c)
+has-filter test [] c = refl
+has-filter test (x ∷ xs) c =
+    let rest = has-filter test xs c in
+    elim (cases_eq x c) [
+      | inl same ↦ elim (cases_Bool (test x)) [
+        | inl passes ↦ rw (passes, eq-eqb x c same) (sym (ap test (sym same) ∙ passes))
+        | inr fails ↦
+            let here : test c ≡ false = ap test (sym same) ∙ fails in
+            rw (fails, eq-eqb x c same, rest, here) (elim (has xs c) as (λ t. (t && false) ≡ false) [ true ↦ refl | false ↦ refl ])
+      ]
+      | inr apart ↦ elim (cases_Bool (test x)) [
+        | inl passes ↦ rw (passes, ne_eqb x c apart) rest
+        | inr fails ↦ rw (fails, ne_eqb x c apart) rest
+      ]
+    ]

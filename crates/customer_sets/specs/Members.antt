@@ -73,3 +73,10 @@ unfolding bits_of members
 bits_of-members bits below =
     let all : digits bits 0 128 * 2 ^ 0 ≡ bits = omega (arith, digits-all bits 128 below) in
     sum_of_range bits 128 0 ∙ all
+
+-- n digits that are all of a number
+pub digits_sum : (bits n : ℕ) → bits < 2 ^ n → sum_by (λ c. 2 ^ c) (filter (is_one bits) (range_with_len 0 n)) ≡ bits
+unfolding members_from
+digits_sum bits n below =
+    let all : digits bits 0 n * 2 ^ 0 ≡ bits = omega (arith, digits-all bits n below) in
+    sum_of_range bits n 0 ∙ all

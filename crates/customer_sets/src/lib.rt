@@ -1,13 +1,17 @@
 //! Sets of customers.
 #![tactic(auto)]
 
-ghost use Rattle.std.specs.Prelude.{◌≡◌, ◌↔◌, ◌+◌, ◌<◌, ◌^◌, ◌||◌, ℕ, [], IsTrue, length, nat_eq, true, false};
+ghost use Rattle.std.specs.Prelude.{◌≡◌, ◌↔◌, ◌+◌, ◌<◌, ◌^◌, ◌||◌, ◌&&◌, ℕ, [], IsTrue, filter, length, nat_eq, not, true, false};
 ghost use Rattle.std.specs.List.{sum_by};
 ghost use Rattle.customer_sets.specs.CustSet.{has, IsCustomerSet, IsWithin, with_customer};
 
+mod large_set;
 mod pairs;
+mod set;
 
+pub use large_set::LargeSet;
 pub use pairs::Pairs;
+pub use set::CustomerSet;
 use std::marker::Model;
 
 /// A set of customers, by their numbers, which are below 128.
@@ -62,6 +66,27 @@ impl CustSet {
     {
         CustSet {
             bits: self.bits | 1 << c,
+        }
+    }
+
+    /// The set without the customer, who may not be in it. It takes no memory.
+    pub fn without(self, c: usize) -> CustSet
+        requires { c < 128 }
+        ensures value { result ≡ filter (λ x. not (nat_eq x c)) self }
+        ensures members { (x : ℕ) → has result x ≡ (has self x && not (nat_eq x c)) }
+    {
+        CustSet {
+            bits: self.bits & !(1 << c),
+        }
+    }
+
+    /// The customers who are in both sets. It takes no memory.
+    pub fn common(self, other: CustSet) -> CustSet
+        ensures value { result ≡ filter (has other) self }
+        ensures members { (x : ℕ) → has result x ≡ (has self x && has other x) }
+    {
+        CustSet {
+            bits: self.bits & other.bits,
         }
     }
 

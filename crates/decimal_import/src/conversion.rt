@@ -11,7 +11,7 @@ use crate::fault::ImportFault;
 use crate::nesting::{Nesting, Unit};
 use crate::token::{Token, split_token};
 use itoa::Buffer;
-use std::alloc::Global;
+use std::alloc::{AllocError, Global};
 
 /// The greatest length of a text.
 const MAX_LENGTH: usize = 1 << 26;
@@ -117,7 +117,7 @@ fn append(text: &mut Vec<u8>, bytes: &[u8]) -> Result<(), ImportFault>
 {
     match text.extend_from_slice(bytes) {
         Ok(()) => Ok(()),
-        Err(_) => Err(ImportFault::Memory),
+        Err(AllocError) => Err(ImportFault::Memory),
     }
 }
 

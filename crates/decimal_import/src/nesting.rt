@@ -106,7 +106,7 @@ impl Nesting {
         match token {
             Token::Opening(bracket) => match self.open(*bracket) {
                 Ok(()) => Ok(()),
-                Err(_) => Err(ImportFault::Memory),
+                Err(AllocError) => Err(ImportFault::Memory),
             },
             Token::Closing(bracket) => {
                 if self.close(*bracket) {

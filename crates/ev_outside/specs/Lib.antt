@@ -7,5 +7,7 @@ pub mod Storage
 pub mod SystemName
 pub mod PieceStorage
 pub mod PieceLaws
+pub mod Kept
+pub mod KeptLaws
 pub mod Sure
 pub mod Answers

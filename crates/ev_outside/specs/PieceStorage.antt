@@ -1,5 +1,6 @@
 -- What a storage in memory tells.
 use Rattle.std.specs.Prelude.{ℕ, List, Option, Some, string_bytes}
+use Rattle.ev_outside.specs.Kept.{KeptBehind}
 use Rattle.ev_outside.specs.MemoryShelf.{state_of}
 use Rattle.ev_outside.specs.Storage.{Told, WritesTo}
 use Rattle.ev_outside.specs.declared.piece_storage.PieceStorage.{PieceStorage}
@@ -19,6 +20,10 @@ told_by s = Some (told_of s)
 abbrev pub target_bytes : PieceStorage → Option (List ℕ)
 target_bytes s = (told_of s).files (told_of s).target
 
--- the storage took the piece, and is the other one then
+-- the piece stands in its files, and it is the other one then
+abbrev pub WritesPiece : PieceStorage → List ℕ → PieceStorage → Type 0
+WritesPiece a piece b = WritesTo (told_by a) piece (told_by b)
+
+-- it took the piece, and keeps none that it wasn't told to keep
 abbrev pub TakesPiece : PieceStorage → List ℕ → PieceStorage → Type 0
-TakesPiece a piece b = WritesTo (told_by a) piece (told_by b)
+TakesPiece a piece b = WritesPiece a piece b × KeptBehind a.kept piece b.kept

@@ -8,6 +8,8 @@ use std::io::Error;
 pub struct Failure<'a> {
     pub name: &'a str,
     pub cause: Error,
+    /// Whether standard error goes to this file, so that people can't be told there.
+    pub is_standard_error: bool,
 }
 
 impl Display for Failure<'_> {

@@ -1,5 +1,5 @@
 //! Named files of a system.
-ghost use Rattle.std.specs.Prelude.{◌≡◌, ◌≤◌, false, OnOk, OnErr, IsErrOf};
+ghost use Rattle.std.specs.Prelude.{◌≡◌, ◌≤◌, false, true, OnOk, OnErr, IsErrOf};
 ghost use Rattle.ev_outside.specs.Counts.{CountsOne, Rose};
 ghost use Rattle.ev_text.specs.Scans.{IsPrefixOf};
 ghost use Rattle.ev_outside.specs.Shelf.{AppendsFile, CountsNeverFall, CountsStay, HasAsked, HoldsUnder, KeepsOthers};
@@ -49,6 +49,8 @@ impl<S: Storage> StorageShelf<S> {
 }
 
 impl<S: Storage> Shelf for StorageShelf<S> {
+    ghost writes_take_memory = { false };
+
     ghost state = { λ shelf. shelf_of (S.told shelf.storage) (S.failed shelf.storage)
         (S.asked shelf.storage) };
 
@@ -112,6 +114,9 @@ impl<S: Storage> Shelf for StorageShelf<S> {
             S.failed self.new.storage ≡ S.failed self.old.storage }
         ensures closed { S.is_open self.new.storage ≡ false }
         ensures never_memory { IsErrOf result ShelfFault.Memory → ⊥ }
+
+        // The storage kept the file behind its last write.
+        ensures kept { OnOk result (S.is_kept self.new.storage ≡ true) }
     {
         let answer = write_named(&mut self.storage, name, bytes);
         self.storage.close();

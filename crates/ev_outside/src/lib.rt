@@ -10,6 +10,8 @@
 mod answers;
 mod failure;
 mod files;
+mod folder;
+mod kept;
 mod known_files;
 mod memory_shelf;
 mod memory_sink;

@@ -1,11 +1,12 @@
 //! Named files in memory that are taken and given in pieces, for tests.
-ghost use Rattle.std.specs.Prelude.{◌≡◌, ◌<◌, ◌≤◌, ◌⊎◌, ℕ, List, [], Some, IfOk, OnErr, OnOk, MatchResult, length, take};
+ghost use Rattle.std.specs.Prelude.{◌≡◌, ◌<◌, ◌≤◌, ◌⊎◌, ℕ, List, [], Some, IfOk, OnErr, OnOk, MatchResult, length, take, true, false};
 ghost use Rattle.std.specs.Io.KnownBytes.{ReadConsumes};
 ghost use Rattle.ev_outside.specs.Counts.{CountsOne, IsCounted};
 ghost use Rattle.ev_outside.specs.Shelf.{KeepsOthers};
 ghost use Rattle.ev_outside.specs.Sink.{Adds};
 ghost use Rattle.ev_outside.specs.Storage.{Creates, Opens, WritesTo, files_of, rest_of};
-ghost use Rattle.ev_outside.specs.PieceStorage.{TakesPiece, target_bytes, told_by, told_of};
+ghost use Rattle.ev_outside.specs.Kept.{KeptBehind};
+ghost use Rattle.ev_outside.specs.PieceStorage.{TakesPiece, WritesPiece, target_bytes, told_by, told_of};
 
 use super::memory_shelf::MemoryShelf;
 use super::storage::{CallFailed, Storage, Stream};
@@ -22,6 +23,7 @@ pub struct PieceStorage {
     rest: Vec<u8>,
     target: String,
     opened: bool,
+    kept: bool,
     piece: usize,
     calls: u64,
     failed: u64,
@@ -39,6 +41,7 @@ impl PieceStorage {
             rest: Vec::new(alloc),
             target: String::new(alloc),
             opened: false,
+            kept: false,
             piece,
             calls: 0,
             failed: 0,
@@ -56,6 +59,7 @@ impl PieceStorage {
         ensures told { told_of self.new ≡ told_of self.old }
         ensures failed { self.new.failed ≡ self.old.failed }
         ensures piece { self.new.piece ≡ self.old.piece }
+        ensures kept { self.new.kept ≡ self.old.kept }
     {
         let fails = self.fails.contains(&self.calls);
         self.calls = self.calls.saturating_add(1);
@@ -64,7 +68,7 @@ impl PieceStorage {
 
     /// Appends the bytes to the file that is written. Nothing changes where memory is refused.
     fn append(&mut self, bytes: &[u8]) -> Result<(), AllocError>
-        ensures ok { OnOk result (TakesPiece self.old bytes.now self.new) }
+        ensures ok { OnOk result (WritesPiece self.old bytes.now self.new) }
         ensures err { OnErr result (told_of self.new ≡ told_of self.old) }
         ensures failed { self.new.failed ≡ self.old.failed }
     {
@@ -78,10 +82,29 @@ impl PieceStorage {
         Ok(())
     }
 
+    /// Takes the first of the bytes, at most a piece of them.
+    fn take_piece(&mut self, bytes: &[u8]) -> Result<usize, CallFailed>
+        ensures takes { MatchResult result (λ n. WritesPiece self.old (take n bytes.now) self.new)
+            (λ _. WritesPiece self.old [] self.new) }
+        ensures some { IfOk result
+            (λ n. (n ≤ length bytes.now) × (0 < length bytes.now → 0 < n)) }
+        ensures counts { IsCounted result self.old.failed self.new.failed }
+    {
+        if self.is_to_fail() {
+            return Err(self.fail());
+        }
+        let count = bytes.len().min(self.piece.max(1));
+        match self.append(&bytes[..count]) {
+            Ok(()) => Ok(count),
+            Err(AllocError) => Err(self.fail()),
+        }
+    }
+
     /// Counts a call that failed.
     fn fail(&mut self) -> CallFailed
         ensures told { told_of self.new ≡ told_of self.old }
         ensures failed { CountsOne self.old.failed self.new.failed }
+        ensures kept { self.new.kept ≡ self.old.kept }
     {
         self.failed = self.failed.saturating_add(1);
         CallFailed
@@ -90,6 +113,7 @@ impl PieceStorage {
 
 impl Stream for PieceStorage {
     ghost use Rattle.std.specs.Prelude.{None};
+    ghost use Rattle.ev_outside.specs.KeptLaws.{kept_more, kept_nothing};
     ghost use Rattle.ev_outside.specs.PieceLaws.{writes_add, writes_more, writes_nothing};
     ghost use Rattle.ev_outside.specs.PieceStorage.{TakesPiece, target_bytes, told_of};
 
@@ -101,22 +125,19 @@ impl Stream for PieceStorage {
 
     ghost asked = { λ _. None };
 
-    ghost nothing = { λ a. writes_nothing (told_of a) };
+    ghost nothing = { λ a. (writes_nothing (told_of a), kept_nothing a.kept) };
 
-    ghost more = { λ a b c xs ys first second.
-        writes_more (told_of a) (told_of b) (told_of c) xs ys first second };
+    ghost more = { λ a b c xs ys first second. (
+      writes_more (told_of a) (told_of b) (told_of c) xs ys first.0 second.0,
+      kept_more a.kept b.kept c.kept xs ys first.1 second.1,
+    ) };
 
-    ghost adds = { λ a b piece writes. writes_add (told_of a) (told_of b) piece writes };
+    ghost adds = { λ a b piece taken. writes_add (told_of a) (told_of b) piece taken.0 };
 
     fn write(&mut self, bytes: &[u8]) -> Result<usize, CallFailed> {
-        if self.is_to_fail() {
-            return Err(self.fail());
-        }
-        let count = bytes.len().min(self.piece.max(1));
-        match self.append(&bytes[..count]) {
-            Ok(()) => Ok(count),
-            Err(AllocError) => Err(self.fail()),
-        }
+        let answer = self.take_piece(bytes);
+        self.kept = false;
+        answer
     }
 }
 
@@ -125,7 +146,11 @@ impl Storage for PieceStorage {
 
     ghost is_open = { λ storage. storage.opened };
 
-    ghost writes = { λ a b piece writes. writes };
+    ghost is_kept = { λ storage. storage.kept };
+
+    ghost writes = { λ a b piece taken. taken.0 };
+
+    ghost unkept = { λ a b piece taken. taken.1 };
 
     fn open(&mut self, name: &str) -> Result<(), CallFailed> {
         if self.is_to_fail() {
@@ -158,6 +183,7 @@ impl Storage for PieceStorage {
     }
 
     fn create(&mut self, name: &str) -> Result<(), CallFailed> {
+        self.kept = false;
         if self.is_to_fail() {
             return Err(self.fail());
         }
@@ -179,6 +205,7 @@ impl Storage for PieceStorage {
         if self.is_to_fail() {
             return Err(self.fail());
         }
+        self.kept = true;
         Ok(())
     }
 

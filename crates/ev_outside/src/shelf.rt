@@ -1,5 +1,5 @@
 //! Named files.
-ghost use Rattle.std.specs.Prelude.{◌≡◌, OnOk, OnErr, IsErrOf};
+ghost use Rattle.std.specs.Prelude.{◌≡◌, Bool, true, OnOk, OnErr, IsErrOf};
 ghost use Rattle.ev_outside.specs.Counts.{Rose};
 ghost use Rattle.ev_text.specs.Scans.{IsPrefixOf};
 ghost use Rattle.ev_outside.specs.Shelf.{ShelfState, AppendsFile, CountsNeverFall, CountsStay, HasAsked, HoldsUnder, KeepsOthers};
@@ -36,6 +36,9 @@ pub trait Shelf {
     // name have failed, and which name was asked for last, where that is kept.
     ghost state: { Self → ShelfState };
 
+    // Writing takes memory. Where it takes none, `write` never answers `Memory`.
+    ghost writes_take_memory: { Bool } = { true };
+
     /// Appends the bytes of the file to `into`, or its first `most` bytes where it is longer. A
     /// name that isn't there has no bytes. After a refusal a part of them may have been appended.
     /// No count rises but where the call answers `Failed`.
@@ -65,5 +68,6 @@ pub trait Shelf {
         ensures falls { CountsNeverFall (state self.old) (state self.new) }
         ensures stays { (IsErrOf result ShelfFault.Failed → ⊥)
             → CountsStay (state self.old) (state self.new) }
-        ensures asked { HasAsked name.now (state self.new).asked };
+        ensures asked { HasAsked name.now (state self.new).asked }
+        ensures takes_memory { IsErrOf result ShelfFault.Memory → writes_take_memory ≡ true };
 }

@@ -1,7 +1,8 @@
 //! The calls of a system on its files and its output, each of which may take or give a part.
-ghost use Rattle.std.specs.Prelude.{◌≡◌, ◌<◌, ◌≤◌, ◌++◌, Bool, false, ℕ, List, [], Option, take, length, IfOk, OnOk, MatchResult};
+ghost use Rattle.std.specs.Prelude.{◌≡◌, ◌<◌, ◌≤◌, ◌++◌, Bool, false, true, ℕ, List, [], Option, take, length, IfOk, OnOk, MatchResult};
 ghost use Rattle.std.specs.Io.KnownBytes.{ReadConsumes};
 ghost use Rattle.ev_outside.specs.Counts.{IsCounted};
+ghost use Rattle.ev_outside.specs.Kept.{KeptBehind};
 ghost use Rattle.ev_outside.specs.Shelf.{HasAsked, KeepsOthers};
 ghost use Rattle.ev_outside.specs.Sink.{Adds};
 ghost use Rattle.ev_outside.specs.Storage.{Creates, Opens, Told, WritesTo, files_of, rest_of};
@@ -55,10 +56,15 @@ pub trait Storage: Stream {
     // A file is open.
     ghost is_open: { Self → Bool };
 
+    // The file that was made last is kept: what was written into it lies on its disk, where it is
+    // found under its name.
+    ghost is_kept: { Self → Bool };
+
     /// Opens a file to be read from its beginning. A name that isn't there has no bytes, or the
     /// call fails.
     fn open(&mut self, name: &str) -> Result<(), CallFailed>
         ensures opens { OnOk result (Opens (told self.old) name.now (told self.new)) }
+        ensures kept { is_kept self.new ≡ true → is_kept self.old ≡ true }
         ensures files { files_of (told self.new) ≡ files_of (told self.old) }
         ensures counts { IsCounted result (Self.failed self.old) (Self.failed self.new) }
         ensures asked { HasAsked name.now (Self.asked self.new) };
@@ -69,14 +75,16 @@ pub trait Storage: Stream {
         ensures within { IfOk result (λ n. n ≤ length into.new) }
         ensures bytes { ReadConsumes (rest_of (told self.old)) (rest_of (told self.new))
             result into.new }
+        ensures kept { is_kept self.new ≡ true → is_kept self.old ≡ true }
         ensures files { files_of (told self.new) ≡ files_of (told self.old) }
         ensures counts { IsCounted result (Self.failed self.old) (Self.failed self.new) }
         ensures asked { Self.asked self.new ≡ Self.asked self.old };
 
-    /// Makes a file that is empty, to be written. Nothing is known of its bytes where the call
-    /// fails.
+    /// Makes a file that is empty, to be written, and isn't kept yet. Nothing is known of its bytes
+    /// where the call fails.
     fn create(&mut self, name: &str) -> Result<(), CallFailed>
         ensures creates { OnOk result (Creates name.now (told self.new)) }
+        ensures unkept { is_kept self.new ≡ false }
         ensures others { KeepsOthers name.now
             (files_of (told self.old)) (files_of (told self.new)) }
         ensures counts { IsCounted result (Self.failed self.old) (Self.failed self.new) }
@@ -85,6 +93,8 @@ pub trait Storage: Stream {
     /// Sees that what was written into the file that is open is kept, behind its last write. No
     /// bytes of any file change.
     fn keep(&mut self) -> Result<(), CallFailed>
+        ensures kept { MatchResult result (λ _. is_kept self.new ≡ true)
+            (λ _. is_kept self.new ≡ is_kept self.old) }
         ensures files { files_of (told self.new) ≡ files_of (told self.old) }
         ensures counts { IsCounted result (Self.failed self.old) (Self.failed self.new) }
         ensures asked { Self.asked self.new ≡ Self.asked self.old };
@@ -92,10 +102,15 @@ pub trait Storage: Stream {
     /// Closes the file that is open, if one is. No bytes of any file change.
     fn close(&mut self)
         ensures closed { is_open self.new ≡ false }
+        ensures kept { is_kept self.new ≡ is_kept self.old }
         ensures files { files_of (told self.new) ≡ files_of (told self.old) }
         ensures failed { Self.failed self.new ≡ Self.failed self.old }
         ensures asked { Self.asked self.new ≡ Self.asked self.old };
 
     ghost writes: { (a b : Self) (piece : List ℕ) → Self.takes a piece b →
         WritesTo (told a) piece (told b) };
+
+    // Only a file into which nothing was written since it was kept is so still.
+    ghost unkept: { (a b : Self) (piece : List ℕ) → Self.takes a piece b →
+        KeptBehind (is_kept a) piece (is_kept b) };
 }

@@ -1,5 +1,5 @@
 //! Loops over the calls of a system, which may take or give a part of what they are asked for.
-ghost use Rattle.std.specs.Prelude.{◌≡◌, ◌+◌, ◌++◌, ◌≤◌, List, ℕ, take, length, OnOk, OnErr, IfSome, IsErrOf, MatchResult};
+ghost use Rattle.std.specs.Prelude.{◌≡◌, ◌+◌, ◌++◌, ◌≤◌, List, ℕ, take, length, OnOk, OnErr, IfSome, IsErrOf, MatchResult, true};
 ghost use Rattle.ev_text.specs.Scans.{IsPrefixOf};
 ghost use Rattle.ev_outside.specs.Counts.{CountsOne, IsCounted};
 ghost use Rattle.ev_outside.specs.Shelf.{AppendsFile, HasAsked, HoldsUnder, KeepsOthers};
@@ -39,6 +39,7 @@ pub(crate) fn write_named<S: Storage>(
     bytes: &[u8],
 ) -> Result<(), CallFailed>
     ensures bytes { OnOk result (HoldsUnder (files_of (S.told storage.new)) name.now bytes.now) }
+    ensures kept { OnOk result (S.is_kept storage.new ≡ true) }
     ensures others { KeepsOthers name.now (files_of (S.told storage.old))
         (files_of (S.told storage.new)) }
     ensures counts { IsCounted result (S.failed storage.old) (S.failed storage.new) }

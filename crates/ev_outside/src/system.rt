@@ -1,15 +1,18 @@
 //! The files and the output of the system. These calls are trusted to do what [`Storage`] and
 //! [`Stream`] say; what they answer and count is proved, and that the cause of the last call that
 //! failed is kept for people.
-ghost use Rattle.std.specs.Prelude.{◌≡◌, ◌<◌, ◌≤◌, ◌↔◌, ℕ, [], None, Some, false, is_some, IfErr, IfOk, IfSome, codes, IsErr, IsNone, IsSome, MatchOption, MatchResult, OnErr, OnOk, length, refl, string_bytes};
+ghost use Rattle.std.specs.Prelude.{◌≡◌, ◌<◌, ◌≤◌, ◌↔◌, ℕ, [], None, Some, true, false, is_some, IfErr, IfOk, IfSome, codes, IsErr, IsNone, IsSome, MatchOption, MatchResult, OnErr, OnOk, length, refl, string_bytes, take};
 ghost use Rattle.std.specs.Io.KnownBytes.{ReadConsumes, WriteAppends};
 ghost use Rattle.ev_outside.specs.Counts.{CountsOne, IsCounted};
+ghost use Rattle.ev_outside.specs.Kept.{KeptBehind, ShowsEmptied, ShowsKept};
 ghost use Rattle.ev_outside.specs.Shelf.{HasAsked, KeepsOthers};
 ghost use Rattle.ev_outside.specs.Storage.{Creates, Opens, files_of, rest_of};
 ghost use Rattle.ev_outside.specs.SystemName.{asked_by};
 
 use super::answers::{read_piece, write_piece};
 use super::failure::Failure;
+use super::folder::folder_of;
+use super::kept::{Emptied, Kept, empty, keep};
 use super::known_files::{FileId, KnownFiles};
 use super::storage::{CallFailed, Storage, Stream};
 use std::alloc::Global;
@@ -20,21 +23,32 @@ use std::rt::Files;
 /// Where Linux has the file that standard output goes to.
 const STANDARD_OUTPUT: &str = "/proc/self/fd/1";
 
+/// Where Linux has the file that standard error goes to.
+const STANDARD_ERROR: &str = "/proc/self/fd/2";
+
 /// The files of the system, which don't tell their bytes.
 ///
-/// A regular file that was read or written isn't written under another name, nor is the one that
-/// standard output goes to: such a write fails before the file is changed.
+/// A regular file that was read or written isn't written under another name, nor is one that
+/// standard output or standard error goes to: such a write fails before the file is changed.
 #[derive(Drop)]
 pub struct SystemFiles<'a, R: Files> {
     rt: &'a R,
     alloc: Global,
     /// The file that is open. Its descriptor is above 2.
     file: Option<R::File>,
+    /// The folder of the file that is written, where it is a regular one and its folder can be had.
+    folder: Option<R::File>,
+    /// What shows that the file that was made last was empty.
+    emptied: Option<Emptied>,
+    /// What shows that it is kept.
+    kept: Option<Kept>,
     /// The regular files that were opened.
     known: KnownFiles,
     /// Whether the file that was asked for last was opened to be written, so that it may hold a
     /// part.
     is_changed: bool,
+    /// Whether standard error goes to it.
+    is_standard_error: bool,
     /// The name that was asked for last, where there was memory for it.
     name: Option<String>,
     /// Why the last call on this file that failed did.
@@ -54,8 +68,12 @@ impl<'a, R: Files> SystemFiles<'a, R> {
             rt,
             alloc,
             file: None,
+            folder: None,
+            emptied: None,
+            kept: None,
             known: KnownFiles::new(alloc),
             is_changed: false,
+            is_standard_error: false,
             name: None,
             cause: None,
             failed: 0,
@@ -72,13 +90,19 @@ impl<'a, R: Files> SystemFiles<'a, R> {
             (λ name. failure.name.now ≡ string_bytes name)) }
         ensures asked { IfSome result (λ failure.
             HasAsked failure.name.now (asked_by self.now.name)) }
+        ensures told { IfSome result (λ failure.
+            failure.is_standard_error ≡ self.now.is_standard_error) }
     {
         let cause = self.cause?;
         let name = match &self.name {
             Some(name) => name.as_str(),
             None => "a file",
         };
-        Some(Failure { name, cause })
+        Some(Failure {
+            name,
+            cause,
+            is_standard_error: self.is_standard_error,
+        })
     }
 
     /// Whether the file that was asked for last was opened to be written, and not left as it was.
@@ -96,10 +120,15 @@ impl<'a, R: Files> SystemFiles<'a, R> {
         ensures asked { HasAsked name.now (asked_by self.new.name) }
         ensures failed { self.new.failed ≡ self.old.failed }
         ensures cause { IsNone self.new.cause }
+        ensures kept { IsNone self.new.kept }
     {
         self.name = String::from_str(self.alloc, name).ok();
         self.cause = None;
         self.is_changed = false;
+        self.is_standard_error = false;
+        self.folder = None;
+        self.emptied = None;
+        self.kept = None;
     }
 
     /// Keeps the file that the system opened, or counts that it opened none.
@@ -110,6 +139,7 @@ impl<'a, R: Files> SystemFiles<'a, R> {
             (λ _. IsSome self.new.cause) }
         ensures refused { IfErr opened (λ cause. IsErr result × (self.new.cause ≡ Some cause)) }
         ensures name { self.new.name ≡ self.old.name }
+        ensures kept { self.new.kept ≡ self.old.kept }
     {
         match opened.and_then(above_standard) {
             Ok(file) => {
@@ -123,6 +153,7 @@ impl<'a, R: Files> SystemFiles<'a, R> {
     /// Keeps which regular file it is that is open under this name.
     fn note(&mut self, name: &str) -> io::Result<()>
         ensures failed { self.new.failed ≡ self.old.failed }
+        ensures kept { self.new.kept ≡ self.old.kept }
         ensures cause { self.new.cause ≡ self.old.cause }
         ensures name { self.new.name ≡ self.old.name }
         ensures file { self.new.file ≡ self.old.file }
@@ -134,40 +165,60 @@ impl<'a, R: Files> SystemFiles<'a, R> {
         Ok(())
     }
 
-    /// Takes all bytes from the regular file that is open under this name. It fails, and the file
-    /// stays as it is, where it has bytes and was opened under another name before, and where
-    /// standard output goes to it. A device or a pipe is left as it is.
+    /// Takes all bytes from the regular file that is open under this name, unless it isn't to be
+    /// written. A device or a pipe is left as it is.
     fn cut(&mut self, name: &str) -> io::Result<()>
+        ensures emptied { OnOk result (ShowsEmptied self.new.emptied) }
+        ensures kept { self.new.kept ≡ self.old.kept }
         ensures failed { self.new.failed ≡ self.old.failed }
         ensures cause { self.new.cause ≡ self.old.cause }
         ensures name { self.new.name ≡ self.old.name }
         ensures file { self.new.file ≡ self.old.file }
     {
         let found = metadata_of(&self.file)?;
-        if !found.is_file() {
-            return Ok(());
+        if found.is_file() {
+            self.admit(name, &found)?;
         }
-        let id = FileId::of(&found);
+        match &self.file {
+            Some(file) => empty(file, &found, &mut self.emptied),
+            None => Err(no_file()),
+        }
+    }
+
+    /// Sees that the regular file that is open under this name may be written, and opens its
+    /// folder. It fails where the file has bytes and was opened under another name before, and
+    /// where standard output or standard error goes to it.
+    fn admit(&mut self, name: &str, found: &Metadata) -> io::Result<()>
+        ensures kept { self.new.kept ≡ self.old.kept }
+        ensures failed { self.new.failed ≡ self.old.failed }
+        ensures cause { self.new.cause ≡ self.old.cause }
+        ensures name { self.new.name ≡ self.old.name }
+        ensures file { self.new.file ≡ self.old.file }
+    {
+        let id = FileId::of(found);
+        self.is_standard_error = goes_to(self.rt, STANDARD_ERROR, id);
 
         // An empty file has nothing to lose. One that was just made may have the number of a
         // file that was read and then deleted.
         if found.len() > 0 && !self.known.is_only_here(name, id) {
             return self.leave("this job read or wrote the same file under another name");
         }
-        if is_standard_output(self.rt, id) {
+        if goes_to(self.rt, STANDARD_OUTPUT, id) {
             return self.leave("standard output goes to this file");
         }
-        self.known.add(name, id)?;
-        match &self.file {
-            Some(file) => file.set_len(0),
-            None => Err(no_file()),
+        if self.is_standard_error {
+            return self.leave("standard error goes to this file");
         }
+        self.known.add(name, id)?;
+        self.folder = folder_of(self.rt, self.alloc, name)?;
+        Ok(())
     }
 
     /// The file that is open isn't written, for this reason.
     fn leave(&mut self, why: &'static str) -> io::Result<()>
         ensures refused { IsErr result }
         ensures told { self.new.is_changed ≡ false }
+        ensures kept { self.new.kept ≡ self.old.kept }
         ensures failed { self.new.failed ≡ self.old.failed }
         ensures cause { self.new.cause ≡ self.old.cause }
         ensures name { self.new.name ≡ self.old.name }
@@ -181,6 +232,7 @@ impl<'a, R: Files> SystemFiles<'a, R> {
     fn fail(&mut self, cause: Error) -> CallFailed
         ensures failed { CountsOne self.old.failed self.new.failed }
         ensures cause { self.new.cause ≡ Some cause }
+        ensures kept { self.new.kept ≡ self.old.kept }
         ensures name { self.new.name ≡ self.old.name }
         ensures file { self.new.file ≡ self.old.file }
     {
@@ -209,24 +261,18 @@ fn metadata_of<F: OpenFile>(file: &Option<F>) -> io::Result<Metadata> {
     }
 }
 
-/// Whether standard output goes to this file, as far as Linux tells it.
-fn is_standard_output<R: Files>(rt: &R, id: FileId) -> bool {
-    match fs::metadata(rt, STANDARD_OUTPUT) {
+/// Whether an output goes to this file, as far as Linux tells it.
+fn goes_to<R: Files>(rt: &R, output: &str, id: FileId) -> bool {
+    match fs::metadata(rt, output) {
         Ok(found) => FileId::of(&found) == id,
         Err(_) => false,
     }
 }
 
-/// Sees that what was written into a regular file is kept. A device or a pipe keeps nothing.
-fn sync<F: OpenFile>(file: &F) -> io::Result<()> {
-    if file.metadata()?.is_file() {
-        file.sync_all()?;
-    }
-    Ok(())
-}
-
 impl<'a, R: Files> Stream for SystemFiles<'a, R> {
-    ghost takes = { λ _ _ _. Unit {0} };
+    ghost use Rattle.ev_outside.specs.KeptLaws.{kept_more, kept_nothing};
+
+    ghost takes = { λ a piece b. KeptBehind (is_some a.kept) piece (is_some b.kept) };
 
     ghost written = { λ _. None };
 
@@ -234,14 +280,17 @@ impl<'a, R: Files> Stream for SystemFiles<'a, R> {
 
     ghost asked = { λ files. asked_by files.name };
 
-    ghost nothing = { λ a. tt };
+    ghost nothing = { λ a. kept_nothing (is_some a.kept) };
 
-    ghost more = { λ a b c xs ys first second. tt };
+    ghost more = { λ a b c xs ys first second.
+        kept_more (is_some a.kept) (is_some b.kept) (is_some c.kept) xs ys first second };
 
     ghost adds = { λ a b piece taken. refl };
 
     fn write(&mut self, bytes: &[u8]) -> Result<usize, CallFailed>
-        ensures takes { MatchResult result (λ _. Unit {0}) (λ _. Unit {0}) }
+        ensures takes { MatchResult result
+            (λ n. KeptBehind (is_some self.old.kept) (take n bytes.now) (is_some self.new.kept))
+            (λ _. KeptBehind (is_some self.old.kept) [] (is_some self.new.kept)) }
         ensures some { IfOk result
             (λ n. (n ≤ length bytes.now) × (0 < length bytes.now → 0 < n)) }
         ensures counts { IsCounted result self.old.failed self.new.failed }
@@ -254,6 +303,7 @@ impl<'a, R: Files> Stream for SystemFiles<'a, R> {
             (λ _. IsSome self.new.cause) }
         ensures name { self.new.name ≡ self.old.name }
     {
+        self.kept = None;
         let Some(file) = &mut self.file else {
             return Err(self.fail(no_file()));
         };
@@ -271,10 +321,15 @@ impl<'a, R: Files> Storage for SystemFiles<'a, R> {
 
     ghost is_open = { λ files. is_some files.file };
 
+    ghost is_kept = { λ files. is_some files.kept };
+
     ghost writes = { λ a b piece taken. tt };
+
+    ghost unkept = { λ a b piece taken. taken };
 
     fn open(&mut self, name: &str) -> Result<(), CallFailed>
         ensures opens { OnOk result (Opens None name.now None) }
+        ensures kept { is_some self.new.kept ≡ true → is_some self.old.kept ≡ true }
         ensures files { files_of None ≡ files_of None }
         ensures counts { IsCounted result self.old.failed self.new.failed }
         ensures asked { HasAsked name.now (asked_by self.new.name) }
@@ -295,6 +350,7 @@ impl<'a, R: Files> Storage for SystemFiles<'a, R> {
     fn read(&mut self, into: &mut [u8]) -> Result<usize, CallFailed>
         ensures within { IfOk result (λ n. n ≤ length into.new) }
         ensures bytes { ReadConsumes (rest_of None) (rest_of None) result into.new }
+        ensures kept { is_some self.new.kept ≡ true → is_some self.old.kept ≡ true }
         ensures files { files_of None ≡ files_of None }
         ensures counts { IsCounted result self.old.failed self.new.failed }
         ensures asked { asked_by self.new.name ≡ asked_by self.old.name }
@@ -317,6 +373,10 @@ impl<'a, R: Files> Storage for SystemFiles<'a, R> {
 
     fn create(&mut self, name: &str) -> Result<(), CallFailed>
         ensures creates { OnOk result (Creates name.now None) }
+        ensures unkept { is_some self.new.kept ≡ false }
+
+        // The system took all bytes from the file, unless it is a device or a pipe.
+        ensures emptied { OnOk result (ShowsEmptied self.new.emptied) }
         ensures others { KeepsOthers name.now (files_of None) (files_of None) }
         ensures counts { IsCounted result self.old.failed self.new.failed }
         ensures asked { HasAsked name.now (asked_by self.new.name) }
@@ -336,6 +396,11 @@ impl<'a, R: Files> Storage for SystemFiles<'a, R> {
     }
 
     fn keep(&mut self) -> Result<(), CallFailed>
+        // The system synced the file, and its folder where that is open, unless it is a device or
+        // a pipe.
+        ensures synced { OnOk result (ShowsKept self.new.folder self.new.kept) }
+        ensures kept { MatchResult result (λ _. is_some self.new.kept ≡ true)
+            (λ _. is_some self.new.kept ≡ is_some self.old.kept) }
         ensures files { files_of None ≡ files_of None }
         ensures counts { IsCounted result self.old.failed self.new.failed }
         ensures asked { asked_by self.new.name ≡ asked_by self.old.name }
@@ -345,7 +410,7 @@ impl<'a, R: Files> Storage for SystemFiles<'a, R> {
         ensures name { self.new.name ≡ self.old.name }
     {
         let kept = match &self.file {
-            Some(file) => sync(file),
+            Some(file) => keep(file, &self.folder, &mut self.kept),
             None => Err(no_file()),
         };
         match kept {
@@ -356,6 +421,7 @@ impl<'a, R: Files> Storage for SystemFiles<'a, R> {
 
     fn close(&mut self)
         ensures closed { is_some self.new.file ≡ false }
+        ensures kept { is_some self.new.kept ≡ is_some self.old.kept }
         ensures files { files_of None ≡ files_of None }
         ensures failed { self.new.failed ≡ self.old.failed }
         ensures asked { asked_by self.new.name ≡ asked_by self.old.name }
@@ -363,6 +429,7 @@ impl<'a, R: Files> Storage for SystemFiles<'a, R> {
         ensures name { self.new.name ≡ self.old.name }
     {
         self.file = None;
+        self.folder = None;
     }
 }
 
@@ -398,6 +465,7 @@ impl<'a, R: Print> SystemOutput<'a, R> {
         Some(Failure {
             name: "standard output",
             cause,
+            is_standard_error: false,
         })
     }
 

@@ -55,7 +55,7 @@ fn tell_in_front(rt: &HostRuntime) {
 }
 
 /// Tells people what stands in the files of the job once a file or the output failed, and, where a
-/// text was put, what its cause means.
+/// text was put, what its cause means; nothing where standard error goes to the file that failed.
 fn tell_behind(
     rt: &HostRuntime,
     shelf: &FileShelf<'_, HostRuntime>,
@@ -68,6 +68,9 @@ fn tell_behind(
         let failed = Failed::Output(cause);
         tell(rt, left_behind(alloc, words.as_slice(), failed));
     } else if let Some(failure) = shelf.last_failure() {
+        if failure.is_standard_error {
+            return;
+        }
         let failed = match shelf.storage().is_changed() {
             true => Failed::File(failure.name),
             false => Failed::Unchanged(failure.name),

@@ -43,9 +43,8 @@ impl Rest {
             stations,
             rate,
         };
-        let Some(buckets) = route.len().checked_mul(inst.nodes()) else {
-            return Err(AllocError);
-        };
+        // Where the product is past 64 bits as many are asked for as fit, which no memory holds.
+        let buckets = route.len().saturating_mul(inst.nodes());
         let mut least = vec![in alloc; 0; buckets]?;
         arcs.fill(least.as_mut_slice(), route);
         Ok(Rest { rate, least })

@@ -33,9 +33,7 @@ impl<'a> Trip<'a> {
         ensures spread { IfOk result (λ found.
             IsSpread self.now found.0.labels (begin self.now.start)) }
     {
-        let Some(buckets) = self.buckets() else {
-            return Err(AllocError);
-        };
+        let buckets = self.buckets();
         let mut pool = Pool::new(alloc, buckets)?;
         let mut full = none_yet(alloc, buckets)?;
         let start = State {

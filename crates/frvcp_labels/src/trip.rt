@@ -1,5 +1,5 @@
 //! A route to be driven.
-ghost use Rattle.std.specs.Prelude.{◌≡◌, ◌+◌, ◌-◌, ◌*◌, ◌^◌, ◌<◌, ◌≤◌, length, slice_index, IfSome};
+ghost use Rattle.std.specs.Prelude.{◌≡◌, ◌+◌, ◌-◌, ◌*◌, ◌^◌, ◌<◌, ◌≤◌, length, slice_index};
 ghost use Rattle.ev_model.specs.Network.{energy, node_count, scaled_limit};
 ghost use Rattle.label_steps.specs.Arrivals.{drive_time};
 ghost use Rattle.route_steps.specs.Trips.{IsTrip};
@@ -84,12 +84,12 @@ impl<'a> Trip<'a> {
         self.inst.energy(from, to)
     }
 
-    /// How many buckets there are, `None` where there are too many for any memory.
-    pub(crate) fn buckets(&self) -> Option<usize>
-        ensures { IfSome result (λ count.
-            (count ≡ length self.now.route * node_count self.now.network) × (count < 2 ^ 64)) }
+    /// How many buckets there are: the bound on the rest has an entry for each.
+    pub(crate) fn buckets(&self) -> usize
+        ensures value { result ≡ length self.now.route * node_count self.now.network }
+        ensures few { length self.now.route * node_count self.now.network < 2 ^ 64 }
     {
-        self.route.len().checked_mul(self.inst.nodes())
+        self.rest.least.len()
     }
 
     /// The bucket of the labels at a node once so much of the route was passed.

@@ -50,7 +50,10 @@ pub fn make_instance(
     if seed == 0 || seed >= MODULUS || customers == 0 || nodes > MOST_NODES {
         return Err(MakerFault::Range);
     }
-    instance_text(alloc, seed, customers, stations).map_err(|_| MakerFault::Memory)
+    match instance_text(alloc, seed, customers, stations) {
+        Ok(text) => Ok(text),
+        Err(AllocError) => Err(MakerFault::Memory),
+    }
 }
 
 /// The text of the made instance.

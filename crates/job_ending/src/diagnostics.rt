@@ -18,7 +18,7 @@ pub trait Diagnostics {
 }
 
 /// The standard error of a system, where the name of the program stands in front of each message.
-/// Nothing is done where it fails.
+/// Nothing is done where it fails, nor is a file told of that it goes to.
 #[derive(Drop)]
 pub struct SystemDiagnostics<'a, R: Eprint> {
     rt: &'a R,
@@ -36,6 +36,11 @@ impl<'a, R: Eprint> Diagnostics for SystemDiagnostics<'a, R> {
     ghost told = { λ _. None };
 
     fn tell(&mut self, message: Message<'_>) {
+        if let Message::Failure(Some(failure)) = message {
+            if failure.is_standard_error {
+                return;
+            }
+        }
         let program = self.program;
         let _ = eprintln!(self.rt; "{program}: {message}");
     }

@@ -58,7 +58,7 @@ pub fn exchange(alloc: Global, t: &mut Table, row: usize, col: usize) -> Result<
         Err(TableFault::Memory) => Err(LpFault::Memory),
         Err(TableFault::Wide { .. }) => match basis_with(alloc, t, row, col) {
             Ok(basis) => Err(LpFault::Wide { basis }),
-            Err(_) => Err(LpFault::Memory),
+            Err(AllocError) => Err(LpFault::Memory),
         },
     }
 }

@@ -15,7 +15,7 @@ use crate::prices::{Lp, numbers};
 use crate::restore::restore;
 use crate::shares::shares;
 use master_table::Table;
-use std::alloc::Global;
+use std::alloc::{AllocError, Global};
 
 /// Brings the shares of the helpers down as far as they go.
 fn bring_helpers_down(alloc: Global, t: &mut Table) -> Result<(), LpFault>
@@ -26,9 +26,7 @@ fn bring_helpers_down(alloc: Global, t: &mut Table) -> Result<(), LpFault>
         IsRefused basis.items t.new }
 {
     restore(alloc, t)?;
-    let Ok(places) = basis_of(alloc, t) else {
-        return Err(LpFault::Memory);
-    };
+    let places = basis_of(alloc, t)?;
     run(alloc, t, Goal::Helpers, &places)
 }
 
@@ -43,9 +41,7 @@ fn bring_cost_down(alloc: Global, t: &mut Table) -> Result<(), LpFault>
         IsRefused basis.items t.new }
 {
     drive_out(alloc, t)?;
-    let Ok(places) = basis_of(alloc, t) else {
-        return Err(LpFault::Memory);
-    };
+    let places = basis_of(alloc, t)?;
     run(alloc, t, Goal::Cost, &places)
 }
 
@@ -76,7 +72,7 @@ fn ray(alloc: Global, t: &Table) -> Result<Lp, LpFault>
             over: 0,
             shares: Vec::new(alloc),
         }),
-        Err(_) => Err(LpFault::Memory),
+        Err(AllocError) => Err(LpFault::Memory),
     }
 }
 
@@ -95,15 +91,11 @@ fn optimum(alloc: Global, t: &Table) -> Result<Lp, LpFault>
     let Some(over) = share_weight(t) else {
         return match basis_of(alloc, t) {
             Ok(basis) => Err(LpFault::Wide { basis }),
-            Err(_) => Err(LpFault::Memory),
+            Err(AllocError) => Err(LpFault::Memory),
         };
     };
-    let Ok(prices) = numbers(alloc, t, Goal::Cost) else {
-        return Err(LpFault::Memory);
-    };
-    let Ok(shares) = shares(alloc, t, over) else {
-        return Err(LpFault::Memory);
-    };
+    let prices = numbers(alloc, t, Goal::Cost)?;
+    let shares = shares(alloc, t, over)?;
     Ok(Lp {
         weight: t.weight(),
         prices,

@@ -24,8 +24,10 @@ pub fn helper_table(
     requires cost_cap { caps.cost ≤ 2 ^ 84 }
     ensures { IfOk result (λ t. IsHelperTable n (limits_of caps) routes.now t) }
 {
-    let Ok(mut table) = Table::new(alloc, n, caps) else {
-        return Err(AllocError);
+    let mut table = match Table::new(alloc, n, caps) {
+        Ok(table) => table,
+        Err(TableFault::Memory) => return Err(AllocError),
+        Err(TableFault::Wide { .. }) => unreachable!(),
     };
     for route in routes {
         let time = route.time;

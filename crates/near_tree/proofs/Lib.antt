@@ -9,3 +9,5 @@ pub mod Fleets
 pub mod Wholes
 pub mod Leaves
 pub mod Test
+pub mod OneLeaf
+pub mod Rules

@@ -211,8 +211,9 @@ module _ (g : Network) (b : Branch) (s : NearSection) (h : is_closed g b s ≡ t
         let time = le-leb _ _ step.in_time in
         covered g b s (at_leaf_customer g b s (leaf_at l y) x) (implied _ _ node.0 (and_from _ _ go (and_from _ _ step.customer (and_from _ _ fresh (and_from _ _ next time)))));
     station = λ l y x z inside level step.
+        let high : z < g.capacity + 1 = omega (arith, step.full) in
         let node = and_parts _ _ (at_node l y x inside level step.step.known) in
-        let charge = all_at (station_test g b s (leaf_at l y) x) (g.capacity + 1) z node.1 (omega (arith, step.full)) in
+        let charge = all_at (station_test g b s (leaf_at l y) x) (g.capacity + 1) z node.1 high in
         let go = steps g (leaf_at l y).state x step.step in
         let there = station_there (curve_at g x) step.station in
         covered g b s (at_leaf_station g (leaf_at l y) x z) (implied _ _ charge (and_from _ _ go (and_from _ _ there (and_from _ _ (le-leb _ _ step.charges) (le-leb _ _ step.in_time)))));

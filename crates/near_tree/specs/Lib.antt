@@ -9,3 +9,5 @@ pub mod Closed
 pub mod Trees
 pub mod Bounds
 pub mod Examples
+pub mod OneLeaf
+pub mod Rules

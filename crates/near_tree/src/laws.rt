@@ -4,11 +4,16 @@ ghost use Rattle.std.specs.Prelude.{◌*◌, ◌≤◌, List, ℕ, Option, None,
 ghost use Rattle.ev_model.specs.Fleet.{cost_of, IsFleetPlan};
 ghost use Rattle.ev_model.specs.Network.{IsNetwork, Network};
 ghost use Rattle.ev_model.specs.declared.Stop.{Stop};
+ghost use Rattle.near_proof.specs.Accepted.{IsAccepted as IsAcceptedNear};
+ghost use Rattle.near_proof.specs.Ranges.{NearFits};
+ghost use Rattle.near_proof.specs.declared.proof.NearProof.{NearProof};
 ghost use Rattle.near_tree.specs.Bounds.{IsAccepted, IsAcceptedAt, NearRoutesPayAt};
 ghost use Rattle.near_tree.specs.Branches.{Branch, Keeps, whole};
 ghost use Rattle.near_tree.specs.Closed.{AreClosedAt};
 ghost use Rattle.near_tree.specs.Covered.{AreWithinFullAt};
 ghost use Rattle.near_tree.specs.Follows.{MayFollow, StandsFor};
+ghost use Rattle.near_tree.specs.OneLeaf.{CountsNothing, one_leaf};
+ghost use Rattle.near_tree.specs.Rules.{IsBroken, Place};
 ghost use Rattle.near_tree.specs.Sections.{after, anybody, Last, NearSection};
 ghost use Rattle.near_tree.specs.Trees.{AtSomeLeaf, IsSectionAt, IsTreeAt, NearTree};
 ghost use Rattle.near_proof.specs.Truth.{IsTrueNearBound};
@@ -59,4 +64,18 @@ pub fn a_fleet_costs_the_bound_of_its_leaf()
 pub fn a_fleet_costs_the_bound_of_a_near_tree()
     ensures { (g : Network) (t : NearTree) (bound : Option ℕ) → IsNetwork g → IsTreeAt g whole t →
         IsAccepted g bound t → IsTrueNearBound g bound }
+{}
+
+/// A near proof that counts no services is a tree of one leaf, its tight routes left out, and each
+/// label at a station after anybody; and it is accepted with its bound where the proof is.
+pub fn a_near_proof_is_a_tree_of_one_leaf()
+    ensures tree { (g : Network) (p : NearProof) → NearFits g p → IsTreeAt g whole (one_leaf g p) }
+    ensures accepted { (g : Network) (p : NearProof) → CountsNothing p → IsAcceptedNear g p →
+        IsAccepted g p.bound (one_leaf g p) }
+{}
+
+/// No rule of an accepted tree is broken, at no leaf.
+pub fn an_accepted_tree_breaks_no_rule()
+    ensures { (g : Network) (bound : Option ℕ) (t : NearTree) (at : Place) →
+        IsAccepted g bound t → IsBroken g bound t at → ⊥ }
 {}

@@ -11,7 +11,7 @@ use crate::fault::{LargeFault, PlanFault};
 use crate::later::later_fault;
 use instance_reader::{Instance, MOST_CUSTOMERS};
 use route_plan::{FleetPlan, RoutePlan, walk};
-use std::alloc::Global;
+use std::alloc::{AllocError, Global};
 
 /// The cost of a fleet plan, or its first broken rule. It takes no memory.
 ///
@@ -43,8 +43,9 @@ pub fn check_large(alloc: Global, inst: &Instance, plan: &FleetPlan) -> Result<u
     ensures cost { IfOk result (λ cost. cost ≡ cost_of inst.now 1 (stops_of plan.now.routes)) }
     ensures broken { IfErr result (IsLargeFault inst.now plan.now.routes) }
 {
-    let Ok(mut visits) = vec![in alloc; 0; inst.customers().len()] else {
-        return Err(LargeFault::Memory);
+    let mut visits = match vec![in alloc; 0; inst.customers().len()] {
+        Ok(visits) => visits,
+        Err(AllocError) => return Err(LargeFault::Memory),
     };
     match judge(inst, plan.routes.as_slice(), visits.as_mut_slice()) {
         Ok(cost) => Ok(cost),

@@ -9,7 +9,7 @@ use crate::earners::Earners;
 use crate::fault::MasterFault;
 use master_simplex::{Lp, LpFault, solve};
 use master_table::{Caps, Table, TableFault};
-use std::alloc::{AllocError, Global};
+use std::alloc::{AllocError, AllocFailed, Global};
 
 /// The table of a master problem, and the routes of its added columns, in order.
 #[derive(Drop)]
@@ -36,7 +36,8 @@ pub(crate) fn fresh_master<E: Earners>(
             table,
             routes: Vec::new(alloc),
         }),
-        Err(_) => Err(AllocError),
+        Err(TableFault::Memory) => Err(AllocError),
+        Err(TableFault::Wide { .. }) => unreachable!(),
     }
 }
 
@@ -59,7 +60,7 @@ pub(crate) fn add<E: Earners>(
 {
     let set = earners.set(&route);
     let cost = earners.cost(&route);
-    if master.routes.push(route).is_err() {
+    if let Err(AllocFailed { .. }) = master.routes.push(route) {
         return Err(MasterFault::Memory);
     }
     match master.table.add_column(set, cost) {

@@ -9,7 +9,7 @@ ghost use Rattle.route_improve.specs.Own.{AreOwn, IsOwn, IsOwnOrAlone};
 use order_pricing::fastest_plan;
 use crate::route::Route;
 use instance_reader::Instance;
-use std::alloc::{AllocError, Global};
+use std::alloc::{AllocError, AllocFailed, Global};
 
 /// Why there aren't routes for each customer alone.
 #[derive(Clone, Copy, Drop)]
@@ -32,10 +32,10 @@ pub(crate) fn own_routes(alloc: Global, inst: &Instance) -> Result<Vec<Route>, O
         match own_route(alloc, inst, *node) {
             Ok(Some(route)) => match routes.push(route) {
                 Ok(()) => {}
-                Err(_) => return Err(OwnFault::Memory),
+                Err(AllocFailed { .. }) => return Err(OwnFault::Memory),
             },
             Ok(None) => return Err(OwnFault::Alone(*node)),
-            Err(_) => return Err(OwnFault::Memory),
+            Err(AllocError) => return Err(OwnFault::Memory),
         }
     }
     Ok(routes)

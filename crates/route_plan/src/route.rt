@@ -9,7 +9,7 @@ ghost use Rattle.route_plan.specs.RouteWords.{read_comma, read_next, read_node, 
 
 use ev_text::Scan;
 use instance_reader::Instance;
-use std::alloc::Global;
+use std::alloc::{AllocFailed, Global};
 
 /// The first broken rule of the word of a route. `at` of `Text` is a byte of the word, elsewhere it
 /// is a position in the route; both are counted from 0.
@@ -116,7 +116,7 @@ fn push_node(nodes: &mut Vec<usize>, node: usize) -> Result<(), RouteFault>
 {
     match nodes.push(node) {
         Ok(()) => Ok(()),
-        Err(_) => Err(RouteFault::Memory),
+        Err(AllocFailed { .. }) => Err(RouteFault::Memory),
     }
 }
 

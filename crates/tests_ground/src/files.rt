@@ -159,6 +159,8 @@ fn a_call_that_the_system_refuses_has_failed(rt: HostRuntime) {
         (true, "/", "Is a directory (os error 21)"),
         (false, "/", "Is a directory (os error 21)"),
         (false, "/dev/full", "No space left on device (os error 28)"),
+        // A file of the kernel is written, and can't be synced.
+        (false, "/proc/self/comm", "Invalid argument (os error 22)"),
         (
             false,
             "ev_outside_no_folder/file",

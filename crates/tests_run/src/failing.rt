@@ -146,6 +146,7 @@ fn a_message_names_the_cause(rt: HostRuntime) -> Result<(), AllocError> {
     let failure = Failure {
         name: "absent.json",
         cause,
+        is_standard_error: false,
     };
     for (message, want) in [
         (

@@ -17,17 +17,17 @@ returns-clause-answer c =
     let t = c.args.t.now in
     let over = c.in-Some.over in
     let w = c.weight.result in
-    let prices : c.in-Ok-numbers.prices.items ≡ numbers Cost c.args.t.now = search rules in
-    let shares : c.in-Ok-shares.shares.items ≡ given c.args.t.now c.in-Some.over (size c.args.t.now) = search rules in
-    inl (subst (λ p. IsOptimum t w p over c.in-Ok-shares.shares.items) (sym prices) (subst (λ s. IsOptimum t w (numbers Cost t) over s) (sym shares)
+    let prices : c.in_ok-prices.prices.items ≡ numbers Cost c.args.t.now = search rules in
+    let shares : c.in_ok-shares.shares.items ≡ given c.args.t.now c.in-Some.over (size c.args.t.now) = search rules in
+    inl (subst (λ p. IsOptimum t w p over c.in_ok-shares.shares.items) (sym prices) (subst (λ s. IsOptimum t w (numbers Cost t) over s) (sym shares)
     (optimum t c.rows-n.ensures.tableau c.requires.feasible over c.in-Some.ensures.some c.requires.idle c.requires.end w c.weight.ensures.positive c.weight.ensures.value)))
 
 pub returns-clause-within : goal.returns-clause-within
 returns-clause-within c =
     let t = c.args.t.now in
     let over = c.in-Some.over in
-    let prices : c.in-Ok-numbers.prices.items ≡ numbers Cost c.args.t.now = search rules in
-    let shares : c.in-Ok-shares.shares.items ≡ given c.args.t.now c.in-Some.over (size c.args.t.now) = search rules in
+    let prices : c.in_ok-prices.prices.items ≡ numbers Cost c.args.t.now = search rules in
+    let shares : c.in_ok-shares.shares.items ≡ given c.args.t.now c.in-Some.over (size c.args.t.now) = search rules in
     record {
       weight = weight_small t c.rows-n.ensures.tableau c.rows-n.ensures.within c.weight.result c.weight.ensures.value;
       prices = subst (λ p. All (λ x. unsigned_abs x ≤ t.caps.cost) p) (sym prices) (numbers_small t c.rows-n.ensures.tableau c.rows-n.ensures.within Cost);
@@ -40,7 +40,7 @@ pub returns-clause-basis : goal.returns-clause-basis
 returns-clause-basis c =
     let t = c.args.t.now in
     let h = c.rows-n.ensures.tableau in
-    let prices : c.in-Ok-numbers.prices.items ≡ numbers Cost c.args.t.now = search rules in
+    let prices : c.in_ok-prices.prices.items ≡ numbers Cost c.args.t.now = search rules in
     let positive = c.weight.ensures.positive in
     record {
       list = λ some. subst (λ p. IsPriceList (size t) (basis_columns t) (pos c.weight.result) p) (sym prices)

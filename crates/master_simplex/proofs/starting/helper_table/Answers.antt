@@ -15,14 +15,14 @@ loop-route-init c =
     let is : c.in-Ok.table ≡ fresh c.args.n (limits_of c.args.caps) = search rules in
     subst (λ t. IsHelperTable c.args.n (limits_of c.args.caps) [] t) (sym is) (fresh_helpers c.args.n (limits_of c.args.caps))
 
-pub unreachable-requires : goal.unreachable-requires
-unreachable-requires c =
-    let wide : first_past_row (column_of c.route-item.result) c.loop-route.table ≡ Some c.in-Err-Wide.field-0-0 = search rules in
+pub unreachable-requires-in-Err-Wide-add_column : goal.unreachable-requires-in-Err-Wide-add_column
+unreachable-requires-in-Err-Wide-add_column c =
+    let wide : first_past_row (column_of c.route-item.result) c.loop-route.table ≡ Some c.in-Err-Wide-add_column.field-0-0 = search rules in
     let range : c.route-item.result.time < 2 ^ 64 = search rules in
     let cost = c.requires.cost in
     let few = c.requires.customers in
     let none = never_wide c.args.n (limits_of c.args.caps) (take c.loop-route.route-index c.args.routes.now) c.loop-route.table c.loop-route.invariant (column_of c.route-item.result) c.requires.body (omega arith) (omega arith) in
-    absurd (none-some c.in-Err-Wide.field-0-0 (sym none ∙ wide))
+    absurd (none-some c.in-Err-Wide-add_column.field-0-0 (sym none ∙ wide))
 
 pub loop-route-preserved : goal.loop-route-preserved
 loop-route-preserved c =

@@ -15,7 +15,7 @@ add_noted-requires-clause-state c =
 
 pub add_noted-requires-clause-full : goal.add_noted-requires-clause-full
 add_noted-requires-clause-full c =
-    none_full c.args.self.now c.in_ok-pool.pool.labels c.as_mut_slice.result.now c.in-Some.buckets (c.as_mut_slice.ensures.value ∙ c.in_ok-full.ensures) c.in-Some.ensures.0
+    none_full c.args.self.now c.in_ok-pool.pool.labels c.as_mut_slice.result.now c.buckets-buckets.result (c.as_mut_slice.ensures.value ∙ c.in_ok-full.ensures) c.buckets-buckets.ensures.value
 
 pub returns-clause-spread : goal.returns-clause-spread
 returns-clause-spread c =

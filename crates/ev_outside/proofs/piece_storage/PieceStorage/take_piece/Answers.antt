@@ -1,7 +1,7 @@
 use Rattle.std.proofs.Common.{◌∙◌}
 use Rattle.ev_outside.specs.PieceStorage.{told_of}
 use Rattle.ev_outside.proofs.PieceSteps.{nothing_where_same, writes_from}
-use Rattle.ev_outside.proofs.piece_storage.PieceStorageStream.write.Goals as goal
+use Rattle.ev_outside.proofs.piece_storage.PieceStorage.take_piece.Goals as goal
 
 pub returns-then-is_to_fail-clause-takes : goal.returns-then-is_to_fail-clause-takes
 returns-then-is_to_fail-clause-takes c = nothing_where_same (told_of c.args.self.now) (told_of c.fail.new.self) (c.fail.ensures.told ∙ c.is_to_fail.ensures.told)
