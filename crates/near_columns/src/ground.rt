@@ -35,6 +35,8 @@ pub(crate) struct Ground {
     pub(crate) rate: i64,
     /// The scaled limit on the time of a route.
     pub(crate) limit: i64,
+    /// The limit, or what a route takes at the most that serves nobody twice, where that is less.
+    pub(crate) longest: i64,
     /// The level of a full battery.
     pub(crate) full: u64,
     /// The least level on arriving at a place.
@@ -47,13 +49,16 @@ impl Ground {
     pub(crate) fn new(alloc: Global, inst: &Instance) -> Result<Ground, AllocError> {
         let nodes = places(alloc, inst)?;
         let rate = least_rate(inst);
+        let arcs = all_arcs(alloc, inst, rate, &nodes)?;
+        let most = most_time(inst, &nodes, &arcs);
         let mut ground = Ground {
             customers: inst.customers().len(),
-            arcs: all_arcs(alloc, inst, rate, &nodes)?,
+            arcs,
             needs: vec![in alloc; u64::MAX; nodes.len()]?,
             nodes,
             rate: signed(rate),
             limit: signed(inst.scaled_limit()),
+            longest: signed(inst.scaled_limit().min(most)),
             full: inst.max_q(),
             reserve: inst.min_q(),
             home_level: inst.min_q().max(inst.home_q()),
@@ -229,6 +234,53 @@ fn arc_between(inst: &Instance, rate: u64, from: usize, to: usize) -> Arc {
         time,
         cost: signed(cost),
     }
+}
+
+/// What a route takes at the most that serves nobody twice, and passes no station twice between two
+/// customers: the longest arc that can be driven and the longest stay at a station, as often.
+fn most_time(inst: &Instance, nodes: &[usize], arcs: &[Vec<Arc>]) -> u64 {
+    let customers = inst.customers().len() as u64;
+    let stops = (nodes.len() as u64).saturating_sub(customers);
+    let stay = longest_arc(inst, arcs).saturating_add(longest_charging(inst));
+    customers
+        .saturating_add(1)
+        .saturating_mul(stops)
+        .saturating_mul(stay)
+}
+
+/// The time of the longest arc for which a full battery is enough.
+fn longest_arc(inst: &Instance, arcs: &[Vec<Arc>]) -> u64 {
+    let mut longest = 0;
+    for row in arcs {
+        for arc in row.iter().filter(|arc| arc.energy <= inst.max_q()) {
+            longest = arc.time.max(longest);
+        }
+    }
+    longest
+}
+
+/// The time of plugging in and of charging an empty battery to full, where that takes longest.
+fn longest_charging(inst: &Instance) -> u64 {
+    let mut longest = 0;
+    for node in 0..inst.nodes() {
+        longest = charging_at(inst, node).max(longest);
+    }
+    longest
+}
+
+/// The time of plugging in at a node and of charging an empty battery to full there.
+fn charging_at(inst: &Instance, node: usize) -> u64
+    requires { node < node_count inst.now }
+{
+    let Some(curve) = inst.curve_at(node) else {
+        return 0;
+    };
+    let charging = match curve.breaks().last() {
+        Some((_, time)) => *time,
+        None => 0,
+    };
+    let plugging = inst.denominator().saturating_mul(inst.plug_at(node));
+    plugging.saturating_add(charging)
 }
 
 /// The least scaled time in which any station charges a unit of level, 0 where none does.

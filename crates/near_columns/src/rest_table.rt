@@ -77,15 +77,18 @@ struct Plan {
 }
 
 impl RestTable {
-    /// The table by near sets and prices; `None` where it would be too large.
+    /// The table by near sets and prices. Where it would be too large it has no rows, and tells who is
+    /// past the horizon alone.
     pub(crate) fn new(
         alloc: Global,
         ground: &Ground,
         sets: &[Memory],
         prices: &[i64],
-    ) -> Result<Option<RestTable>, AllocError> {
-        let Some(plan) = plan_of(ground, prices) else {
-            return Ok(None);
+    ) -> Result<RestTable, AllocError> {
+        // A route that serves nobody twice earns the sum of the prices at the most.
+        let horizon = price_total(prices).min(ground.longest);
+        let Some(plan) = plan_of(ground, prices, horizon) else {
+            return Ok(RestTable::without_rows(alloc, horizon));
         };
         let legs = all_legs(alloc, ground, sets, prices, plan.step)?;
         let mut rows = Vec::with_capacity(alloc, legs.len())?;
@@ -97,13 +100,24 @@ impl RestTable {
             settle_stations(&mut rows, &legs, layer, ground.customers);
             settle_customers(&mut rows, &legs, layer, ground.customers);
         }
-        Ok(Some(RestTable {
+        Ok(RestTable {
             horizon: plan.horizon,
             is_whole: plan.horizon == ground.limit,
             step: plan.step,
             layers: plan.layers,
             rows,
-        }))
+        })
+    }
+
+    /// A table that knows no way home.
+    fn without_rows(alloc: Global, horizon: i64) -> RestTable {
+        RestTable {
+            horizon,
+            is_whole: false,
+            step: 1,
+            layers: 0,
+            rows: Vec::new(alloc),
+        }
     }
 
     /// Whether all ways home are reckoned with that the limit allows.
@@ -176,13 +190,18 @@ impl Rest {
     }
 }
 
-/// How a table is made: up to the limit, or where that would be too large up to the sum of the
-/// prices, which is what a route that serves each customer once at most earns at the most; `None`
-/// where that would be too large too.
-fn plan_of(ground: &Ground, prices: &[i64]) -> Option<Plan> {
+/// How a table is made: up to the limit where that takes no more layers than usual, or than the
+/// other, which goes up to a horizon; `None` where it would be too large. So a limit that binds no
+/// route makes no table larger.
+fn plan_of(ground: &Ground, prices: &[i64], horizon: i64) -> Option<Plan> {
+    let near = plan_up_to(ground, prices, horizon);
+    let least = match &near {
+        Some(plan) => plan.layers,
+        None => 0,
+    };
     match plan_up_to(ground, prices, ground.limit) {
-        Some(plan) => Some(plan),
-        None => plan_up_to(ground, prices, ground.limit.min(price_total(prices))),
+        Some(whole) if whole.layers <= least.max(LAYERS as usize) => Some(whole),
+        _ => near,
     }
 }
 

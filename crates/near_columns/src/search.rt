@@ -96,7 +96,8 @@ impl PricedGround {
 
     /// Makes the table anew.
     pub(crate) fn make_table(&mut self, alloc: Global) -> Result<(), AllocError> {
-        self.table = RestTable::new(alloc, &self.ground, &self.sets, &self.prices)?;
+        let table = RestTable::new(alloc, &self.ground, &self.sets, &self.prices)?;
+        self.table = Some(table);
         Ok(())
     }
 }

@@ -43,10 +43,10 @@ pub(crate) fn first_rounds(alloc: Global, inst: &Instance) -> Result<Rounds, All
 }
 
 /// What it costs to cover a customer without a route: more than any route of one customer takes, or
-/// as much as the limit, where some customer has none.
+/// as much as any route takes, where some customer has none.
 fn dearest(ground: &Ground, solos: &[Route]) -> i64 {
     if solos.len() < ground.customers {
-        return ground.limit;
+        return ground.longest;
     }
     let mut most = 0;
     for route in solos {

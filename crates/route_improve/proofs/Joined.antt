@@ -1,9 +1,21 @@
 -- Routes that are joined don't cost more.
-use Rattle.std.proofs.Common.{arith, List}
+use Rattle.std.proofs.Common.{◌≤◌, Bool, false, true, List, refl, subst, sym, arith}
 use Rattle.ev_model.specs.Network.{Network}
 use Rattle.route_improve.specs.Arranged.{AreOrderly, AreSettled}
-use Rattle.route_improve.specs.Routes.{AreNoDearer}
+use Rattle.route_improve.specs.Going.{IsGoing}
+use Rattle.route_improve.specs.Routes.{AreNoDearer, cost_of_routes}
 use Rattle.route_improve.specs.declared.route.Route.{Route}
+
+-- routes that were joined, or not
+pub going_no_dearer : (g : Network) (initial now : List Route) (made : Bool) → IsGoing g initial now made → AreNoDearer g initial now
+going_no_dearer g initial now true is = record {
+  routes = is.routes;
+  no_more = omega (arith, is.less refl);
+}
+going_no_dearer g initial now false is = record {
+  routes = is.routes;
+  no_more = subst (λ (rs : List Route). cost_of_routes rs ≤ cost_of_routes initial) (sym (is.same refl)) (omega arith);
+}
 
 -- what was settled after routes were joined
 pub settled_of : (g : Network) (routes joined settled : List Route) → AreNoDearer g routes joined → AreSettled g joined settled → AreSettled g routes settled

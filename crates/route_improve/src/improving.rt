@@ -12,7 +12,7 @@ use crate::own::{OwnFault, own_routes};
 use order_pricing::Pricer;
 use crate::route::Route;
 use crate::savings::join_routes;
-use crate::settling::settle;
+use crate::settling::settle_joined;
 use crate::watcher::{Course, MoveWatcher, Nobody};
 use instance_reader::Instance;
 use route_plan::FleetPlan;
@@ -97,7 +97,8 @@ fn improve_none<W: MoveWatcher>(
     Ok(Improved::Plan(plan))
 }
 
-/// Joins routes, and then makes them cheaper until no relocation and no exchange helps.
+/// Joins routes, and then makes moves and joins routes in turn, until no relocation, no exchange and
+/// no join helps.
 fn settled_plan<W: MoveWatcher>(
     alloc: Global,
     inst: &Instance,
@@ -116,6 +117,6 @@ fn settled_plan<W: MoveWatcher>(
     let _nodes = inst.nodes();
     let mut course = Course::new(watcher, routes.as_slice());
     join_routes(alloc, inst, pricer, &mut routes, &mut course, u64::MAX)?;
-    let settled = settle(alloc, pricer, routes, &mut course)?;
+    let settled = settle_joined(alloc, inst, pricer, routes, &mut course)?;
     plan_of(alloc, inst, &settled)
 }

@@ -22,7 +22,8 @@ struct Saving {
 }
 
 /// Joins routes where that is cheaper, each pair of customers tried at most once, until so much
-/// work was done.
+/// work was done; whether some were joined.
+#[tactic(auto, using(crate::proofs::Joined::going_no_dearer))]
 pub(crate) fn join_routes<W: MoveWatcher>(
     alloc: Global,
     inst: &Instance,
@@ -30,23 +31,28 @@ pub(crate) fn join_routes<W: MoveWatcher>(
     routes: &mut Vec<Route>,
     course: &mut Course<'_, W>,
     work: u64,
-) -> Result<(), AllocError>
+) -> Result<bool, AllocError>
     requires { AreRoutes pricer.old routes.old.items }
     ensures network { pricer.new ≡ pricer.old }
-    ensures joined { IfOk result (λ done.
+    ensures joined { IfOk result (λ made.
         AreNoDearer pricer.old routes.old.items routes.new.items) }
+    ensures made { IfOk result (λ made. IsTrue made →
+        AreCheaper pricer.old routes.old.items routes.new.items) }
+    ensures same { IfOk result (λ made. made ≡ false → routes.new.items ≡ routes.old.items) }
 {
     let savings = savings_of(alloc, inst)?;
+    let mut made = false;
     for saving in savings {
         if pricer.work() >= work {
-            return Ok(());
+            return Ok(made);
         }
         if join(alloc, pricer, routes, &saving)? {
+            made = true;
             course.moved(routes);
         }
         course.tell();
     }
-    Ok(())
+    Ok(made)
 }
 
 /// The savings of all pairs of customers, the greatest first.

@@ -8,7 +8,9 @@ ghost use Rattle.route_improve.specs.Routes.{AreRoutes, AreSettledTo, cost_of_ro
 use crate::pass::pass;
 use order_pricing::Pricer;
 use crate::route::Route;
+use crate::savings::join_routes;
 use crate::watcher::{Course, MoveWatcher};
+use instance_reader::Instance;
 use std::alloc::{AllocError, Global};
 
 /// Makes moves until none makes the routes cheaper. In the end the routes with customers stand in
@@ -27,6 +29,28 @@ pub(crate) fn settle<W: MoveWatcher>(
     loop {
         routes = arranged(alloc, routes)?;
         if !pass(alloc, pricer, &mut routes, course)? {
+            return Ok(routes);
+        }
+    }
+}
+
+/// Makes moves and joins routes in turn, until neither makes the routes cheaper. In the end the
+/// routes stand in order, as [`settle`] leaves them.
+pub(crate) fn settle_joined<W: MoveWatcher>(
+    alloc: Global,
+    inst: &Instance,
+    pricer: &mut Pricer,
+    mut routes: Vec<Route>,
+    course: &mut Course<'_, W>,
+) -> Result<Vec<Route>, AllocError>
+    requires { AreRoutes pricer.old routes.items }
+    ensures network { pricer.new ≡ pricer.old }
+    ensures settled { IfOk result (λ settled.
+        AreSettled pricer.old routes.items settled.items) }
+{
+    loop {
+        routes = settle(alloc, pricer, routes, course)?;
+        if !join_routes(alloc, inst, pricer, &mut routes, course, u64::MAX)? {
             return Ok(routes);
         }
     }

@@ -22,8 +22,8 @@ settled_are g c =
 pub join_routes-requires : goal.join_routes-requires
 join_routes-requires g c = subst (λ (h : Network). AreRoutes h c.args.routes.items) (sym c.requires.network) c.requires.routes
 
-pub settle-requires : goal.settle-requires
-settle-requires g c = subst (λ (h : Network). AreRoutes h c.join_routes.new.routes.items) (sym c.join_routes.ensures.network) c.in_ok-join_routes.ensures.joined.routes
+pub settle_joined-requires : goal.settle_joined-requires
+settle_joined-requires g c = subst (λ (h : Network). AreRoutes h c.join_routes.new.routes.items) (sym c.join_routes.ensures.network) c.in_ok-join_routes.ensures.joined.routes
 
 pub returns-clause-improved : goal.returns-clause-improved
 returns-clause-improved g c =

@@ -1,9 +1,9 @@
 use Rattle.std.proofs.Common.{◌≡◌}
-use Rattle.route_improve.specs.Routes.{AreNoDearer}
+use Rattle.route_improve.specs.Going.{IsGoing}
 use Rattle.route_improve.proofs.savings.join_routes.Given as goal
 
 abbrev pub invariant-loop-saving : goal.invariant-loop-saving
 invariant-loop-saving g l = record {
   network : l.pricer ≡ l.initial.pricer;
-  joined : AreNoDearer l.initial.pricer l.initial.routes.items l.routes.items;
+  going : IsGoing l.initial.pricer l.initial.routes.items l.routes.items l.made;
 }
