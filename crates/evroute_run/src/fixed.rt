@@ -101,8 +101,9 @@ fn charge_from(
     ensures answered { IfOk result (λ a. IsAnswered a.status) }
     ensures heard { IfOk result (λ a. HearsRefusals a.status a.text.items a.cause) }
 {
-    let Ok(plan) = solve_route(alloc, inst, route, start) else {
-        return Err(Ended::Memory);
+    let plan = match solve_route(alloc, inst, route, start) {
+        Ok(plan) => plan,
+        Err(AllocError) => return Err(Ended::Memory),
     };
     match plan {
         Some(plan) => report_plan(alloc, inst, start, &plan),
@@ -137,7 +138,7 @@ pub(crate) fn report_plan(
             text,
             cause: None,
         }),
-        Err(_) => Err(Ended::Memory),
+        Err(AllocError) => Err(Ended::Memory),
     }
 }
 
@@ -155,6 +156,6 @@ pub(crate) fn infeasible(alloc: Global, inst: &Instance) -> Result<Answer<Cause>
             text,
             cause: None,
         }),
-        Err(_) => Err(Ended::Memory),
+        Err(AllocError) => Err(Ended::Memory),
     }
 }

@@ -121,7 +121,8 @@ fn tell(
     };
     match told {
         Ok(answer) => Ok(answer),
-        Err(_) => Err(AllocError),
+        Err(Ended::Memory) => Err(AllocError),
+        Err(Ended::Refused(_)) => unreachable!(),
     }
 }
 
