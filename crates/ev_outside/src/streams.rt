@@ -7,6 +7,7 @@ ghost use Rattle.ev_outside.specs.Storage.{files_of, rest_of};
 
 use super::shelf::ShelfFault;
 use super::storage::{CallFailed, Storage, Stream};
+use std::alloc::AllocError;
 
 /// The most bytes that one read asks for.
 const CHUNK: usize = 4096;
@@ -75,7 +76,7 @@ pub(crate) fn read_up_to<S: Storage>(
         match storage.read(&mut chunk[..wanted]) {
             Ok(0) => return Ok(()),
             Ok(count) => {
-                if into.extend_from_slice(&chunk[..count]).is_err() {
+                if let Err(AllocError) = into.extend_from_slice(&chunk[..count]) {
                     return Err(ShelfFault::Memory);
                 }
                 left -= count;

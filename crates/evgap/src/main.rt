@@ -1,17 +1,19 @@
 //! `evgap`: plans for electric delivery fleets of up to 128 customers, with close bounds.
 #![tactic(auto)]
 
+mod commands;
 mod deadline;
 mod meaning;
 mod progress;
 
 use deadline::Deadline;
 use ev_outside::{FileShelf, OutSink};
-use evgap_run::{Cause, run_to_end};
-pub use evgap_run::{Status, exit_code, run};
-use job_ending::SystemDiagnostics;
-use job_listeners::{HeardSink, wants_progress};
-use meaning::meaning_of;
+use evgap_run::{Cause, Evgap};
+pub use evgap_run::{Status, run};
+use gap_words::Job;
+use job_ending::{FailingShelf, FailingSink, run_to_end};
+use job_listeners::{HeardSink, PlainDiagnostics, wants_progress};
+use meaning::{Failed, told_behind, told_left};
 use progress::ToldGap;
 use std::alloc::AllocError;
 use std::process::ExitCode;
@@ -32,36 +34,63 @@ fn words_of(rt: &HostRuntime) -> io::Result<Vec<String>> {
 
 /// The program with these words over the files, the outputs and the clock of the system: its exit
 /// status is that of a run, or tells that the system gave no words. Behind it people are told on
-/// standard error what its cause means; nothing of that where memory is refused or standard
-/// error fails.
+/// standard error what its end means; nothing of that where memory is refused or standard error
+/// fails.
 fn run_on(rt: &HostRuntime, words: io::Result<Vec<String>>) -> ExitCode {
     let alloc = rt.alloc();
     let mut shelf = FileShelf::new(alloc, rt);
     let mut out = HeardSink::over(OutSink::new(rt));
-    let mut people = SystemDiagnostics::new(rt, "evgap");
-    let mut clock = Deadline::new(rt);
-    let mut progress = ToldGap::new(rt, wants_progress(rt));
-    let code = run_to_end(
+    let mut people = PlainDiagnostics::new(alloc, rt, "evgap");
+    let mut program = Evgap {
+        clock: Deadline::new(rt),
+        watcher: ToldGap::new(rt, wants_progress(rt)),
+    };
+    let end = run_to_end(
         alloc,
-        words,
+        &words,
         &mut shelf,
         &mut out,
         &mut people,
-        &mut clock,
-        &mut progress,
+        &mut program,
     );
-    if out.has_put() {
-        tell_behind(rt, progress.cause());
+    let cause = program.watcher.cause();
+    tell_left(rt, &shelf, &out, end.job.as_ref(), cause);
+    if let (true, Ok(words)) = (out.has_put(), &words) {
+        tell(
+            rt,
+            told_behind(alloc, rt, words.as_slice(), end.job.as_ref(), cause),
+        );
     }
-    code
+    end.code
 }
 
-/// Tells people what a cause means, where there is one; nothing where memory is refused or standard
-/// error fails.
-fn tell_behind(rt: &HostRuntime, cause: Option<Cause>) {
-    let Ok(words) = words_of(rt) else { return };
-    let Some(cause) = cause else { return };
-    if let Ok(Some(told)) = meaning_of(rt.alloc(), words.as_slice(), cause) {
+/// Tells people what stands in the files of the job once a file or the output failed; nothing where
+/// standard error goes to the file that failed.
+fn tell_left(
+    rt: &HostRuntime,
+    shelf: &FileShelf<'_, HostRuntime>,
+    out: &HeardSink<OutSink<'_, HostRuntime>>,
+    job: Option<&Job>,
+    cause: Option<Cause>,
+) {
+    let alloc = rt.alloc();
+    if out.last_failure().is_some() {
+        tell(rt, told_left(alloc, job, cause, Failed::Output));
+    } else if let Some(failure) = shelf.last_failure() {
+        if failure.is_standard_error {
+            return;
+        }
+        let failed = match shelf.storage().is_changed() {
+            true => Failed::File(failure.name),
+            false => Failed::Unchanged(failure.name),
+        };
+        tell(rt, told_left(alloc, job, cause, failed));
+    }
+}
+
+/// Tells people on standard error what there is to tell.
+fn tell(rt: &HostRuntime, told: Result<Option<String>, AllocError>) {
+    if let Ok(Some(told)) = told {
         let _ = eprintln!(rt; "evgap: {told}");
     }
 }

@@ -1,43 +1,107 @@
-//! What people are told that a cause means.
+//! What people are told that a cause means, and the files that a job reads and writes, by name.
 
+use crate::commands::COMMANDS;
 use evgap_run::Cause;
-use gap_words::{Job, job_words};
-use plain_words::in_words;
+use gap_words::Job;
+pub(crate) use plain_words::Failed;
+use plain_words::{
+    Instances, JobNames, Sentence, left_behind, long_proof, refused, rejected_plan, told_refusal,
+    wrong_word,
+};
+use proof_words::{rejected_near, told_reach};
 use std::alloc::{AllocError, Global};
+use std::rt::Files;
 
-/// What a cause means, in words with the names of the files: what a rule says of them, or which
-/// customer is out of reach. `None` where the words name no job. `words` stand behind the program's
-/// name.
-pub(crate) fn meaning_of(
+/// What people are told behind a job that put a text: which word is wrong, what its cause means,
+/// which customer is out of reach, or that the proof is too long to be read again. `words` stand
+/// behind the program's name, and `job` is the one that they name.
+pub(crate) fn told_behind<R: Files>(
     alloc: Global,
+    files: &R,
     words: &[String],
-    cause: Cause,
+    job: Option<&Job>,
+    cause: Option<Cause>,
 ) -> Result<Option<String>, AllocError> {
-    match job_words(alloc, words)? {
-        Some(job) => in_words(alloc, names_of(alloc, &job)?.as_slice(), cause),
-        None => Ok(None),
+    let Some(job) = job else {
+        return wrong_word(alloc, "evgap", COMMANDS, words);
+    };
+    let names = names_of(job);
+    match cause {
+        Some(Cause::Refused(refusal)) => told_refusal(alloc, files, &names, refusal),
+        Some(Cause::NoFleet) => told_reach(alloc, files, &names),
+        Some(cause) => match meaning_of(cause) {
+            Some(sentence) => Ok(Some(sentence.told(alloc, &names)?)),
+            None => Ok(None),
+        },
+        None => long_proof(alloc, files, &names),
     }
 }
 
-/// The words of a command with an instance, a plan and a proof: the files that a job reads.
-fn names_of(alloc: Global, job: &Job) -> Result<Vec<String>, AllocError> {
-    let (file, plan, proof) = match job {
-        Job::Plan(job) => (
-            &job.file,
-            job.start.as_ref().unwrap_or(&job.plan),
-            &job.proof,
-        ),
-        Job::Check(job) => (&job.file, &job.plan, &job.proof),
-    };
-    let mut names = Vec::with_capacity(alloc, 5)?;
-    for name in [
-        "check-route",
-        "--",
-        file.as_str(),
-        plan.as_str(),
-        proof.as_str(),
-    ] {
-        names.push(String::from_str(alloc, name)?)?;
+/// What stands in the files of a job where a file or the output failed; where it was the output,
+/// an answer with this cause was to go to it.
+pub(crate) fn told_left(
+    alloc: Global,
+    job: Option<&Job>,
+    cause: Option<Cause>,
+    failed: Failed<'_>,
+) -> Result<Option<String>, AllocError> {
+    match (job, failed) {
+        (Some(job), Failed::Output) if is_behind_files(cause) => {
+            left_behind(alloc, &names_of(job), failed)
+        }
+        (_, Failed::Output) | (None, _) => Ok(None),
+        (Some(job), _) => left_behind(alloc, &names_of(job), failed),
     }
-    Ok(names)
+}
+
+/// Whether an answer with this cause is put behind the files of a job: a refusal, a broken rule and
+/// the usage text come where none is written.
+fn is_behind_files(cause: Option<Cause>) -> bool {
+    match cause {
+        None | Some(Cause::NoFleet) | Some(Cause::Alone(_)) => true,
+        Some(_) => false,
+    }
+}
+
+/// What a cause means. `None` where it is told otherwise: which word is wrong, or which customer is
+/// out of reach.
+fn meaning_of(cause: Cause) -> Option<Sentence> {
+    match cause {
+        Cause::Words | Cause::NoFleet => None,
+        Cause::Refused(refusal) => refused(refusal),
+        Cause::Plan(fault) => Some(rejected_plan(fault)),
+        Cause::Near(verdict) => rejected_near(verdict),
+        Cause::Alone(node) => Some(Sentence::one(
+            "{FILE}: no route of its own serves customer {1} within the limit",
+            node,
+        )),
+    }
+}
+
+/// What a job reads and writes.
+fn names_of(job: &Job) -> JobNames<'_> {
+    match job {
+        Job::Plan(job) => JobNames {
+            instances: Instances::One(job.file.as_str()),
+            limit: job.limit,
+            route: None,
+            plan: job.start.as_ref().map(|name| name.as_str()),
+            proof: None,
+            proof_is: "a proof of a bound",
+            writes: [Some(job.plan.as_str()), Some(job.proof.as_str())],
+            has_search: true,
+            judge: Some("evgap check"),
+        },
+        Job::Check(job) => JobNames {
+            instances: Instances::One(job.file.as_str()),
+            limit: job.limit,
+            route: None,
+            plan: Some(job.plan.as_str()),
+            proof: Some(job.proof.as_str()),
+            proof_is: "a proof of a bound",
+            writes: [None, None],
+            has_search: false,
+            judge: None,
+        },
+    }
 }

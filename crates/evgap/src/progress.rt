@@ -1,8 +1,8 @@
 //! Who tells people how far a search is.
 
 use evgap_run::{
-    Cause, CauseListener, GapProgress, GapWatcher, MoveProgress, MoveWatcher, PriceProgress,
-    PriceWatcher, RoundsProgress, RoundsWatcher, ScaleWatcher,
+    Cause, CauseListener, GapProgress, GapWatcher, JobWatcher, MoveProgress, MoveWatcher,
+    PriceProgress, PriceWatcher, RoundsProgress, RoundsWatcher, ScaleWatcher,
 };
 use job_listeners::Pace;
 use std::fmt::{self, Display, Formatter};
@@ -126,7 +126,11 @@ impl<'a, R: Clock + Eprint> ScaleWatcher for ToldGap<'a, R> {
     }
 }
 
-impl<'a, R: Clock + Eprint> CauseListener for ToldGap<'a, R> {
+impl<'a, R: Clock + Eprint> JobWatcher for ToldGap<'a, R> {}
+
+impl<'a, R: Clock + Eprint> CauseListener<Cause> for ToldGap<'a, R> {
+    ghost heard = { λ told. told.cause };
+
     fn hear(&mut self, cause: Cause) {
         self.cause = Some(cause);
     }

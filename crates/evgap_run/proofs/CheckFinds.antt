@@ -3,7 +3,7 @@ use Rattle.std.proofs.Common.{◌≡◌, ℕ, List, [], ◌∷◌, Option, Resul
 use Rattle.ev_model.specs.Network.{Network}
 use Rattle.ev_outside.specs.Shelf.{Files, ShelfState}
 use Rattle.fleet_steps.specs.PlanFile.{HasFleet, IsPlanEnded}
-use Rattle.fleet_steps.specs.NearFile.{HasNear, IsProofEnded}
+use Rattle.near_steps.specs.NearFile.{HasNear, IsProofEnded}
 use Rattle.fleet_steps.specs.FleetNetwork.{IsFleetEnded}
 use Rattle.fleet_steps.specs.FleetNetwork.{HasFleetNetwork, IsFleetRefused}
 use Rattle.gap_words.specs.Words.{CheckGap}
@@ -19,14 +19,15 @@ use Rattle.job_frame.specs.Ended.{IsRuleOrMemory}
 use Rattle.job_frame.specs.declared.answer.Ended.{Ended}
 use Rattle.job_frame.specs.declared.answer.Ended.TheVariants.{Refused}
 use Rattle.near_proof.specs.declared.proof.NearProof.{NearProof}
-use Rattle.plan_writer.specs.RefusalText.{IsRule, refusal_text}
-use Rattle.plan_writer.specs.declared.refusal.Refusal.{Refusal}
-use Rattle.plan_writer.specs.declared.refusal.Refusal.TheVariants as refusal
+use Rattle.refusal_lines.specs.RefusalText.{IsRule, refusal_text}
+use Rattle.refusal_lines.specs.declared.refusal.Refusal.{Refusal}
+use Rattle.refusal_lines.specs.declared.refusal.Refusal.TheVariants as refusal
 use Rattle.route_plan.specs.declared.plan.FleetPlan.{FleetPlan}
 use Rattle.evgap_run.specs.CheckAnswer.{CheckAnswers, Holds, IsCheckRefused, check_task}
 use Rattle.evgap_run.specs.Judged.{IsJudgementOf, judged_status, judgement_text}
 use Rattle.evgap_run.specs.declared.judging.Judgement.{Judgement}
 use Rattle.evgap_run.specs.declared.judging.Judgement.TheVariants as judgement
+use Rattle.evgap_run.specs.declared.cause.Cause.{Cause}
 
 -- ---- refusals
 
@@ -54,11 +55,11 @@ proof_rule limit bytes plan_bytes proof_bytes g plan r fleet (fault, is, first) 
 -- ---- the answer to a proof
 
 module _ (limit : Option ℕ) (bytes plan_bytes proof_bytes : List ℕ) where
-  by_status : (a : Answer) (s : Status) → a.status ≡ s → CheckAnswers limit bytes plan_bytes proof_bytes s a.text.items → CheckAnswers limit bytes plan_bytes proof_bytes a.status a.text.items
+  by_status : (a : Answer Cause) (s : Status) → a.status ≡ s → CheckAnswers limit bytes plan_bytes proof_bytes s a.text.items → CheckAnswers limit bytes plan_bytes proof_bytes a.status a.text.items
   by_status a s is answers = subst (λ (x : Status). CheckAnswers limit bytes plan_bytes proof_bytes x a.text.items) (sym is) answers
 
   -- the first broken rule of a proof's text
-  pub refused_answers : {E : Type 0} (g : Network) (plan : Option FleetPlan) (ended : Ended) (r : Refusal) (made : Result Answer E) → HasFleet limit bytes plan_bytes g plan → ended ≡ Refused r → IsRuleOrMemory ended
+  pub refused_answers : {E : Type 0} (g : Network) (plan : Option FleetPlan) (ended : Ended) (r : Refusal) (made : Result (Answer Cause) E) → HasFleet limit bytes plan_bytes g plan → ended ≡ Refused r → IsRuleOrMemory ended
       → IsProofEnded g proof_bytes ended → IfOk made (λ a. a.status ≡ status.Refused) → IfOk made (λ a. a.text.items ≡ refusal_text r)
       → IfOk made (λ a. CheckAnswers limit bytes plan_bytes proof_bytes a.status a.text.items)
   refused_answers {E} g plan ended r (Err e) fleet is rule refused answered text = tt
@@ -68,7 +69,7 @@ module _ (limit : Option ℕ) (bytes plan_bytes proof_bytes : List ℕ) where
       (record { refusal = r; rule = rule_of ended r is rule; refused = proof_rule limit bytes plan_bytes proof_bytes g plan r fleet first; text_is = text })
 
   -- what is judged of a plan and a proof, with its lines
-  pub report_answers : {E : Type 0} (g : Network) (plan : Option FleetPlan) (p : NearProof) (found : Judgement) (made : Result Answer E) → HasFleet limit bytes plan_bytes g plan → HasNear g proof_bytes p
+  pub report_answers : {E : Type 0} (g : Network) (plan : Option FleetPlan) (p : NearProof) (found : Judgement) (made : Result (Answer Cause) E) → HasFleet limit bytes plan_bytes g plan → HasNear g proof_bytes p
       → IsJudgementOf g plan p found → IfOk made (λ a. a.status ≡ judged_status found) → IfOk made (λ a. a.text.items ≡ judgement_text g.denominator p.bound found)
       → IfOk made (λ a. CheckAnswers limit bytes plan_bytes proof_bytes a.status a.text.items)
   report_answers {E} g plan p found (Err e) fleet has judged answered text = tt

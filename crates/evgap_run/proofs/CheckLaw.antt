@@ -3,13 +3,13 @@ use Rattle.std.proofs.Common.{◌≡◌, ◌∙◌, ◌⊎◌, ℕ, List, [], �
 use Rattle.ev_model.specs.Network.{Network}
 use Rattle.ev_text.proofs.Results.{Err-ne-Ok}
 use Rattle.fleet_steps.proofs.Instances.{fleet_refused_not, same_fleet}
-use Rattle.fleet_steps.proofs.Nears.{accepted_keeps, one_near}
+use Rattle.near_steps.proofs.Nears.{accepted_keeps, one_near}
 use Rattle.fleet_steps.proofs.Plans.{same_plan, valid_breaks_none}
-use Rattle.fleet_steps.specs.NearFile.{HasNear}
+use Rattle.near_steps.specs.NearFile.{HasNear}
 use Rattle.fleet_steps.specs.PlanFile.{BreaksFirst}
 use Rattle.gap_words.specs.Words.{CheckGap}
 use Rattle.job_frame.proofs.OneStatus.{ExcludeEachOther, IsPlain, lawful, nothing_excludes}
-use Rattle.job_frame.proofs.Performed.{IsLawful}
+use Rattle.job_frame.specs.Lawful.{IsLawful}
 use Rattle.job_frame.specs.Task.{Outcome}
 use Rattle.job_frame.specs.declared.status.Status.{Status}
 use Rattle.job_frame.specs.declared.status.Status.TheVariants as status
@@ -17,9 +17,9 @@ use Rattle.near_proof.specs.Verdicts.{IsVerdict}
 use Rattle.near_proof.specs.declared.proof.NearProof.{NearProof}
 use Rattle.near_text.specs.NearIn.{near_in}
 use Rattle.near_text.specs.Written.{written_near}
-use Rattle.plan_writer.specs.RefusalText.{IsRule}
-use Rattle.plan_writer.specs.declared.refusal.Refusal.{Refusal}
-use Rattle.plan_writer.specs.declared.refusal.Refusal.TheVariants as refusal
+use Rattle.refusal_lines.specs.RefusalText.{IsRule}
+use Rattle.refusal_lines.specs.declared.refusal.Refusal.{Refusal}
+use Rattle.refusal_lines.specs.declared.refusal.Refusal.TheVariants as refusal
 use Rattle.route_plan.proofs.PlanLaws.{fleet_plan_is_spelled}
 use Rattle.route_plan.specs.declared.plan.FleetPlan.{FleetPlan}
 use Rattle.evgap_run.specs.CheckAnswer.{CheckAnswers, Holds, IsCheckRefused, PutsAccepted, PutsBrokenPlan, PutsBrokenProof, check_answers, check_task}

@@ -4,17 +4,18 @@ use Rattle.evgap_run.specs.CheckAnswer.{check_heard}
 use Rattle.evgap_run.specs.Judged.{judged_cause, judged_status, judgement_text}
 use Rattle.evgap_run.specs.PlanAnswer.{plan_heard}
 use Rattle.evgap_run.specs.declared.judging.Judgement.{Judgement}
-use Rattle.fleet_steps.specs.Heard.{HearsBrokenPlan}
-use Rattle.job_frame.proofs.Hearing.{HearsOf, HearsOfFound}
+use Rattle.evgap_run.specs.Heard.{HearsBrokenPlan}
+use Rattle.evgap_run.proofs.Refusals.{HearsOf, HearsOfFound}
 use Rattle.job_frame.specs.declared.found.Answer.{Answer}
 use Rattle.job_frame.specs.declared.found.Found.{Found}
+use Rattle.evgap_run.specs.declared.cause.Cause.{Cause}
 
-pub judgement_is_heard : {E : Type 0} (denominator : ℕ) (told : Option ℕ) (found : Judgement) (made : Result Answer E) → IfOk made (λ a. a.status ≡ judged_status found)
+pub judgement_is_heard : {E : Type 0} (denominator : ℕ) (told : Option ℕ) (found : Judgement) (made : Result (Answer Cause) E) → IfOk made (λ a. a.status ≡ judged_status found)
     → IfOk made (λ a. a.text.items ≡ judgement_text denominator told found) → IfOk made (λ a. a.cause ≡ judged_cause found) → IfOk made (HearsOf check_heard)
 judgement_is_heard {E} denominator told found (Err e) answered text heard = tt
 judgement_is_heard {E} denominator told found (Ok a) answered text heard =
     inr (record { denominator = denominator; told = told; found = found; status_is = answered; text_is = text; heard_is = heard })
 
-pub broken_is_heard : {E : Type 0} (made : Result Found E) → IfOk made (HearsOfFound HearsBrokenPlan) → IfOk made (HearsOfFound plan_heard)
+pub broken_is_heard : {E : Type 0} (made : Result (Found Cause) E) → IfOk made (HearsOfFound HearsBrokenPlan) → IfOk made (HearsOfFound plan_heard)
 broken_is_heard {E} (Err e) heard = tt
 broken_is_heard {E} (Ok f) heard = inr (inl heard)

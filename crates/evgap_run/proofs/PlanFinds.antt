@@ -14,7 +14,7 @@ use Rattle.gap_words.specs.JobValue.{plan_value}
 use Rattle.gap_words.specs.Words.{PlanGap}
 use Rattle.gap_words.specs.declared.PlanWords.{PlanWords}
 use Rattle.job_frame.proofs.BehindReads.{IsFoundFor, no_write}
-use Rattle.job_frame.proofs.Hearing.{HearsOfFound}
+use Rattle.evgap_run.proofs.Refusals.{HearsOfFound}
 use Rattle.job_frame.proofs.FileReads.{some_read}
 use Rattle.job_frame.specs.Faults.{FailsReading, HasFailedRead}
 use Rattle.job_frame.specs.Finds.{written_by}
@@ -30,14 +30,14 @@ use Rattle.job_frame.specs.declared.answer.Ended.{Ended}
 use Rattle.job_frame.specs.declared.answer.Ended.TheVariants.{Refused}
 use Rattle.plan_check.specs.FleetRules.{stops_of}
 use Rattle.plan_check.specs.declared.fault.PlanFault.{PlanFault}
-use Rattle.plan_writer.specs.CheckText.{check_text}
-use Rattle.plan_writer.specs.RefusalText.{IsRule, refusal_text}
-use Rattle.plan_writer.specs.declared.check.Judgement.TheVariants as judgement
-use Rattle.plan_writer.specs.declared.refusal.Refusal.{Refusal}
+use Rattle.refusal_lines.specs.RejectedText.{rejected_text}
+use Rattle.refusal_lines.specs.RefusalText.{IsRule, refusal_text}
+use Rattle.refusal_lines.specs.declared.refusal.Refusal.{Refusal}
 use Rattle.route_plan.specs.declared.plan.FleetPlan.{FleetPlan}
 use Rattle.job_frame.proofs.Endings.{rule_of}
 use Rattle.evgap_run.proofs.Written.{are_accepted}
 use Rattle.evgap_run.specs.PlanAnswer.{HasPlanJob, HasStart, IsNoStart, IsPlanFound, IsPlanRefused, PlanAnswers, PutsBrokenStart, PutsPlan, plan_status, plan_task, start_reads, plan_heard}
+use Rattle.evgap_run.specs.declared.cause.Cause.{Cause}
 
 -- ---- the plan to begin with
 
@@ -98,19 +98,19 @@ module _ (job : PlanGap) (bytes : List ℕ) (more : List (List ℕ)) where
   found_answers status.Fault ws text p = absurd (of_found status.Fault ws text p)
   found_answers status.Memory ws text p = absurd (of_found status.Memory ws text p)
 
-  by_status : (f : Found) (s : Status) → f.answer.status ≡ s → PlanAnswers job bytes more s (map written_by f.files.items) f.answer.text.items
+  by_status : (f : Found Cause) (s : Status) → f.answer.status ≡ s → PlanAnswers job bytes more s (map written_by f.files.items) f.answer.text.items
       → PlanAnswers job bytes more f.answer.status (map written_by f.files.items) f.answer.text.items
   by_status f s is answers = subst (λ (x : Status). PlanAnswers job bytes more x (map written_by f.files.items) f.answer.text.items) (sym is) answers
 
   -- what a search found, behind the two files
-  pub puts_plan : {E : Type 0} (g : Network) (start : Option FleetPlan) (was : Option ℕ) (plan_bytes proof_bytes plan_name proof_name : List ℕ) (answer : Answer) (made : Result Found E) →
+  pub puts_plan : {E : Type 0} (g : Network) (start : Option FleetPlan) (was : Option ℕ) (plan_bytes proof_bytes plan_name proof_name : List ℕ) (answer : Answer Cause) (made : Result (Found Cause) E) →
       HasPlanJob job bytes more g start → IsValid g start was → IsPlanFound g start plan_bytes proof_bytes answer.status answer.text.items → plan_name ≡ job.plan → proof_name ≡ job.proof
       → IfOk made (λ f. f.answer ≡ answer)
       → IfOk made (λ f. map written_by f.files.items ≡ record { name = plan_name; bytes = plan_bytes } ∷ record { name = proof_name; bytes = proof_bytes } ∷ [])
       → IfOk made (λ f. PlanAnswers job bytes more f.answer.status (map written_by f.files.items) f.answer.text.items)
   puts_plan {E} g start was plan_bytes proof_bytes plan_name proof_name answer (Err e) has valid found named proof_named same written = tt
   puts_plan {E} g start was plan_bytes proof_bytes plan_name proof_name answer (Ok f) has valid found named proof_named same written =
-      let here = subst (λ (a : Answer). IsPlanFound g start plan_bytes proof_bytes a.status a.text.items) (sym same) found in
+      let here = subst (λ (a : Answer Cause). IsPlanFound g start plan_bytes proof_bytes a.status a.text.items) (sym same) found in
       found_answers f.answer.status (map written_by f.files.items) f.answer.text.items (record {
         network = g;
         start = start;
@@ -126,16 +126,16 @@ module _ (job : PlanGap) (bytes : List ℕ) (more : List (List ℕ)) where
       })
 
   -- the first rule that the plan to begin with breaks
-  pub puts_broken : {E : Type 0} (g : Network) (start : Option FleetPlan) (fault : PlanFault) (made : Result Found E) → HasPlanJob job bytes more g start → BreaksFirst g start fault
+  pub puts_broken : {E : Type 0} (g : Network) (start : Option FleetPlan) (fault : PlanFault) (made : Result (Found Cause) E) → HasPlanJob job bytes more g start → BreaksFirst g start fault
       → IfOk made (λ f. f.answer.status ≡ status.Negative) → IfOk made (λ f. map written_by f.files.items ≡ [])
-      → IfOk made (λ f. f.answer.text.items ≡ check_text g.denominator (judgement.Plan fault))
+      → IfOk made (λ f. f.answer.text.items ≡ rejected_text fault)
       → IfOk made (λ f. PlanAnswers job bytes more f.answer.status (map written_by f.files.items) f.answer.text.items)
   puts_broken {E} g start fault (Err e) has broken answered files text = tt
   puts_broken {E} g start fault (Ok f) has broken answered files text =
       by_status f status.Negative answered (inr (record { network = g; start = start; has = has; fault = fault; broken = broken; none = files; text_is = text }))
 
   -- the line of a refusal
-  refused_so : {E : Type 0} (r : Refusal) (made : Result Found E) → IsRule r → IsPlanRefused job bytes more r → IfOk made (λ f. f.answer.status ≡ status.Refused)
+  refused_so : {E : Type 0} (r : Refusal) (made : Result (Found Cause) E) → IsRule r → IsPlanRefused job bytes more r → IfOk made (λ f. f.answer.status ≡ status.Refused)
       → IfOk made (λ f. f.files.items ≡ []) → IfOk made (λ f. f.answer.text.items ≡ refusal_text r)
       → IfOk made (λ f. PlanAnswers job bytes more f.answer.status (map written_by f.files.items) f.answer.text.items)
   refused_so {E} r (Err e) rule refused answered files text = tt
@@ -147,7 +147,7 @@ no_start : (name bytes : List ℕ) (start : Option (List ℕ)) (r : Refusal) →
 no_start name bytes start r is (fault, same, first) =
     subst (λ (s : Option (List ℕ)). IsNoStart s (bytes ∷ []) r) (sym is) (subst (λ (x : Refusal). IsNoStart (Some name) (bytes ∷ []) x) (sym same) first)
 
-pub puts_no_start : {E : Type 0} (job : PlanGap) (file name bytes : List ℕ) (g : Network) (ended : Ended) (r : Refusal) (made : Result Found E) → HasFleetNetwork job.limit file g → job.start ≡ Some name → ended ≡ Refused r
+pub puts_no_start : {E : Type 0} (job : PlanGap) (file name bytes : List ℕ) (g : Network) (ended : Ended) (r : Refusal) (made : Result (Found Cause) E) → HasFleetNetwork job.limit file g → job.start ≡ Some name → ended ≡ Refused r
     → IsRuleOrMemory ended → IsPlanEnded bytes ended → IfOk made (λ f. f.answer.status ≡ status.Refused) → IfOk made (λ f. f.files.items ≡ []) → IfOk made (λ f. f.answer.text.items ≡ refusal_text r)
     → IfOk made (λ f. PlanAnswers job file (bytes ∷ []) f.answer.status (map written_by f.files.items) f.answer.text.items)
 puts_no_start {E} job file name bytes g ended r made fleet named is rule refused answered files text =
@@ -191,7 +191,7 @@ reads_start files start name bytes is read = subst (λ (s : Option (List ℕ)). 
 reads_none : (files : Option Files) (start : Option (List ℕ)) → start ≡ None → AreRead files (start_reads start) []
 reads_none files start is = subst (λ (s : Option (List ℕ)). AreRead files (start_reads s) []) (sym is) tt
 
-found_for : {E : Type 0} (job : PlanGap) (files : Option Files) (bytes : List ℕ) (more : List (List ℕ)) (made : Result Found E) → job.plan ≢ job.proof → AreReadUpTo most_bytes files job.file bytes
+found_for : {E : Type 0} (job : PlanGap) (files : Option Files) (bytes : List ℕ) (more : List (List ℕ)) (made : Result (Found Cause) E) → job.plan ≢ job.proof → AreReadUpTo most_bytes files job.file bytes
     → AreRead files (start_reads job.start) more → IfOk made (λ f. PlanAnswers job bytes more f.answer.status (map written_by f.files.items) f.answer.text.items)
     → IfOk made (HearsOfFound plan_heard) → IfOk made (λ f. IsFoundFor (plan_task job) files f)
 found_for {E} job files bytes more (Err e) other read reads answers heard = tt
@@ -204,11 +204,11 @@ found_for {E} job files bytes more (Ok f) other read reads answers heard =
       different = plain.1;
     }
 
-pub found_from_none : {E : Type 0} (job : PlanGap) (files : Option Files) (bytes : List ℕ) (made : Result Found E) → job.plan ≢ job.proof → job.start ≡ None → AreReadUpTo most_bytes files job.file bytes
+pub found_from_none : {E : Type 0} (job : PlanGap) (files : Option Files) (bytes : List ℕ) (made : Result (Found Cause) E) → job.plan ≢ job.proof → job.start ≡ None → AreReadUpTo most_bytes files job.file bytes
     → IfOk made (λ f. PlanAnswers job bytes [] f.answer.status (map written_by f.files.items) f.answer.text.items) → IfOk made (HearsOfFound plan_heard) → IfOk made (λ f. IsFoundFor (plan_task job) files f)
 found_from_none {E} job files bytes made other none read answers heard = found_for job files bytes [] made other read (reads_none files job.start none) answers heard
 
-pub found_from_text : {E : Type 0} (job : PlanGap) (files : Option Files) (bytes name start_bytes given : List ℕ) (made : Result Found E) → job.plan ≢ job.proof → job.start ≡ Some name
+pub found_from_text : {E : Type 0} (job : PlanGap) (files : Option Files) (bytes name start_bytes given : List ℕ) (made : Result (Found Cause) E) → job.plan ≢ job.proof → job.start ≡ Some name
     → AreReadUpTo most_bytes files job.file bytes → AreReadUpTo most_bytes files name start_bytes → given ≡ start_bytes
     → IfOk made (λ f. PlanAnswers job bytes (given ∷ []) f.answer.status (map written_by f.files.items) f.answer.text.items) → IfOk made (HearsOfFound plan_heard) → IfOk made (λ f. IsFoundFor (plan_task job) files f)
 found_from_text {E} job files bytes name start_bytes given made other named read read_start same answers heard =

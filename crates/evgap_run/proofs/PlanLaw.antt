@@ -11,16 +11,16 @@ use Rattle.fleet_steps.specs.FleetNetwork.{HasFleetNetwork}
 use Rattle.fleet_steps.specs.PlanFile.{routes_of}
 use Rattle.gap_search.specs.Gap.{cost_held, plan_held}
 use Rattle.gap_words.specs.Words.{PlanGap}
-use Rattle.job_frame.proofs.Performed.{AreWrittenAlike, IsLawful}
+use Rattle.job_frame.specs.Lawful.{AreWrittenAlike, IsLawful}
 use Rattle.job_frame.specs.Task.{Outcome}
 use Rattle.job_frame.specs.Writes.{HoldsAll, Written}
 use Rattle.job_frame.specs.declared.status.Status.{Status}
 use Rattle.job_frame.specs.declared.status.Status.TheVariants as status
 use Rattle.near_proof.specs.declared.proof.NearProof.{NearProof}
 use Rattle.near_text.proofs.NearLaws.{one_near}
-use Rattle.plan_writer.specs.RefusalText.{IsRule}
-use Rattle.plan_writer.specs.declared.refusal.Refusal.{Refusal}
-use Rattle.plan_writer.specs.declared.refusal.Refusal.TheVariants as refusal
+use Rattle.refusal_lines.specs.RefusalText.{IsRule}
+use Rattle.refusal_lines.specs.declared.refusal.Refusal.{Refusal}
+use Rattle.refusal_lines.specs.declared.refusal.Refusal.TheVariants as refusal
 use Rattle.route_improve.specs.declared.improving.Improved.{Improved}
 use Rattle.route_improve.specs.declared.improving.Improved.TheVariants.{Alone, Plan}
 use Rattle.route_plan.proofs.PlanLaws.{fleet_plan_is_spelled}

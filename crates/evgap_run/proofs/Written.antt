@@ -3,7 +3,7 @@ use Rattle.std.proofs.Common.{◌≡◌, ℕ, ◌≤◌, List, Option, Ok, lengt
 use Rattle.certificate_parts.specs.Limits as certificate
 use Rattle.ev_model.specs.Network.{IsNetwork, Network}
 use Rattle.fleet_steps.specs.PlanFile.{IsValid}
-use Rattle.fleet_steps.specs.NearFile.{HasNear}
+use Rattle.near_steps.specs.NearFile.{HasNear}
 use Rattle.fleet_steps.specs.FleetNetwork.{HasFleetNetwork}
 use Rattle.gap_search.specs.Gap.{IsGapOutcome, IsGapProof, IsHeld, cost_held, plan_held}
 use Rattle.gap_search.specs.declared.outcome.GapOutcome.{GapOutcome}

@@ -2,13 +2,13 @@
 use Rattle.std.specs.Prelude.{◌≡◌, ◌≢◌, ℕ, ◌⊎◌, List, [], ◌∷◌, Option, Err}
 use Rattle.ev_model.specs.Network.{Network}
 use Rattle.fleet_steps.specs.PlanFile.{BreaksFirst, HasFleet, IsValid}
-use Rattle.fleet_steps.specs.NearFile.{HasNear}
+use Rattle.near_steps.specs.NearFile.{HasNear}
 use Rattle.fleet_steps.specs.FleetNetwork.{HasFleetNetwork, IsFleetRefused}
 use Rattle.gap_words.specs.Words.{CheckGap}
 use Rattle.evgap_run.specs.Judged.{HearsJudgement}
-use Rattle.job_frame.specs.Heard.{HearsRefusal}
+use Rattle.evgap_run.specs.Heard.{HearsRefusal}
 use Rattle.job_frame.specs.Task.{Outcome, Task}
-use Rattle.job_frame.specs.declared.cause.Cause.{Cause}
+use Rattle.evgap_run.specs.declared.cause.Cause.{Cause}
 use Rattle.job_frame.specs.declared.status.Status.{Status}
 use Rattle.job_frame.specs.declared.status.Status.TheVariants as status
 use Rattle.job_frame.specs.Caps.{certificate_read, file_read}
@@ -21,11 +21,10 @@ use Rattle.near_proof.specs.declared.verdict.NearVerdict.TheVariants as verdict
 use Rattle.near_text.specs.NearIn.{near_in}
 use Rattle.near_text.specs.VerdictText.{near_verdict_text}
 use Rattle.plan_check.specs.declared.fault.PlanFault.{PlanFault}
-use Rattle.plan_writer.specs.CheckText.{check_text}
-use Rattle.plan_writer.specs.RefusalText.{IsRule, refusal_text}
-use Rattle.plan_writer.specs.declared.check.Judgement.TheVariants as judgement
-use Rattle.plan_writer.specs.declared.refusal.Refusal.{Refusal}
-use Rattle.plan_writer.specs.declared.refusal.Refusal.TheVariants as refusal
+use Rattle.refusal_lines.specs.RejectedText.{rejected_text}
+use Rattle.refusal_lines.specs.RefusalText.{IsRule, refusal_text}
+use Rattle.refusal_lines.specs.declared.refusal.Refusal.{Refusal}
+use Rattle.refusal_lines.specs.declared.refusal.Refusal.TheVariants as refusal
 use Rattle.route_plan.specs.PlanReading.{fleet_plan_in}
 use Rattle.route_plan.specs.declared.plan.FleetPlan.{FleetPlan}
 use Rattle.evgap_run.specs.Report.{accepted_text}
@@ -66,7 +65,7 @@ pub record PutsBrokenPlan (limit : Option ℕ)
   pub files : Holds limit bytes plan_bytes proof_bytes
   pub fault : PlanFault
   pub broken : BreaksFirst files.network files.plan fault
-  pub text_is : text ≡ check_text files.network.denominator (judgement.Plan fault)
+  pub text_is : text ≡ rejected_text fault
 
 -- the plan breaks none, and the first rule that the proof breaks is put
 pub record PutsBrokenProof (limit : Option ℕ)
@@ -118,7 +117,7 @@ check_goes_on job (bytes ∷ plan_bytes ∷ []) =
     (g : Network) × ((plan : Option FleetPlan) × HasFleet job.limit bytes plan_bytes g plan)
 check_goes_on job other = ⊥
 
-abbrev pub check_task : CheckGap → Task
+abbrev pub check_task : CheckGap → Task Cause
 check_task job = record {
   reads = file_read job.file ∷ file_read job.plan ∷ certificate_read job.proof ∷ [];
   goes_on = check_goes_on job;

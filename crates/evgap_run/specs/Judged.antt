@@ -2,8 +2,8 @@
 use Rattle.std.specs.Prelude.{◌≡◌, ◌≢◌, ℕ, List, Option, None, Some}
 use Rattle.ev_model.specs.Network.{Network}
 use Rattle.fleet_steps.specs.PlanFile.{BreaksFirst, IsValid}
-use Rattle.job_frame.specs.declared.cause.Cause.{Cause}
-use Rattle.job_frame.specs.declared.cause.Cause.TheVariants as cause
+use Rattle.evgap_run.specs.declared.cause.Cause.{Cause}
+use Rattle.evgap_run.specs.declared.cause.Cause.TheVariants as cause
 use Rattle.job_frame.specs.declared.status.Status.{Status}
 use Rattle.job_frame.specs.declared.status.Status.TheVariants as status
 use Rattle.near_proof.specs.Accepted.{IsAccepted}
@@ -12,8 +12,7 @@ use Rattle.near_proof.specs.Verdicts.{IsVerdict}
 use Rattle.near_proof.specs.declared.proof.NearProof.{NearProof}
 use Rattle.near_proof.specs.declared.verdict.NearVerdict.TheVariants as verdict
 use Rattle.near_text.specs.VerdictText.{near_verdict_text}
-use Rattle.plan_writer.specs.CheckText.{check_text}
-use Rattle.plan_writer.specs.declared.check.Judgement.TheVariants as plan
+use Rattle.refusal_lines.specs.RejectedText.{rejected_text}
 use Rattle.report_lines.specs.Lines.{IsBoundOf}
 use Rattle.route_plan.specs.declared.plan.FleetPlan.{FleetPlan}
 use Rattle.evgap_run.specs.Report.{IsSmallCost, accepted_text}
@@ -36,7 +35,7 @@ HasLines other = Unit {0}
 -- the lines of what is found, on a proof with this bound
 abbrev pub judgement_text : ℕ → Option ℕ → Judgement → List ℕ
 judgement_text denominator told (Accepted cost bound) = accepted_text denominator cost bound
-judgement_text denominator told (Plan fault) = check_text denominator (plan.Plan fault)
+judgement_text denominator told (Plan fault) = rejected_text fault
 judgement_text denominator told (Proof found) = near_verdict_text denominator told found
 
 -- the status of what is found

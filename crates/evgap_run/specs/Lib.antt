@@ -1,6 +1,6 @@
+pub mod Heard
 pub mod Report
 pub mod CheckAnswer
 pub mod PlanAnswer
 pub mod Judged
 pub mod Run
-pub mod Ending

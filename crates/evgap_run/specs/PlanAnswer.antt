@@ -3,18 +3,18 @@
 use Rattle.std.specs.Prelude.{◌≡◌, ℕ, ◌≤◌, ◌⊎◌, List, [], ◌∷◌, Option, None, Some, Err, if◌then◌else◌, length, nat_eq}
 use Rattle.certificate_parts.specs.Limits as certificate
 use Rattle.ev_model.specs.Network.{IsNetwork, Network}
-use Rattle.fleet_steps.specs.NearFile.{HasNear}
+use Rattle.near_steps.specs.NearFile.{HasNear}
 use Rattle.fleet_steps.specs.PlanFile.{BreaksFirst, IsValid, routes_of}
 use Rattle.fleet_steps.specs.FleetNetwork.{HasFleetNetwork, IsFleetRefused}
 use Rattle.gap_search.specs.Gap.{IsGapOutcome, cost_held, plan_held}
 use Rattle.gap_search.specs.declared.outcome.GapOutcome.{GapOutcome}
 use Rattle.gap_words.specs.Words.{PlanGap}
-use Rattle.fleet_steps.specs.Heard.{HearsBrokenPlan}
-use Rattle.job_frame.specs.Heard.{HearsRefusal}
+use Rattle.evgap_run.specs.Heard.{HearsBrokenPlan}
+use Rattle.evgap_run.specs.Heard.{HearsRefusal}
 use Rattle.job_frame.specs.Task.{Outcome, Read, Task}
 use Rattle.job_frame.specs.Writes.{Written}
-use Rattle.job_frame.specs.declared.cause.Cause.{Cause}
-use Rattle.job_frame.specs.declared.cause.Cause.TheVariants as cause
+use Rattle.evgap_run.specs.declared.cause.Cause.{Cause}
+use Rattle.evgap_run.specs.declared.cause.Cause.TheVariants as cause
 use Rattle.job_frame.specs.declared.status.Status.{Status}
 use Rattle.job_frame.specs.declared.status.Status.TheVariants as status
 use Rattle.job_frame.specs.Caps.{file_read}
@@ -24,11 +24,10 @@ use Rattle.near_proof.specs.declared.proof.NearProof.{NearProof}
 use Rattle.near_text.specs.NearTexts.{near_text}
 use Rattle.near_text.specs.Written.{written_near}
 use Rattle.plan_check.specs.declared.fault.PlanFault.{PlanFault}
-use Rattle.plan_writer.specs.CheckText.{check_text}
-use Rattle.plan_writer.specs.RefusalText.{IsRule, refusal_text}
-use Rattle.plan_writer.specs.declared.check.Judgement.TheVariants as judgement
-use Rattle.plan_writer.specs.declared.refusal.Refusal.{Refusal}
-use Rattle.plan_writer.specs.declared.refusal.Refusal.TheVariants as refusal
+use Rattle.refusal_lines.specs.RejectedText.{rejected_text}
+use Rattle.refusal_lines.specs.RefusalText.{IsRule, refusal_text}
+use Rattle.refusal_lines.specs.declared.refusal.Refusal.{Refusal}
+use Rattle.refusal_lines.specs.declared.refusal.Refusal.TheVariants as refusal
 use Rattle.route_improve.specs.declared.improving.Improved.{Improved}
 use Rattle.route_improve.specs.declared.improving.Improved.TheVariants.{Alone, Plan}
 use Rattle.route_plan.specs.Limits as route
@@ -143,7 +142,7 @@ pub record PutsBrokenStart (job : PlanGap) (bytes : List ℕ) (more : List (List
   pub fault : PlanFault
   pub broken : BreaksFirst network start fault
   pub none : ws ≡ []
-  pub text_is : text ≡ check_text network.denominator (judgement.Plan fault)
+  pub text_is : text ≡ rejected_text fault
 
 -- the first broken rule of the instance, the words or the text of the plan to begin with is put,
 -- and nothing is written
@@ -202,7 +201,7 @@ start_reads None = []
 start_reads (Some name) = file_read name ∷ []
 
 -- what a search finds is left open, and it may leave a gap
-abbrev pub plan_task : PlanGap → Task
+abbrev pub plan_task : PlanGap → Task Cause
 plan_task job = record {
   reads = file_read job.file ∷ start_reads job.start;
   goes_on = plan_goes_on job;

@@ -10,13 +10,14 @@ use Rattle.job_frame.specs.Task.{Task}
 use Rattle.job_frame.specs.declared.status.Status.{Status}
 use Rattle.evgap_run.specs.CheckAnswer.{check_task}
 use Rattle.evgap_run.specs.PlanAnswer.{plan_task}
+use Rattle.evgap_run.specs.declared.cause.Cause.{Cause}
 
 -- the job that the words name, if they name one
 abbrev pub job_named : List (String Global) → Option Job
 job_named words = job_of (map (λ word. string_bytes word) words)
 
 -- a job as a task: what it reads, and what it answers
-abbrev pub task_of : Job → Task
+abbrev pub task_of : Job → Task Cause
 task_of (Planning job) = plan_task job
 task_of (Checking job) = check_task job
 

@@ -11,6 +11,7 @@ ghost use Rattle.job_frame.specs.Task.{AreReadUpTo};
 ghost use Rattle.job_frame.specs.Caps.{most_bytes};
 ghost use Rattle.route_plan.specs.PlanTexts.{FitsFile};
 
+use crate::cause::Cause;
 use crate::judging::judge_text;
 use ev_outside::{Shelf, ShelfFault};
 use fleet_steps::{fleet_instance, plan_of};
@@ -22,7 +23,11 @@ use std::alloc::{AllocError, Global};
 
 /// What `check` finds: the instance is read, then the plan, then the proof; and then they are
 /// judged.
-pub fn check<S: Shelf>(alloc: Global, job: &CheckWords, shelf: &mut S) -> Result<Found, ShelfFault>
+pub fn check<S: Shelf>(
+    alloc: Global,
+    job: &CheckWords,
+    shelf: &mut S,
+) -> Result<Found<Cause>, ShelfFault>
     ensures { Finds (check_task (check_value job.now))
         (S.state shelf.old) (S.state shelf.new) result }
 {
@@ -43,7 +48,7 @@ fn check_on<S: Shelf>(
     inst: &Instance,
     job: &CheckWords,
     shelf: &mut S,
-) -> Result<Found, ShelfFault>
+) -> Result<Found<Cause>, ShelfFault>
     requires { length (customer_nodes inst.now) ≤ most_customers }
     ensures { (bytes : List ℕ)
         → AreReadUpTo most_bytes (S.state shelf.old).files (check_value job.now).file bytes
@@ -70,7 +75,7 @@ fn check_plan<S: Shelf>(
     plan: Option<&FleetPlan>,
     job: &CheckWords,
     shelf: &mut S,
-) -> Result<Found, ShelfFault>
+) -> Result<Found<Cause>, ShelfFault>
     requires few { length (customer_nodes inst.now) ≤ most_customers }
     requires text { FitsFile (option_map (λ p. p.now) plan) }
     ensures { (bytes plan_bytes : List ℕ)

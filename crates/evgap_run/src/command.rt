@@ -2,22 +2,20 @@
 
 ghost use Rattle.std.specs.Prelude.{◌≡◌, ◌≢◌, ◌⊎◌, [], false, IfSome, IsNone};
 ghost use Rattle.ev_outside.specs.Shelf.{CountsNeverFall};
-ghost use Rattle.evgap_run.specs.Ending.{Runs};
 ghost use Rattle.evgap_run.specs.Run.{TellsUsage, job_named, task_of};
 ghost use Rattle.gap_words.specs.JobValue.{IsJob, job_value};
-ghost use Rattle.job_frame.specs.Codes.{code_of};
-ghost use Rattle.job_frame.specs.Performs.{NothingFailed, Performs};
-ghost use Rattle.job_frame.specs.declared.status.Status.{Status};
+ghost use Rattle.job_frame.specs.Performs.{NothingFailed, Performs, PutsHeard};
+ghost use Rattle.job_frame.specs.Task.{IsAnswered};
 
+use crate::cause::Cause;
 use crate::check::check;
 use crate::clock::{JobClock, Never};
 use crate::plan::plan;
-use crate::watcher::Nobody;
+use crate::watcher::{JobWatcher, Nobody};
 use ev_outside::{Shelf, Sink};
-use gap_search::GapWatcher;
 use gap_words::{Job, job_words, usage};
-use job_ending::{finish, put_usage};
-use job_frame::{Cause, CauseListener, ScaleWatcher, Status};
+use job_ending::{Program, finish};
+use job_frame::Status;
 use std::alloc::{AllocError, Global};
 
 /// The program: its words after its name, the files and the output.
@@ -58,50 +56,72 @@ pub fn run<S: Shelf, K: Sink>(alloc: Global, words: &[String], shelf: &mut S, ou
     ensures no_words { K.takes_memory ≡ false → words.now ≡ []
         → (result ≡ Status.Words) ⊎ (result ≡ Status.Fault) }
 {
-    run_watched(alloc, words, shelf, out, &mut Never {}, &mut Nobody {})
+    job_ending::run(
+        alloc,
+        words,
+        shelf,
+        out,
+        &mut Evgap {
+            clock: Never {},
+            watcher: Nobody::new(),
+        },
+    )
 }
 
-/// The same as [`run`], where a clock says when the search of `plan` has had the seconds that its
-/// words give, and a watcher is told how far it is.
-pub fn run_watched<S, K, C, W>(
-    alloc: Global,
-    words: &[String],
-    shelf: &mut S,
-    out: &mut K,
-    clock: &mut C,
-    watcher: &mut W,
-) -> Status
-where
-    S: Shelf,
-    K: Sink,
-    C: JobClock,
-    W: GapWatcher + ScaleWatcher + CauseListener,
-    ensures { Runs words.now K.takes_memory (S.state shelf.old) (S.state shelf.new)
-        (K.state out.old) (K.state out.new) result }
-{
-    match job_words(alloc, words) {
-        Ok(Some(job)) => perform(alloc, &job, shelf, out, clock, watcher),
-        Ok(None) => {
-            watcher.hear(Cause::Words);
-            put_usage(usage(), out)
-        }
-        Err(AllocError) => Status::Memory,
+/// The program beside a clock, which says when the search of `plan` has had the seconds that its
+/// words give, and who is told how far it is.
+#[derive(Drop)]
+pub struct Evgap<C: JobClock + Drop, W: JobWatcher + Drop> {
+    pub clock: C,
+    pub watcher: W,
+}
+
+impl<C: JobClock + Drop, W: JobWatcher + Drop> Program for Evgap<C, W> {
+    ghost use Rattle.evgap_run.specs.Run.{job_named, task_of};
+    ghost use Rattle.gap_words.specs.JobValue.{IsJob, job_value};
+    ghost use Rattle.gap_words.specs.Usage.{usage_text};
+    ghost use Rattle.gap_words.specs.Words as words;
+
+    type Job = Job;
+
+    type Cause = Cause;
+
+    ghost Named = { words.Job };
+
+    ghost usage_text = { usage_text };
+
+    ghost job_named = { job_named };
+
+    ghost value_of = { job_value };
+
+    ghost IsJob = { IsJob };
+
+    ghost task_of = { task_of };
+
+    ghost heard = { λ program. W.heard program.watcher };
+
+
+    fn usage(&self) -> &'static str {
+        usage()
     }
-}
 
-/// The program as the system sees it: [`run`], and the exit status of its status. It ends and does
-/// what `run` says.
-pub fn exit_code<S: Shelf, K: Sink>(
-    alloc: Global,
-    words: &[String],
-    shelf: &mut S,
-    out: &mut K,
-) -> u8
-    ensures { (ended : Status) × (result ≡ code_of ended)
-        × Runs words.now K.takes_memory (S.state shelf.old) (S.state shelf.new)
-        (K.state out.old) (K.state out.new) ended }
-{
-    run(alloc, words, shelf, out).code()
+    fn job_of(&self, alloc: Global, words: &[String]) -> Result<Option<Job>, AllocError> {
+        job_words(alloc, words)
+    }
+
+    fn hear(&mut self, cause: Cause) {
+        self.watcher.hear(cause);
+    }
+
+    fn perform<S: Shelf, K: Sink>(
+        &mut self,
+        alloc: Global,
+        job: &Job,
+        shelf: &mut S,
+        out: &mut K,
+    ) -> Status {
+        perform(alloc, job, shelf, out, &mut self.clock, &mut self.watcher)
+    }
 }
 
 /// A job. What it finds is written and put.
@@ -117,11 +137,15 @@ where
     S: Shelf,
     K: Sink,
     C: JobClock,
-    W: GapWatcher + ScaleWatcher + CauseListener,
+    W: JobWatcher,
     requires { IsJob job.now }
     ensures words { result ≢ Status.Words }
     ensures job { Performs (task_of (job_value job.now)) (S.state shelf.old) (S.state shelf.new)
         (K.state out.old) (K.state out.new) result }
+    ensures heard { IsAnswered result
+        → PutsHeard (task_of (job_value job.now)) (S.state shelf.old).files
+        (S.state shelf.new).files (K.state out.old).written (K.state out.new).written
+        result (W.heard watcher.new) }
     ensures stays { result ≢ Status.Fault
         → NothingFailed (S.state shelf.old) (S.state shelf.new)
         (K.state out.old) (K.state out.new) }

@@ -4,21 +4,22 @@ ghost use Rattle.std.specs.Prelude.{◌≡◌, ◌≤◌, IfOk, List, Option, le
 ghost use Rattle.evgap_run.specs.CheckAnswer.{CheckAnswers, check_heard};
 ghost use Rattle.evgap_run.specs.Judged.{HasLines, IsJudgementOf, judged_cause, judged_status, judgement_text};
 ghost use Rattle.fleet_steps.specs.PlanFile.{HasFleet};
-ghost use Rattle.fleet_steps.specs.NearFile.{HasNear};
+ghost use Rattle.near_steps.specs.NearFile.{HasNear};
 ghost use Rattle.instance_reader.specs.Instance.{customer_nodes, most_customers};
 ghost use Rattle.job_frame.specs.Task.{IsAnswered};
 ghost use Rattle.near_proof.specs.Ranges.{NearFits};
 ghost use Rattle.route_plan.specs.PlanTexts.{FitsFile};
 
+use crate::cause::Cause;
 use crate::report::push_accepted;
-use fleet_steps::{cost_of, proof_of};
+use fleet_steps::cost_of;
 use instance_reader::Instance;
-use job_frame::{Answer, Cause, Ended, Status, refuse};
+use job_frame::{Answer, Ended, Status, refuse};
 use near_proof::{NearProof, NearVerdict, check_near};
+use near_steps::proof_of;
 use near_text::push_near_verdict;
 use plan_check::{LargeFault, PlanFault};
-use plan_writer as writer;
-use plan_writer::push_check_report;
+use refusal_lines::push_rejected_plan;
 use route_plan::FleetPlan;
 use std::alloc::{AllocError, Global};
 
@@ -44,7 +45,7 @@ pub fn judge_text(
     inst: &Instance,
     plan: Option<&FleetPlan>,
     bytes: &[u8],
-) -> Result<Answer, AllocError>
+) -> Result<Answer<Cause>, AllocError>
     requires few { length (customer_nodes inst.now) ≤ most_customers }
     requires text { FitsFile (option_map (λ p. p.now) plan) }
     ensures answered { IfOk result (λ a. IsAnswered a.status) }
@@ -67,7 +68,7 @@ fn report_on(
     inst: &Instance,
     plan: Option<&FleetPlan>,
     proof: &NearProof,
-) -> Result<Answer, AllocError>
+) -> Result<Answer<Cause>, AllocError>
     requires few { length (customer_nodes inst.now) ≤ most_customers }
     requires text { FitsFile (option_map (λ p. p.now) plan) }
     requires fits { NearFits inst.now proof.now }
@@ -117,7 +118,7 @@ fn report(
     inst: &Instance,
     proof: &NearProof,
     judgement: &Judgement,
-) -> Result<Answer, AllocError>
+) -> Result<Answer<Cause>, AllocError>
     requires { HasLines judgement.now }
     ensures status { IfOk result (λ a. a.status ≡ judged_status judgement.now) }
     ensures text { IfOk result (λ a. a.text.items
@@ -131,7 +132,7 @@ fn report(
             Status::Done
         }
         Judgement::Plan(fault) => {
-            push_check_report(alloc, &mut text, inst, &writer::Judgement::Plan(*fault))?;
+            push_rejected_plan(alloc, &mut text, fault)?;
             Status::Negative
         }
         Judgement::Proof(verdict) => {

@@ -12,6 +12,7 @@ ghost use Rattle.job_frame.specs.Task.{AreReadUpTo};
 ghost use Rattle.job_frame.specs.Caps.{most_bytes};
 ghost use Rattle.plan_check.specs.FleetRules.{stops_of};
 
+use crate::cause::Cause;
 use crate::clock::JobClock;
 use crate::planning::plan_all;
 use ev_outside::{Shelf, ShelfFault};
@@ -32,7 +33,7 @@ pub fn plan<S: Shelf, C: JobClock, W: GapWatcher + ScaleWatcher>(
     shelf: &mut S,
     clock: &mut C,
     watcher: &mut W,
-) -> Result<Found, ShelfFault>
+) -> Result<Found<Cause>, ShelfFault>
     requires { IsPlanJob job.now }
     ensures { Finds (plan_task (plan_value job.now))
         (S.state shelf.old) (S.state shelf.new) result }
@@ -61,7 +62,7 @@ fn plan_on<S: Shelf, C: JobClock, W: GapWatcher>(
     shelf: &mut S,
     clock: &mut C,
     watcher: &mut W,
-) -> Result<Found, ShelfFault>
+) -> Result<Found<Cause>, ShelfFault>
     requires few { length (customer_nodes inst.now) ≤ most_customers }
     requires files { IsPlanJob job.now }
     ensures { (bytes : List ℕ)
@@ -85,7 +86,7 @@ fn plan_from_file<S: Shelf, C: JobClock, W: GapWatcher>(
     shelf: &mut S,
     clock: &mut C,
     watcher: &mut W,
-) -> Result<Found, ShelfFault>
+) -> Result<Found<Cause>, ShelfFault>
     requires few { length (customer_nodes inst.now) ≤ most_customers }
     requires files { IsPlanJob job.now }
     ensures { (bytes : List ℕ)
@@ -109,7 +110,7 @@ fn plan_from_none<C: JobClock, W: GapWatcher>(
     job: &PlanWords,
     clock: &mut C,
     watcher: &mut W,
-) -> Result<Found, ShelfFault>
+) -> Result<Found<Cause>, ShelfFault>
     requires few { length (customer_nodes inst.now) ≤ most_customers }
     requires files { IsPlanJob job.now }
     ensures answers { (bytes : List ℕ) (more : List (List ℕ))
@@ -135,7 +136,7 @@ fn plan_from_text<C: JobClock, W: GapWatcher>(
     job: &PlanWords,
     clock: &mut C,
     watcher: &mut W,
-) -> Result<Found, ShelfFault>
+) -> Result<Found<Cause>, ShelfFault>
     requires few { length (customer_nodes inst.now) ≤ most_customers }
     requires files { IsPlanJob job.now }
     ensures answers { (file name : List ℕ) → HasFleetNetwork job.now.limit file inst.now
@@ -164,7 +165,7 @@ fn plan_from<C: JobClock, W: GapWatcher>(
     job: &PlanWords,
     clock: &mut C,
     watcher: &mut W,
-) -> Result<Found, AllocError>
+) -> Result<Found<Cause>, AllocError>
     requires few { length (customer_nodes inst.now) ≤ most_customers }
     requires files { IsPlanJob job.now }
     ensures answers { (bytes : List ℕ) (more : List (List ℕ))
@@ -177,7 +178,7 @@ fn plan_from<C: JobClock, W: GapWatcher>(
 {
     match cost_of(alloc, inst, start) {
         Ok(_was) => plan_judged(alloc, inst, start, job, clock, watcher),
-        Err(LargeFault::Plan { fault }) => reject(alloc, inst, fault),
+        Err(LargeFault::Plan { fault }) => reject(alloc, fault),
         Err(LargeFault::Memory) => Err(AllocError),
     }
 }
@@ -190,7 +191,7 @@ fn plan_judged<C: JobClock, W: GapWatcher>(
     job: &PlanWords,
     clock: &mut C,
     watcher: &mut W,
-) -> Result<Found, AllocError>
+) -> Result<Found<Cause>, AllocError>
     requires few { length (customer_nodes inst.now) ≤ most_customers }
     requires start { IfSome start (λ plan. IsFleetPlan inst.now 1 (stops_of plan.now.routes)) }
     ensures answers { (bytes : List ℕ) (more : List (List ℕ))

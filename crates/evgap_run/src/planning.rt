@@ -12,11 +12,12 @@ ghost use Rattle.plan_check.specs.FleetRules.{stops_of};
 ghost use Rattle.report_lines.specs.Lines.{IsBoundOf};
 ghost use Rattle.route_improve.specs.Improved.{IsImproved};
 
+use crate::cause::Cause;
 use crate::report::push_found;
 use fleet_steps::{cost_of, plan_text};
 use gap_search::{GapClock, GapWatcher, Improved, NearProof, close_gap};
 use instance_reader::Instance;
-use job_frame::{Answer, Cause, Planned, Status};
+use job_frame::{Answer, Planned, Status};
 use near_text::push_near;
 use plan_check::LargeFault;
 use route_plan::FleetPlan;
@@ -30,7 +31,7 @@ pub fn plan_all<C: GapClock, W: GapWatcher>(
     start: Option<&FleetPlan>,
     clock: &mut C,
     watcher: &mut W,
-) -> Result<Planned, AllocError>
+) -> Result<Planned<Cause>, AllocError>
     requires few { length (customer_nodes inst.now) ≤ most_customers }
     requires start { IfSome start (λ plan. IsFleetPlan inst.now 1 (stops_of plan.now.routes)) }
     ensures found { IfOk result (λ p. IsPlanFound inst.now
@@ -96,7 +97,7 @@ fn report(
     alone: Option<usize>,
     cost: Option<u128>,
     bound: Option<u128>,
-) -> Result<Answer, AllocError>
+) -> Result<Answer<Cause>, AllocError>
     requires bound { IsBoundOf cost bound }
     requires small { IsSmallCost cost }
     ensures status { IfOk result (λ a. a.status ≡ plan_status cost bound) }

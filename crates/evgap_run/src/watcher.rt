@@ -1,14 +1,29 @@
 //! Who watches a search and hears why an answer isn't the one that was asked for: nobody.
 
+use crate::cause::Cause;
 use gap_search::{
     GapProgress, GapWatcher, MoveProgress, MoveWatcher, PriceProgress, PriceWatcher,
     RoundsProgress, RoundsWatcher,
 };
-use job_frame::{Cause, CauseListener, ScaleWatcher};
+use job_frame::{CauseListener, ScaleWatcher};
 
-/// Nobody.
+/// Who is told how far a search is, by what its times are scaled, and what the first line of an
+/// answer tells that isn't the one that was asked for. Neither the status nor what is true of what
+/// is written and put depends on it.
+pub trait JobWatcher: GapWatcher + ScaleWatcher + CauseListener<Cause> {}
+
+/// Nobody: of what is told the last cause alone is kept.
 #[derive(Drop)]
-pub struct Nobody {}
+pub struct Nobody {
+    cause: Option<Cause>,
+}
+
+impl Nobody {
+    /// Nothing was heard yet.
+    pub fn new() -> Self {
+        Nobody { cause: None }
+    }
+}
 
 impl PriceWatcher for Nobody {
     fn watch_prices(&mut self, _progress: PriceProgress) {}
@@ -30,6 +45,12 @@ impl ScaleWatcher for Nobody {
     fn begin(&mut self, _denominator: u64) {}
 }
 
-impl CauseListener for Nobody {
-    fn hear(&mut self, _cause: Cause) {}
+impl CauseListener<Cause> for Nobody {
+    ghost heard = { λ nobody. nobody.cause };
+
+    fn hear(&mut self, cause: Cause) {
+        self.cause = Some(cause);
+    }
 }
+
+impl JobWatcher for Nobody {}

@@ -1,11 +1,14 @@
 //! `evroute`: a certified planner for electric delivery fleets.
 #![tactic(auto)]
 
+use command_line::Job;
 use ev_outside::{FileShelf, OutSink};
-use evroute_run::{Cause, FailingShelf, FailingSink, run_to_end};
-pub use evroute_run::{Status, exit_code, run};
-use job_listeners::{HeardSink, PlainDiagnostics, ToldProgress, wants_progress};
-use plain_words::{Failed, left_behind, told_behind, unwritable};
+use evroute_run::{Cause, Evroute};
+pub use evroute_run::{Status, run};
+use evroute_words::{ToldProgress, left_by_file, left_by_output, told_behind};
+use job_ending::{FailingShelf, FailingSink, run_to_end};
+use job_listeners::{HeardSink, PlainDiagnostics, wants_progress};
+use plain_words::Failed;
 use std::alloc::AllocError;
 use std::process::ExitCode;
 use std::{env, io};
@@ -32,41 +35,40 @@ fn run_on(rt: &HostRuntime, words: io::Result<Vec<String>>) -> ExitCode {
     let mut shelf = FileShelf::new(alloc, rt);
     let mut out = HeardSink::over(OutSink::new(rt));
     let mut people = PlainDiagnostics::new(alloc, rt, "evroute");
-    let mut progress = ToldProgress::new(rt, wants_progress(rt));
-    tell_in_front(rt);
-    let code = run_to_end(
+    let mut program = Evroute {
+        watcher: ToldProgress::new(alloc, rt, wants_progress(rt)),
+    };
+    let end = run_to_end(
         alloc,
-        words,
+        &words,
         &mut shelf,
         &mut out,
         &mut people,
-        &mut progress,
+        &mut program,
     );
-    tell_behind(rt, &shelf, &out, progress.cause());
-    code
-}
-
-/// Tells people before a long search which of its files can't be written. The search goes on: what
-/// becomes of it is for the files to say.
-fn tell_in_front(rt: &HostRuntime) {
-    if let Ok(words) = words_of(rt) {
-        tell(rt, unwritable(rt.alloc(), rt, words.as_slice()));
+    let cause = program.watcher.cause();
+    tell_left(rt, &shelf, &out, end.job.as_ref(), cause);
+    if let (true, Ok(words)) = (out.has_put(), &words) {
+        tell(
+            rt,
+            told_behind(alloc, rt, words.as_slice(), end.job.as_ref(), cause),
+        );
     }
+    end.code
 }
 
-/// Tells people what stands in the files of the job once a file or the output failed, and, where a
-/// text was put, what its cause means; nothing where standard error goes to the file that failed.
-fn tell_behind(
+/// Tells people what stands in the files of the job once a file or the output failed; nothing where
+/// standard error goes to the file that failed.
+fn tell_left(
     rt: &HostRuntime,
     shelf: &FileShelf<'_, HostRuntime>,
     out: &HeardSink<OutSink<'_, HostRuntime>>,
+    job: Option<&Job>,
     cause: Option<Cause>,
 ) {
     let alloc = rt.alloc();
-    let Ok(words) = words_of(rt) else { return };
     if out.last_failure().is_some() {
-        let failed = Failed::Output(cause);
-        tell(rt, left_behind(alloc, words.as_slice(), failed));
+        tell(rt, left_by_output(alloc, job, cause));
     } else if let Some(failure) = shelf.last_failure() {
         if failure.is_standard_error {
             return;
@@ -75,10 +77,7 @@ fn tell_behind(
             true => Failed::File(failure.name),
             false => Failed::Unchanged(failure.name),
         };
-        tell(rt, left_behind(alloc, words.as_slice(), failed));
-    }
-    if out.has_put() {
-        tell(rt, told_behind(alloc, rt, words.as_slice(), cause));
+        tell(rt, left_by_file(alloc, job, failed));
     }
 }
 

@@ -23,11 +23,12 @@ use Rattle.near_text.specs.NearTexts.{near_text}
 use Rattle.near_text.specs.VerdictText.{near_bound_text}
 use Rattle.near_text.specs.Written.{written_near}
 use Rattle.ng_pricing.specs.NearBound.{IsNearBound}
-use Rattle.plan_writer.specs.RefusalText.{refusal_text}
-use Rattle.plan_writer.specs.declared.refusal.Refusal.{Refusal}
+use Rattle.refusal_lines.specs.RefusalText.{refusal_text}
+use Rattle.refusal_lines.specs.declared.refusal.Refusal.{Refusal}
+use Rattle.evroute_causes.specs.declared.cause.Cause.{Cause}
 
 -- a proof, with its bound and its file
-pub puts_bound : {E : Type 0} (g : Network) (near : ℕ) (cert name : List ℕ) (proof : NearProof) (answer : Answer) (file : Written) (made : Result Found E) →
+pub puts_bound : {E : Type 0} (g : Network) (near : ℕ) (cert name : List ℕ) (proof : NearProof) (answer : Answer Cause) (file : Written) (made : Result (Found Cause) E) →
     IsNearBound g near proof → answer.status ≡ bound_status proof.bound → answer.text.items ≡ near_bound_text g.denominator proof.bound
     → name ≡ cert → file ≡ record { name = name; bytes = near_text (written_near g proof) } → IsReadBack g proof
     → IfOk made (λ f. f.answer ≡ answer) → IfOk made (λ f. map written_by f.files.items ≡ file ∷ [])
@@ -36,11 +37,11 @@ puts_bound {E} g near cert name proof answer file (Err e) is status text named s
 puts_bound {E} g near cert name proof answer file (Ok f) is status text named spelled reads answered files = record {
   proof = proof;
   is = is;
-  status_is = ap (λ (a : Answer). a.status) answered ∙ status;
+  status_is = ap (λ (a : Answer Cause). a.status) answered ∙ status;
   written = files ∙ ap (λ (w : Written). w ∷ []) spelled
       ∙ ap (λ (n : List ℕ). let w : Written = record { name = n; bytes = near_text (written_near g proof) } in w ∷ []) named;
   read_back = reads;
-  text_is = ap (λ (a : Answer). a.text.items) answered ∙ text;
+  text_is = ap (λ (a : Answer Cause). a.text.items) answered ∙ text;
 }
 
 -- `check-bound` accepts what is written

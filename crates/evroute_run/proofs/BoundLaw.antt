@@ -6,7 +6,7 @@ use Rattle.fleet_steps.proofs.Instances.{fleet_refused_not, same_fleet}
 use Rattle.evroute_run.proofs.NearSetsLaw.{stands_on_none}
 use Rattle.evroute_run.specs.BoundAnswer.{BoundAnswers, PutsBound, bound_answers, bound_status, bound_task}
 use Rattle.job_frame.proofs.OneStatus.{ExcludeEachOther, IsPlain, lawful, nothing_excludes}
-use Rattle.job_frame.proofs.Performed.{IsLawful}
+use Rattle.job_frame.specs.Lawful.{IsLawful}
 use Rattle.job_frame.specs.Task.{Outcome}
 use Rattle.job_frame.specs.Writes.{Written}
 use Rattle.job_frame.specs.declared.status.Status.{Status}

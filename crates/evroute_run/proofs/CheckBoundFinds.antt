@@ -5,7 +5,7 @@ use Rattle.ev_model.specs.Network.{Network}
 use Rattle.ev_outside.specs.Shelf.{Files, ShelfState}
 use Rattle.job_frame.specs.Caps.{certificate_read, file_read, most_bytes, most_certificate_bytes}
 use Rattle.evroute_run.specs.CheckBoundAnswer.{CheckBoundAnswers, IsCheckBoundRefused, PutsRejectedBound, check_bound_task, verdict_status}
-use Rattle.fleet_steps.specs.NearFile.{HasNear}
+use Rattle.near_steps.specs.NearFile.{HasNear}
 use Rattle.evroute_run.specs.Ended.{IsCheckBoundEnded}
 use Rattle.fleet_steps.specs.FleetNetwork.{HasFleetNetwork, IsFleetEnded, IsFleetRefused}
 use Rattle.job_frame.specs.declared.answer.Ended.{Ended}
@@ -22,18 +22,19 @@ use Rattle.near_proof.specs.declared.proof.NearProof.{NearProof}
 use Rattle.near_proof.specs.declared.verdict.NearVerdict.{NearVerdict}
 use Rattle.near_proof.specs.declared.verdict.NearVerdict.TheVariants as verdict
 use Rattle.near_text.specs.VerdictText.{near_verdict_text}
-use Rattle.plan_writer.specs.RefusalText.{IsRule, refusal_text}
-use Rattle.plan_writer.specs.declared.refusal.Refusal.{Refusal}
-use Rattle.plan_writer.specs.declared.refusal.Refusal.TheVariants as refusal
+use Rattle.refusal_lines.specs.RefusalText.{IsRule, refusal_text}
+use Rattle.refusal_lines.specs.declared.refusal.Refusal.{Refusal}
+use Rattle.refusal_lines.specs.declared.refusal.Refusal.TheVariants as refusal
+use Rattle.evroute_causes.specs.declared.cause.Cause.{Cause}
 
 -- ---- the answer to a proof that was read
 
 module _ (limit : Option ℕ) (bytes cert_bytes : List ℕ) where
-  by_status : (a : Answer) (s : Status) → a.status ≡ s → CheckBoundAnswers limit bytes cert_bytes s a.text.items → CheckBoundAnswers limit bytes cert_bytes a.status a.text.items
+  by_status : (a : Answer Cause) (s : Status) → a.status ≡ s → CheckBoundAnswers limit bytes cert_bytes s a.text.items → CheckBoundAnswers limit bytes cert_bytes a.status a.text.items
   by_status a s is answers = subst (λ (x : Status). CheckBoundAnswers limit bytes cert_bytes x a.text.items) (sym is) answers
 
   -- the first broken rule of a text
-  pub refused_answers : {E : Type 0} (ended : Ended) (refusal : Refusal) (made : Result Answer E) → ended ≡ Refused refusal → IsCheckBoundEnded limit bytes cert_bytes ended
+  pub refused_answers : {E : Type 0} (ended : Ended) (refusal : Refusal) (made : Result (Answer Cause) E) → ended ≡ Refused refusal → IsCheckBoundEnded limit bytes cert_bytes ended
       → IfOk made (λ a. a.status ≡ status.Refused) → IfOk made (λ a. a.text.items ≡ refusal_text refusal) → IfOk made (λ a. CheckBoundAnswers limit bytes cert_bytes a.status a.text.items)
   refused_answers {E} ended refusal (Err e) is refused answered text = tt
   refused_answers {E} ended refusal (Ok a) is refused answered text =

@@ -4,11 +4,11 @@ use Rattle.command_line.specs.Words.{BoundCheckJob}
 use Rattle.ev_model.specs.Network.{Network}
 use Rattle.ev_text.proofs.Results.{Err-ne-Ok}
 use Rattle.fleet_steps.proofs.Instances.{fleet_refused_not, same_fleet}
-use Rattle.fleet_steps.proofs.Nears.{accepted_keeps, one_near}
+use Rattle.near_steps.proofs.Nears.{accepted_keeps, one_near}
 use Rattle.evroute_run.specs.CheckBoundAnswer.{CheckBoundAnswers, HoldsNear, IsCheckBoundRefused, PutsAcceptedBound, PutsRejectedBound, check_bound_answers, check_bound_task}
-use Rattle.fleet_steps.specs.NearFile.{HasNear}
+use Rattle.near_steps.specs.NearFile.{HasNear}
 use Rattle.job_frame.proofs.OneStatus.{ExcludeEachOther, IsPlain, lawful, nothing_excludes}
-use Rattle.job_frame.proofs.Performed.{IsLawful}
+use Rattle.job_frame.specs.Lawful.{IsLawful}
 use Rattle.job_frame.specs.Task.{Outcome}
 use Rattle.job_frame.specs.declared.status.Status.{Status}
 use Rattle.job_frame.specs.declared.status.Status.TheVariants as status
@@ -16,9 +16,9 @@ use Rattle.near_proof.specs.Verdicts.{IsVerdict}
 use Rattle.near_proof.specs.declared.proof.NearProof.{NearProof}
 use Rattle.near_text.specs.NearIn.{near_in}
 use Rattle.near_text.specs.Written.{written_near}
-use Rattle.plan_writer.specs.RefusalText.{IsRule}
-use Rattle.plan_writer.specs.declared.refusal.Refusal.{Refusal}
-use Rattle.plan_writer.specs.declared.refusal.Refusal.TheVariants as refusal
+use Rattle.refusal_lines.specs.RefusalText.{IsRule}
+use Rattle.refusal_lines.specs.declared.refusal.Refusal.{Refusal}
+use Rattle.refusal_lines.specs.declared.refusal.Refusal.TheVariants as refusal
 
 module _ (limit : Option ℕ) (bytes cert_bytes : List ℕ) where
   accepted_is_unbroken : (text told : List ℕ) → PutsAcceptedBound limit bytes cert_bytes text → PutsRejectedBound limit bytes cert_bytes told → ⊥

@@ -15,8 +15,8 @@ use Rattle.job_frame.specs.Faults.{FailsReading, HasFailedRead}
 use Rattle.job_frame.specs.Task.{Answers, AreReadUpTo}
 use Rattle.job_frame.specs.declared.status.Status.{Status}
 use Rattle.job_frame.specs.declared.status.Status.TheVariants as status
-use Rattle.plan_writer.specs.RefusalText.{refusal_text}
-use Rattle.plan_writer.specs.declared.refusal.Refusal.{Refusal}
+use Rattle.refusal_lines.specs.RefusalText.{refusal_text}
+use Rattle.refusal_lines.specs.declared.refusal.Refusal.{Refusal}
 use Rattle.route_plan.specs.declared.plan.FleetPlan.{FleetPlan}
 
 pub check_found : (job : CheckJob) (files : Option Files) (bytes plan_bytes cert_bytes given : List ℕ) (answered : Status) (text : List ℕ) →

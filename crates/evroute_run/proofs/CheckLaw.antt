@@ -9,13 +9,13 @@ use Rattle.command_line.specs.Words.{CheckJob}
 use Rattle.ev_model.specs.Network.{Network}
 use Rattle.ev_text.proofs.Results.{Err-ne-Ok}
 use Rattle.job_frame.proofs.OneStatus.{ExcludeEachOther, IsPlain, lawful, nothing_excludes}
-use Rattle.job_frame.proofs.Performed.{IsLawful}
+use Rattle.job_frame.specs.Lawful.{IsLawful}
 use Rattle.job_frame.specs.Task.{Outcome}
-use Rattle.plan_writer.specs.RefusalText.{IsRule}
+use Rattle.refusal_lines.specs.RefusalText.{IsRule}
 use Rattle.plan_writer.specs.declared.check.Judgement.{Judgement}
 use Rattle.plan_writer.specs.declared.check.Judgement.TheVariants as judgement
-use Rattle.plan_writer.specs.declared.refusal.Refusal.{Refusal}
-use Rattle.plan_writer.specs.declared.refusal.Refusal.TheVariants as refusal
+use Rattle.refusal_lines.specs.declared.refusal.Refusal.{Refusal}
+use Rattle.refusal_lines.specs.declared.refusal.Refusal.TheVariants as refusal
 use Rattle.route_plan.proofs.PlanLaws.{fleet_plan_is_spelled}
 use Rattle.route_plan.specs.declared.plan.FleetPlan.{FleetPlan}
 use Rattle.evroute_run.proofs.AcceptedCertificates.{accepted_is_no_rejection, accepted_same}

@@ -10,9 +10,9 @@ use Rattle.job_frame.specs.Task.{Answers, AreReadUpTo, IsAnswered}
 use Rattle.job_frame.specs.declared.found.Answer.{Answer}
 use Rattle.job_frame.specs.declared.status.Status.{Status}
 use Rattle.job_frame.specs.declared.status.Status.TheVariants as status
-use Rattle.plan_writer.specs.RefusalText.{IsRule, refusal_text}
-use Rattle.plan_writer.specs.declared.refusal.Refusal.{Refusal}
-use Rattle.plan_writer.specs.declared.refusal.Refusal.TheVariants as refusal
+use Rattle.refusal_lines.specs.RefusalText.{IsRule, refusal_text}
+use Rattle.refusal_lines.specs.declared.refusal.Refusal.{Refusal}
+use Rattle.refusal_lines.specs.declared.refusal.Refusal.TheVariants as refusal
 use Rattle.route_proof.specs.ProofIn.{SpellsProof, proof_in}
 use Rattle.route_proof.specs.VerdictText.{verdict_text}
 use Rattle.route_proof.specs.Closed.{IsAccepted, IsTrue}
@@ -26,15 +26,16 @@ use Rattle.evroute_run.specs.Ended.{IsCheckRouteEnded, IsEnded}
 use Rattle.evroute_run.specs.FixedAnswer.{IsRefused, IsTask, start_of}
 use Rattle.job_frame.specs.declared.answer.Ended.{Ended}
 use Rattle.job_frame.specs.declared.answer.Ended.TheVariants.{Refused}
+use Rattle.evroute_causes.specs.declared.cause.Cause.{Cause}
 
 -- ---- the answer to a proof that was read
 
 module _ (options : Options) (word bytes cert_bytes : List ℕ) where
-  by_status : (a : Answer) (s : Status) → a.status ≡ s → CheckRouteAnswers options word bytes cert_bytes s a.text.items → CheckRouteAnswers options word bytes cert_bytes a.status a.text.items
+  by_status : (a : Answer Cause) (s : Status) → a.status ≡ s → CheckRouteAnswers options word bytes cert_bytes s a.text.items → CheckRouteAnswers options word bytes cert_bytes a.status a.text.items
   by_status a s is answers = subst (λ (x : Status). CheckRouteAnswers options word bytes cert_bytes x a.text.items) (sym is) answers
 
   -- the first broken rule of a text
-  pub refused_answers : {E : Type 0} (ended : Ended) (refusal : Refusal) (made : Result Answer E) → ended ≡ Refused refusal → IsCheckRouteEnded options word bytes cert_bytes ended
+  pub refused_answers : {E : Type 0} (ended : Ended) (refusal : Refusal) (made : Result (Answer Cause) E) → ended ≡ Refused refusal → IsCheckRouteEnded options word bytes cert_bytes ended
       → IfOk made (λ a. a.status ≡ status.Refused) → IfOk made (λ a. a.text.items ≡ refusal_text refusal) → IfOk made (λ a. CheckRouteAnswers options word bytes cert_bytes a.status a.text.items)
   refused_answers {E} ended refusal (Err e) is refused answered text = tt
   refused_answers {E} ended refusal (Ok a) is refused answered text =
@@ -43,7 +44,7 @@ module _ (options : Options) (word bytes cert_bytes : List ℕ) where
 
   module _ (g : Network) (route : List ℕ) (level : ℕ) (proof : RouteProof) (task : IsTask options word bytes g route) (start : level ≡ start_of g options.charge)
       (read : proof_in g route cert_bytes ≡ Ok proof) (spelled : SpellsProof g route cert_bytes proof) where
-    pub puts_accepted : {E : Type 0} (made : Result Answer E) → IsAccepted (record { network = g; route = route; start = level }) proof
+    pub puts_accepted : {E : Type 0} (made : Result (Answer Cause) E) → IsAccepted (record { network = g; route = route; start = level }) proof
         → IsTrue (record { network = g; route = route; start = level }) proof.plan → IfOk made (λ a. a.status ≡ status.Done)
         → IfOk made (λ a. a.text.items ≡ verdict_text g.denominator (listed_time g level proof.plan) verdict.Accepted)
         → IfOk made (λ a. CheckRouteAnswers options word bytes cert_bytes a.status a.text.items)
@@ -56,7 +57,7 @@ module _ (options : Options) (word bytes cert_bytes : List ℕ) where
           text_is = subst (λ (n : ℕ). a.text.items ≡ verdict_text g.denominator (listed_time g n proof.plan) verdict.Accepted) start text;
         })
 
-    pub puts_rejected : {E : Type 0} (made : Result Answer E) (found : RouteVerdict) → found ≢ verdict.Accepted → IsVerdict (record { network = g; route = route; start = level }) proof found
+    pub puts_rejected : {E : Type 0} (made : Result (Answer Cause) E) (found : RouteVerdict) → found ≢ verdict.Accepted → IsVerdict (record { network = g; route = route; start = level }) proof found
         → IfOk made (λ a. a.status ≡ status.Negative) → IfOk made (λ a. a.text.items ≡ verdict_text g.denominator None found)
         → IfOk made (λ a. CheckRouteAnswers options word bytes cert_bytes a.status a.text.items)
     puts_rejected {E} (Err e) found broken rejected answered text = tt
@@ -70,7 +71,7 @@ module _ (options : Options) (word bytes cert_bytes : List ℕ) where
         })
 
 -- a rejection is an answer
-pub negative_is_answered : {E : Type 0} (made : Result Answer E) → IfOk made (λ a. a.status ≡ status.Negative) → IfOk made (λ a. IsAnswered a.status)
+pub negative_is_answered : {E : Type 0} (made : Result (Answer Cause) E) → IfOk made (λ a. a.status ≡ status.Negative) → IfOk made (λ a. IsAnswered a.status)
 negative_is_answered {E} (Err e) is = tt
 negative_is_answered {E} (Ok a) is = subst (λ (s : Status). IsAnswered s) (sym is) tt
 

@@ -7,13 +7,13 @@ use Rattle.command_line.specs.declared.Options.{Options}
 use Rattle.ev_model.specs.Network.{Network}
 use Rattle.ev_text.proofs.Results.{Err-ne-Ok, Ok-injective}
 use Rattle.job_frame.proofs.OneStatus.{ExcludeEachOther, IsPlain, lawful, nothing_excludes}
-use Rattle.job_frame.proofs.Performed.{IsLawful}
+use Rattle.job_frame.specs.Lawful.{IsLawful}
 use Rattle.job_frame.specs.Task.{Outcome}
 use Rattle.job_frame.specs.declared.status.Status.{Status}
 use Rattle.job_frame.specs.declared.status.Status.TheVariants as status
-use Rattle.plan_writer.specs.RefusalText.{IsRule}
-use Rattle.plan_writer.specs.declared.refusal.Refusal.{Refusal}
-use Rattle.plan_writer.specs.declared.refusal.Refusal.TheVariants as refusal
+use Rattle.refusal_lines.specs.RefusalText.{IsRule}
+use Rattle.refusal_lines.specs.declared.refusal.Refusal.{Refusal}
+use Rattle.refusal_lines.specs.declared.refusal.Refusal.TheVariants as refusal
 use Rattle.route_proof.specs.ProofIn.{proof_in}
 use Rattle.route_plan.proofs.Feasibly.{tells}
 use Rattle.route_plan.specs.declared.plan.RoutePlan.{RoutePlan}

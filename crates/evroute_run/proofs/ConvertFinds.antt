@@ -10,8 +10,8 @@ use Rattle.job_frame.specs.Caps.{most_bytes}
 use Rattle.evroute_run.specs.ConvertAnswer.{BecomesWhole, convert_task}
 use Rattle.job_frame.specs.Task.{Answers, AreReadUpTo}
 use Rattle.job_frame.specs.declared.status.Status.TheVariants as status
-use Rattle.plan_writer.specs.RefusalText.{refusal_text}
-use Rattle.plan_writer.specs.declared.refusal.Refusal.TheVariants as refusal
+use Rattle.refusal_lines.specs.RefusalText.{refusal_text}
+use Rattle.refusal_lines.specs.declared.refusal.Refusal.TheVariants as refusal
 
 -- a fault that isn't want of memory is the first broken rule
 refused_with : (fault : ImportFault) (made : Result (List ℕ) ImportFault) → fault ≢ faults.Memory → Refuses fault made → made ≡ Err fault

@@ -3,11 +3,11 @@ use Rattle.std.proofs.Common.{◌∙◌, ℕ, List, [], ◌∷◌, sym}
 use Rattle.command_line.specs.Words.{ConvertJob}
 use Rattle.ev_text.proofs.Results.{Err-ne-Ok}
 use Rattle.job_frame.proofs.OneStatus.{ExcludeEachOther, IsPlain, lawful, nothing_excludes}
-use Rattle.job_frame.proofs.Performed.{IsLawful}
+use Rattle.job_frame.specs.Lawful.{IsLawful}
 use Rattle.job_frame.specs.Task.{Outcome}
 use Rattle.job_frame.specs.Writes.{Written}
-use Rattle.plan_writer.specs.declared.refusal.Refusal.{Refusal}
-use Rattle.plan_writer.specs.declared.refusal.Refusal.TheVariants as refusal
+use Rattle.refusal_lines.specs.declared.refusal.Refusal.{Refusal}
+use Rattle.refusal_lines.specs.declared.refusal.Refusal.TheVariants as refusal
 use Rattle.evroute_run.specs.ConvertAnswer.{BecomesWhole, ConvertAnswers, IsConvertRefused, convert_answers, convert_task}
 use Rattle.job_frame.specs.declared.status.Status.{Status}
 use Rattle.job_frame.specs.declared.status.Status.TheVariants as status

@@ -3,14 +3,14 @@ use Rattle.std.proofs.Common.{ℕ, List, Option, subst, sym}
 use Rattle.ev_model.specs.Network.{Network}
 use Rattle.fleet_steps.proofs.PlanFiles.{plan_rule}
 use Rattle.fleet_steps.specs.FleetNetwork.{HasFleetNetwork, IsFleetEnded}
-use Rattle.fleet_steps.specs.NearFile.{IsProofEnded}
+use Rattle.near_steps.specs.NearFile.{IsProofEnded}
 use Rattle.fleet_steps.specs.PlanFile.{IsPlanEnded}
 use Rattle.job_frame.specs.Ended.{IsRuleOrMemory}
 use Rattle.job_frame.specs.LimitedNetwork.{HasNetwork}
 use Rattle.job_frame.specs.declared.answer.Ended.{Ended}
 use Rattle.job_frame.specs.declared.answer.Ended.TheVariants.{Refused, Memory}
-use Rattle.plan_writer.specs.declared.refusal.Refusal.{Refusal}
-use Rattle.plan_writer.specs.declared.refusal.Refusal.TheVariants as refusal
+use Rattle.refusal_lines.specs.declared.refusal.Refusal.{Refusal}
+use Rattle.refusal_lines.specs.declared.refusal.Refusal.TheVariants as refusal
 use Rattle.evroute_run.specs.CheckAnswer.{IsCheckRefused}
 use Rattle.evroute_run.specs.CheckBoundAnswer.{IsCheckBoundRefused}
 use Rattle.evroute_run.specs.Ended.{IsCheckBoundEnded, IsCheckEnded, IsImproveEnded}

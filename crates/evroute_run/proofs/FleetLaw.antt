@@ -1,7 +1,7 @@
 -- The files that `fleet` leaves tell its status, and a budget alone stops it.
 use Rattle.std.proofs.Common.{◌≡◌, ◌≢◌, ◌∙◌, ℕ, ◌⊎◌, List, [], ◌∷◌, Option, None, Some, length, inl, inr, refl, subst, sym}
 use Rattle.command_line.specs.Words.{FleetJob}
-use Rattle.job_frame.proofs.Performed.{AreWrittenAlike, IsLawful}
+use Rattle.job_frame.specs.Lawful.{AreWrittenAlike, IsLawful}
 use Rattle.job_frame.specs.Task.{Outcome}
 use Rattle.job_frame.specs.Writes.{Written}
 use Rattle.fleet_steps.proofs.Instances.{fleet_refused_not}

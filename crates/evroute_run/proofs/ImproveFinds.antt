@@ -16,7 +16,7 @@ use Rattle.job_frame.specs.LimitedNetwork.{HasNetwork}
 use Rattle.job_frame.specs.declared.answer.Ended.{Ended}
 use Rattle.job_frame.specs.declared.answer.Ended.TheVariants.{Refused, Memory}
 use Rattle.job_frame.proofs.BehindReads.{IsFoundFor, no_write, one_write}
-use Rattle.job_frame.proofs.Hearing.{HearsOfFound}
+use Rattle.evroute_causes.proofs.Hearing.{HearsOfFound}
 use Rattle.job_frame.proofs.FileReads.{some_read}
 use Rattle.job_frame.specs.Faults.{FailsReading, HasFailedRead}
 use Rattle.job_frame.specs.Finds.{written_by}
@@ -28,24 +28,25 @@ use Rattle.job_frame.specs.declared.status.Status.TheVariants as status
 use Rattle.plan_check.specs.FleetRules.{stops_of}
 use Rattle.plan_check.specs.declared.fault.PlanFault.{PlanFault}
 use Rattle.plan_writer.specs.CheckText.{check_text}
-use Rattle.plan_writer.specs.RefusalText.{refusal_text}
+use Rattle.refusal_lines.specs.RefusalText.{refusal_text}
 use Rattle.plan_writer.specs.declared.check.Judgement.TheVariants as judgement
-use Rattle.plan_writer.specs.declared.refusal.Refusal.{Refusal}
+use Rattle.refusal_lines.specs.declared.refusal.Refusal.{Refusal}
 use Rattle.route_improve.specs.Improved.{CostsNoMore, IsFirstAlone, IsImproved}
 use Rattle.route_improve.specs.ImprovedText.{alone_text, improved_text}
 use Rattle.route_plan.specs.PlanTexts.{fleet_plan_text}
 use Rattle.route_plan.specs.declared.plan.FleetPlan.{FleetPlan}
+use Rattle.evroute_causes.specs.declared.cause.Cause.{Cause}
 
 -- ---- what is found for a plan
 
-by_status : (limit : Option ℕ) (outfile bytes plan_bytes : List ℕ) (f : Found) (s : Status) → f.answer.status ≡ s
+by_status : (limit : Option ℕ) (outfile bytes plan_bytes : List ℕ) (f : Found Cause) (s : Status) → f.answer.status ≡ s
     → ImproveAnswers limit outfile bytes plan_bytes s (map written_by f.files.items) f.answer.text.items
     → ImproveAnswers limit outfile bytes plan_bytes f.answer.status (map written_by f.files.items) f.answer.text.items
 by_status limit outfile bytes plan_bytes f s is answers =
     subst (λ (x : Status). ImproveAnswers limit outfile bytes plan_bytes x (map written_by f.files.items) f.answer.text.items) (sym is) answers
 
 -- a cheaper plan
-pub puts_improved : {E : Type 0} (limit : Option ℕ) (outfile bytes plan_bytes : List ℕ) (g : Network) (plan : Option FleetPlan) (was : Option ℕ) (better : FleetPlan) (made : Result Found E) →
+pub puts_improved : {E : Type 0} (limit : Option ℕ) (outfile bytes plan_bytes : List ℕ) (g : Network) (plan : Option FleetPlan) (was : Option ℕ) (better : FleetPlan) (made : Result (Found Cause) E) →
     HasPlan limit bytes plan_bytes g plan → IsValid g plan was → IsImproved g better.routes → CostsNoMore g (routes_of plan) (cost_of g 1 (stops_of better.routes))
     → IfOk made (λ f. f.answer.status ≡ status.Done)
     → IfOk made (λ f. map written_by f.files.items ≡ record { name = outfile; bytes = fleet_plan_text (Some better) } ∷ [])
@@ -67,7 +68,7 @@ puts_improved {E} limit outfile bytes plan_bytes g plan was better (Ok f) has va
     })
 
 -- the first rule that it breaks
-pub puts_broken : {E : Type 0} (limit : Option ℕ) (outfile bytes plan_bytes : List ℕ) (g : Network) (plan : Option FleetPlan) (fault : PlanFault) (made : Result Found E) →
+pub puts_broken : {E : Type 0} (limit : Option ℕ) (outfile bytes plan_bytes : List ℕ) (g : Network) (plan : Option FleetPlan) (fault : PlanFault) (made : Result (Found Cause) E) →
     HasPlan limit bytes plan_bytes g plan → BreaksFirst g plan fault
     → IfOk made (λ f. f.answer.status ≡ status.Negative) → IfOk made (λ f. map written_by f.files.items ≡ [])
     → IfOk made (λ f. f.answer.text.items ≡ check_text g.denominator (judgement.Plan fault))
@@ -83,7 +84,7 @@ puts_broken {E} limit outfile bytes plan_bytes g plan fault (Ok f) has broken an
     }))
 
 -- a customer whom no route of his own reaches
-pub puts_alone : {E : Type 0} (limit : Option ℕ) (outfile bytes plan_bytes : List ℕ) (g : Network) (plan : Option FleetPlan) (node : ℕ) (made : Result Found E) →
+pub puts_alone : {E : Type 0} (limit : Option ℕ) (outfile bytes plan_bytes : List ℕ) (g : Network) (plan : Option FleetPlan) (node : ℕ) (made : Result (Found Cause) E) →
     HasPlan limit bytes plan_bytes g plan → plan ≡ None → IsFirstAlone g node
     → IfOk made (λ f. f.answer.status ≡ status.Negative) → IfOk made (λ f. map written_by f.files.items ≡ [])
     → IfOk made (λ f. f.answer.text.items ≡ alone_text node)
@@ -110,7 +111,7 @@ no_plan_of None is = refl
 no_plan_of (Some p) is = absurd (cc)
 
 -- the first broken rule of a text
-pub puts_refusal : {E : Type 0} (limit : Option ℕ) (outfile bytes plan_bytes : List ℕ) (ended : Ended) (refusal : Refusal) (made : Result Found E) →
+pub puts_refusal : {E : Type 0} (limit : Option ℕ) (outfile bytes plan_bytes : List ℕ) (ended : Ended) (refusal : Refusal) (made : Result (Found Cause) E) →
     ended ≡ Refused refusal → IsImproveEnded limit bytes plan_bytes ended
     → IfOk made (λ f. f.answer.status ≡ status.Refused) → IfOk made (λ f. f.files.items ≡ [])
     → IfOk made (λ f. f.answer.text.items ≡ refusal_text refusal)
@@ -143,7 +144,7 @@ answer_is_plain limit outfile bytes plan_bytes status.Fault ws text p = absurd p
 answer_is_plain limit outfile bytes plan_bytes status.Memory ws text p = absurd p
 answer_is_plain limit outfile bytes plan_bytes status.Stopped ws text p = absurd p
 
-pub improve_found : {E : Type 0} (job : ImproveJob) (files : Option Files) (bytes plan_bytes outfile given : List ℕ) (made : Result Found E) →
+pub improve_found : {E : Type 0} (job : ImproveJob) (files : Option Files) (bytes plan_bytes outfile given : List ℕ) (made : Result (Found Cause) E) →
     AreReadUpTo most_bytes files job.file bytes → AreReadUpTo most_bytes files job.plan plan_bytes → outfile ≡ job.outfile → given ≡ plan_bytes
     → IfOk made (λ f. ImproveAnswers job.limit outfile bytes given f.answer.status (map written_by f.files.items) f.answer.text.items)
     → IfOk made (HearsOfFound improve_heard) → IfOk made (λ f. IsFoundFor (improve_task job) files f)

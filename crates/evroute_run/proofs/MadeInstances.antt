@@ -14,9 +14,10 @@ use Rattle.job_frame.specs.Writes.{Written}
 use Rattle.job_frame.specs.declared.status.Status.{Status}
 use Rattle.job_frame.specs.declared.status.Status.TheVariants as status
 use Rattle.plan_writer.specs.MakeText.{make_text}
-use Rattle.plan_writer.specs.declared.refusal.Refusal.{Refusal}
-use Rattle.plan_writer.specs.declared.refusal.Refusal.TheVariants as refusal
+use Rattle.refusal_lines.specs.declared.refusal.Refusal.{Refusal}
+use Rattle.refusal_lines.specs.declared.refusal.Refusal.TheVariants as refusal
 use Rattle.route_plan.specs.declared.plan.RoutePlan.{RoutePlan}
+use Rattle.evroute_causes.specs.declared.cause.Cause.{Cause}
 
 -- ---- the route over all customers
 
@@ -84,7 +85,7 @@ of_all job customers route same is = is ∙ ap route_of_all (sym same)
 pub puts_time : {E : Type 0} (job : MakeJob) (customers : ℕ) (g : Network) (route : List ℕ) (start : ℕ) (found : Option RoutePlan) (plan : RoutePlan)
     → job.customers ≡ customers → MakesNetwork job g → route ≡ route_of_all customers → start ≡ g.capacity → found ≡ Some plan
     → MatchOption found (HasNoPlan g route start) (λ p. IsFastest g route start p.stops)
-    → (made : Result Answer E) → IfOk made (λ a. a.status ≡ status.Done)
+    → (made : Result (Answer Cause) E) → IfOk made (λ a. a.status ≡ status.Done)
     → IfOk made (λ a. a.text.items ≡ make_text (node_count g) g.denominator (Some (time_of g 1 g.capacity plan.stops)))
     → IfOk made (λ a. (ws : List Written) → ws ≡ made_file job ∷ [] → MakeAnswers job a.status ws a.text.items)
 puts_time {E} job customers g route start found plan same makes is full some answer (Err none) answered text = tt
@@ -103,7 +104,7 @@ puts_time {E} job customers g route start found plan same makes is full some ans
 pub puts_no_time : {E : Type 0} (job : MakeJob) (customers : ℕ) (g : Network) (route : List ℕ) (start : ℕ) (found : Option RoutePlan)
     → job.customers ≡ customers → MakesNetwork job g → route ≡ route_of_all customers → start ≡ g.capacity → found ≡ None
     → MatchOption found (HasNoPlan g route start) (λ p. IsFastest g route start p.stops)
-    → (made : Result Answer E) → IfOk made (λ a. a.status ≡ status.Negative)
+    → (made : Result (Answer Cause) E) → IfOk made (λ a. a.status ≡ status.Negative)
     → IfOk made (λ a. a.text.items ≡ make_text (node_count g) g.denominator None)
     → IfOk made (λ a. (ws : List Written) → ws ≡ made_file job ∷ [] → MakeAnswers job a.status ws a.text.items)
 puts_no_time {E} job customers g route start found same makes is full none answer (Err e) answered text = tt

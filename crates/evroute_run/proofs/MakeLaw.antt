@@ -5,7 +5,7 @@ use Rattle.ev_model.specs.Fastest.{HasNoPlan}
 use Rattle.ev_model.specs.Network.{Network}
 use Rattle.instance_reader.proofs.LawsLemmas.{one_network}
 use Rattle.job_frame.proofs.OneStatus.{ExcludeEachOther, IsPlain, lawful, nothing_excludes}
-use Rattle.job_frame.proofs.Performed.{IsLawful}
+use Rattle.job_frame.specs.Lawful.{IsLawful}
 use Rattle.job_frame.specs.Task.{Outcome}
 use Rattle.job_frame.specs.Writes.{Written}
 use Rattle.evroute_run.proofs.MadeInstances.{refused_has_no_instance}

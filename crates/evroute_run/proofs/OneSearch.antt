@@ -24,7 +24,7 @@ use Rattle.ev_text.proofs.WholeReads.{ranged-spells}
 use Rattle.instance_reader.specs.Instance.{most_customers}
 use Rattle.fleet_steps.proofs.Plans.{one_plan}
 use Rattle.route_plan.specs.declared.plan.FleetPlan.{FleetPlan}
-use Rattle.job_frame.proofs.Performed.{AreWrittenAlike}
+use Rattle.job_frame.specs.Lawful.{AreWrittenAlike}
 use Rattle.job_frame.specs.Task.{Outcome as Answered}
 use Rattle.job_frame.specs.Writes.{HoldsAll, Written as NewFile}
 use Rattle.job_frame.proofs.LimitedNetworks.{one_limited}

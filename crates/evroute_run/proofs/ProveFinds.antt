@@ -9,8 +9,8 @@ use Rattle.ev_model.specs.Feasible.{IsFeasible}
 use Rattle.ev_model.specs.Network.{Network}
 use Rattle.ev_outside.specs.Shelf.{Files}
 use Rattle.job_frame.proofs.BehindReads.{IsFoundFor, no_write, one_write}
-use Rattle.job_frame.proofs.Hearing.{HearsOfFound}
-use Rattle.job_frame.specs.Heard.{HearsRefusals}
+use Rattle.evroute_causes.proofs.Hearing.{HearsOfFound}
+use Rattle.evroute_causes.specs.Heard.{HearsRefusals}
 use Rattle.job_frame.specs.Finds.{written_by}
 use Rattle.job_frame.specs.Task.{AreReadUpTo, IsAnswered}
 use Rattle.job_frame.specs.Writes.{AreDifferent, Written}
@@ -19,8 +19,8 @@ use Rattle.job_frame.specs.declared.found.Found.{Found}
 use Rattle.job_frame.specs.declared.status.Status.{Status}
 use Rattle.job_frame.specs.declared.status.Status.TheVariants as status
 use Rattle.plan_writer.specs.FixedText.{fixed_text}
-use Rattle.plan_writer.specs.RefusalText.{refusal_text}
-use Rattle.plan_writer.specs.declared.refusal.Refusal.{Refusal}
+use Rattle.refusal_lines.specs.RefusalText.{refusal_text}
+use Rattle.refusal_lines.specs.declared.refusal.Refusal.{Refusal}
 use Rattle.route_proof.specs.ProofIn.{proof_in}
 use Rattle.route_proof.specs.ProofTexts.{proof_text}
 use Rattle.route_plan.specs.declared.plan.RoutePlan.{RoutePlan}
@@ -35,6 +35,7 @@ use Rattle.evroute_run.specs.FixedAnswer.{IsTask, start_of}
 use Rattle.evroute_run.specs.ProveAnswer.{AcceptsProof, ProveAnswers, PutsProved, fixed_status, prove_task, timed_plan}
 use Rattle.job_frame.specs.declared.answer.Ended.{Ended}
 use Rattle.job_frame.specs.declared.answer.Ended.TheVariants.{Refused}
+use Rattle.evroute_causes.specs.declared.cause.Cause.{Cause}
 
 -- a listed plan is feasible
 pub good_is_feasible : (t : Journey) (plan : Option RoutePlan) → HasGoodPlan t plan → IfSome plan (λ p. IsFeasible t.network 1 t.start p.stops)
@@ -43,7 +44,7 @@ good_is_feasible t (Some plan) good = good.0
 
 -- ---- what is found for a route
 
-by_status : (options : Options) (word cert bytes : List ℕ) (f : Found) (s : Status) → f.answer.status ≡ s
+by_status : (options : Options) (word cert bytes : List ℕ) (f : Found Cause) (s : Status) → f.answer.status ≡ s
     → ProveAnswers options word cert bytes s (map written_by f.files.items) f.answer.text.items
     → ProveAnswers options word cert bytes f.answer.status (map written_by f.files.items) f.answer.text.items
 by_status options word cert bytes f s is answers =
@@ -75,7 +76,7 @@ accepts options word cert bytes g route proof ws task fits accepted shows reads 
     subst (All P) (sym written) (All-cons P file [] judged (All-nil P))
 
 -- a proof, with its plan and its file
-pub puts_proved : {E : Type 0} (options : Options) (word cert bytes : List ℕ) (g : Network) (route : List ℕ) (level : ℕ) (proof : RouteProof) (answer : Answer) (file : Written) (made : Result Found E) →
+pub puts_proved : {E : Type 0} (options : Options) (word cert bytes : List ℕ) (g : Network) (route : List ℕ) (level : ℕ) (proof : RouteProof) (answer : Answer Cause) (file : Written) (made : Result (Found Cause) E) →
     IsTask options word bytes g route → level ≡ start_of g options.charge
     → ProofFits g route proof → IsAccepted (record { network = g; route = route; start = level }) proof → IsTrue (record { network = g; route = route; start = level }) proof.plan
     → IsReadBack g route proof → answer.status ≡ fixed_status proof.plan → answer.text.items ≡ fixed_text g.denominator (timed_plan g level proof.plan)
@@ -87,7 +88,7 @@ puts_proved {E} options word cert bytes g route level proof answer file (Ok f) t
     let truth : IsTrue (journey_of options g route) proof.plan = subst (λ (n : ℕ). IsTrue (record { network = g; route = route; start = n }) proof.plan) is shows in
     let ws = map written_by f.files.items in
     let written : ws ≡ record { name = cert; bytes = proof_text proof } ∷ [] = files ∙ ap (λ (w : Written). w ∷ []) spelled in
-    by_status options word cert bytes f (fixed_status proof.plan) (ap (λ (a : Answer). a.status) answered ∙ status_is)
+    by_status options word cert bytes f (fixed_status proof.plan) (ap (λ (a : Answer Cause). a.status) answered ∙ status_is)
     (by_plan options word cert bytes proof.plan ws f.answer.text.items (record {
       network = g;
       route = route;
@@ -100,11 +101,11 @@ puts_proved {E} options word cert bytes g route level proof answer file (Ok f) t
       written = written;
       judged = accepts options word cert bytes g route proof ws task fits here truth reads written;
       text_is =
-          ap (λ (a : Answer). a.text.items) answered ∙ subst (λ (n : ℕ). answer.text.items ≡ fixed_text g.denominator (timed_plan g n proof.plan)) is text;
+          ap (λ (a : Answer Cause). a.text.items) answered ∙ subst (λ (n : ℕ). answer.text.items ≡ fixed_text g.denominator (timed_plan g n proof.plan)) is text;
     }))
 
 -- the first broken rule
-pub puts_refusal : {E : Type 0} (options : Options) (word cert bytes : List ℕ) (ended : Ended) (refusal : Refusal) (made : Result Found E) →
+pub puts_refusal : {E : Type 0} (options : Options) (word cert bytes : List ℕ) (ended : Ended) (refusal : Refusal) (made : Result (Found Cause) E) →
     ended ≡ Refused refusal → IsEnded options word bytes ended
     → IfOk made (λ f. f.answer.status ≡ status.Refused) → IfOk made (λ f. f.files.items ≡ [])
     → IfOk made (λ f. f.answer.text.items ≡ refusal_text refusal)
@@ -131,7 +132,7 @@ answer_is_plain options word cert bytes status.Fault ws text p = absurd p
 answer_is_plain options word cert bytes status.Memory ws text p = absurd p
 answer_is_plain options word cert bytes status.Stopped ws text p = absurd p
 
-pub prove_found : {E : Type 0} (job : ProofJob) (files : Option Files) (bytes given word cert : List ℕ) (made : Result Found E) →
+pub prove_found : {E : Type 0} (job : ProofJob) (files : Option Files) (bytes given word cert : List ℕ) (made : Result (Found Cause) E) →
     AreReadUpTo most_bytes files job.file bytes → given ≡ bytes → word ≡ job.route → cert ≡ job.cert
     → IfOk made (λ f. ProveAnswers job.options word cert given f.answer.status (map written_by f.files.items) f.answer.text.items)
     → IfOk made (HearsOfFound HearsRefusals) → IfOk made (λ f. IsFoundFor (prove_task job) files f)

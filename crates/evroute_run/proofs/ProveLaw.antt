@@ -4,7 +4,7 @@ use Rattle.command_line.specs.Words.{ProofJob}
 use Rattle.command_line.specs.declared.Options.{Options}
 use Rattle.ev_model.specs.Network.{Network}
 use Rattle.job_frame.proofs.OneStatus.{lawful}
-use Rattle.job_frame.proofs.Performed.{IsLawful}
+use Rattle.job_frame.specs.Lawful.{IsLawful}
 use Rattle.job_frame.specs.Task.{Outcome}
 use Rattle.job_frame.specs.Writes.{Written}
 use Rattle.job_frame.specs.declared.status.Status.{Status}

@@ -9,10 +9,11 @@ use Rattle.job_frame.specs.declared.answer.Ended.{Ended}
 use Rattle.job_frame.specs.declared.answer.Ended.TheVariants.{Refused}
 use Rattle.job_frame.specs.declared.status.Status.{Status}
 use Rattle.job_frame.specs.declared.status.Status.TheVariants as status
-use Rattle.plan_writer.specs.RefusalText.{IsRule, refusal_text}
-use Rattle.plan_writer.specs.declared.refusal.Refusal.{Refusal}
+use Rattle.refusal_lines.specs.RefusalText.{IsRule, refusal_text}
+use Rattle.refusal_lines.specs.declared.refusal.Refusal.{Refusal}
+use Rattle.evroute_causes.specs.declared.cause.Cause.{Cause}
 
-pub refused_answers : {E : Type 0} (limit : Option ℕ) (file plan_bytes cert_bytes : List ℕ) (ended : Ended) (refusal : Refusal) (made : Result Answer E) →
+pub refused_answers : {E : Type 0} (limit : Option ℕ) (file plan_bytes cert_bytes : List ℕ) (ended : Ended) (refusal : Refusal) (made : Result (Answer Cause) E) →
     ended ≡ Refused refusal → IsCheckEnded limit file plan_bytes cert_bytes ended
     → IfOk made (λ a. a.status ≡ status.Refused) → IfOk made (λ a. a.text.items ≡ refusal_text refusal)
     → IfOk made (λ a. CheckAnswers limit file plan_bytes cert_bytes a.status a.text.items)

@@ -11,9 +11,10 @@ use Rattle.plan_writer.specs.CheckText.{check_text}
 use Rattle.plan_writer.specs.declared.check.Judgement.{Judgement}
 use Rattle.plan_writer.specs.declared.check.Judgement.TheVariants as judgement
 use Rattle.route_plan.specs.declared.plan.FleetPlan.{FleetPlan}
+use Rattle.evroute_causes.specs.declared.cause.Cause.{Cause}
 
 pub report_answers : {E : Type 0} (limit : Option ℕ) (file plan_bytes bytes : List ℕ)
-    (g : Network) (plan : Option FleetPlan) (cert : Certificate) (found : Judgement) (made : Result Answer E) →
+    (g : Network) (plan : Option FleetPlan) (cert : Certificate) (found : Judgement) (made : Result (Answer Cause) E) →
     HasFleet limit file plan_bytes g plan → IsCertificateOf g bytes cert → IsJudgementOf g plan cert found
     → IfOk made (λ a. a.status ≡ judged_status found) → IfOk made (λ a. a.text.items ≡ check_text g.denominator found)
     → IfOk made (λ a. CheckAnswers limit file plan_bytes bytes a.status a.text.items)

@@ -24,7 +24,8 @@ use Rattle.job_frame.specs.declared.answer.Ended.{Ended}
 use Rattle.job_frame.specs.declared.answer.Ended.TheVariants.{Refused, Memory}
 use Rattle.job_frame.specs.declared.status.Status.{Status}
 use Rattle.job_frame.specs.declared.status.Status.TheVariants as status
-use Rattle.plan_writer.specs.declared.refusal.Refusal.TheVariants as refusal
+use Rattle.refusal_lines.specs.declared.refusal.Refusal.TheVariants as refusal
+use Rattle.evroute_causes.specs.declared.cause.Cause.{Cause}
 
 pub has_start : (options : Options) (bytes : List ℕ) (g : Network) (level : ℕ) → HasNetwork options.limit bytes g → level ≡ start_of g options.charge → level ≤ g.capacity → HasStart options bytes g
 has_start options bytes g level network is within = record { network = network; within = subst (λ l. l ≤ g.capacity) is within }
@@ -71,7 +72,7 @@ pub match_none : {A : Type 0} (answer : Option A) (P : Type 0) (Q : A → Type 0
 match_none {A} answer P Q is holds = subst (λ (o : Option A). MatchOption o P Q) is holds
 
 pub puts_plan : {E : Type 0} (options : Options) (word bytes : List ℕ) (g : Network) (route : List ℕ) (level : ℕ) → IsTask options word bytes g route → level ≡ start_of g options.charge
-    → (stops : List Stop) → IsFastest g route level stops → (made : Result Answer E) → IfOk made (λ a. a.status ≡ status.Done)
+    → (stops : List Stop) → IsFastest g route level stops → (made : Result (Answer Cause) E) → IfOk made (λ a. a.status ≡ status.Done)
     → IfOk made (λ a. a.text.items ≡ fixed_text g.denominator (Some (stops, time_of g 1 level stops)))
     → IfOk made (λ a. FixedAnswers options word bytes a.status a.text.items)
 puts_plan options word bytes g route level task is stops fastest (Err none) answered text = tt
@@ -86,7 +87,7 @@ puts_plan options word bytes g route level task is stops fastest (Ok a) answered
     })
 
 pub puts_infeasible : {E : Type 0} (options : Options) (word bytes : List ℕ) (g : Network) (route : List ℕ) (level : ℕ) → IsTask options word bytes g route → level ≡ start_of g options.charge
-    → HasNoPlan g route level → (made : Result Answer E) → IfOk made (λ a. a.status ≡ status.Negative)
+    → HasNoPlan g route level → (made : Result (Answer Cause) E) → IfOk made (λ a. a.status ≡ status.Negative)
     → IfOk made (λ a. a.text.items ≡ fixed_text g.denominator None)
     → IfOk made (λ a. FixedAnswers options word bytes a.status a.text.items)
 puts_infeasible options word bytes g route level task is none (Err e) answered text = tt

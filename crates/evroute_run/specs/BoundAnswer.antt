@@ -12,14 +12,15 @@ use Rattle.near_text.specs.Written.{written_near}
 use Rattle.ng_pricing.specs.NearBound.{IsNearBound}
 use Rattle.job_frame.specs.Caps.{file_read}
 use Rattle.evroute_run.specs.CheckBoundAnswer.{PutsAcceptedBound}
-use Rattle.fleet_steps.specs.NearFile.{HasNear}
+use Rattle.near_steps.specs.NearFile.{HasNear}
 use Rattle.fleet_steps.specs.FleetNetwork.{HasFleetNetwork}
 use Rattle.evroute_run.specs.FleetRefusal.{PutsFleetRefusal}
-use Rattle.job_frame.specs.Heard.{HearsSearch}
+use Rattle.evroute_causes.specs.Heard.{HearsSearch}
 use Rattle.job_frame.specs.Task.{Outcome, Task}
 use Rattle.job_frame.specs.Writes.{Written}
 use Rattle.job_frame.specs.declared.status.Status.{Status}
 use Rattle.job_frame.specs.declared.status.Status.TheVariants as status
+use Rattle.evroute_causes.specs.declared.cause.Cause.{Cause}
 
 -- the status where no fleet plan costs less than this, or where there is no fleet plan
 abbrev pub bound_status : Option ℕ → Status
@@ -72,7 +73,7 @@ abbrev pub bound_answers : BoundJob → List (List ℕ) → Outcome → Type 0
 bound_answers job (bytes ∷ []) o = BoundAnswers job bytes o.status o.writes o.text
 bound_answers job other o = ⊥
 
-abbrev pub bound_task : BoundJob → Task
+abbrev pub bound_task : BoundJob → Task Cause
 bound_task job = record {
   reads = file_read job.file ∷ [];
   goes_on = λ before. Unit {0};

@@ -14,11 +14,11 @@ use Rattle.command_line.specs.Words.{CheckJob}
 use Rattle.ev_model.specs.Network.{Network}
 use Rattle.instance_reader.specs.Faults.{IsFirstFault}
 use Rattle.plan_writer.specs.CheckText.{check_text}
-use Rattle.plan_writer.specs.RefusalText.{IsRule, refusal_text}
+use Rattle.refusal_lines.specs.RefusalText.{IsRule, refusal_text}
 use Rattle.plan_writer.specs.declared.check.Judgement.{Judgement}
 use Rattle.plan_writer.specs.declared.check.Judgement.TheVariants as judgement
-use Rattle.plan_writer.specs.declared.refusal.Refusal.{Refusal}
-use Rattle.plan_writer.specs.declared.refusal.Refusal.TheVariants as refusal
+use Rattle.refusal_lines.specs.declared.refusal.Refusal.{Refusal}
+use Rattle.refusal_lines.specs.declared.refusal.Refusal.TheVariants as refusal
 use Rattle.route_plan.specs.PlanReading.{fleet_plan_in}
 use Rattle.route_plan.specs.declared.plan.FleetPlan.{FleetPlan}
 use Rattle.job_frame.specs.Caps.{certificate_read, file_read}
@@ -26,10 +26,10 @@ use Rattle.instance_reader.specs.Instance.{most_customers}
 use Rattle.fleet_steps.specs.FleetNetwork.{HasFleetNetwork}
 use Rattle.fleet_steps.specs.PlanFile.{BreaksFirst, HasFleet, IsValid}
 use Rattle.job_frame.specs.LimitedNetwork.{HasNetwork, IsPastLimit}
-use Rattle.job_frame.specs.Heard.{HearsRefusal}
+use Rattle.evroute_causes.specs.Heard.{HearsRefusal}
 use Rattle.job_frame.specs.Task.{Outcome, Task}
-use Rattle.job_frame.specs.declared.cause.Cause.{Cause}
-use Rattle.job_frame.specs.declared.cause.Cause.TheVariants as cause
+use Rattle.evroute_causes.specs.declared.cause.Cause.{Cause}
+use Rattle.evroute_causes.specs.declared.cause.Cause.TheVariants as cause
 use Rattle.job_frame.specs.declared.status.Status.{Status}
 use Rattle.job_frame.specs.declared.status.Status.TheVariants as status
 
@@ -148,7 +148,7 @@ check_goes_on job (bytes ∷ plan_bytes ∷ []) =
     (g : Network) × ((plan : Option FleetPlan) × HasFleet job.limit bytes plan_bytes g plan)
 check_goes_on job other = ⊥
 
-abbrev pub check_task : CheckJob → Task
+abbrev pub check_task : CheckJob → Task Cause
 check_task job = record {
   reads = file_read job.file ∷ file_read job.plan ∷ certificate_read job.cert ∷ [];
   goes_on = check_goes_on job;

@@ -10,16 +10,16 @@ use Rattle.near_proof.specs.declared.verdict.NearVerdict.{NearVerdict}
 use Rattle.near_proof.specs.declared.verdict.NearVerdict.TheVariants as verdict
 use Rattle.near_text.specs.NearIn.{near_in}
 use Rattle.near_text.specs.VerdictText.{near_verdict_text}
-use Rattle.plan_writer.specs.RefusalText.{IsRule, refusal_text}
-use Rattle.plan_writer.specs.declared.refusal.Refusal.{Refusal}
-use Rattle.plan_writer.specs.declared.refusal.Refusal.TheVariants as refusal
+use Rattle.refusal_lines.specs.RefusalText.{IsRule, refusal_text}
+use Rattle.refusal_lines.specs.declared.refusal.Refusal.{Refusal}
+use Rattle.refusal_lines.specs.declared.refusal.Refusal.TheVariants as refusal
 use Rattle.job_frame.specs.Caps.{certificate_read, file_read}
 use Rattle.fleet_steps.specs.FleetNetwork.{HasFleetNetwork, IsFleetRefused}
-use Rattle.fleet_steps.specs.NearFile.{HasNear}
-use Rattle.job_frame.specs.Heard.{HearsRefusal}
+use Rattle.near_steps.specs.NearFile.{HasNear}
+use Rattle.evroute_causes.specs.Heard.{HearsRefusal}
 use Rattle.job_frame.specs.Task.{Outcome, Task}
-use Rattle.job_frame.specs.declared.cause.Cause.{Cause}
-use Rattle.job_frame.specs.declared.cause.Cause.TheVariants as cause
+use Rattle.evroute_causes.specs.declared.cause.Cause.{Cause}
+use Rattle.evroute_causes.specs.declared.cause.Cause.TheVariants as cause
 use Rattle.job_frame.specs.declared.status.Status.{Status}
 use Rattle.job_frame.specs.declared.status.Status.TheVariants as status
 
@@ -109,7 +109,7 @@ check_bound_goes_on job [] = Unit {0}
 check_bound_goes_on job (bytes ∷ []) = (g : Network) × HasFleetNetwork job.limit bytes g
 check_bound_goes_on job other = ⊥
 
-abbrev pub check_bound_task : BoundCheckJob → Task
+abbrev pub check_bound_task : BoundCheckJob → Task Cause
 check_bound_task job = record {
   reads = file_read job.file ∷ certificate_read job.cert ∷ [];
   goes_on = check_bound_goes_on job;

@@ -4,9 +4,9 @@ use Rattle.command_line.specs.Words.{ProofJob}
 use Rattle.command_line.specs.declared.Options.{Options}
 use Rattle.ev_model.specs.Network.{Network}
 use Rattle.ev_model.specs.Time.{time_of}
-use Rattle.plan_writer.specs.RefusalText.{IsRule, refusal_text}
-use Rattle.plan_writer.specs.declared.refusal.Refusal.{Refusal}
-use Rattle.plan_writer.specs.declared.refusal.Refusal.TheVariants as refusal
+use Rattle.refusal_lines.specs.RefusalText.{IsRule, refusal_text}
+use Rattle.refusal_lines.specs.declared.refusal.Refusal.{Refusal}
+use Rattle.refusal_lines.specs.declared.refusal.Refusal.TheVariants as refusal
 use Rattle.route_proof.specs.ProofIn.{SpellsProof, proof_in}
 use Rattle.route_proof.specs.VerdictText.{verdict_text}
 use Rattle.route_plan.specs.declared.plan.RoutePlan.{RoutePlan}
@@ -18,10 +18,10 @@ use Rattle.route_proof.specs.declared.verdict.RouteVerdict.TheVariants as verdic
 use Rattle.route_steps.specs.Trips.{Journey}
 use Rattle.job_frame.specs.Caps.{certificate_read, file_read}
 use Rattle.evroute_run.specs.FixedAnswer.{IsRefused, IsTask, start_of}
-use Rattle.job_frame.specs.Heard.{HearsDone, HearsRefusal}
+use Rattle.evroute_causes.specs.Heard.{HearsDone, HearsRefusal}
 use Rattle.job_frame.specs.Task.{Outcome, Task}
-use Rattle.job_frame.specs.declared.cause.Cause.{Cause}
-use Rattle.job_frame.specs.declared.cause.Cause.TheVariants as cause
+use Rattle.evroute_causes.specs.declared.cause.Cause.{Cause}
+use Rattle.evroute_causes.specs.declared.cause.Cause.TheVariants as cause
 use Rattle.job_frame.specs.declared.status.Status.{Status}
 use Rattle.job_frame.specs.declared.status.Status.TheVariants as status
 
@@ -119,7 +119,7 @@ check_route_goes_on job (bytes ∷ []) =
     (g : Network) × ((route : List ℕ) × IsTask job.options job.route bytes g route)
 check_route_goes_on job other = ⊥
 
-abbrev pub check_route_task : ProofJob → Task
+abbrev pub check_route_task : ProofJob → Task Cause
 check_route_task job = record {
   reads = file_read job.file ∷ certificate_read job.cert ∷ [];
   goes_on = check_route_goes_on job;

@@ -3,15 +3,16 @@ use Rattle.std.specs.Prelude.{◌≡◌, ℕ, List, [], ◌∷◌, Ok, Err}
 use Rattle.command_line.specs.Words.{ConvertJob}
 use Rattle.decimal_import.specs.Conversion.{conversion_of}
 use Rattle.decimal_import.specs.Converted.{IsConverted}
-use Rattle.plan_writer.specs.RefusalText.{IsRule, refusal_text}
-use Rattle.plan_writer.specs.declared.refusal.Refusal.{Refusal}
-use Rattle.plan_writer.specs.declared.refusal.Refusal.TheVariants as refusal
+use Rattle.refusal_lines.specs.RefusalText.{IsRule, refusal_text}
+use Rattle.refusal_lines.specs.declared.refusal.Refusal.{Refusal}
+use Rattle.refusal_lines.specs.declared.refusal.Refusal.TheVariants as refusal
 use Rattle.job_frame.specs.Caps.{file_read}
-use Rattle.job_frame.specs.Heard.{HearsRefusals}
+use Rattle.evroute_causes.specs.Heard.{HearsRefusals}
 use Rattle.job_frame.specs.Task.{Outcome, Task}
 use Rattle.job_frame.specs.Writes.{Written}
 use Rattle.job_frame.specs.declared.status.Status.{Status}
 use Rattle.job_frame.specs.declared.status.Status.TheVariants as status
+use Rattle.evroute_causes.specs.declared.cause.Cause.{Cause}
 
 -- the bytes become this text: none of the rules of conversion is broken, each number under a key with a unit is the
 -- least whole number with the digits of the words, and every other byte stays
@@ -52,7 +53,7 @@ abbrev pub convert_answers : ConvertJob → List (List ℕ) → Outcome → Type
 convert_answers job (bytes ∷ []) o = ConvertAnswers job bytes o.status o.writes o.text
 convert_answers job other o = ⊥
 
-abbrev pub convert_task : ConvertJob → Task
+abbrev pub convert_task : ConvertJob → Task Cause
 convert_task job = record {
   reads = file_read job.file ∷ [];
   goes_on = λ before. Unit {0};

@@ -6,7 +6,7 @@ use Rattle.evroute_run.specs.CheckBoundAnswer.{IsCheckBoundRefused}
 use Rattle.evroute_run.specs.CheckRouteAnswer.{IsCheckRouteRefused}
 use Rattle.evroute_run.specs.FixedAnswer.{IsRefused}
 use Rattle.fleet_steps.specs.PlanFile.{IsTextRefused}
-use Rattle.plan_writer.specs.RefusalText.{IsRule}
+use Rattle.refusal_lines.specs.RefusalText.{IsRule}
 use Rattle.job_frame.specs.declared.answer.Ended.{Ended}
 use Rattle.job_frame.specs.declared.answer.Ended.TheVariants.{Refused, Memory}
 

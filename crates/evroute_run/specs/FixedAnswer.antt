@@ -8,19 +8,20 @@ use Rattle.command_line.specs.declared.Options.{Options}
 use Rattle.instance_reader.specs.Faults.{IsFirstFault}
 use Rattle.ev_model.specs.Fastest.{HasNoPlan, IsFastest}
 use Rattle.plan_writer.specs.FixedText.{fixed_text}
-use Rattle.plan_writer.specs.RefusalText.{IsRule, refusal_text}
-use Rattle.plan_writer.specs.declared.refusal.Refusal.{Refusal}
-use Rattle.plan_writer.specs.declared.refusal.Refusal.TheVariants as refusal
+use Rattle.refusal_lines.specs.RefusalText.{IsRule, refusal_text}
+use Rattle.refusal_lines.specs.declared.refusal.Refusal.{Refusal}
+use Rattle.refusal_lines.specs.declared.refusal.Refusal.TheVariants as refusal
 use Rattle.ev_model.specs.Route.{IsRoute}
 use Rattle.route_plan.specs.Limits.{most_route_nodes}
 use Rattle.route_plan.specs.RouteRules.{route_in}
 use Rattle.route_plan.specs.RouteWords.{SpellsRoute}
 use Rattle.job_frame.specs.Caps.{file_read}
 use Rattle.job_frame.specs.LimitedNetwork.{HasNetwork, IsPastLimit}
-use Rattle.job_frame.specs.Heard.{HearsRefusals}
+use Rattle.evroute_causes.specs.Heard.{HearsRefusals}
 use Rattle.job_frame.specs.Task.{Outcome, Task}
 use Rattle.job_frame.specs.declared.status.Status.{Status}
 use Rattle.job_frame.specs.declared.status.Status.TheVariants as status
+use Rattle.evroute_causes.specs.declared.cause.Cause.{Cause}
 
 -- the level at which the vehicle starts: that of the words, else a full battery
 abbrev pub start_of : Network → Option ℕ → ℕ
@@ -89,7 +90,7 @@ fixed_answers job (bytes ∷ []) o =
     FixedAnswers job.options job.route bytes o.status o.text × (o.writes ≡ [])
 fixed_answers job other o = ⊥
 
-abbrev pub fixed_task : FixedJob → Task
+abbrev pub fixed_task : FixedJob → Task Cause
 fixed_task job = record {
   reads = file_read job.file ∷ [];
   goes_on = λ before. Unit {0};

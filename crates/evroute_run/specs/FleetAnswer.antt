@@ -27,12 +27,13 @@ use Rattle.job_frame.specs.Caps.{file_read}
 use Rattle.evroute_run.specs.CheckAnswer.{IsCertificateOf, PutsAccepted}
 use Rattle.fleet_steps.specs.FleetNetwork.{HasFleetNetwork}
 use Rattle.evroute_run.specs.FleetRefusal.{PutsFleetRefusal}
-use Rattle.job_frame.specs.Heard.{HearsSearch}
+use Rattle.evroute_causes.specs.Heard.{HearsSearch}
 use Rattle.job_frame.specs.Task.{Task}
 use Rattle.job_frame.specs.Task as task
 use Rattle.job_frame.specs.Writes.{Written}
 use Rattle.job_frame.specs.declared.status.Status.{Status}
 use Rattle.job_frame.specs.declared.status.Status.TheVariants as status
+use Rattle.evroute_causes.specs.declared.cause.Cause.{Cause}
 
 -- what the line of a certificate's root tells: nothing where there is no fractional cover; of an exact root the price sum of
 -- section 0 over its weight, which no fractional cover costs less than, in units of time and in lowest terms; or that the
@@ -140,7 +141,7 @@ fleet_answers job (bytes ∷ []) o = FleetAnswers job bytes o.status o.writes o.
 fleet_answers job other o = ⊥
 
 -- what a search finds is left open, and a budget may end it
-abbrev pub fleet_task : FleetJob → Task
+abbrev pub fleet_task : FleetJob → Task Cause
 fleet_task job = record {
   reads = file_read job.file ∷ [];
   goes_on = λ before. Unit {0};

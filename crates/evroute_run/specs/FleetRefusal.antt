@@ -2,8 +2,8 @@
 use Rattle.std.specs.Prelude.{◌≡◌, ℕ, List, [], Option}
 use Rattle.fleet_steps.specs.FleetNetwork.{IsFleetRefused}
 use Rattle.job_frame.specs.Writes.{Written}
-use Rattle.plan_writer.specs.RefusalText.{IsRule, refusal_text}
-use Rattle.plan_writer.specs.declared.refusal.Refusal.{Refusal}
+use Rattle.refusal_lines.specs.RefusalText.{IsRule, refusal_text}
+use Rattle.refusal_lines.specs.declared.refusal.Refusal.{Refusal}
 
 -- the line of the first broken rule is put, and nothing is written
 pub record PutsFleetRefusal (limit : Option ℕ) (bytes : List ℕ)

@@ -6,9 +6,9 @@ use Rattle.ev_model.specs.Network.{Network}
 use Rattle.plan_check.specs.FleetRules.{stops_of}
 use Rattle.plan_check.specs.declared.fault.PlanFault.{PlanFault}
 use Rattle.plan_writer.specs.CheckText.{check_text}
-use Rattle.plan_writer.specs.RefusalText.{IsRule, refusal_text}
+use Rattle.refusal_lines.specs.RefusalText.{IsRule, refusal_text}
 use Rattle.plan_writer.specs.declared.check.Judgement.TheVariants as judgement
-use Rattle.plan_writer.specs.declared.refusal.Refusal.{Refusal}
+use Rattle.refusal_lines.specs.declared.refusal.Refusal.{Refusal}
 use Rattle.route_improve.specs.Improved.{CostsNoMore, IsFirstAlone, IsImproved}
 use Rattle.route_improve.specs.ImprovedText.{alone_text, improved_text}
 use Rattle.route_plan.specs.PlanTexts.{fleet_plan_text}
@@ -16,12 +16,12 @@ use Rattle.route_plan.specs.declared.plan.FleetPlan.{FleetPlan}
 use Rattle.job_frame.specs.Caps.{file_read}
 use Rattle.fleet_steps.specs.PlanFile.{BreaksFirst, HoldsPlan, IsTextRefused, IsValid, routes_of}
 use Rattle.job_frame.specs.LimitedNetwork.{HasNetwork}
-use Rattle.fleet_steps.specs.Heard.{HearsBrokenPlan}
-use Rattle.job_frame.specs.Heard.{HearsDone, HearsRefusal}
+use Rattle.evroute_causes.specs.Heard.{HearsBrokenPlan}
+use Rattle.evroute_causes.specs.Heard.{HearsDone, HearsRefusal}
 use Rattle.job_frame.specs.Task.{Outcome, Task}
 use Rattle.job_frame.specs.Writes.{Written}
-use Rattle.job_frame.specs.declared.cause.Cause.{Cause}
-use Rattle.job_frame.specs.declared.cause.Cause.TheVariants as cause
+use Rattle.evroute_causes.specs.declared.cause.Cause.{Cause}
+use Rattle.evroute_causes.specs.declared.cause.Cause.TheVariants as cause
 use Rattle.job_frame.specs.declared.status.Status.{Status}
 use Rattle.job_frame.specs.declared.status.Status.TheVariants as status
 
@@ -107,7 +107,7 @@ improve_goes_on job [] = Unit {0}
 improve_goes_on job (bytes ∷ []) = (g : Network) × HasNetwork job.limit bytes g
 improve_goes_on job other = ⊥
 
-abbrev pub improve_task : ImproveJob → Task
+abbrev pub improve_task : ImproveJob → Task Cause
 improve_task job = record {
   reads = file_read job.file ∷ file_read job.plan ∷ [];
   goes_on = improve_goes_on job;

@@ -9,14 +9,15 @@ use Rattle.ev_model.specs.declared.Stop.{Stop}
 use Rattle.instance_maker.specs.MadeInstance.{IsOutOfRange, made_text}
 use Rattle.instance_reader.specs.Faults.{IsInstanceOf}
 use Rattle.plan_writer.specs.MakeText.{make_text}
-use Rattle.plan_writer.specs.RefusalText.{IsRule, refusal_text}
-use Rattle.plan_writer.specs.declared.refusal.Refusal.{Refusal}
-use Rattle.plan_writer.specs.declared.refusal.Refusal.TheVariants as refusal
-use Rattle.job_frame.specs.Heard.{HearsRefusals}
+use Rattle.refusal_lines.specs.RefusalText.{IsRule, refusal_text}
+use Rattle.refusal_lines.specs.declared.refusal.Refusal.{Refusal}
+use Rattle.refusal_lines.specs.declared.refusal.Refusal.TheVariants as refusal
+use Rattle.evroute_causes.specs.Heard.{HearsRefusals}
 use Rattle.job_frame.specs.Task.{Outcome, Task}
 use Rattle.job_frame.specs.Writes.{Written}
 use Rattle.job_frame.specs.declared.status.Status.{Status}
 use Rattle.job_frame.specs.declared.status.Status.TheVariants as status
+use Rattle.evroute_causes.specs.declared.cause.Cause.{Cause}
 
 -- no instance is made of the numbers
 abbrev pub HasNoInstance : MakeJob → Type 0
@@ -84,7 +85,7 @@ make_answers job [] o = MakeAnswers job o.status o.writes o.text
 make_answers job other o = ⊥
 
 -- it writes its file wherever an instance is made, before the route is charged
-abbrev pub make_task : MakeJob → Task
+abbrev pub make_task : MakeJob → Task Cause
 make_task job = record {
   reads = [];
   goes_on = λ before. ⊥;

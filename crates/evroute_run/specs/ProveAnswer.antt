@@ -8,8 +8,8 @@ use Rattle.ev_model.specs.Network.{Network}
 use Rattle.ev_model.specs.Time.{time_of}
 use Rattle.ev_model.specs.declared.Stop.{Stop}
 use Rattle.plan_writer.specs.FixedText.{fixed_text}
-use Rattle.plan_writer.specs.RefusalText.{IsRule, refusal_text}
-use Rattle.plan_writer.specs.declared.refusal.Refusal.{Refusal}
+use Rattle.refusal_lines.specs.RefusalText.{IsRule, refusal_text}
+use Rattle.refusal_lines.specs.declared.refusal.Refusal.{Refusal}
 use Rattle.route_proof.specs.ProofTexts.{proof_text}
 use Rattle.route_proof.specs.VerdictText.{verdict_text}
 use Rattle.route_plan.specs.declared.plan.RoutePlan.{RoutePlan}
@@ -20,11 +20,12 @@ use Rattle.route_proof.specs.declared.verdict.RouteVerdict.TheVariants as verdic
 use Rattle.job_frame.specs.Caps.{file_read}
 use Rattle.evroute_run.specs.CheckRouteAnswer.{PutsAcceptedProof, journey_of, listed_time}
 use Rattle.evroute_run.specs.FixedAnswer.{IsRefused, IsTask, start_of}
-use Rattle.job_frame.specs.Heard.{HearsRefusals}
+use Rattle.evroute_causes.specs.Heard.{HearsRefusals}
 use Rattle.job_frame.specs.Task.{Outcome, Task}
 use Rattle.job_frame.specs.Writes.{Written}
 use Rattle.job_frame.specs.declared.status.Status.{Status}
 use Rattle.job_frame.specs.declared.status.Status.TheVariants as status
+use Rattle.evroute_causes.specs.declared.cause.Cause.{Cause}
 
 -- the stops of the plan that a proof lists, with their time; none where it lists none
 abbrev pub timed_plan : Network → ℕ → Option RoutePlan → Option (List Stop × ℕ)
@@ -88,7 +89,7 @@ prove_answers job (bytes ∷ []) o =
     ProveAnswers job.options job.route job.cert bytes o.status o.writes o.text
 prove_answers job other o = ⊥
 
-abbrev pub prove_task : ProofJob → Task
+abbrev pub prove_task : ProofJob → Task Cause
 prove_task job = record {
   reads = file_read job.file ∷ [];
   goes_on = λ before. Unit {0};

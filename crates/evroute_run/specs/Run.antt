@@ -20,13 +20,14 @@ use Rattle.job_frame.specs.Task.{Task}
 use Rattle.job_frame.specs.declared.status.Status.{Status}
 use Rattle.mixed_run.specs.CheckMixedAnswer.{check_mixed_task}
 use Rattle.mixed_run.specs.MixedAnswer.{mixed_task}
+use Rattle.evroute_causes.specs.declared.cause.Cause.{Cause}
 
 -- the job that the words name, if they name one
 abbrev pub job_named : List (String Global) → Option Job
 job_named words = job_of (map (λ word. string_bytes word) words)
 
 -- a job as a task: what it reads, and what it answers
-abbrev pub task_of : Job → Task
+abbrev pub task_of : Job → Task Cause
 task_of (FixedRoute job) = fixed_task job
 task_of (PlanFleet job) = fleet_task job
 task_of (CheckPlan job) = check_task job

@@ -8,7 +8,7 @@ ghost use Rattle.command_line.specs.declared.Job.TheVariants.{Bound};
 ghost use Rattle.evroute_run.specs.BoundAnswer.{IsBoundFound, IsReadBack, bound_status};
 ghost use Rattle.evroute_run.specs.Run.{task_of};
 ghost use Rattle.job_frame.specs.Finds.{Finds, written_by};
-ghost use Rattle.job_frame.specs.Heard.{HearsSearch, cause_beside};
+ghost use Rattle.evroute_causes.specs.Heard.{HearsSearch, cause_beside};
 ghost use Rattle.instance_reader.specs.Instance.{most_customers};
 ghost use Rattle.near_proof.specs.Ranges.{NearFits};
 ghost use Rattle.near_text.specs.NearIn.{IsKept};
@@ -19,9 +19,10 @@ ghost use Rattle.near_text.specs.Written.{written_near};
 use crate::watcher::JobWatcher;
 use command_line::BoundWords;
 use ev_outside::{Shelf, ShelfFault};
+use evroute_causes::Cause;
 use fleet_steps::fleet_instance;
 use instance_reader::Instance;
-use job_frame::{Answer, Cause, Ended, Found, MOST_BYTES, NewFile, Status, read_file, refuse_job};
+use job_frame::{Answer, Ended, Found, MOST_BYTES, NewFile, Status, read_file, refuse_job};
 use near_text::written_near_proofs_are_read;
 use ng_pricing::{NearProof, near_bound_watched, push_near, push_near_bound};
 use std::alloc::{AllocError, Global};
@@ -33,7 +34,7 @@ pub fn bound<S: Shelf, W: JobWatcher>(
     job: &BoundWords,
     shelf: &mut S,
     watcher: &mut W,
-) -> Result<Found, ShelfFault>
+) -> Result<Found<Cause>, ShelfFault>
     ensures { Finds (task_of (job_value (Bound job.now)))
         (S.state shelf.old) (S.state shelf.new) result }
 {
@@ -57,7 +58,7 @@ fn bound_on<W: JobWatcher>(
     inst: &Instance,
     job: &BoundWords,
     watcher: &mut W,
-) -> Result<Found, AllocError>
+) -> Result<Found<Cause>, AllocError>
     requires { customer_count inst.now ≤ most_customers }
     ensures found { IfOk result (λ f.
         IsBoundFound inst.now job.now.near (string_bytes job.now.cert)
@@ -86,7 +87,7 @@ fn know_read_back(inst: &Instance, proof: &NearProof)
 }
 
 /// The line of a bound, or that there is no fleet plan.
-fn tell(alloc: Global, inst: &Instance, bound: Option<u128>) -> Result<Answer, AllocError>
+fn tell(alloc: Global, inst: &Instance, bound: Option<u128>) -> Result<Answer<Cause>, AllocError>
     ensures status { IfOk result (λ a. a.status ≡ bound_status bound) }
     ensures text { IfOk result
         (λ a. a.text.items ≡ near_bound_text inst.now.denominator bound) }

@@ -15,6 +15,7 @@ ghost use Rattle.job_frame.specs.Task.{AreReadUpTo};
 use crate::judging::judge_text;
 use command_line::CheckWords;
 use ev_outside::{Shelf, ShelfFault};
+use evroute_causes::Cause;
 use fleet_steps::{fleet_instance, plan_of};
 use instance_reader::Instance;
 use job_frame::{Ended, Found, MOST_BYTES, MOST_CERTIFICATE_BYTES, read_file, refuse_job};
@@ -23,7 +24,11 @@ use std::alloc::{AllocError, Global};
 
 /// What `check` finds: the instance is read, then the plan, then the certificate; and then they are
 /// judged.
-pub fn check<S: Shelf>(alloc: Global, job: &CheckWords, shelf: &mut S) -> Result<Found, ShelfFault>
+pub fn check<S: Shelf>(
+    alloc: Global,
+    job: &CheckWords,
+    shelf: &mut S,
+) -> Result<Found<Cause>, ShelfFault>
     ensures { Finds (task_of (job_value (Check job.now)))
         (S.state shelf.old) (S.state shelf.new) result }
 {
@@ -44,7 +49,7 @@ fn check_on<S: Shelf>(
     inst: &Instance,
     job: &CheckWords,
     shelf: &mut S,
-) -> Result<Found, ShelfFault>
+) -> Result<Found<Cause>, ShelfFault>
     requires { customer_count inst.now ≤ most_customers }
     ensures { (bytes : List ℕ)
         → AreReadUpTo most_bytes (S.state shelf.old).files (string_bytes job.now.file) bytes
@@ -71,7 +76,7 @@ fn check_plan<S: Shelf>(
     plan: Option<&FleetPlan>,
     job: &CheckWords,
     shelf: &mut S,
-) -> Result<Found, ShelfFault>
+) -> Result<Found<Cause>, ShelfFault>
     requires { customer_count inst.now ≤ most_customers }
     ensures { (bytes plan_bytes : List ℕ)
         → AreReadUpTo most_bytes (S.state shelf.old).files (string_bytes job.now.file) bytes

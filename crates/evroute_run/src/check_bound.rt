@@ -7,7 +7,7 @@ ghost use Rattle.command_line.specs.declared.Job.TheVariants.{CheckBound};
 ghost use Rattle.job_frame.specs.Caps.{most_bytes};
 ghost use Rattle.instance_reader.specs.Instance.{most_customers};
 ghost use Rattle.evroute_run.specs.CheckBoundAnswer.{CheckBoundAnswers, check_bound_heard, verdict_cause, verdict_status};
-ghost use Rattle.fleet_steps.specs.NearFile.{HasNear};
+ghost use Rattle.near_steps.specs.NearFile.{HasNear};
 ghost use Rattle.fleet_steps.specs.FleetNetwork.{HasFleetNetwork};
 ghost use Rattle.evroute_run.specs.Run.{task_of};
 ghost use Rattle.job_frame.specs.Finds.{Finds};
@@ -16,12 +16,13 @@ ghost use Rattle.near_proof.specs.Ranges.{NearFits};
 
 use command_line::BoundCheckWords;
 use ev_outside::{Shelf, ShelfFault};
-use fleet_steps::{fleet_instance, proof_of};
+use evroute_causes::Cause;
+use fleet_steps::fleet_instance;
 use instance_reader::Instance;
 use job_frame::{
-    Answer, Cause, Ended, Found, MOST_BYTES, MOST_CERTIFICATE_BYTES, Status, read_file, refuse,
-    refuse_job,
+    Answer, Ended, Found, MOST_BYTES, MOST_CERTIFICATE_BYTES, Status, read_file, refuse, refuse_job,
 };
+use near_steps::proof_of;
 use ng_pricing::{NearProof, NearVerdict, check_near, push_near_verdict};
 use std::alloc::{AllocError, Global};
 
@@ -30,7 +31,7 @@ pub fn check_bound<S: Shelf>(
     alloc: Global,
     job: &BoundCheckWords,
     shelf: &mut S,
-) -> Result<Found, ShelfFault>
+) -> Result<Found<Cause>, ShelfFault>
     ensures { Finds (task_of (job_value (CheckBound job.now)))
         (S.state shelf.old) (S.state shelf.new) result }
 {
@@ -51,7 +52,7 @@ fn check_on<S: Shelf>(
     inst: &Instance,
     job: &BoundCheckWords,
     shelf: &mut S,
-) -> Result<Found, ShelfFault>
+) -> Result<Found<Cause>, ShelfFault>
     requires { customer_count inst.now ≤ most_customers }
     ensures { (bytes : List ℕ)
         → AreReadUpTo most_bytes (S.state shelf.old).files (string_bytes job.now.file) bytes
@@ -70,7 +71,7 @@ fn check_on<S: Shelf>(
 }
 
 /// The answer to the bytes of a proof: they are read, and judged.
-fn judge_text(alloc: Global, inst: &Instance, bytes: &[u8]) -> Result<Answer, AllocError>
+fn judge_text(alloc: Global, inst: &Instance, bytes: &[u8]) -> Result<Answer<Cause>, AllocError>
     requires { customer_count inst.now ≤ most_customers }
     ensures answered { IfOk result (λ a. IsAnswered a.status) }
     ensures answers { (limit : Option ℕ) (file : List ℕ) → HasFleetNetwork limit file inst.now
@@ -85,7 +86,7 @@ fn judge_text(alloc: Global, inst: &Instance, bytes: &[u8]) -> Result<Answer, Al
 }
 
 /// The answer to a proof: it is accepted, with its bound, or breaks a rule.
-fn judge(alloc: Global, inst: &Instance, proof: &NearProof) -> Result<Answer, AllocError>
+fn judge(alloc: Global, inst: &Instance, proof: &NearProof) -> Result<Answer<Cause>, AllocError>
     requires few { customer_count inst.now ≤ most_customers }
     requires fits { NearFits inst.now proof.now }
     ensures answered { IfOk result (λ a. IsAnswered a.status) }

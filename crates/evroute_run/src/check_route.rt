@@ -23,10 +23,10 @@ ghost use Rattle.route_proof.specs.declared.verdict.RouteVerdict.TheVariants as 
 use crate::trip::{Trip, trip_of};
 use command_line::ProofWords;
 use ev_outside::{Shelf, ShelfFault};
+use evroute_causes::Cause;
 use instance_reader::Instance;
 use job_frame::{
-    Answer, Cause, Ended, Found, MOST_BYTES, MOST_CERTIFICATE_BYTES, Status, read_file, refuse,
-    refuse_job,
+    Answer, Ended, Found, MOST_BYTES, MOST_CERTIFICATE_BYTES, Status, read_file, refuse, refuse_job,
 };
 use plan_writer::Refusal;
 use route_plan::{RoutePlan, walk};
@@ -38,7 +38,7 @@ pub fn check_route<S: Shelf>(
     alloc: Global,
     job: &ProofWords,
     shelf: &mut S,
-) -> Result<Found, ShelfFault>
+) -> Result<Found<Cause>, ShelfFault>
     ensures { Finds (task_of (job_value (CheckRoute job.now)))
         (S.state shelf.old) (S.state shelf.new) result }
 {
@@ -59,7 +59,7 @@ fn check_trip<S: Shelf>(
     trip: &Trip,
     job: &ProofWords,
     shelf: &mut S,
-) -> Result<Found, ShelfFault>
+) -> Result<Found<Cause>, ShelfFault>
     requires route { IsRoute trip.now.inst trip.now.route.items }
     requires start { trip.now.start ≤ trip.now.inst.capacity }
     ensures { (bytes : List ℕ)
@@ -94,7 +94,7 @@ fn judge_text(
     route: &[usize],
     start: u64,
     bytes: &[u8],
-) -> Result<Answer, AllocError>
+) -> Result<Answer<Cause>, AllocError>
     requires route { IsRoute inst.now route.now }
     requires start { start ≤ inst.now.capacity }
     ensures answered { IfOk result (λ a. IsAnswered a.status) }
@@ -142,7 +142,7 @@ fn judge(
     route: &[usize],
     start: u64,
     proof: &RouteProof,
-) -> Result<Answer, AllocError>
+) -> Result<Answer<Cause>, AllocError>
     requires route { IsRoute inst.now route.now }
     requires start { start ≤ inst.now.capacity }
     requires fits { ProofFits inst.now route.now proof.now }
@@ -168,7 +168,7 @@ fn accept(
     inst: &Instance,
     start: u64,
     plan: &Option<RoutePlan>,
-) -> Result<Answer, AllocError>
+) -> Result<Answer<Cause>, AllocError>
     requires { IfSome plan.now (λ p. IsFeasible inst.now 1 start p.stops) }
     ensures status { IfOk result (λ a. a.status ≡ Status.Done) }
     ensures text { IfOk result (λ a. a.text.items ≡ verdict_text inst.now.denominator
@@ -209,7 +209,11 @@ fn time_along(inst: &Instance, start: u64, plan: &RoutePlan) -> u64
 }
 
 /// The line of the first rule that a proof breaks.
-fn reject(alloc: Global, inst: &Instance, verdict: &RouteVerdict) -> Result<Answer, AllocError>
+fn reject(
+    alloc: Global,
+    inst: &Instance,
+    verdict: &RouteVerdict,
+) -> Result<Answer<Cause>, AllocError>
     ensures status { IfOk result (λ a. a.status ≡ Status.Negative) }
     ensures text { IfOk result (λ a. a.text.items
         ≡ verdict_text inst.now.denominator None verdict.now) }

@@ -3,11 +3,9 @@
 ghost use Rattle.std.specs.Prelude.{◌≡◌, ◌≢◌, ◌⊎◌, [], false, IfSome, IsNone};
 ghost use Rattle.command_line.specs.JobValue.{IsJob, job_value};
 ghost use Rattle.ev_outside.specs.Shelf.{CountsNeverFall};
-ghost use Rattle.evroute_run.specs.Ending.{Runs};
 ghost use Rattle.evroute_run.specs.Run.{TellsUsage, job_named, task_of};
-ghost use Rattle.job_frame.specs.Codes.{code_of};
-ghost use Rattle.job_frame.specs.Performs.{NothingFailed, Performs};
-ghost use Rattle.job_frame.specs.declared.status.Status.{Status};
+ghost use Rattle.job_frame.specs.Performs.{NothingFailed, Performs, PutsHeard};
+ghost use Rattle.job_frame.specs.Task.{IsAnswered};
 
 use crate::bound::bound;
 use crate::check::check;
@@ -22,8 +20,9 @@ use crate::prove::prove;
 use crate::watcher::{JobWatcher, Nobody};
 use command_line::{Job, job_words, usage};
 use ev_outside::{Shelf, Sink};
-use job_ending::{finish, put_usage};
-use job_frame::{Cause, Status};
+use evroute_causes::Cause;
+use job_ending::{Program, finish};
+use job_frame::Status;
 use mixed_run::{check_mixed_files, mixed};
 use std::alloc::{AllocError, Global};
 
@@ -108,44 +107,71 @@ pub fn run<S: Shelf, K: Sink>(alloc: Global, words: &[String], shelf: &mut S, ou
     ensures no_words { K.takes_memory ≡ false → words.now ≡ []
         → (result ≡ Status.Words) ⊎ (result ≡ Status.Fault) }
 {
-    run_watched(alloc, words, shelf, out, &mut Nobody {})
+    job_ending::run(
+        alloc,
+        words,
+        shelf,
+        out,
+        &mut Evroute {
+            watcher: Nobody::new(),
+        },
+    )
 }
 
-/// The same as [`run`], where a watcher is told how far a search, a bound, an improvement or a
-/// fleet of several kinds is.
-pub fn run_watched<S: Shelf, K: Sink, W: JobWatcher>(
-    alloc: Global,
-    words: &[String],
-    shelf: &mut S,
-    out: &mut K,
-    watcher: &mut W,
-) -> Status
-    ensures { Runs words.now K.takes_memory (S.state shelf.old) (S.state shelf.new)
-        (K.state out.old) (K.state out.new) result }
-{
-    match job_words(alloc, words) {
-        Ok(Some(job)) => perform(alloc, &job, shelf, out, watcher),
-        Ok(None) => {
-            watcher.hear(Cause::Words);
-            put_usage(usage(), out)
-        }
-        Err(AllocError) => Status::Memory,
+/// The program beside who watches its jobs: who is told how far a search, a bound, an improvement
+/// or a fleet of several kinds is.
+#[derive(Drop)]
+pub struct Evroute<W: JobWatcher + Drop> {
+    pub watcher: W,
+}
+
+impl<W: JobWatcher + Drop> Program for Evroute<W> {
+    ghost use Rattle.command_line.specs.JobValue.{IsJob, job_value};
+    ghost use Rattle.command_line.specs.Usage.{usage_text};
+    ghost use Rattle.command_line.specs.Words as words;
+    ghost use Rattle.evroute_run.specs.Run.{job_named, task_of};
+
+    type Job = Job;
+
+    type Cause = Cause;
+
+    ghost Named = { words.Job };
+
+    ghost usage_text = { usage_text };
+
+    ghost job_named = { job_named };
+
+    ghost value_of = { job_value };
+
+    ghost IsJob = { IsJob };
+
+    ghost task_of = { task_of };
+
+    ghost heard = { λ program. W.heard program.watcher };
+
+
+    fn usage(&self) -> &'static str {
+        usage()
     }
-}
 
-/// The program as the system sees it: [`run`], and the exit status of its status. It ends and does
-/// what `run` says.
-pub fn exit_code<S: Shelf, K: Sink>(
-    alloc: Global,
-    words: &[String],
-    shelf: &mut S,
-    out: &mut K,
-) -> u8
-    ensures { (ended : Status) × (result ≡ code_of ended)
-        × Runs words.now K.takes_memory (S.state shelf.old) (S.state shelf.new)
-        (K.state out.old) (K.state out.new) ended }
-{
-    run(alloc, words, shelf, out).code()
+    fn job_of(&self, alloc: Global, words: &[String]) -> Result<Option<Job>, AllocError> {
+        job_words(alloc, words)
+    }
+
+    fn hear(&mut self, cause: Cause) {
+        self.watcher.hear(cause);
+    }
+
+    fn perform<S: Shelf, K: Sink>(
+        &mut self,
+        alloc: Global,
+        job: &Job,
+        shelf: &mut S,
+        out: &mut K,
+    ) -> Status {
+        self.watcher.watch_job(job);
+        perform(alloc, job, shelf, out, &mut self.watcher)
+    }
 }
 
 /// A job. What it finds is written and put; `make` writes before it seeks its answer.
@@ -160,6 +186,10 @@ fn perform<S: Shelf, K: Sink, W: JobWatcher>(
     ensures words { result ≢ Status.Words }
     ensures job { Performs (task_of (job_value job.now)) (S.state shelf.old) (S.state shelf.new)
         (K.state out.old) (K.state out.new) result }
+    ensures heard { IsAnswered result
+        → PutsHeard (task_of (job_value job.now)) (S.state shelf.old).files
+        (S.state shelf.new).files (K.state out.old).written (K.state out.new).written
+        result (W.heard watcher.new) }
     ensures stays { result ≢ Status.Fault
         → NothingFailed (S.state shelf.old) (S.state shelf.new)
         (K.state out.old) (K.state out.new) }

@@ -5,11 +5,12 @@ ghost use Rattle.command_line.specs.JobValue.{job_value};
 ghost use Rattle.command_line.specs.declared.Job.TheVariants.{Convert};
 ghost use Rattle.evroute_run.specs.Run.{task_of};
 ghost use Rattle.job_frame.specs.Finds.{Finds, written_by};
-ghost use Rattle.job_frame.specs.Heard.{HearsRefusals};
+ghost use Rattle.evroute_causes.specs.Heard.{HearsRefusals};
 
 use command_line::ConvertWords;
 use decimal_import::ImportFault;
 use ev_outside::{Shelf, ShelfFault};
+use evroute_causes::Cause;
 use job_frame::{Answer, Found, MOST_BYTES, NewFile, Status, read_file, refuse_job};
 use plan_writer::Refusal;
 use std::alloc::{AllocError, Global};
@@ -19,7 +20,7 @@ pub fn convert<S: Shelf>(
     alloc: Global,
     job: &ConvertWords,
     shelf: &mut S,
-) -> Result<Found, ShelfFault>
+) -> Result<Found<Cause>, ShelfFault>
     ensures { Finds (task_of (job_value (Convert job.now)))
         (S.state shelf.old) (S.state shelf.new) result }
 {
@@ -44,7 +45,7 @@ pub fn convert<S: Shelf>(
 }
 
 /// What is found where a file became this text: it is written, and nothing is put.
-fn write_whole(alloc: Global, outfile: &str, whole: Vec<u8>) -> Result<Found, AllocError>
+fn write_whole(alloc: Global, outfile: &str, whole: Vec<u8>) -> Result<Found<Cause>, AllocError>
     ensures status { IfOk result (λ f. f.answer.status ≡ Status.Done) }
     ensures text { IfOk result (λ f. f.answer.text.items ≡ []) }
     ensures files { IfOk result (λ f. map written_by f.files.items

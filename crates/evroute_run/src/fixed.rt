@@ -11,13 +11,14 @@ ghost use Rattle.evroute_run.specs.Ended.{IsEnded};
 ghost use Rattle.evroute_run.specs.FixedAnswer.{FixedAnswers, IsTask, start_of};
 ghost use Rattle.evroute_run.specs.Run.{task_of};
 ghost use Rattle.job_frame.specs.Finds.{Finds};
-ghost use Rattle.job_frame.specs.Heard.{HearsRefusals};
+ghost use Rattle.evroute_causes.specs.Heard.{HearsRefusals};
 ghost use Rattle.job_frame.specs.Task.{IsAnswered};
 ghost use Rattle.plan_writer.specs.FixedText.{fixed_text};
 
 use crate::trip::trip_of;
 use command_line::{FixedWords, Options};
 use ev_outside::{Shelf, ShelfFault};
+use evroute_causes::Cause;
 use frvcp_labels::solve_route;
 use instance_reader::Instance;
 use job_frame::{Answer, Ended, Found, MOST_BYTES, Status, read_file, refuse};
@@ -26,7 +27,11 @@ use route_plan::{RoutePlan, walk};
 use std::alloc::{AllocError, Global};
 
 /// What `fixed` finds: the file is read as an instance, and its route is charged.
-pub fn fixed<S: Shelf>(alloc: Global, job: &FixedWords, shelf: &mut S) -> Result<Found, ShelfFault>
+pub fn fixed<S: Shelf>(
+    alloc: Global,
+    job: &FixedWords,
+    shelf: &mut S,
+) -> Result<Found<Cause>, ShelfFault>
     ensures { Finds (task_of (job_value (Fixed job.now)))
         (S.state shelf.old) (S.state shelf.new) result }
 {
@@ -46,7 +51,7 @@ fn answer_to(
     bytes: &[u8],
     word: &str,
     options: Options,
-) -> Result<Answer, AllocError>
+) -> Result<Answer<Cause>, AllocError>
     ensures answered { IfOk result (λ a. IsAnswered a.status) }
     ensures answers { IfOk result
         (λ a. FixedAnswers options word.now bytes.now a.status a.text.items) }
@@ -60,7 +65,12 @@ fn answer_to(
 }
 
 /// The charged route, or why there is none.
-fn charge_file(alloc: Global, bytes: &[u8], word: &str, options: Options) -> Result<Answer, Ended>
+fn charge_file(
+    alloc: Global,
+    bytes: &[u8],
+    word: &str,
+    options: Options,
+) -> Result<Answer<Cause>, Ended>
     ensures ok { IfOk result (λ a. FixedAnswers options word.now bytes.now a.status a.text.items) }
     ensures answered { IfOk result (λ a. IsAnswered a.status) }
     ensures heard { IfOk result (λ a. HearsRefusals a.status a.text.items a.cause) }
@@ -73,7 +83,12 @@ fn charge_file(alloc: Global, bytes: &[u8], word: &str, options: Options) -> Res
 }
 
 /// The text of a fastest plan of the route, or that there is none.
-fn charge_from(alloc: Global, inst: &Instance, route: &[usize], start: u64) -> Result<Answer, Ended>
+fn charge_from(
+    alloc: Global,
+    inst: &Instance,
+    route: &[usize],
+    start: u64,
+) -> Result<Answer<Cause>, Ended>
     requires route { IsRoute inst.now route.now }
     requires start { start ≤ inst.now.capacity }
     ensures ok { (options : Options) (word bytes : List ℕ)
@@ -86,8 +101,9 @@ fn charge_from(alloc: Global, inst: &Instance, route: &[usize], start: u64) -> R
     ensures answered { IfOk result (λ a. IsAnswered a.status) }
     ensures heard { IfOk result (λ a. HearsRefusals a.status a.text.items a.cause) }
 {
-    let Ok(plan) = solve_route(alloc, inst, route, start) else {
-        return Err(Ended::Memory);
+    let plan = match solve_route(alloc, inst, route, start) {
+        Ok(plan) => plan,
+        Err(AllocError) => return Err(Ended::Memory),
     };
     match plan {
         Some(plan) => report_plan(alloc, inst, start, &plan),
@@ -101,7 +117,7 @@ pub(crate) fn report_plan(
     inst: &Instance,
     start: u64,
     plan: &RoutePlan,
-) -> Result<Answer, Ended>
+) -> Result<Answer<Cause>, Ended>
     requires start { start ≤ inst.now.capacity }
     requires feasible { IsFeasible inst.now 1 start plan.now.stops }
     ensures status { IfOk result (λ a. a.status ≡ Status.Done) }
@@ -122,12 +138,12 @@ pub(crate) fn report_plan(
             text,
             cause: None,
         }),
-        Err(_) => Err(Ended::Memory),
+        Err(AllocError) => Err(Ended::Memory),
     }
 }
 
 /// The text of a route without a feasible plan.
-pub(crate) fn infeasible(alloc: Global, inst: &Instance) -> Result<Answer, Ended>
+pub(crate) fn infeasible(alloc: Global, inst: &Instance) -> Result<Answer<Cause>, Ended>
     ensures status { IfOk result (λ a. a.status ≡ Status.Negative) }
     ensures text { IfOk result (λ a. a.text.items ≡ fixed_text inst.now.denominator None) }
     ensures heard { IfOk result (λ a. HearsRefusals a.status a.text.items a.cause) }
@@ -140,6 +156,6 @@ pub(crate) fn infeasible(alloc: Global, inst: &Instance) -> Result<Answer, Ended
             text,
             cause: None,
         }),
-        Err(_) => Err(Ended::Memory),
+        Err(AllocError) => Err(Ended::Memory),
     }
 }

@@ -8,13 +8,14 @@ ghost use Rattle.command_line.specs.declared.Job.TheVariants.{Fleet};
 ghost use Rattle.evroute_run.specs.FleetAnswer.{IsFound};
 ghost use Rattle.evroute_run.specs.Run.{task_of};
 ghost use Rattle.job_frame.specs.Finds.{Finds, written_by};
-ghost use Rattle.job_frame.specs.Heard.{HearsSearch};
+ghost use Rattle.evroute_causes.specs.Heard.{HearsSearch};
 ghost use Rattle.instance_reader.specs.Instance.{most_customers};
 
 use crate::planning::plan_all;
 use crate::watcher::JobWatcher;
 use command_line::FleetWords;
 use ev_outside::{Shelf, ShelfFault};
+use evroute_causes::Cause;
 use fleet_steps::fleet_instance;
 use instance_reader::Instance;
 use job_frame::{Ended, Found, MOST_BYTES, read_file, refuse_job};
@@ -27,7 +28,7 @@ pub fn fleet<S: Shelf, W: JobWatcher>(
     job: &FleetWords,
     shelf: &mut S,
     watcher: &mut W,
-) -> Result<Found, ShelfFault>
+) -> Result<Found<Cause>, ShelfFault>
     requires { IsFleetJob job.now }
     ensures { Finds (task_of (job_value (Fleet job.now)))
         (S.state shelf.old) (S.state shelf.new) result }
@@ -53,7 +54,7 @@ fn plan_on<W: JobWatcher>(
     inst: &Instance,
     job: &FleetWords,
     watcher: &mut W,
-) -> Result<Found, AllocError>
+) -> Result<Found<Cause>, AllocError>
     requires few { customer_count inst.now ≤ most_customers }
     requires nodes { IfSome job.now.nodes (λ most. 1 ≤ most) }
     ensures found { IfOk result (λ f. (plan_bytes cert_bytes : List ℕ)

@@ -19,11 +19,11 @@ ghost use Rattle.route_plan.specs.PlanTexts.{fleet_plan_text};
 use crate::watcher::JobWatcher;
 use command_line::ImproveWords;
 use ev_outside::{Shelf, ShelfFault};
+use evroute_causes::Cause;
 use fleet_steps::{cost_of, plan_of, plan_text, reject};
 use instance_reader::Instance;
 use job_frame::{
-    Answer, Cause, Ended, Found, MOST_BYTES, NewFile, Status, limited_instance, read_file,
-    refuse_job,
+    Answer, Ended, Found, MOST_BYTES, NewFile, Status, limited_instance, read_file, refuse_job,
 };
 use plan_check::{LargeFault, check_large};
 use route_improve::{Improved, improve_watched, push_alone, push_improved};
@@ -36,7 +36,7 @@ pub fn improve<S: Shelf, W: JobWatcher>(
     job: &ImproveWords,
     shelf: &mut S,
     watcher: &mut W,
-) -> Result<Found, ShelfFault>
+) -> Result<Found<Cause>, ShelfFault>
     ensures { Finds (task_of (job_value (Improve job.now)))
         (S.state shelf.old) (S.state shelf.new) result }
 {
@@ -58,7 +58,7 @@ fn improve_on<S: Shelf, W: JobWatcher>(
     job: &ImproveWords,
     shelf: &mut S,
     watcher: &mut W,
-) -> Result<Found, ShelfFault>
+) -> Result<Found<Cause>, ShelfFault>
     ensures { (bytes : List ℕ)
         → AreReadUpTo most_bytes (S.state shelf.old).files (string_bytes job.now.file) bytes
         → HasNetwork job.now.limit bytes inst.now
@@ -79,7 +79,7 @@ fn improve_text<W: JobWatcher>(
     bytes: &[u8],
     outfile: &str,
     watcher: &mut W,
-) -> Result<Found, ShelfFault>
+) -> Result<Found<Cause>, ShelfFault>
     ensures answers { (limit : Option ℕ) (file : List ℕ) → HasNetwork limit file inst.now
         → IfOk result (λ f. ImproveAnswers limit outfile.now file bytes.now
         f.answer.status (map written_by f.files.items) f.answer.text.items) }
@@ -104,7 +104,7 @@ fn improve_plan<W: JobWatcher>(
     plan: Option<&FleetPlan>,
     outfile: &str,
     watcher: &mut W,
-) -> Result<Found, AllocError>
+) -> Result<Found<Cause>, AllocError>
     ensures answers { (limit : Option ℕ) (file plan_bytes : List ℕ)
         → HasPlan limit file plan_bytes inst.now (option_map (λ p. p.now) plan.entry)
         → IfOk result (λ f. ImproveAnswers limit outfile.now file plan_bytes
@@ -114,7 +114,7 @@ fn improve_plan<W: JobWatcher>(
 {
     match cost_of(alloc, inst, plan) {
         Ok(was) => make_cheaper(alloc, inst, plan, was, outfile, watcher),
-        Err(LargeFault::Plan { fault }) => reject(alloc, inst, fault),
+        Err(LargeFault::Plan { fault }) => reject(alloc, fault),
         Err(LargeFault::Memory) => Err(AllocError),
     }
 }
@@ -128,7 +128,7 @@ fn make_cheaper<W: JobWatcher>(
     was: Option<u128>,
     outfile: &str,
     watcher: &mut W,
-) -> Result<Found, AllocError>
+) -> Result<Found<Cause>, AllocError>
     requires { IsValid inst.now (option_map (λ p. p.now) plan) was }
     ensures answers { (limit : Option ℕ) (file plan_bytes : List ℕ)
         → HasPlan limit file plan_bytes inst.now (option_map (λ p. p.now) plan.entry)
@@ -153,7 +153,7 @@ fn write_better(
     better: &FleetPlan,
     was: Option<u128>,
     outfile: &str,
-) -> Result<Found, AllocError>
+) -> Result<Found<Cause>, AllocError>
     requires { IsImproved inst.now better.now.routes }
     ensures status { IfOk result (λ f. f.answer.status ≡ Status.Done) }
     ensures files { IfOk result (λ f. map written_by f.files.items
@@ -189,7 +189,7 @@ fn cost_after(alloc: Global, inst: &Instance, better: &FleetPlan) -> Result<u128
 }
 
 /// The line of a customer whom no route of his own reaches.
-fn put_alone(alloc: Global, node: usize) -> Result<Found, AllocError>
+fn put_alone(alloc: Global, node: usize) -> Result<Found<Cause>, AllocError>
     ensures status { IfOk result (λ f. f.answer.status ≡ Status.Negative) }
     ensures files { IfOk result (λ f. map written_by f.files.items ≡ []) }
     ensures text { IfOk result (λ f. f.answer.text.items ≡ alone_text node) }

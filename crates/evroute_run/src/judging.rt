@@ -13,8 +13,9 @@ ghost use Rattle.plan_writer.specs.CheckText.{IsJudged, check_text};
 
 use bound_certificate::{CertText, Certificate, read_certificate};
 use certificate_check::{Verdict, check_certificate};
+use evroute_causes::Cause;
 use instance_reader::Instance;
-use job_frame::{Answer, Cause, Ended, Status, refuse};
+use job_frame::{Answer, Ended, Status, refuse};
 use plan_check::{PlanFault, check_fleet};
 use plan_writer::{Judgement, Refusal, push_check_report};
 use route_plan::FleetPlan;
@@ -27,7 +28,7 @@ pub fn judge_text(
     inst: &Instance,
     plan: Option<&FleetPlan>,
     bytes: &[u8],
-) -> Result<Answer, AllocError>
+) -> Result<Answer<Cause>, AllocError>
     requires { customer_count inst.now ≤ most_customers }
     ensures answered { IfOk result (λ a. IsAnswered a.status) }
     ensures answers { (limit : Option ℕ) (file plan_bytes : List ℕ)
@@ -65,7 +66,7 @@ fn report_on(
     inst: &Instance,
     plan: Option<&FleetPlan>,
     cert: &Certificate,
-) -> Result<Answer, AllocError>
+) -> Result<Answer<Cause>, AllocError>
     requires few { customer_count inst.now ≤ most_customers }
     requires fits { Fits inst.now cert.now }
     ensures answered { IfOk result (λ a. IsAnswered a.status) }
@@ -122,7 +123,11 @@ fn cost_of(inst: &Instance, plan: Option<&FleetPlan>) -> Result<Option<u128>, Pl
 }
 
 /// The lines of what is found, and the status that goes with them.
-fn report(alloc: Global, inst: &Instance, judgement: &Judgement) -> Result<Answer, AllocError>
+fn report(
+    alloc: Global,
+    inst: &Instance,
+    judgement: &Judgement,
+) -> Result<Answer<Cause>, AllocError>
     requires { IsJudged judgement.now }
     ensures status { IfOk result (λ a. a.status ≡ judged_status judgement.now) }
     ensures text { IfOk result

@@ -1,7 +1,7 @@
 //! What `make` does: an instance is made and written, and then its route over all customers is
 //! charged.
 
-ghost use Rattle.std.specs.Prelude.{◌≡◌, ◌≢◌, ◌<◌, ◌≤◌, ◌∷◌, [], false, IfOk, List, None, Some};
+ghost use Rattle.std.specs.Prelude.{◌≡◌, ◌≢◌, ◌<◌, ◌≤◌, ◌∷◌, [], false, IfOk, List, None, Option, Some};
 ghost use Rattle.command_line.specs.JobValue.{job_value};
 ghost use Rattle.command_line.specs.Words.{MakeJob};
 ghost use Rattle.command_line.specs.declared.Job.TheVariants.{Make};
@@ -11,13 +11,14 @@ ghost use Rattle.ev_model.specs.Time.{time_of};
 ghost use Rattle.ev_outside.specs.Shelf.{CountsNeverFall, ShelfState};
 ghost use Rattle.evroute_run.specs.MakeAnswer.{MakeAnswers, MakesNetwork, made_file, make_task, route_of_all};
 ghost use Rattle.evroute_run.specs.Run.{task_of};
-ghost use Rattle.job_frame.specs.Performs.{NothingFailed, Performs};
+ghost use Rattle.job_frame.specs.Performs.{NothingFailed, Performs, PutsHeard};
 ghost use Rattle.job_frame.specs.Task.{IsAnswered};
 ghost use Rattle.job_frame.specs.Writes.{Leaves, Written};
 ghost use Rattle.plan_writer.specs.MakeText.{make_text};
 
 use command_line::MakeWords;
 use ev_outside::{Shelf, ShelfFault, Sink};
+use evroute_causes::Cause;
 use frvcp_labels::solve_route;
 use instance_maker::MakerFault;
 use instance_reader::Instance;
@@ -30,7 +31,7 @@ use std::alloc::{AllocError, Global};
 
 /// `make`: the instance is made and written, and then the route over all its customers is charged.
 /// Where memory is refused for that, the file stands.
-pub fn make<S: Shelf, K: Sink, L: CauseListener>(
+pub fn make<S: Shelf, K: Sink, L: CauseListener<Cause>>(
     alloc: Global,
     job: &MakeWords,
     shelf: &mut S,
@@ -40,6 +41,10 @@ pub fn make<S: Shelf, K: Sink, L: CauseListener>(
     ensures words { result ≢ Status.Words }
     ensures job { Performs (task_of (job_value (Make job.now)))
         (S.state shelf.old) (S.state shelf.new) (K.state out.old) (K.state out.new) result }
+    ensures heard { IsAnswered result
+        → PutsHeard (task_of (job_value (Make job.now))) (S.state shelf.old).files
+        (S.state shelf.new).files (K.state out.old).written (K.state out.new).written
+        result (L.heard listener.new) }
     ensures stays { result ≢ Status.Fault
         → NothingFailed (S.state shelf.old) (S.state shelf.new)
         (K.state out.old) (K.state out.new) }
@@ -67,6 +72,11 @@ fn put_summary<K: Sink>(alloc: Global, inst: &Instance, customers: u32, out: &mu
     ensures job { (job : MakeJob) → job.customers ≡ customers → MakesNetwork job inst.now
         → (before after : ShelfState) → Leaves (made_file job ∷ []) before.files after.files
         → Performs (make_task job) before after (K.state out.old) (K.state out.new) result }
+    ensures heard { (job : MakeJob) → job.customers ≡ customers → MakesNetwork job inst.now
+        → (before after : ShelfState) → Leaves (made_file job ∷ []) before.files after.files
+        → (heard : Option Cause) → IsAnswered result
+        → PutsHeard (make_task job) before.files after.files
+        (K.state out.old).written (K.state out.new).written result heard }
     ensures stays { result ≢ Status.Fault → (K.state out.new).faults ≡ (K.state out.old).faults }
     ensures memory { K.takes_memory ≡ false → result ≡ Status.Memory
         → K.state out.new ≡ K.state out.old }
@@ -78,7 +88,7 @@ fn put_summary<K: Sink>(alloc: Global, inst: &Instance, customers: u32, out: &mu
 }
 
 /// The three lines on a made instance, whose route over all customers is charged.
-fn charge_all(alloc: Global, inst: &Instance, customers: u32) -> Result<Answer, AllocError>
+fn charge_all(alloc: Global, inst: &Instance, customers: u32) -> Result<Answer<Cause>, AllocError>
     requires some { 1 ≤ customers }
     requires nodes { customers < node_count inst.now }
     ensures answers { (job : MakeJob) → job.customers ≡ customers → MakesNetwork job inst.now
@@ -107,7 +117,11 @@ fn route_of_all(alloc: Global, customers: u32) -> Result<Vec<usize>, AllocError>
 }
 
 /// The three lines, with the time of a feasible plan.
-fn report_time(alloc: Global, inst: &Instance, plan: &RoutePlan) -> Result<Answer, AllocError>
+fn report_time(
+    alloc: Global,
+    inst: &Instance,
+    plan: &RoutePlan,
+) -> Result<Answer<Cause>, AllocError>
     requires { IsFeasible inst.now 1 inst.now.capacity plan.now.stops }
     ensures status { IfOk result (λ a. a.status ≡ Status.Done) }
     ensures text { IfOk result (λ a. a.text.items
@@ -128,7 +142,7 @@ fn report_time(alloc: Global, inst: &Instance, plan: &RoutePlan) -> Result<Answe
 }
 
 /// The three lines where no plan of the route is feasible.
-fn report_no_time(alloc: Global, inst: &Instance) -> Result<Answer, AllocError>
+fn report_no_time(alloc: Global, inst: &Instance) -> Result<Answer<Cause>, AllocError>
     ensures status { IfOk result (λ a. a.status ≡ Status.Negative) }
     ensures text { IfOk result (λ a. a.text.items
         ≡ make_text (node_count inst.now) inst.now.denominator None) }

@@ -10,7 +10,7 @@ ghost use Rattle.ev_model.specs.Network.{IsNetwork};
 ghost use Rattle.evroute_run.specs.FleetAnswer.{IsFound, IsReadBack, TellsRootOf, outcomes_of, search_status};
 ghost use Rattle.fleet_model.specs.Prices.{price_total};
 ghost use Rattle.instance_reader.specs.Instance.{most_customers};
-ghost use Rattle.job_frame.specs.Heard.{HearsSearch, cause_beside};
+ghost use Rattle.evroute_causes.specs.Heard.{HearsSearch, cause_beside};
 ghost use Rattle.plan_writer.specs.FleetText.{IsExactLine, IsLowestLine, fleet_text};
 
 use crate::watcher::JobWatcher;
@@ -19,8 +19,9 @@ use bound_certificate::{
 };
 use certificate_check::price_total;
 use ev_fleet::{Outcome, plan_fleet_watched};
+use evroute_causes::Cause;
 use instance_reader::Instance;
-use job_frame::{Answer, Cause, Planned, Status};
+use job_frame::{Answer, Planned, Status};
 use plan_writer::{Outcomes, RootLine, push_fleet_report};
 use route_plan::push_fleet_plan;
 use std::alloc::{AllocError, Global};
@@ -33,7 +34,7 @@ pub fn plan_all<W: JobWatcher>(
     inst: &Instance,
     nodes: Option<u64>,
     watcher: &mut W,
-) -> Result<Planned, AllocError>
+) -> Result<Planned<Cause>, AllocError>
     requires few { customer_count inst.now ≤ most_customers }
     requires nodes { IfSome nodes (λ most. 1 ≤ most) }
     ensures found { IfOk result (λ p. IsFound inst.now nodes p.plan.items p.cert.items
@@ -64,7 +65,7 @@ fn know_read_back(inst: &Instance, cert: &Certificate)
 }
 
 /// The report on a search, and its status.
-fn report(alloc: Global, inst: &Instance, outcome: &Outcome) -> Result<Answer, AllocError>
+fn report(alloc: Global, inst: &Instance, outcome: &Outcome) -> Result<Answer<Cause>, AllocError>
     requires few { customer_count inst.now ≤ most_customers }
     requires outcome { (budget : Option ℕ) × IsOutcome inst.now budget outcome.now }
     ensures status { IfOk result (λ a. a.status

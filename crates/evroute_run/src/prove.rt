@@ -11,7 +11,7 @@ ghost use Rattle.evroute_run.specs.FixedAnswer.{IsTask, start_of};
 ghost use Rattle.evroute_run.specs.ProveAnswer.{ProveAnswers, fixed_status, timed_plan};
 ghost use Rattle.evroute_run.specs.Run.{task_of};
 ghost use Rattle.job_frame.specs.Finds.{Finds, written_by};
-ghost use Rattle.job_frame.specs.Heard.{HearsRefusals};
+ghost use Rattle.evroute_causes.specs.Heard.{HearsRefusals};
 ghost use Rattle.plan_writer.specs.FixedText.{fixed_text};
 ghost use Rattle.route_proof.specs.ProofTexts.{proof_text};
 
@@ -19,6 +19,7 @@ use crate::fixed::{infeasible, report_plan};
 use crate::trip::trip_of;
 use command_line::{Options, ProofWords};
 use ev_outside::{Shelf, ShelfFault};
+use evroute_causes::Cause;
 use fixed_certificate::prove_route;
 use instance_reader::Instance;
 use job_frame::{Answer, Ended, Found, MOST_BYTES, NewFile, read_file, refuse_job};
@@ -28,7 +29,11 @@ use std::alloc::{AllocError, Global};
 
 /// What `prove` finds: the file is read as an instance, its route is charged, and the proof is
 /// written.
-pub fn prove<S: Shelf>(alloc: Global, job: &ProofWords, shelf: &mut S) -> Result<Found, ShelfFault>
+pub fn prove<S: Shelf>(
+    alloc: Global,
+    job: &ProofWords,
+    shelf: &mut S,
+) -> Result<Found<Cause>, ShelfFault>
     ensures { Finds (task_of (job_value (Prove job.now)))
         (S.state shelf.old) (S.state shelf.new) result }
 {
@@ -52,7 +57,7 @@ fn prove_text(
     word: &str,
     options: Options,
     cert: &str,
-) -> Result<Found, ShelfFault>
+) -> Result<Found<Cause>, ShelfFault>
     ensures answers { IfOk result (λ f. ProveAnswers options word.now cert.now bytes.now
         f.answer.status (map written_by f.files.items) f.answer.text.items) }
     ensures heard { IfOk result
@@ -76,7 +81,7 @@ fn prove_trip(
     route: &[usize],
     start: u64,
     cert: &str,
-) -> Result<Found, AllocError>
+) -> Result<Found<Cause>, AllocError>
     requires route { IsRoute inst.now route.now }
     requires start { start ≤ inst.now.capacity }
     ensures answers { (options : Options) (word bytes : List ℕ)
@@ -102,7 +107,7 @@ fn tell(
     inst: &Instance,
     start: u64,
     plan: &Option<RoutePlan>,
-) -> Result<Answer, AllocError>
+) -> Result<Answer<Cause>, AllocError>
     requires start { start ≤ inst.now.capacity }
     requires plan { IfSome plan.now (λ p. IsFeasible inst.now 1 start p.stops) }
     ensures status { IfOk result (λ a. a.status ≡ fixed_status plan.now) }
@@ -116,7 +121,8 @@ fn tell(
     };
     match told {
         Ok(answer) => Ok(answer),
-        Err(_) => Err(AllocError),
+        Err(Ended::Memory) => Err(AllocError),
+        Err(Ended::Refused(_)) => unreachable!(),
     }
 }
 

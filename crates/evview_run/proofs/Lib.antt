@@ -1,3 +1,4 @@
+pub mod Hearing
 pub mod ViewFinds
 pub mod ViewLaw
 pub mod Shown

@@ -24,10 +24,9 @@ use Rattle.job_frame.specs.declared.answer.Ended.{Ended}
 use Rattle.job_frame.specs.declared.answer.Ended.TheVariants.{Refused}
 use Rattle.plan_check.specs.FleetRules.{stops_of}
 use Rattle.plan_check.specs.declared.fault.PlanFault.{PlanFault}
-use Rattle.plan_writer.specs.CheckText.{check_text}
-use Rattle.plan_writer.specs.RefusalText.{IsRule, refusal_text}
-use Rattle.plan_writer.specs.declared.check.Judgement.TheVariants as judgement
-use Rattle.plan_writer.specs.declared.refusal.Refusal.{Refusal}
+use Rattle.refusal_lines.specs.RejectedText.{rejected_text}
+use Rattle.refusal_lines.specs.RefusalText.{IsRule, refusal_text}
+use Rattle.refusal_lines.specs.declared.refusal.Refusal.{Refusal}
 use Rattle.route_plan.specs.declared.plan.FleetPlan.{FleetPlan}
 use Rattle.schedule_texts.specs.JsonTexts.{json_text}
 use Rattle.schedule_texts.specs.Pictures.{picture_text}
@@ -35,7 +34,9 @@ use Rattle.schedule_texts.specs.Tables.{table_text}
 use Rattle.view_words.specs.JobValue.{IsJob, job_value}
 use Rattle.view_words.specs.Words.{ViewPlan}
 use Rattle.view_words.specs.declared.Job.{Job}
-use Rattle.evview_run.specs.ViewAnswer.{HasRoute, PutsNoRoute, PutsRefusal, ViewAnswers, file_of, no_route_text, route_count, shown_of, view_task}
+use Rattle.evview_run.specs.ViewAnswer.{HasRoute, PutsNoRoute, PutsRefusal, ViewAnswers, file_of, no_route_text, route_count, shown_of, view_task, view_heard}
+use Rattle.evview_run.specs.declared.cause.Cause.{Cause}
+use Rattle.job_frame.proofs.Hearing.{HearsOfFound}
 
 -- a plan that costs something is a fleet plan
 pub plan_is_fleet : (g : Network) (plan : Option (Bor FleetPlan)) (cost : Option ℕ) → IsValid g (option_map (λ p. p.now) plan) cost → IfSome plan (λ p. IsFleetPlan g 1 (stops_of p.now.routes))
@@ -43,12 +44,12 @@ plan_is_fleet g None cost valid = tt
 plan_is_fleet g (Some p) cost valid = valid.0
 
 module _ (job : ViewPlan) (bytes plan_bytes : List ℕ) where
-  by_status : (f : Found) (s : Status) → f.answer.status ≡ s → ViewAnswers job bytes plan_bytes s (map written_by f.files.items) f.answer.text.items
+  by_status : (f : Found Cause) (s : Status) → f.answer.status ≡ s → ViewAnswers job bytes plan_bytes s (map written_by f.files.items) f.answer.text.items
       → ViewAnswers job bytes plan_bytes f.answer.status (map written_by f.files.items) f.answer.text.items
   by_status f s is answers = subst (λ (x : Status). ViewAnswers job bytes plan_bytes x (map written_by f.files.items) f.answer.text.items) (sym is) answers
 
   -- a schedule, with the files that are asked for
-  pub puts_schedule : {E : Type 0} (g : Network) (plan : Option FleetPlan) (cost : Option ℕ) (made : Result Found E) → HasPlan job.limit bytes plan_bytes g plan → IsValid g plan cost → HasRoute job.route plan
+  pub puts_schedule : {E : Type 0} (g : Network) (plan : Option FleetPlan) (cost : Option ℕ) (made : Result (Found Cause) E) → HasPlan job.limit bytes plan_bytes g plan → IsValid g plan cost → HasRoute job.route plan
       → IfOk made (λ f. f.answer.status ≡ status.Done)
       → IfOk made (λ f. map written_by f.files.items ≡ file_of job.svg (picture_text (shown_of g job.route plan)) ++ file_of job.json (json_text (shown_of g job.route plan)))
       → IfOk made (λ f. f.answer.text.items ≡ table_text job.exact (shown_of g job.route plan))
@@ -67,9 +68,9 @@ module _ (job : ViewPlan) (bytes plan_bytes : List ℕ) where
       })
 
   -- the first rule that the plan breaks
-  pub puts_broken : {E : Type 0} (g : Network) (plan : Option FleetPlan) (fault : PlanFault) (made : Result Found E) → HasPlan job.limit bytes plan_bytes g plan → HasRoute job.route plan → BreaksFirst g plan fault
+  pub puts_broken : {E : Type 0} (g : Network) (plan : Option FleetPlan) (fault : PlanFault) (made : Result (Found Cause) E) → HasPlan job.limit bytes plan_bytes g plan → HasRoute job.route plan → BreaksFirst g plan fault
       → IfOk made (λ f. f.answer.status ≡ status.Negative) → IfOk made (λ f. map written_by f.files.items ≡ [])
-      → IfOk made (λ f. f.answer.text.items ≡ check_text g.denominator (judgement.Plan fault))
+      → IfOk made (λ f. f.answer.text.items ≡ rejected_text fault)
       → IfOk made (λ f. ViewAnswers job bytes plan_bytes f.answer.status (map written_by f.files.items) f.answer.text.items)
   puts_broken {E} g plan fault (Err e) has route broken answered files text = tt
   puts_broken {E} g plan fault (Ok f) has route broken answered files text =
@@ -77,7 +78,7 @@ module _ (job : ViewPlan) (bytes plan_bytes : List ℕ) where
       (record { files = record { network = g; plan = plan; has = has }; route = route; fault = fault; broken = broken; none = files; text_is = text })
 
   -- the line of a route that isn't there
-  pub puts_no_route : {E : Type 0} (g : Network) (plan : Option FleetPlan) (number : ℕ) (made : Result Found E) → HasPlan job.limit bytes plan_bytes g plan → job.route ≡ Some number → route_count plan ≤ number
+  pub puts_no_route : {E : Type 0} (g : Network) (plan : Option FleetPlan) (number : ℕ) (made : Result (Found Cause) E) → HasPlan job.limit bytes plan_bytes g plan → job.route ≡ Some number → route_count plan ≤ number
       → IfOk made (λ f. f.answer.status ≡ status.Refused) → IfOk made (λ f. map written_by f.files.items ≡ [])
       → IfOk made (λ f. f.answer.text.items ≡ no_route_text number)
       → IfOk made (λ f. ViewAnswers job bytes plan_bytes f.answer.status (map written_by f.files.items) f.answer.text.items)
@@ -87,7 +88,7 @@ module _ (job : ViewPlan) (bytes plan_bytes : List ℕ) where
       (inr (record { files = record { network = g; plan = plan; has = has }; number = number; asked = asked; past = past; none = files; text_is = text }))
 
   -- the line of a refusal
-  refused_so : {E : Type 0} (r : Refusal) (made : Result Found E) → IsRule r → IsTextRefused job.limit bytes plan_bytes r → IfOk made (λ f. f.answer.status ≡ status.Refused)
+  refused_so : {E : Type 0} (r : Refusal) (made : Result (Found Cause) E) → IsRule r → IsTextRefused job.limit bytes plan_bytes r → IfOk made (λ f. f.answer.status ≡ status.Refused)
       → IfOk made (λ f. f.files.items ≡ []) → IfOk made (λ f. f.answer.text.items ≡ refusal_text r)
       → IfOk made (λ f. ViewAnswers job bytes plan_bytes f.answer.status (map written_by f.files.items) f.answer.text.items)
   refused_so {E} r (Err e) rule refused answered files text = tt
@@ -95,7 +96,7 @@ module _ (job : ViewPlan) (bytes plan_bytes : List ℕ) where
       by_status f status.Refused answered (inl (record { refusal = r; rule = rule; refused = refused; none = ap (λ fs. map written_by fs) files; text_is = text }))
 
 -- the first broken rule of the plan's text
-pub puts_refusal : {E : Type 0} (job : ViewPlan) (bytes plan_bytes : List ℕ) (g : Network) (ended : Ended) (r : Refusal) (made : Result Found E) → HasNetwork job.limit bytes g → ended ≡ Refused r
+pub puts_refusal : {E : Type 0} (job : ViewPlan) (bytes plan_bytes : List ℕ) (g : Network) (ended : Ended) (r : Refusal) (made : Result (Found Cause) E) → HasNetwork job.limit bytes g → ended ≡ Refused r
     → IsRuleOrMemory ended → IsPlanEnded plan_bytes ended
     → IfOk made (λ f. f.answer.status ≡ status.Refused) → IfOk made (λ f. f.files.items ≡ []) → IfOk made (λ f. f.answer.text.items ≡ refusal_text r)
     → IfOk made (λ f. ViewAnswers job bytes plan_bytes f.answer.status (map written_by f.files.items) f.answer.text.items)
@@ -141,12 +142,12 @@ answer_is_plain job bytes plan_bytes status.Fault ws text differ p = absurd p
 answer_is_plain job bytes plan_bytes status.Memory ws text differ p = absurd p
 answer_is_plain job bytes plan_bytes status.Stopped ws text differ p = absurd p
 
-pub view_found : {E : Type 0} (job : ViewPlan) (files : Option Files) (bytes plan_bytes given : List ℕ) (made : Result Found E) → DifferIfBoth job.svg job.json
+pub view_found : {E : Type 0} (job : ViewPlan) (files : Option Files) (bytes plan_bytes given : List ℕ) (made : Result (Found Cause) E) → DifferIfBoth job.svg job.json
     → AreReadUpTo most_bytes files job.file bytes → AreReadUpTo most_bytes files job.plan plan_bytes → given ≡ plan_bytes
-    → IfOk made (λ f. ViewAnswers job bytes given f.answer.status (map written_by f.files.items) f.answer.text.items)
+    → IfOk made (λ f. ViewAnswers job bytes given f.answer.status (map written_by f.files.items) f.answer.text.items) → IfOk made (HearsOfFound view_heard)
     → IfOk made (λ f. IsFoundFor (view_task job) files f)
-view_found {E} job files bytes plan_bytes given (Err e) differ read read_plan same answers = tt
-view_found {E} job files bytes plan_bytes given (Ok f) differ read read_plan same answers =
+view_found {E} job files bytes plan_bytes given (Err e) differ read read_plan same answers heard = tt
+view_found {E} job files bytes plan_bytes given (Ok f) differ read read_plan same answers heard =
     let ws = map written_by f.files.items in
     let plain = answer_is_plain job bytes given f.answer.status ws f.answer.text.items differ answers in
     record {
@@ -156,7 +157,7 @@ view_found {E} job files bytes plan_bytes given (Ok f) differ read read_plan sam
         read = (read, (read_plan, tt));
         answer = subst (λ (bs : List ℕ). ViewAnswers job bytes bs f.answer.status ws f.answer.text.items) same answers;
       };
-      heard = tt;
+      heard = heard;
       different = plain.1;
     }
 

@@ -1,3 +1,2 @@
 pub mod ViewAnswer
 pub mod Run
-pub mod Ending

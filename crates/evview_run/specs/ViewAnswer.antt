@@ -2,6 +2,8 @@
 use Rattle.std.specs.Prelude.{◌≡◌, ℕ, ◌<◌, ◌≤◌, ◌⊎◌, List, [], ◌∷◌, ◌++◌, Option, None, Some, codes, decimal, length}
 use Rattle.ev_model.specs.Network.{Network}
 use Rattle.fleet_steps.specs.PlanFile.{BreaksFirst, HoldsPlan, IsTextRefused, IsValid}
+use Rattle.fleet_steps.specs.Heard as fleet
+use Rattle.job_frame.specs.Heard.{HearsDone, HearsRefusal}
 use Rattle.job_frame.specs.Task.{Outcome, Task}
 use Rattle.job_frame.specs.Writes.{Written}
 use Rattle.job_frame.specs.declared.status.Status.{Status}
@@ -12,15 +14,16 @@ use Rattle.plan_check.specs.FleetRules.{stops_of}
 use Rattle.plan_check.specs.declared.fault.PlanFault.{PlanFault}
 use Rattle.plan_schedule.specs.Schedules.{only, schedule_of}
 use Rattle.plan_schedule.specs.declared.schedule.Schedule.{Schedule}
-use Rattle.plan_writer.specs.CheckText.{check_text}
-use Rattle.plan_writer.specs.RefusalText.{IsRule, refusal_text}
-use Rattle.plan_writer.specs.declared.check.Judgement.TheVariants as judgement
-use Rattle.plan_writer.specs.declared.refusal.Refusal.{Refusal}
+use Rattle.refusal_lines.specs.RejectedText.{rejected_text}
+use Rattle.refusal_lines.specs.RefusalText.{IsRule, refusal_text}
+use Rattle.refusal_lines.specs.declared.refusal.Refusal.{Refusal}
 use Rattle.route_plan.specs.declared.plan.FleetPlan.{FleetPlan}
 use Rattle.schedule_texts.specs.JsonTexts.{json_text}
 use Rattle.schedule_texts.specs.Pictures.{picture_text}
 use Rattle.schedule_texts.specs.Tables.{table_text}
 use Rattle.view_words.specs.Words.{ViewPlan}
+use Rattle.evview_run.specs.declared.cause.Cause.{Cause}
+use Rattle.evview_run.specs.declared.cause.Cause.TheVariants as cause
 
 -- how many routes there are
 abbrev pub route_count : Option FleetPlan → ℕ
@@ -74,7 +77,7 @@ pub record PutsBrokenPlan (job : ViewPlan) (bytes plan_bytes : List ℕ)
   pub fault : PlanFault
   pub broken : BreaksFirst files.network files.plan fault
   pub none : ws ≡ []
-  pub text_is : text ≡ check_text files.network.denominator (judgement.Plan fault)
+  pub text_is : text ≡ rejected_text fault
 
 -- the first broken rule of the instance, the limit or the plan's text is put, and nothing is
 -- written
@@ -105,6 +108,24 @@ ViewAnswers job bytes plan_bytes status.Refused ws text =
     PutsRefusal job bytes plan_bytes ws text ⊎ PutsNoRoute job bytes plan_bytes ws text
 ViewAnswers job bytes plan_bytes other ws text = ⊥
 
+-- the line of the rule that the plan breaks is put, and this rule is heard
+abbrev pub HearsBrokenPlan : Status → List ℕ → Option Cause → Type 0
+HearsBrokenPlan answered text heard = fleet.HearsBrokenPlan cause.Plan answered text heard
+
+-- the line of a route that isn't there is put, and its number is heard
+pub record HearsNoRoute
+    (answered : Status) (text : List ℕ) (heard : Option Cause) : Type 0 where
+  pub number : ℕ
+  pub status_is : answered ≡ status.Refused
+  pub text_is : text ≡ no_route_text number
+  pub heard_is : heard ≡ Some (cause.Number number)
+
+-- what is heard of an answer
+abbrev pub view_heard : Status → List ℕ → Option Cause → Type 0
+view_heard answered text heard =
+    HearsRefusal cause.Refused answered text heard ⊎ HearsBrokenPlan answered text heard
+    ⊎ HearsNoRoute answered text heard ⊎ HearsDone answered text heard
+
 -- two files are read
 abbrev pub view_answers : ViewPlan → List (List ℕ) → Outcome → Type 0
 view_answers job (bytes ∷ plan_bytes ∷ []) o =
@@ -117,13 +138,12 @@ view_goes_on job [] = Unit {0}
 view_goes_on job (bytes ∷ []) = (g : Network) × HasNetwork job.limit bytes g
 view_goes_on job other = ⊥
 
-abbrev pub view_task : ViewPlan → Task
+abbrev pub view_task : ViewPlan → Task Cause
 view_task job = record {
   reads = file_read job.file ∷ file_read job.plan ∷ [];
   goes_on = view_goes_on job;
   answers = view_answers job;
-  -- nobody hears why an answer isn't the one that was asked for
-  heard = λ answered text heard. Unit {0};
+  heard = view_heard;
   writes_first = λ ws. ⊥;
   is_open = ⊥;
   has_budget = ⊥;

@@ -2,18 +2,17 @@
 
 ghost use Rattle.std.specs.Prelude.{◌≡◌, ◌≢◌, ◌⊎◌, [], false, IfSome, IsNone};
 ghost use Rattle.ev_outside.specs.Shelf.{CountsNeverFall};
-ghost use Rattle.evview_run.specs.Ending.{Runs};
 ghost use Rattle.evview_run.specs.Run.{TellsUsage, job_named};
 ghost use Rattle.evview_run.specs.ViewAnswer.{view_task};
-ghost use Rattle.job_frame.specs.Codes.{code_of};
-ghost use Rattle.job_frame.specs.Performs.{NothingFailed, Performs};
-ghost use Rattle.job_frame.specs.declared.status.Status.{Status};
+ghost use Rattle.job_frame.specs.Performs.{NothingFailed, Performs, PutsHeard};
+ghost use Rattle.job_frame.specs.Task.{IsAnswered};
 ghost use Rattle.view_words.specs.JobValue.{IsJob, job_value};
 
+use crate::cause::Cause;
 use crate::view::view;
 use ev_outside::{Shelf, Sink};
-use job_ending::{Unheard, finish, put_usage};
-use job_frame::Status;
+use job_ending::{LastCause, Program, finish};
+use job_frame::{CauseListener, Status};
 use std::alloc::{AllocError, Global};
 use view_words::{Job, job_words, usage};
 
@@ -50,47 +49,88 @@ pub fn run<S: Shelf, K: Sink>(alloc: Global, words: &[String], shelf: &mut S, ou
     ensures no_words { K.takes_memory ≡ false → words.now ≡ []
         → (result ≡ Status.Words) ⊎ (result ≡ Status.Fault) }
 {
-    run_job(alloc, words, shelf, out)
+    job_ending::run(
+        alloc,
+        words,
+        shelf,
+        out,
+        &mut Evview {
+            listener: LastCause::new(),
+        },
+    )
 }
 
-/// The same as [`run`], told as one.
-pub(crate) fn run_job<S: Shelf, K: Sink>(
-    alloc: Global,
-    words: &[String],
-    shelf: &mut S,
-    out: &mut K,
-) -> Status
-    ensures { Runs words.now K.takes_memory (S.state shelf.old) (S.state shelf.new)
-        (K.state out.old) (K.state out.new) result }
-{
-    match job_words(alloc, words) {
-        Ok(Some(job)) => perform(alloc, &job, shelf, out),
-        Ok(None) => put_usage(usage(), out),
-        Err(AllocError) => Status::Memory,
+/// The program beside who hears why an answer isn't the one that was asked for.
+#[derive(Drop)]
+pub struct Evview<L: CauseListener<Cause> + Drop> {
+    pub listener: L,
+}
+
+impl<L: CauseListener<Cause> + Drop> Program for Evview<L> {
+    ghost use Rattle.evview_run.specs.Run.{job_named};
+    ghost use Rattle.evview_run.specs.ViewAnswer.{view_task};
+    ghost use Rattle.view_words.specs.JobValue.{IsJob, job_value};
+    ghost use Rattle.view_words.specs.Usage.{usage_text};
+    ghost use Rattle.view_words.specs.Words.{ViewPlan};
+
+    type Job = Job;
+
+    type Cause = Cause;
+
+    ghost Named = { ViewPlan };
+
+    ghost usage_text = { usage_text };
+
+    ghost job_named = { job_named };
+
+    ghost value_of = { job_value };
+
+    ghost IsJob = { IsJob };
+
+    ghost task_of = { view_task };
+
+    ghost heard = { λ program. L.heard program.listener };
+
+
+    fn usage(&self) -> &'static str {
+        usage()
+    }
+
+    fn job_of(&self, alloc: Global, words: &[String]) -> Result<Option<Job>, AllocError> {
+        job_words(alloc, words)
+    }
+
+    fn hear(&mut self, cause: Cause) {
+        self.listener.hear(cause);
+    }
+
+    fn perform<S: Shelf, K: Sink>(
+        &mut self,
+        alloc: Global,
+        job: &Job,
+        shelf: &mut S,
+        out: &mut K,
+    ) -> Status {
+        perform(alloc, job, shelf, out, &mut self.listener)
     }
 }
 
-/// The program as the system sees it: [`run`], and the exit status of its status. It ends and does
-/// what `run` says.
-pub fn exit_code<S: Shelf, K: Sink>(
+/// The job. What it finds is written and put.
+fn perform<S: Shelf, K: Sink, L: CauseListener<Cause>>(
     alloc: Global,
-    words: &[String],
+    job: &Job,
     shelf: &mut S,
     out: &mut K,
-) -> u8
-    ensures { (ended : Status) × (result ≡ code_of ended)
-        × Runs words.now K.takes_memory (S.state shelf.old) (S.state shelf.new)
-        (K.state out.old) (K.state out.new) ended }
-{
-    run(alloc, words, shelf, out).code()
-}
-
-/// The job. What it finds is written and put.
-fn perform<S: Shelf, K: Sink>(alloc: Global, job: &Job, shelf: &mut S, out: &mut K) -> Status
+    listener: &mut L,
+) -> Status
     requires { IsJob job.now }
     ensures words { result ≢ Status.Words }
     ensures job { Performs (view_task (job_value job.now)) (S.state shelf.old) (S.state shelf.new)
         (K.state out.old) (K.state out.new) result }
+    ensures heard { IsAnswered result
+        → PutsHeard (view_task (job_value job.now)) (S.state shelf.old).files
+        (S.state shelf.new).files (K.state out.old).written (K.state out.new).written
+        result (L.heard listener.new) }
     ensures stays { result ≢ Status.Fault
         → NothingFailed (S.state shelf.old) (S.state shelf.new)
         (K.state out.old) (K.state out.new) }
@@ -98,5 +138,5 @@ fn perform<S: Shelf, K: Sink>(alloc: Global, job: &Job, shelf: &mut S, out: &mut
     ensures memory { K.takes_memory ≡ false → result ≡ Status.Memory
         → K.state out.new ≡ K.state out.old }
 {
-    finish(view(alloc, job, shelf), shelf, out, &mut Unheard {})
+    finish(view(alloc, job, shelf), shelf, out, listener)
 }

@@ -1,6 +1,6 @@
 //! The schedule of a plan, and the texts by which it is shown.
 
-ghost use Rattle.std.specs.Prelude.{◌≡◌, ◌<◌, ◌++◌, IfOk, IfSome, OnOk, Some, length, map, option_map, string_bytes};
+ghost use Rattle.std.specs.Prelude.{◌≡◌, ◌<◌, ◌++◌, IfOk, IfSome, None, OnOk, Some, length, map, option_map, string_bytes};
 ghost use Rattle.ev_model.specs.Fleet.{IsFleetPlan};
 ghost use Rattle.evview_run.specs.ViewAnswer.{HasRoute, file_of, part_of, shown_of};
 ghost use Rattle.job_frame.specs.Finds.{written_by};
@@ -13,6 +13,7 @@ ghost use Rattle.schedule_texts.specs.Pictures.{picture_text};
 ghost use Rattle.schedule_texts.specs.Tables.{table_text};
 ghost use Rattle.view_words.specs.JobValue.{job_value};
 
+use crate::cause::Cause;
 use instance_reader::Instance;
 use job_frame::{Answer, Found, NewFile, Status};
 use plan_schedule::{Schedule, only_route, schedule_plan};
@@ -28,7 +29,7 @@ pub fn show(
     inst: &Instance,
     plan: Option<&FleetPlan>,
     job: &Job,
-) -> Result<Found, AllocError>
+) -> Result<Found<Cause>, AllocError>
     requires fleet { IfSome plan (λ p. IsFleetPlan inst.now 1 (stops_of p.now.routes)) }
     requires text { FitsFile (option_map (λ p. p.now) plan) }
     requires route { HasRoute job.now.route (option_map (λ p. p.now) plan) }
@@ -40,6 +41,7 @@ pub fn show(
         (json_text (shown_of inst.now job.now.route (option_map (λ p. p.now) plan.entry)))) }
     ensures text { IfOk result (λ f. f.answer.text.items ≡ table_text job.now.exact
         (shown_of inst.now job.now.route (option_map (λ p. p.now) plan.entry))) }
+    ensures cause { IfOk result (λ f. f.answer.cause ≡ None) }
 {
     let shown = shown(alloc, inst, plan, job.route)?;
     let text = schedule_table(alloc, shown.as_ref(), job.exact)?;

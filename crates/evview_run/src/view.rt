@@ -2,7 +2,7 @@
 //! judged, and its schedule is shown.
 
 ghost use Rattle.std.specs.Prelude.{◌≡◌, ◌≤◌, [], IfErr, IfOk, IfSome, IsNone, List, Option, Some, map, option_map, ℕ};
-ghost use Rattle.evview_run.specs.ViewAnswer.{HasRoute, ViewAnswers, no_route_text, route_count, view_task};
+ghost use Rattle.evview_run.specs.ViewAnswer.{HasRoute, ViewAnswers, no_route_text, route_count, view_heard, view_task};
 ghost use Rattle.fleet_steps.specs.PlanFile.{HasPlan};
 ghost use Rattle.job_frame.specs.Finds.{Finds, written_by};
 ghost use Rattle.job_frame.specs.Task.{AreReadUpTo};
@@ -11,6 +11,7 @@ ghost use Rattle.job_frame.specs.LimitedNetwork.{HasNetwork};
 ghost use Rattle.route_plan.specs.PlanTexts.{FitsFile};
 ghost use Rattle.view_words.specs.JobValue.{IsJob, job_value};
 
+use crate::cause::Cause;
 use crate::showing::show;
 use ev_outside::{Shelf, ShelfFault};
 use fleet_steps::{cost_of, plan_of, reject};
@@ -26,7 +27,7 @@ use view_words::Job;
 
 /// What is found for the words: the instance is read, then the plan; and then this is judged and
 /// shown.
-pub fn view<S: Shelf>(alloc: Global, job: &Job, shelf: &mut S) -> Result<Found, ShelfFault>
+pub fn view<S: Shelf>(alloc: Global, job: &Job, shelf: &mut S) -> Result<Found<Cause>, ShelfFault>
     requires { IsJob job.now }
     ensures { Finds (view_task (job_value job.now)) (S.state shelf.old) (S.state shelf.new) result }
 {
@@ -47,7 +48,7 @@ fn view_on<S: Shelf>(
     inst: &Instance,
     job: &Job,
     shelf: &mut S,
-) -> Result<Found, ShelfFault>
+) -> Result<Found<Cause>, ShelfFault>
     requires { IsJob job.now }
     ensures { (bytes : List ℕ)
         → AreReadUpTo most_bytes (S.state shelf.old).files (job_value job.now).file bytes
@@ -62,10 +63,17 @@ fn view_on<S: Shelf>(
 }
 
 /// What is found for the bytes of a plan file: the plan is read, judged and shown.
-fn view_text(alloc: Global, inst: &Instance, bytes: &[u8], job: &Job) -> Result<Found, ShelfFault>
+fn view_text(
+    alloc: Global,
+    inst: &Instance,
+    bytes: &[u8],
+    job: &Job,
+) -> Result<Found<Cause>, ShelfFault>
     ensures answers { (file : List ℕ) → HasNetwork job.now.limit file inst.now
         → IfOk result (λ f. ViewAnswers (job_value job.now) file bytes.now
         f.answer.status (map written_by f.files.items) f.answer.text.items) }
+    ensures heard { IfOk result
+        (λ f. view_heard f.answer.status f.answer.text.items f.answer.cause) }
     ensures memory { IfErr result (λ fault. fault ≡ ShelfFault.Memory) }
 {
     match plan_of(alloc, bytes) {
@@ -84,12 +92,14 @@ fn view_plan(
     inst: &Instance,
     plan: Option<&FleetPlan>,
     job: &Job,
-) -> Result<Found, AllocError>
+) -> Result<Found<Cause>, AllocError>
     requires { FitsFile (option_map (λ p. p.now) plan) }
-    ensures { (file plan_bytes : List ℕ)
+    ensures answers { (file plan_bytes : List ℕ)
         → HasPlan job.now.limit file plan_bytes inst.now (option_map (λ p. p.now) plan.entry)
         → IfOk result (λ f. ViewAnswers (job_value job.now) file plan_bytes
         f.answer.status (map written_by f.files.items) f.answer.text.items) }
+    ensures heard { IfOk result
+        (λ f. view_heard f.answer.status f.answer.text.items f.answer.cause) }
 {
     match missing_route(plan, job.route) {
         Some(number) => refuse_route(alloc, number),
@@ -123,10 +133,11 @@ fn route_count(plan: Option<&FleetPlan>) -> u64
 }
 
 /// The line of a route that isn't there.
-fn refuse_route(alloc: Global, number: u64) -> Result<Found, AllocError>
+fn refuse_route(alloc: Global, number: u64) -> Result<Found<Cause>, AllocError>
     ensures status { IfOk result (λ f. f.answer.status ≡ Status.Refused) }
     ensures files { IfOk result (λ f. map written_by f.files.items ≡ []) }
     ensures text { IfOk result (λ f. f.answer.text.items ≡ no_route_text number) }
+    ensures cause { IfOk result (λ f. f.answer.cause ≡ Some (Cause.Number number)) }
 {
     let mut text = Vec::new(alloc);
     push_numbered(alloc, &mut text, b"refused number ", u128::from(number))?;
@@ -134,7 +145,7 @@ fn refuse_route(alloc: Global, number: u64) -> Result<Found, AllocError>
     let answer = Answer {
         status: Status::Refused,
         text,
-        cause: None,
+        cause: Some(Cause::Number(number)),
     };
     Ok(Found::alone(alloc, answer))
 }
@@ -146,17 +157,19 @@ fn view_judged(
     inst: &Instance,
     plan: Option<&FleetPlan>,
     job: &Job,
-) -> Result<Found, AllocError>
+) -> Result<Found<Cause>, AllocError>
     requires text { FitsFile (option_map (λ p. p.now) plan) }
     requires route { HasRoute job.now.route (option_map (λ p. p.now) plan) }
-    ensures { (file plan_bytes : List ℕ)
+    ensures answers { (file plan_bytes : List ℕ)
         → HasPlan job.now.limit file plan_bytes inst.now (option_map (λ p. p.now) plan.entry)
         → IfOk result (λ f. ViewAnswers (job_value job.now) file plan_bytes
         f.answer.status (map written_by f.files.items) f.answer.text.items) }
+    ensures heard { IfOk result
+        (λ f. view_heard f.answer.status f.answer.text.items f.answer.cause) }
 {
     match cost_of(alloc, inst, plan) {
         Ok(_cost) => show(alloc, inst, plan, job),
-        Err(LargeFault::Plan { fault }) => reject(alloc, inst, fault),
+        Err(LargeFault::Plan { fault }) => reject(alloc, fault),
         Err(LargeFault::Memory) => Err(AllocError),
     }
 }

@@ -1,5 +1,4 @@
--- What a fleet plan costs is small where the plan may stand in a text, and no less than a bound that
--- is true.
+-- What a fleet plan costs is small where the plan may stand in a text.
 use Rattle.std.proofs.Common.{◌≡◌, ℕ, ◌*◌, ◌^◌, ◌≤◌, List, [], ◌∷◌, Option, None, Some, IfSome, arith, length, subst, sym}
 use Rattle.std.specs.List.{All}
 use Rattle.std.proofs.lemmas.List.{length-map}
@@ -11,9 +10,7 @@ use Rattle.ev_model.specs.Network.{IsNetwork, Network, scaled_limit}
 use Rattle.ev_model.specs.Time.{time_of}
 use Rattle.ev_model.specs.declared.Stop.{Stop}
 use Rattle.fleet_steps.specs.PlanFile.{IsValid}
-use Rattle.near_proof.specs.Truth.{IsTrueNearBound}
 use Rattle.plan_check.specs.FleetRules.{stops_of}
-use Rattle.report_lines.specs.Lines.{IsBoundOf}
 use Rattle.route_plan.specs.PlanTexts.{FitsFile}
 use Rattle.route_plan.specs.declared.plan.FleetPlan.{FleetPlan}
 
@@ -37,13 +34,3 @@ small_cost g (Some p) (Some c) network fits valid =
     let count : length (stops_of p.routes) ≡ length p.routes = length-map p.routes (λ r. r.stops) in
     let same : c ≡ cost_of g 1 (stops_of p.routes) = same_Some c (cost_of g 1 (stops_of p.routes)) valid.1 in
     subst (λ (n : ℕ). n ≤ 2 ^ 100) (sym same) (small (cost_of g 1 (stops_of p.routes)) (length (stops_of p.routes)) within (subst (λ (n : ℕ). n ≤ 10 ^ 6) (sym count) fits.0))
-
-pub is_bound_of_cost : (g : Network) (plan : Option FleetPlan) (cost bound : Option ℕ) → IsValid g plan cost → IsTrueNearBound g bound → IsBoundOf cost bound
-is_bound_of_cost g None None bound valid truth = tt
-is_bound_of_cost g None (Some c) bound valid truth = absurd (cc)
-is_bound_of_cost g (Some p) None bound valid truth = tt
-is_bound_of_cost g (Some p) (Some c) None valid truth = tt
-is_bound_of_cost g (Some p) (Some c) (Some b) valid truth =
-    let le : 1 * b ≤ cost_of g 1 (stops_of p.routes) = truth 1 (stops_of p.routes) valid.0 in
-    let same : c ≡ cost_of g 1 (stops_of p.routes) = same_Some c (cost_of g 1 (stops_of p.routes)) valid.1 in
-    omega (arith, le, same)

@@ -4,9 +4,9 @@ use Rattle.certificate_parts.specs.Ranges.{customer_count}
 use Rattle.ev_model.specs.Network.{Network}
 use Rattle.fleet_steps.specs.FleetNetwork.{HasFleetNetwork, IsFleetRefused}
 use Rattle.job_frame.proofs.LimitedNetworks.{one_limited, refused_has_none}
-use Rattle.plan_writer.specs.RefusalText.{IsRule}
-use Rattle.plan_writer.specs.declared.refusal.Refusal.{Refusal}
-use Rattle.plan_writer.specs.declared.refusal.Refusal.TheVariants as refusal
+use Rattle.refusal_lines.specs.RefusalText.{IsRule}
+use Rattle.refusal_lines.specs.declared.refusal.Refusal.{Refusal}
+use Rattle.refusal_lines.specs.declared.refusal.Refusal.TheVariants as refusal
 
 pub same_fleet : (limit : Option ℕ) (bytes : List ℕ) (g h : Network) → HasFleetNetwork limit bytes g → HasFleetNetwork limit bytes h → g ≡ h
 same_fleet limit bytes g h p q = one_limited limit bytes g h p.network q.network

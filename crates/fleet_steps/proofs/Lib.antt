@@ -2,5 +2,4 @@ pub mod Costs
 pub mod Instances
 pub mod Plans
 pub mod PlanFiles
-pub mod Nears
 pub mod Hearing

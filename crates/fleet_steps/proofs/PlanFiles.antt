@@ -7,9 +7,9 @@ use Rattle.fleet_steps.specs.PlanFile.{HoldsPlan, IsPlanEnded, IsTextRefused}
 use Rattle.job_frame.proofs.LimitedNetworks.{one_limited, refused_has_none}
 use Rattle.job_frame.specs.LimitedNetwork.{HasNetwork, IsNetworkRefused}
 use Rattle.job_frame.specs.declared.answer.Ended.TheVariants.{Refused}
-use Rattle.plan_writer.specs.RefusalText.{IsRule}
-use Rattle.plan_writer.specs.declared.refusal.Refusal.{Refusal}
-use Rattle.plan_writer.specs.declared.refusal.Refusal.TheVariants as refusal
+use Rattle.refusal_lines.specs.RefusalText.{IsRule}
+use Rattle.refusal_lines.specs.declared.refusal.Refusal.{Refusal}
+use Rattle.refusal_lines.specs.declared.refusal.Refusal.TheVariants as refusal
 use Rattle.route_plan.proofs.PlanLaws.{fleet_plan_is_spelled}
 
 module _ (limit : Option ℕ) (bytes plan_bytes : List ℕ) where

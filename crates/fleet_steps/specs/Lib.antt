@@ -1,4 +1,3 @@
 pub mod FleetNetwork
 pub mod PlanFile
-pub mod NearFile
 pub mod Heard

@@ -10,8 +10,8 @@ use Rattle.plan_check.specs.FleetRules.{IsFirstBroken, stops_of}
 use Rattle.plan_check.specs.declared.fault.LargeFault.{LargeFault}
 use Rattle.plan_check.specs.declared.fault.LargeFault.TheVariants as large
 use Rattle.plan_check.specs.declared.fault.PlanFault.{PlanFault}
-use Rattle.plan_writer.specs.declared.refusal.Refusal.{Refusal}
-use Rattle.plan_writer.specs.declared.refusal.Refusal.TheVariants as refusal
+use Rattle.refusal_lines.specs.declared.refusal.Refusal.{Refusal}
+use Rattle.refusal_lines.specs.declared.refusal.Refusal.TheVariants as refusal
 use Rattle.route_plan.specs.PlanReading.{fleet_plan_in}
 use Rattle.route_plan.specs.PlanTexts.{SpellsFleetPlan}
 use Rattle.route_plan.specs.declared.plan.FleetPlan.{FleetPlan}

@@ -2,31 +2,39 @@
 
 ghost use Rattle.std.specs.Prelude.{◌≡◌, [], IfOk, map, option_map, Some};
 ghost use Rattle.job_frame.specs.Finds.{written_by};
-ghost use Rattle.plan_writer.specs.CheckText.{check_text};
-ghost use Rattle.plan_writer.specs.declared.check.Judgement.TheVariants as judgement;
+ghost use Rattle.plan_check.specs.declared.fault.PlanFault.{PlanFault};
+ghost use Rattle.refusal_lines.specs.RejectedText.{rejected_text};
 ghost use Rattle.route_plan.specs.PlanTexts.{FitsFile, fleet_plan_text};
 
-use instance_reader::Instance;
-use job_frame::{Answer, Cause, Found, Status};
+use job_frame::{Answer, Found, JobCause, Status};
 use plan_check::PlanFault;
-use plan_writer::{Judgement, push_check_report};
+use refusal_lines::push_rejected_plan;
 use route_plan::{FleetPlan, push_fleet_plan};
 use std::alloc::{AllocError, Global};
 
+/// Causes of a program whose jobs read fleet plans.
+pub trait PlanCause: JobCause {
+    // that the plan breaks this rule
+    ghost broken: { PlanFault → Self };
+
+    /// The plan of a fleet breaks a rule.
+    fn broken(fault: PlanFault) -> Self
+        ensures { result ≡ broken fault };
+}
+
 /// The line of the first rule that a plan breaks.
-pub fn reject(alloc: Global, inst: &Instance, fault: PlanFault) -> Result<Found, AllocError>
+pub fn reject<C: PlanCause>(alloc: Global, fault: PlanFault) -> Result<Found<C>, AllocError>
     ensures status { IfOk result (λ f. f.answer.status ≡ Status.Negative) }
     ensures files { IfOk result (λ f. map written_by f.files.items ≡ []) }
-    ensures text { IfOk result (λ f. f.answer.text.items
-        ≡ check_text inst.now.denominator (judgement.Plan fault)) }
-    ensures cause { IfOk result (λ f. f.answer.cause ≡ Some (Cause.Plan fault)) }
+    ensures text { IfOk result (λ f. f.answer.text.items ≡ rejected_text fault) }
+    ensures cause { IfOk result (λ f. f.answer.cause ≡ Some (C.broken fault)) }
 {
     let mut text = Vec::new(alloc);
-    push_check_report(alloc, &mut text, inst, &Judgement::Plan(fault))?;
+    push_rejected_plan(alloc, &mut text, &fault)?;
     let answer = Answer {
         status: Status::Negative,
         text,
-        cause: Some(Cause::Plan(fault)),
+        cause: Some(C::broken(fault)),
     };
     Ok(Found::alone(alloc, answer))
 }

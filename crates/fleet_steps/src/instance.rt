@@ -6,7 +6,7 @@ ghost use Rattle.job_frame.specs.Ended.{IsRuleOrMemory};
 
 use instance_reader::{Instance, MOST_CUSTOMERS};
 use job_frame::{Ended, limited_instance};
-use plan_writer::Refusal;
+use refusal_lines::Refusal;
 use std::alloc::Global;
 
 /// The instance of the bytes for a fleet: with the limit of the words, and without too many

@@ -1,19 +1,14 @@
-//! The plans and the proofs of files, and what a plan costs.
+//! The plans of files, and what a plan costs.
 
-ghost use Rattle.std.specs.Prelude.{◌≤◌, ◌^◌, IfErr, IfOk, IfSome, length, option_map};
-ghost use Rattle.fleet_steps.specs.NearFile.{HasNear, IsProofEnded};
+ghost use Rattle.std.specs.Prelude.{◌≤◌, ◌^◌, IfErr, IfOk, IfSome, option_map};
 ghost use Rattle.fleet_steps.specs.PlanFile.{IsPlanEnded, IsUnfit, IsValid};
-ghost use Rattle.instance_reader.specs.Instance.{customer_nodes, most_customers};
 ghost use Rattle.job_frame.specs.Ended.{IsRuleOrMemory};
-ghost use Rattle.near_proof.specs.Ranges.{NearFits};
 ghost use Rattle.route_plan.specs.PlanTexts.{FitsFile, SpellsFleetPlan};
 
 use instance_reader::Instance;
 use job_frame::Ended;
-use near_proof::NearProof;
-use near_text::{CertText, read_near};
 use plan_check::{LargeFault, check_large};
-use plan_writer::Refusal;
+use refusal_lines::Refusal;
 use route_plan::{FleetPlan, PlanText, read_fleet_plan};
 use std::alloc::Global;
 
@@ -27,21 +22,6 @@ pub fn plan_of(alloc: Global, bytes: &[u8]) -> Result<Option<FleetPlan>, Ended>
         Ok(plan) => Ok(plan),
         Err(PlanText::Memory) => Err(Ended::Memory),
         Err(fault) => Err(Ended::Refused(Refusal::Plan(fault))),
-    }
-}
-
-/// The proof of a file.
-pub fn proof_of(alloc: Global, inst: &Instance, bytes: &[u8]) -> Result<NearProof, Ended>
-    requires { length (customer_nodes inst.now) ≤ most_customers }
-    ensures has { IfOk result (HasNear inst.now bytes.now) }
-    ensures fits { IfOk result (NearFits inst.now) }
-    ensures rule { IfErr result IsRuleOrMemory }
-    ensures ended { IfErr result (IsProofEnded inst.now bytes.now) }
-{
-    match read_near(alloc, inst, bytes) {
-        Ok(proof) => Ok(proof),
-        Err(CertText::Memory) => Err(Ended::Memory),
-        Err(fault) => Err(Ended::Refused(Refusal::Certificate(fault))),
     }
 }
 

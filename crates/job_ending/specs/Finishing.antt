@@ -23,7 +23,7 @@ pub record EndsWithout (fault : ShelfFault) (before after : ShelfState) (old new
   pub sink : new ≡ old
 
 -- what was found was written and put, or why it was not; or nothing was found
-pub record Finishes (found : Result Found ShelfFault)
+pub record Finishes {C : Type 0} (found : Result (Found C) ShelfFault)
     (before after : ShelfState) (old new : SinkState) (ended : Status) : Type 0 where
   pub concludes : IfOk found (λ f. Concludes (outcome_of f) before after old new ended)
   pub without : IfErr found (λ fault. EndsWithout fault before after old new ended)

@@ -1,7 +1,7 @@
 //! The end of a job that found its answer, or why it has none, before anything was written; and
 //! what is put where the words name no job.
 
-ghost use Rattle.std.specs.Prelude.{◌≡◌, ◌≢◌, false, IfOk};
+ghost use Rattle.std.specs.Prelude.{◌≡◌, ◌≢◌, false, IfOk, IfSome, Some};
 ghost use Rattle.ev_outside.specs.Counts.{Rose};
 ghost use Rattle.ev_outside.specs.Shelf.{CountsNeverFall};
 ghost use Rattle.ev_outside.specs.Sink.{Adds, AddsPrefix};
@@ -12,12 +12,12 @@ ghost use Rattle.job_frame.specs.Task.{IsAnswered};
 ghost use Rattle.job_frame.specs.Writes.{AreDifferent};
 
 use ev_outside::{Shelf, ShelfFault, Sink, SinkFault};
-use job_frame::{Cause, CauseListener, Found, Status, conclude};
+use job_frame::{CauseListener, Found, JobCause, Status, conclude};
 
 /// What was found is written and put, and a listener hears its cause; or the status tells why
 /// nothing was found.
-pub fn finish<S: Shelf, K: Sink, L: CauseListener>(
-    found: Result<Found, ShelfFault>,
+pub fn finish<C: JobCause, S: Shelf, K: Sink, L: CauseListener<C>>(
+    found: Result<Found<C>, ShelfFault>,
     shelf: &mut S,
     out: &mut K,
     listener: &mut L,
@@ -26,6 +26,8 @@ pub fn finish<S: Shelf, K: Sink, L: CauseListener>(
     requires different { IfOk found (λ f. AreDifferent (outcome_of f).writes) }
     ensures finishes { Finishes found (S.state shelf.old) (S.state shelf.new)
         (K.state out.old) (K.state out.new) result }
+    ensures heard { IfOk found (λ f.
+        IfSome f.answer.cause (λ cause. L.heard listener.new ≡ Some cause)) }
     ensures words { result ≢ Status.Words }
     ensures stays { result ≢ Status.Fault
         → NothingFailed (S.state shelf.old) (S.state shelf.new)
@@ -44,12 +46,32 @@ pub fn finish<S: Shelf, K: Sink, L: CauseListener>(
     }
 }
 
-/// Who hears no cause.
+/// Who keeps the cause that was heard last.
 #[derive(Drop)]
-pub struct Unheard {}
+pub struct LastCause<C: JobCause> {
+    cause: Option<C>,
+}
 
-impl CauseListener for Unheard {
-    fn hear(&mut self, _cause: Cause) {}
+impl<C: JobCause> LastCause<C> {
+    /// Nothing was heard yet.
+    pub fn new() -> Self {
+        LastCause { cause: None }
+    }
+
+    /// The cause that was heard last, where any was.
+    pub fn cause(&self) -> Option<C>
+        ensures { result ≡ self.now.cause }
+    {
+        self.cause
+    }
+}
+
+impl<C: JobCause> CauseListener<C> for LastCause<C> {
+    ghost heard = { λ listener. listener.cause };
+
+    fn hear(&mut self, cause: C) {
+        self.cause = Some(cause);
+    }
 }
 
 /// Puts the text that says how a program is called. The status is that of words that name no job,

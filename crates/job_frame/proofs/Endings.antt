@@ -3,8 +3,8 @@ use Rattle.std.proofs.Common.{◌≡◌, subst}
 use Rattle.job_frame.specs.Ended.{IsRuleOrMemory}
 use Rattle.job_frame.specs.declared.answer.Ended.{Ended}
 use Rattle.job_frame.specs.declared.answer.Ended.TheVariants.{Refused}
-use Rattle.plan_writer.specs.RefusalText.{IsRule}
-use Rattle.plan_writer.specs.declared.refusal.Refusal.{Refusal}
+use Rattle.refusal_lines.specs.RefusalText.{IsRule}
+use Rattle.refusal_lines.specs.declared.refusal.Refusal.{Refusal}
 
 -- a refusal names a rule
 pub rule_of : (ended : Ended) (r : Refusal) → ended ≡ Refused r → IsRuleOrMemory ended → IsRule r

@@ -68,10 +68,10 @@ never_fall_since before later after p q = record {
 }
 
 -- an answer, or want of memory, behind reads that did not fail
-pub finds : (task : Task) (before after : ShelfState) (found : Result Found ShelfFault) → IfOk found (λ f. IsAnswered f.answer.status)
+pub finds : {C : Type 0} (task : Task C) (before after : ShelfState) (found : Result (Found C) ShelfFault) → IfOk found (λ f. IsAnswered f.answer.status)
     → IfOk found (λ f. Answers task before.files (outcome_of f)) → IfOk found (Hears task) → IfOk found (λ f. AreDifferent (outcome_of f).writes) → IfErr found (λ fault. fault ≡ Memory)
     → CountsStay before after → CountsNeverFall before after → after.files ≡ before.files → Finds task before after found
-finds task before after found answered answers heard different memory stays falls files = record {
+finds {C} task before after found answered answers heard different memory stays falls files = record {
   answered = answered;
   answers = answers;
   heard = heard;
@@ -89,51 +89,51 @@ same_outcome s t vs ws xs ys p q r =
     ∙ ap (λ (x : List Written). record { status = t; writes = x; text = xs }) q
     ∙ ap (λ (x : List ℕ). record { status = t; writes = ws; text = x }) r
 
-outcome_is : (o : Outcome) (f : Found) → f.answer.status ≡ o.status → map written_by f.files.items ≡ o.writes → f.answer.text.items ≡ o.text → outcome_of f ≡ o
-outcome_is o f status writes text = same_outcome f.answer.status o.status (map written_by f.files.items) o.writes f.answer.text.items o.text status writes text
+outcome_is : {C : Type 0} (o : Outcome) (f : Found C) → f.answer.status ≡ o.status → map written_by f.files.items ≡ o.writes → f.answer.text.items ≡ o.text → outcome_of f ≡ o
+outcome_is {C} o f status writes text = same_outcome f.answer.status o.status (map written_by f.files.items) o.writes f.answer.text.items o.text status writes text
 
 -- what was found stands for an outcome that is an answer
-pub finds_as : (task : Task) (before after : ShelfState) (o : Outcome) (found : Result Found ShelfFault) → Answers task before.files o → IsAnswered o.status → IfOk found (Hears task) → AreDifferent o.writes
+pub finds_as : {C : Type 0} (task : Task C) (before after : ShelfState) (o : Outcome) (found : Result (Found C) ShelfFault) → Answers task before.files o → IsAnswered o.status → IfOk found (Hears task) → AreDifferent o.writes
     → IfOk found (λ f. f.answer.status ≡ o.status) → IfOk found (λ f. map written_by f.files.items ≡ o.writes) → IfOk found (λ f. f.answer.text.items ≡ o.text)
     → IfErr found (λ fault. fault ≡ Memory) → CountsStay before after → CountsNeverFall before after → after.files ≡ before.files → Finds task before after found
-finds_as task before after o (Err fault) answers answered heard different status writes text memory stays falls files =
+finds_as {C} task before after o (Err fault) answers answered heard different status writes text memory stays falls files =
     finds task before after (Err fault) tt tt tt tt memory stays falls files
-finds_as task before after o (Ok f) answers answered heard different status writes text memory stays falls files =
+finds_as {C} task before after o (Ok f) answers answered heard different status writes text memory stays falls files =
     let same : outcome_of f ≡ o = outcome_is o f status writes text in
     finds task before after (Ok f) (subst (λ (s : Status). IsAnswered s) (sym status) answered)
     (subst (λ (x : Outcome). Answers task before.files x) (sym same) answers) heard (subst (λ (ws : List Written). AreDifferent ws) (sym writes) different) tt stays falls files
 
-no_files : (found : Result Found ShelfFault) → IfOk found (λ f. f.files.items ≡ []) → IfOk found (λ f. map written_by f.files.items ≡ [])
-no_files (Err fault) none = tt
-no_files (Ok f) none = ap (λ (files : List NewFile). map written_by files) none
+no_files : {C : Type 0} (found : Result (Found C) ShelfFault) → IfOk found (λ f. f.files.items ≡ []) → IfOk found (λ f. map written_by f.files.items ≡ [])
+no_files {C} (Err fault) none = tt
+no_files {C} (Ok f) none = ap (λ (files : List NewFile). map written_by files) none
 
 -- the same where no file is written
-pub finds_alone : (task : Task) (before after : ShelfState) (answered : Status) (text : List ℕ) (found : Result Found ShelfFault)
+pub finds_alone : {C : Type 0} (task : Task C) (before after : ShelfState) (answered : Status) (text : List ℕ) (found : Result (Found C) ShelfFault)
     → Answers task before.files (record { status = answered; writes = []; text = text }) → IsAnswered answered → IfOk found (Hears task)
     → IfOk found (λ f. f.answer.status ≡ answered) → IfOk found (λ f. f.answer.text.items ≡ text) → IfOk found (λ f. f.files.items ≡ [])
     → IfErr found (λ fault. fault ≡ Memory) → CountsStay before after → CountsNeverFall before after → after.files ≡ before.files → Finds task before after found
-finds_alone task before after answered text found answers is heard status text_is none memory stays falls files =
+finds_alone {C} task before after answered text found answers is heard status text_is none memory stays falls files =
     finds_as task before after (record { status = answered; writes = []; text = text }) found answers is heard tt status (no_files found none) text_is memory stays falls files
 
 -- the next file that is read failed, or memory was refused
-pub finds_none : {A : Type 0} (task : Task) (before after : ShelfState) (fault : ShelfFault)
+pub finds_none : {C : Type 0} {A : Type 0} (task : Task C) (before after : ShelfState) (fault : ShelfFault)
     → (◌≡◌ {A = Result A ShelfFault} (Err fault) (Err Failed) → FailsReading task before after)
     → ((◌≡◌ {A = Result A ShelfFault} (Err fault) (Err Failed) → ⊥) → CountsStay before after)
     → CountsNeverFall before after → after.files ≡ before.files → Finds task before after (Err fault)
-finds_none {A} task before after fault failed stays falls files = record {
+finds_none {C} {A} task before after fault failed stays falls files = record {
   answered = tt;
   answers = tt;
   heard = tt;
   different = tt;
   fault = λ is. failed (ap {B = Result A ShelfFault} (λ (e : ShelfFault). Err e) (same_error fault Failed is));
-  stays = λ none. stays (λ is. none (ap {B = Result Found ShelfFault} (λ (e : ShelfFault). Err e) (same_error fault Failed is)));
+  stays = λ none. stays (λ is. none (ap {B = Result (Found C) ShelfFault} (λ (e : ShelfFault). Err e) (same_error fault Failed is)));
   falls = falls;
   files = files;
 }
 
 -- from an earlier state of the shelf on, from which its files and its counts stayed
-fails_since : (task : Task) (before later after : ShelfState) → later.files ≡ before.files → CountsStay before later → FailsReading task later after → FailsReading task before after
-fails_since task before later after same stays fails = record {
+fails_since : {C : Type 0} (task : Task C) (before later after : ShelfState) → later.files ≡ before.files → CountsStay before later → FailsReading task later after → FailsReading task before after
+fails_since {C} task before later after same stays fails = record {
   first = fails.first;
   read = fails.read;
   rest = fails.rest;
@@ -144,20 +144,20 @@ fails_since task before later after same stays fails = record {
   failed = (subst (λ (n : ℕ). Rose n (after.failed_reads fails.read.name)) (stays.reads fails.read.name) fails.failed.0, fails.failed.1);
 }
 
-answers_since : (task : Task) (files later : Option Files) (o : Outcome) → later ≡ files → Answers task later o → Answers task files o
-answers_since task files later o same answers = record {
+answers_since : {C : Type 0} (task : Task C) (files later : Option Files) (o : Outcome) → later ≡ files → Answers task later o → Answers task files o
+answers_since {C} task files later o same answers = record {
   bytes = answers.bytes;
   read = subst (λ (fs : Option Files). AreRead fs task.reads answers.bytes) same answers.read;
   answer = answers.answer;
 }
 
-found_since : (task : Task) (files later : Option Files) (found : Result Found ShelfFault) → later ≡ files → IfOk found (λ f. Answers task later (outcome_of f)) → IfOk found (λ f. Answers task files (outcome_of f))
-found_since task files later (Err fault) same answers = tt
-found_since task files later (Ok f) same answers = answers_since task files later (outcome_of f) same answers
+found_since : {C : Type 0} (task : Task C) (files later : Option Files) (found : Result (Found C) ShelfFault) → later ≡ files → IfOk found (λ f. Answers task later (outcome_of f)) → IfOk found (λ f. Answers task files (outcome_of f))
+found_since {C} task files later (Err fault) same answers = tt
+found_since {C} task files later (Ok f) same answers = answers_since task files later (outcome_of f) same answers
 
-pub finds_since : (task : Task) (before later after : ShelfState) (found : Result Found ShelfFault) →
+pub finds_since : {C : Type 0} (task : Task C) (before later after : ShelfState) (found : Result (Found C) ShelfFault) →
     later.files ≡ before.files → CountsStay before later → CountsNeverFall before later → Finds task later after found → Finds task before after found
-finds_since task before later after found same stays falls finds = record {
+finds_since {C} task before later after found same stays falls finds = record {
   answered = finds.answered;
   heard = finds.heard;
   answers = found_since task before.files later.files found same finds.answers;
@@ -169,8 +169,8 @@ finds_since task before later after found same stays falls finds = record {
 }
 
 -- the first file that a task reads failed
-pub fails_at_once : (task : Task) (before after : ShelfState) (read : Read) (rest : List Read) → task.reads ≡ read ∷ rest → task.goes_on [] → HasFailedRead before after read.name → FailsReading task before after
-fails_at_once task before after read rest are goes_on failed = record {
+pub fails_at_once : {C : Type 0} (task : Task C) (before after : ShelfState) (read : Read) (rest : List Read) → task.reads ≡ read ∷ rest → task.goes_on [] → HasFailedRead before after read.name → FailsReading task before after
+fails_at_once {C} task before after read rest are goes_on failed = record {
   first = [];
   read = read;
   rest = rest;

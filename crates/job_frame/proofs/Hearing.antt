@@ -1,57 +1,41 @@
 -- What is heard of an answer that was made, by its status, its text and its cause.
-use Rattle.std.proofs.Common.{◌≡◌, ◌≢◌, ◌⊎◌, ◌∙◌, ℕ, List, Option, None, Some, Result, Ok, Err, IfOk, ap, inl, refl, subst, sym}
-use Rattle.job_frame.specs.Heard.{HearsElse, HearsRefusal, cause_beside, search_cause}
-use Rattle.job_frame.specs.declared.cause.Cause.{Cause}
-use Rattle.job_frame.specs.declared.cause.Cause.TheVariants as cause
+use Rattle.std.proofs.Common.{◌≡◌, ◌⊎◌, ℕ, List, Option, Some, Result, Ok, Err, IfOk, inl, refl, subst, sym}
+use Rattle.job_frame.specs.Heard.{HearsRefusal}
 use Rattle.job_frame.specs.declared.found.Answer.{Answer}
 use Rattle.job_frame.specs.declared.found.Found.{Found}
 use Rattle.job_frame.specs.declared.status.Status.{Status}
 use Rattle.job_frame.specs.declared.status.Status.TheVariants as status
-use Rattle.plan_writer.specs.RefusalText.{refusal_text}
-use Rattle.plan_writer.specs.declared.refusal.Refusal.{Refusal}
+use Rattle.refusal_lines.specs.RefusalText.{refusal_text}
+use Rattle.refusal_lines.specs.declared.refusal.Refusal.{Refusal}
 
 -- this is heard of the answer
-abbrev pub HearsOf : (Status → List ℕ → Option Cause → Type 0) → Answer → Type 0
-HearsOf Heard a = Heard a.status a.text.items a.cause
+abbrev pub HearsOf : {C : Type 0} → (Status → List ℕ → Option C → Type 0) → Answer C → Type 0
+HearsOf {C} Heard a = Heard a.status a.text.items a.cause
 
 -- of the answer that was found
-abbrev pub HearsOfFound : (Status → List ℕ → Option Cause → Type 0) → Found → Type 0
-HearsOfFound Heard f = HearsOf Heard f.answer
+abbrev pub HearsOfFound : {C : Type 0} → (Status → List ℕ → Option C → Type 0) → Found C → Type 0
+HearsOfFound {C} Heard f = HearsOf Heard f.answer
 
-hears_refusal : (r : Refusal) (a : Answer) → a.status ≡ status.Refused → a.text.items ≡ refusal_text r → a.cause ≡ Some (cause.Refused r) → HearsOf HearsRefusal a
-hears_refusal r a answered text heard = record { refusal = r; status_is = answered; text_is = text; heard_is = heard }
+hears_refusal : {C : Type 0} (refused : Refusal → C) (r : Refusal) (a : Answer C) → a.status ≡ status.Refused → a.text.items ≡ refusal_text r → a.cause ≡ Some (refused r) → HearsOf (HearsRefusal refused) a
+hears_refusal {C} refused r a answered text heard = record { refusal = r; status_is = answered; text_is = text; heard_is = heard }
 
 -- what is heard of the line of a refusal, whatever else may be heard of the job
-pub its_rule : {Else : Type 0} (r : Refusal) → HearsRefusal status.Refused (refusal_text r) (Some (cause.Refused r)) ⊎ Else
-its_rule {Else} r = inl (record { refusal = r; status_is = refl; text_is = refl; heard_is = refl })
+pub its_rule : {C Else : Type 0} (refused : Refusal → C) (r : Refusal) → HearsRefusal refused status.Refused (refusal_text r) (Some (refused r)) ⊎ Else
+its_rule {C} {Else} refused r = inl (record { refusal = r; status_is = refl; text_is = refl; heard_is = refl })
 
 -- the line of a refusal that was made
-pub refusal_is_heard : {E : Type 0} (Else : Status → List ℕ → Option Cause → Type 0) (r : Refusal) (made : Result Answer E) → IfOk made (λ a. a.status ≡ status.Refused)
-    → IfOk made (λ a. a.text.items ≡ refusal_text r) → IfOk made (λ a. a.cause ≡ Some (cause.Refused r)) → IfOk made (λ a. HearsOf HearsRefusal a ⊎ HearsOf Else a)
-refusal_is_heard {E} Else r (Err e) answered text heard = tt
-refusal_is_heard {E} Else r (Ok a) answered text heard = inl (hears_refusal r a answered text heard)
+pub refusal_is_heard : {C E : Type 0} (refused : Refusal → C) (Else : Status → List ℕ → Option C → Type 0) (r : Refusal) (made : Result (Answer C) E) → IfOk made (λ a. a.status ≡ status.Refused)
+    → IfOk made (λ a. a.text.items ≡ refusal_text r) → IfOk made (λ a. a.cause ≡ Some (refused r)) → IfOk made (λ a. HearsOf (HearsRefusal refused) a ⊎ HearsOf Else a)
+refusal_is_heard {C} {E} refused Else r (Err e) answered text heard = tt
+refusal_is_heard {C} {E} refused Else r (Ok a) answered text heard = inl (hears_refusal refused r a answered text heard)
 
 -- the same as all that a job finds
-pub refused_job_is_heard : {E : Type 0} (Else : Status → List ℕ → Option Cause → Type 0) (r : Refusal) (made : Result Found E) → IfOk made (λ f. f.answer.status ≡ status.Refused)
-    → IfOk made (λ f. f.answer.text.items ≡ refusal_text r) → IfOk made (λ f. f.answer.cause ≡ Some (cause.Refused r)) → IfOk made (λ f. HearsOfFound HearsRefusal f ⊎ HearsOfFound Else f)
-refused_job_is_heard {E} Else r (Err e) answered text heard = tt
-refused_job_is_heard {E} Else r (Ok f) answered text heard = inl (hears_refusal r f.answer answered text heard)
+pub refused_job_is_heard : {C E : Type 0} (refused : Refusal → C) (Else : Status → List ℕ → Option C → Type 0) (r : Refusal) (made : Result (Found C) E) → IfOk made (λ f. f.answer.status ≡ status.Refused)
+    → IfOk made (λ f. f.answer.text.items ≡ refusal_text r) → IfOk made (λ f. f.answer.cause ≡ Some (refused r)) → IfOk made (λ f. HearsOfFound (HearsRefusal refused) f ⊎ HearsOfFound Else f)
+refused_job_is_heard {C} {E} refused Else r (Err e) answered text heard = tt
+refused_job_is_heard {C} {E} refused Else r (Ok f) answered text heard = inl (hears_refusal refused r f.answer answered text heard)
 
 -- what was found tells what its answer does
-pub found_is_heard : {E : Type 0} (Heard : Status → List ℕ → Option Cause → Type 0) (a : Answer) (made : Result Found E) → IfOk made (λ f. f.answer ≡ a) → HearsOf Heard a → IfOk made (HearsOfFound Heard)
-found_is_heard {E} Heard a (Err e) same heard = tt
-found_is_heard {E} Heard a (Ok f) same heard = subst (λ (x : Answer). HearsOf Heard x) (sym same) heard
-
--- ---- a search for a fleet
-
--- the status beside a bound: that there is no plan, or another one
-abbrev pub status_beside : Status → Option ℕ → Status
-status_beside plain None = status.Negative
-status_beside plain (Some bound) = plain
-
--- a bound tells that there is no plan, and the status with it; or another status stands beside it
-pub search_is_heard : (bound : Option ℕ) (plain : Status) (a : Answer) → plain ≢ status.Refused → search_cause plain ≡ None → a.status ≡ status_beside plain bound → a.cause ≡ cause_beside bound
-    → HearsOf (HearsElse search_cause) a
-search_is_heard None plain a answered quiet status_is heard = ((λ is. cc), heard ∙ ap (λ (s : Status). search_cause s) (sym status_is))
-search_is_heard (Some bound) plain a answered quiet status_is heard =
-    ((λ is. answered (sym status_is ∙ is)), heard ∙ sym quiet ∙ ap (λ (s : Status). search_cause s) (sym status_is))
+pub found_is_heard : {C E : Type 0} (Heard : Status → List ℕ → Option C → Type 0) (a : Answer C) (made : Result (Found C) E) → IfOk made (λ f. f.answer ≡ a) → HearsOf Heard a → IfOk made (HearsOfFound Heard)
+found_is_heard {C} {E} Heard a (Err e) same heard = tt
+found_is_heard {C} {E} Heard a (Ok f) same heard = subst (λ (x : Answer C). HearsOf Heard x) (sym same) heard

@@ -3,9 +3,9 @@ use Rattle.std.proofs.Common.{◌≡◌, ◌∙◌, ℕ, ◌*◌, ◌<◌, ◌�
 use Rattle.ev_model.specs.Network.{Network}
 use Rattle.instance_reader.proofs.LawsLemmas.{never_both, one_network}
 use Rattle.job_frame.specs.LimitedNetwork.{FitsLimit, HasNetwork, IsNetworkRefused, IsPastLimit, limited}
-use Rattle.plan_writer.specs.RefusalText.{IsRule}
-use Rattle.plan_writer.specs.declared.refusal.Refusal.{Refusal}
-use Rattle.plan_writer.specs.declared.refusal.Refusal.TheVariants as refusal
+use Rattle.refusal_lines.specs.RefusalText.{IsRule}
+use Rattle.refusal_lines.specs.declared.refusal.Refusal.{Refusal}
+use Rattle.refusal_lines.specs.declared.refusal.Refusal.TheVariants as refusal
 
 pub one_limited : (limit : Option ℕ) (bytes : List ℕ) (g h : Network) → HasNetwork limit bytes g → HasNetwork limit bytes h → g ≡ h
 one_limited limit bytes g h p q =

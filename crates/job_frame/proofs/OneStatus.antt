@@ -1,6 +1,6 @@
 -- Tasks whose bytes have one status, since its cause excludes the others.
 use Rattle.std.proofs.Common.{◌≡◌, ℕ, List, refl, subst}
-use Rattle.job_frame.proofs.Performed.{IsLawful}
+use Rattle.job_frame.specs.Lawful.{IsLawful}
 use Rattle.job_frame.specs.Task.{Outcome, Task}
 use Rattle.job_frame.specs.declared.status.Status.{Status}
 use Rattle.job_frame.specs.declared.status.Status.TheVariants as status
@@ -55,9 +55,9 @@ nothing_excludes = record {
   negative_refused = λ p q. p;
 }
 
-pub lawful : (task : Task) (Cause : List (List ℕ) → Status → Type 0) → ((bytes : List (List ℕ)) (o : Outcome) → task.answers bytes o → Cause bytes o.status)
+pub lawful : {C : Type 0} (task : Task C) (Cause : List (List ℕ) → Status → Type 0) → ((bytes : List (List ℕ)) (o : Outcome) → task.answers bytes o → Cause bytes o.status)
     → ((bytes : List (List ℕ)) → ExcludeEachOther (Cause bytes)) → IsLawful task
-lawful task Cause has exclude = record {
+lawful {C} task Cause has exclude = record {
   one_status = λ bytes o p is was alike. one_of (Cause bytes) (exclude bytes) o.status p.status (has bytes o is) (has bytes p was);
   stopped = λ bytes o is stopped. absurd (subst (λ (s : Status). IsPlain s) stopped ((exclude bytes).answered o.status (has bytes o is)));
 }

@@ -7,71 +7,60 @@ use Rattle.ev_outside.specs.Sure.{sure_output, without_faults}
 use Rattle.job_frame.proofs.FileReads.{nothing_fails, one_reading}
 use Rattle.job_frame.proofs.FileWrites.{leaves_held}
 use Rattle.job_frame.specs.Faults.{ComesToPut, Concludes, FailsReading, FailsToAnswer, FailsWriting, PutsPartOf, StopsToAnswer}
+use Rattle.job_frame.specs.Lawful.{AreWrittenAlike, IsLawful}
 use Rattle.job_frame.specs.Performs.{BreakNoRule, EndsUnlessHindered, HasFaultCause, IsCutOff, Performs, PutsAnswer, PutsPart}
 use Rattle.job_frame.specs.Task.{Answers, IsAnswered, Outcome, Task, Tells}
 use Rattle.job_frame.specs.Writes.{HoldsAll, KeepsAllBut, Leaves, StandIn, Written}
 use Rattle.job_frame.specs.declared.status.Status.{Status}
 use Rattle.job_frame.specs.declared.status.Status.TheVariants as status
 
--- the same files hold what both outcomes wrote
-pub record AreWrittenAlike (o p : Outcome) : Type 0 where
-  pub files : Files
-  pub one : HoldsAll o.writes (Some files)
-  pub other : HoldsAll p.writes (Some files)
-
--- what each command proves of its own task: its answers to the same bytes have one status, and a budget alone stops it
-pub record IsLawful (task : Task) : Type 0 where
-  pub one_status : (bytes : List (List ℕ)) (o p : Outcome) → task.answers bytes o → task.answers bytes p
-      → (task.is_open → AreWrittenAlike o p) → o.status ≡ p.status
-  pub stopped : (bytes : List (List ℕ)) (o : Outcome) → task.answers bytes o → o.status ≡ status.Stopped → task.has_budget
-
 both_in : (o p : Outcome) (old new : Option Files) → Leaves o.writes old new → StandIn p.writes new → AreWrittenAlike o p
 both_in o p old None leaves stand = absurd stand
 both_in o p old (Some files) leaves stand = record { files = files; one = (leaves_held o.writes old (Some files) leaves).0; other = stand }
 
 -- two answers to files that are told have one status
-one_answer : (task : Task) → IsLawful task → (files left : Option Files) (o p : Outcome) → Tells task.reads files → Answers task files o → Answers task files p
+one_answer : {C : Type 0} (task : Task C) → IsLawful task → (files left : Option Files) (o p : Outcome) → Tells task.reads files → Answers task files o → Answers task files p
     → Leaves o.writes files left → (task.is_open → StandIn p.writes left) → o.status ≡ p.status
-one_answer task lawful files left o p told is other leaves stand =
+one_answer {C} task lawful files left o p told is other leaves stand =
     let same : other.bytes ≡ is.bytes = one_reading task.reads files other.bytes is.bytes told other.read is.read in
     lawful.one_status is.bytes o p is.answer (subst (λ (bs : List (List ℕ)). task.answers bs p) same other.answer)
     (λ open_. both_in o p files left leaves (stand open_))
 
-ends_so : (task : Task) → IsLawful task → (files left : Option Files) (old new : Option (List ℕ)) (ended : Status) (p : Outcome) → PutsAnswer task files left old new ended → Tells task.reads files
+ends_so : {C : Type 0} (task : Task C) → IsLawful task → (files left : Option Files) (old new : Option (List ℕ)) (ended : Status) (p : Outcome) → PutsAnswer task files left old new ended → Tells task.reads files
     → Answers task files p → (task.is_open → StandIn p.writes left) → EndsUnlessHindered p.status ended
-ends_so task lawful files left old new ended p puts told is stand =
+ends_so {C} task lawful files left old new ended p puts told is stand =
     inl (puts.status_is ∙ one_answer task lawful files left puts.outcome p told puts.answers is puts.written stand)
 
-exactly : (task : Task) → IsLawful task → (files left : Option Files) (old new : Option (List ℕ)) (ended : Status) → ended ≢ status.Words →
+exactly : {C : Type 0} (task : Task C) → IsLawful task → (files left : Option Files) (old new : Option (List ℕ)) (ended : Status) → ended ≢ status.Words →
     (IsAnswered ended → PutsAnswer task files left old new ended) → Tells task.reads files → (o : Outcome) → Answers task files o
     → (task.is_open → StandIn o.writes left) → EndsUnlessHindered o.status ended
-exactly task lawful files left old new status.Done words answer told o is stand = ends_so task lawful files left old new status.Done o (answer tt) told is stand
-exactly task lawful files left old new status.Negative words answer told o is stand = ends_so task lawful files left old new status.Negative o (answer tt) told is stand
-exactly task lawful files left old new status.Refused words answer told o is stand = ends_so task lawful files left old new status.Refused o (answer tt) told is stand
-exactly task lawful files left old new status.Stopped words answer told o is stand = ends_so task lawful files left old new status.Stopped o (answer tt) told is stand
-exactly task lawful files left old new status.Fault words answer told o is stand = inr (inl refl)
-exactly task lawful files left old new status.Memory words answer told o is stand = inr (inr refl)
-exactly task lawful files left old new status.Words words answer told o is stand = absurd (words refl)
+exactly {C} task lawful files left old new status.Done words answer told o is stand = ends_so task lawful files left old new status.Done o (answer tt) told is stand
+exactly {C} task lawful files left old new status.Negative words answer told o is stand = ends_so task lawful files left old new status.Negative o (answer tt) told is stand
+exactly {C} task lawful files left old new status.Refused words answer told o is stand = ends_so task lawful files left old new status.Refused o (answer tt) told is stand
+exactly {C} task lawful files left old new status.Stopped words answer told o is stand = ends_so task lawful files left old new status.Stopped o (answer tt) told is stand
+exactly {C} task lawful files left old new status.Fault words answer told o is stand = inr (inl refl)
+exactly {C} task lawful files left old new status.Memory words answer told o is stand = inr (inr refl)
+exactly {C} task lawful files left old new status.Words words answer told o is stand = absurd (words refl)
 
-completely : (task : Task) → IsLawful task → (files left : Option Files) (old new : Option (List ℕ)) (ended : Status) → ended ≢ status.Words → ended ≢ status.Fault →
+completely : {C : Type 0} (task : Task C) → IsLawful task → (files left : Option Files) (old new : Option (List ℕ)) (ended : Status) → ended ≢ status.Words → ended ≢ status.Fault →
     (IsAnswered ended → PutsAnswer task files left old new ended) → BreakNoRule task files →
     (ended ≡ status.Done) ⊎ (ended ≡ status.Negative) ⊎ (ended ≡ status.Memory) ⊎ ((ended ≡ status.Stopped) × task.has_budget)
-completely task lawful files left old new status.Done words fault answer none = inl refl
-completely task lawful files left old new status.Negative words fault answer none = inr (inl refl)
-completely task lawful files left old new status.Memory words fault answer none = inr (inr (inl refl))
-completely task lawful files left old new status.Stopped words fault answer none =
+completely {C} task lawful files left old new status.Done words fault answer none = inl refl
+completely {C} task lawful files left old new status.Negative words fault answer none = inr (inl refl)
+completely {C} task lawful files left old new status.Memory words fault answer none = inr (inr (inl refl))
+completely {C} task lawful files left old new status.Stopped words fault answer none =
     let puts = answer tt in
     inr (inr (inr (refl, lawful.stopped puts.answers.bytes puts.outcome puts.answers.answer (sym puts.status_is))))
-completely task lawful files left old new status.Refused words fault answer none =
+completely {C} task lawful files left old new status.Refused words fault answer none =
     let puts = answer tt in
     absurd (none.unbroken puts.outcome puts.answers (sym puts.status_is))
-completely task lawful files left old new status.Fault words fault answer none = absurd (fault refl)
-completely task lawful files left old new status.Words words fault answer none = absurd (words refl)
+completely {C} task lawful files left old new status.Fault words fault answer none = absurd (fault refl)
+completely {C} task lawful files left old new status.Words words fault answer none = absurd (words refl)
 
-performs : (task : Task) → IsLawful task → (before after : ShelfState) (old new : SinkState) (ended : Status) → ended ≢ status.Words →
+performs : {C : Type 0} (task : Task C) → IsLawful task → (before after : ShelfState) (old new : SinkState) (ended : Status) → ended ≢ status.Words →
     (IsAnswered ended → PutsAnswer task before.files after.files old.written new.written ended) → PutsPart task before.files after.files old.written new.written →
     (ended ≡ status.Fault → HasFaultCause task before after old new) → (ended ≡ status.Memory → IsCutOff task before.files after.files old new) → Performs task before after old new ended
-performs task lawful before after old new ended words answer part fault memory = record {
+performs {C} task lawful before after old new ended words answer part fault memory = record {
   answer = answer;
   part = part;
   exact = exactly task lawful before.files after.files old.written new.written ended words answer;
@@ -109,9 +98,9 @@ stops_since o files later left old new same stops = subst (λ (fs : Option Files
 part_since : (o : Outcome) (files later left : Option Files) (old new : Option (List ℕ)) → later ≡ files → PutsPartOf o later left old new → PutsPartOf o files left old new
 part_since o files later left old new same part = subst (λ (fs : Option Files). PutsPartOf o fs left old new) same part
 
-pub performs_concluded : (task : Task) → IsLawful task → (before later after : ShelfState) (old new : SinkState) (o : Outcome) (ended : Status) → Answers task before.files o
+pub performs_concluded : {C : Type 0} (task : Task C) → IsLawful task → (before later after : ShelfState) (old new : SinkState) (o : Outcome) (ended : Status) → Answers task before.files o
     → later.files ≡ before.files → CountsStay before later → ended ≢ status.Words → Concludes o later after old new ended → Performs task before after old new ended
-performs_concluded task lawful before later after old new o ended is same stays words concludes =
+performs_concluded {C} task lawful before later after old new o ended is same stays words concludes =
     performs task lawful before after old new ended words
     (λ answered. record {
       outcome = o;
@@ -125,13 +114,13 @@ performs_concluded task lawful before later after old new o ended is same stays 
     (λ memory. inr (inl (o, is, stops_since o before.files later.files after.files old new same (concludes.memory memory))))
 
 -- a file couldn't be read
-pub performs_fault : (task : Task) → IsLawful task → (before after : ShelfState) (old : SinkState) → FailsReading task before after → after.files ≡ before.files → Performs task before after old old status.Fault
-performs_fault task lawful before after old fails same =
+pub performs_fault : {C : Type 0} (task : Task C) → IsLawful task → (before after : ShelfState) (old : SinkState) → FailsReading task before after → after.files ≡ before.files → Performs task before after old old status.Fault
+performs_fault {C} task lawful before after old fails same =
     performs task lawful before after old old status.Fault (λ is. cc) (λ none. absurd none) (inl refl) (λ is. inl (fails, same, refl)) (λ is. cc)
 
 -- memory was refused before an answer was found
-pub performs_nothing : (task : Task) → IsLawful task → (before after : ShelfState) (old : SinkState) → after.files ≡ before.files → Performs task before after old old status.Memory
-performs_nothing task lawful before after old same =
+pub performs_nothing : {C : Type 0} (task : Task C) → IsLawful task → (before after : ShelfState) (old : SinkState) → after.files ≡ before.files → Performs task before after old old status.Memory
+performs_nothing {C} task lawful before after old same =
     performs task lawful before after old old status.Memory (λ is. cc) (λ none. absurd none) (inl refl) (λ is. cc) (λ is. inl (same, refl))
 
 -- ---- where files are written before an answer is sought
@@ -153,22 +142,22 @@ concludes_put o before after old new ended answered leaves answer part fault emp
   memory = λ is. inr (record { written = leaves; some = some_text o old new ended answered empty (subst (λ (s : Status). IsAnswered s) is) });
 }
 
-pub performs_put : (task : Task) → IsLawful task → (before after : ShelfState) (old new : SinkState) (o : Outcome) (ended : Status) → Answers task before.files o → IsAnswered o.status
+pub performs_put : {C : Type 0} (task : Task C) → IsLawful task → (before after : ShelfState) (old new : SinkState) (o : Outcome) (ended : Status) → Answers task before.files o → IsAnswered o.status
     → Leaves o.writes before.files after.files → ended ≢ status.Words → (IsAnswered ended → (ended ≡ o.status) × Adds old.written new.written o.text)
     → AddsPrefix old.written new.written o.text → (ended ≡ status.Fault → Rose old.faults new.faults) → (o.text ≡ [] → (ended ≡ o.status) × (new ≡ old))
     → Performs task before after old new ended
-performs_put task lawful before after old new o ended is answered leaves words answer part fault empty =
+performs_put {C} task lawful before after old new o ended is answered leaves words answer part fault empty =
     performs_concluded task lawful before before after old new o ended is refl (nothing_fails before) words
     (concludes_put o before after old new ended answered leaves answer part fault empty)
 
 -- one of these files couldn't be written
-pub performs_unwritten : (task : Task) → IsLawful task → (before after : ShelfState) (old : SinkState) (ws : List Written) → task.writes_first ws → FailsWriting ws before after → Performs task before after old old status.Fault
-performs_unwritten task lawful before after old ws first fails =
+pub performs_unwritten : {C : Type 0} (task : Task C) → IsLawful task → (before after : ShelfState) (old : SinkState) (ws : List Written) → task.writes_first ws → FailsWriting ws before after → Performs task before after old old status.Fault
+performs_unwritten {C} task lawful before after old ws first fails =
     performs task lawful before after old old status.Fault (λ is. cc) (λ none. absurd none) (inl refl) (λ is. inr (inr (ws, first, fails, refl))) (λ is. cc)
 
 -- they were written, and memory was refused before an answer was found
-pub performs_unsought : (task : Task) → IsLawful task → (before after : ShelfState) (old : SinkState) (ws : List Written) → task.writes_first ws → Leaves ws before.files after.files → Performs task before after old old status.Memory
-performs_unsought task lawful before after old ws first leaves =
+pub performs_unsought : {C : Type 0} (task : Task C) → IsLawful task → (before after : ShelfState) (old : SinkState) (ws : List Written) → task.writes_first ws → Leaves ws before.files after.files → Performs task before after old old status.Memory
+performs_unsought {C} task lawful before after old ws first leaves =
     performs task lawful before after old old status.Memory (λ is. cc) (λ none. absurd none) (inl refl) (λ is. cc) (λ is. inr (inr (ws, first, leaves, refl)))
 
 -- ---- over files and an output that never fail
@@ -180,7 +169,7 @@ answers_surely : (o : Outcome) (files left : Files) (old new : List ℕ) → Fai
 answers_surely o files left old new (inl (fails, unput)) = never_rose fails.failed.0
 answers_surely o files left old new (inr (comes, rose)) = never_rose rose
 
-pub never_fails : (task : Task) (files left : Files) (old new : List ℕ) → HasFaultCause task (without_faults files) (without_faults left) (sure_output old) (sure_output new) → ⊥
-never_fails task files left old new (inl (fails, same, unput)) = never_rose fails.failed.0
-never_fails task files left old new (inr (inl (o, is, fails))) = answers_surely o files left old new fails
-never_fails task files left old new (inr (inr (ws, first, fails, unput))) = never_rose fails.failed.0
+pub never_fails : {C : Type 0} (task : Task C) (files left : Files) (old new : List ℕ) → HasFaultCause task (without_faults files) (without_faults left) (sure_output old) (sure_output new) → ⊥
+never_fails {C} task files left old new (inl (fails, same, unput)) = never_rose fails.failed.0
+never_fails {C} task files left old new (inr (inl (o, is, fails))) = answers_surely o files left old new fails
+never_fails {C} task files left old new (inr (inr (ws, first, fails, unput))) = never_rose fails.failed.0

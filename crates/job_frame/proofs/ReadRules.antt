@@ -23,7 +23,7 @@ use Rattle.instance_reader.specs.Sizes.{first_large}
 use Rattle.instance_reader.specs.Types.{first_wrong_type}
 use Rattle.instance_reader.specs.declared.faults.ReadFault.{ReadFault}
 use Rattle.instance_reader.specs.declared.faults.ReadFault.TheVariants as fault
-use Rattle.plan_writer.specs.RefusalText.{IsInstanceRule}
+use Rattle.refusal_lines.specs.RefusalText.{IsInstanceRule}
 
 -- ---- curves
 

@@ -3,7 +3,7 @@ use Rattle.std.specs.Prelude.{List, Option, ℕ}
 use Rattle.job_frame.specs.LimitedNetwork.{IsNetworkRefused}
 use Rattle.job_frame.specs.declared.answer.Ended.{Ended}
 use Rattle.job_frame.specs.declared.answer.Ended.TheVariants.{Refused, Memory}
-use Rattle.plan_writer.specs.RefusalText.{IsRule}
+use Rattle.refusal_lines.specs.RefusalText.{IsRule}
 
 -- a step that is the last by a refusal names a rule
 abbrev pub IsRuleOrMemory : Ended → Type 0

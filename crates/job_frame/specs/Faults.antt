@@ -19,7 +19,7 @@ HasFailedWrite before after name =
     Rose (before.failed_writes name) (after.failed_writes name) × HasAsked name after.asked
 
 -- a file of the task couldn't be read when its turn came: the files before it break no rule
-pub record FailsReading (task : Task) (before after : ShelfState) : Type 0 where
+pub record FailsReading {C : Type 0} (task : Task C) (before after : ShelfState) : Type 0 where
   pub first : List Read
   pub read : Read
   pub rest : List Read

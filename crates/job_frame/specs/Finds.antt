@@ -13,22 +13,22 @@ abbrev pub written_by : NewFile → Written
 written_by file = record { name = string_bytes file.name; bytes = file.bytes.items }
 
 -- the outcome that a value of the program stands for
-abbrev pub outcome_of : Found → Outcome
-outcome_of found = record {
+abbrev pub outcome_of : {C : Type 0} → Found C → Outcome
+outcome_of {C} found = record {
   status = found.answer.status;
   writes = map written_by found.files.items;
   text = found.answer.text.items;
 }
 
 -- what is heard of it is what the task tells of such an answer
-abbrev pub Hears : Task → Found → Type 0
-Hears task found =
+abbrev pub Hears : {C : Type 0} → Task C → Found C → Type 0
+Hears {C} task found =
     task.heard found.answer.status found.answer.text.items found.answer.cause
 
 -- the answer to the task's files, which were read in order; or why there is none: one of them
 -- failed, or memory was refused
-pub record Finds
-    (task : Task) (before after : ShelfState) (found : Result Found ShelfFault) : Type 0 where
+pub record Finds {C : Type 0}
+    (task : Task C) (before after : ShelfState) (found : Result (Found C) ShelfFault) : Type 0 where
   pub answered : IfOk found (λ f. IsAnswered f.answer.status)
   pub answers : IfOk found (λ f. Answers task before.files (outcome_of f))
   pub heard : IfOk found (Hears task)

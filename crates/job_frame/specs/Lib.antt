@@ -4,6 +4,7 @@ pub mod Task
 pub mod Faults
 pub mod Finds
 pub mod Performs
+pub mod Lawful
 pub mod Caps
 pub mod LimitedNetwork
 pub mod Ended

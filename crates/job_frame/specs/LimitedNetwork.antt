@@ -2,8 +2,8 @@
 use Rattle.std.specs.Prelude.{◌≡◌, ℕ, ◌*◌, ◌^◌, ◌<◌, ◌≤◌, List, Option, None, Some}
 use Rattle.ev_model.specs.Network.{Network}
 use Rattle.instance_reader.specs.Faults.{IsFirstFault, IsInstanceOf}
-use Rattle.plan_writer.specs.declared.refusal.Refusal.{Refusal}
-use Rattle.plan_writer.specs.declared.refusal.Refusal.TheVariants as refusal
+use Rattle.refusal_lines.specs.declared.refusal.Refusal.{Refusal}
+use Rattle.refusal_lines.specs.declared.refusal.Refusal.TheVariants as refusal
 
 -- the network with the limit of the words in place of its own
 abbrev pub limited : Network → Option ℕ → Network

@@ -1,5 +1,5 @@
 -- What the program owes for a task.
-use Rattle.std.specs.Prelude.{◌≡◌, ◌≢◌, ℕ, ◌⊎◌, List, Option}
+use Rattle.std.specs.Prelude.{◌≡◌, ◌≢◌, ℕ, ◌⊎◌, IfSome, List, Option, Some}
 use Rattle.ev_outside.specs.Shelf.{CountsStay, Files, ShelfState}
 use Rattle.ev_outside.specs.Sink.{Adds, SinkState}
 use Rattle.job_frame.specs.Faults.{FailsReading, FailsToAnswer, FailsWriting, PutsPartOf, StopsToAnswer}
@@ -9,7 +9,7 @@ use Rattle.job_frame.specs.declared.status.Status.{Status}
 use Rattle.job_frame.specs.declared.status.Status.TheVariants as status
 
 -- an answer with this status was written and put
-pub record PutsAnswer (task : Task)
+pub record PutsAnswer {C : Type 0} (task : Task C)
     (files left : Option Files) (old new : Option (List ℕ)) (ended : Status) : Type 0 where
   pub outcome : Outcome
   pub answers : Answers task files outcome
@@ -17,25 +17,31 @@ pub record PutsAnswer (task : Task)
   pub written : Leaves outcome.writes files left
   pub put : Adds old new outcome.text
 
+-- and this was heard last: the cause that its task tells of it, where it has one
+pub record PutsHeard {C : Type 0} (task : Task C) (files left : Option Files)
+    (old new : Option (List ℕ)) (ended : Status) (heard : Option C) : Type 0 where
+  pub puts : PutsAnswer task files left old new ended
+  pub cause : Option C
+  pub is : task.heard ended puts.outcome.text cause
+  pub was_heard : IfSome cause (λ c. heard ≡ Some c)
+
 -- nothing was put, or an answer, or a prefix of one
-abbrev pub PutsPart :
-    Task → Option Files → Option Files → Option (List ℕ) → Option (List ℕ) → Type 0
-PutsPart task files left old new =
+abbrev pub PutsPart : {C : Type 0} → Task C → Option Files → Option Files → Option (List ℕ) → Option (List ℕ) → Type 0
+PutsPart {C} task files left old new =
     (new ≡ old) ⊎ ((o : Outcome) × Answers task files o × PutsPartOf o files left old new)
 
 -- a file or the output failed when its turn came: a file that is read; one of an answer, or the
 -- output behind them; or one of those that are written before an answer is sought
-abbrev pub HasFaultCause : Task → ShelfState → ShelfState → SinkState → SinkState → Type 0
-HasFaultCause task before after old new =
+abbrev pub HasFaultCause : {C : Type 0} → Task C → ShelfState → ShelfState → SinkState → SinkState → Type 0
+HasFaultCause {C} task before after old new =
     (FailsReading task before after × (after.files ≡ before.files) × (new ≡ old))
     ⊎ ((o : Outcome) × Answers task before.files o × FailsToAnswer o before after old new)
     ⊎ ((ws : List Written) × task.writes_first ws × FailsWriting ws before after × (new ≡ old))
 
 -- memory was refused before anything was written, or while an answer was written or put, or while
 -- it was sought behind the files that are written before
-abbrev pub IsCutOff :
-    Task → Option Files → Option Files → SinkState → SinkState → Type 0
-IsCutOff task files left old new =
+abbrev pub IsCutOff : {C : Type 0} → Task C → Option Files → Option Files → SinkState → SinkState → Type 0
+IsCutOff {C} task files left old new =
     ((left ≡ files) × (new ≡ old))
     ⊎ ((o : Outcome) × Answers task files o × StopsToAnswer o files left old new)
     ⊎ ((ws : List Written) × task.writes_first ws × Leaves ws files left × (new ≡ old))
@@ -46,12 +52,12 @@ EndsUnlessHindered wanted ended =
     (ended ≡ wanted) ⊎ (ended ≡ status.Fault) ⊎ (ended ≡ status.Memory)
 
 -- what is read breaks no rule
-pub record BreakNoRule (task : Task) (files : Option Files) : Type 0 where
+pub record BreakNoRule {C : Type 0} (task : Task C) (files : Option Files) : Type 0 where
   pub told : Tells task.reads files
   pub unbroken : (o : Outcome) → Answers task files o → o.status ≢ status.Refused
 
 -- from the shelf before to the shelf after, from the old output to the new one
-pub record Performs (task : Task)
+pub record Performs {C : Type 0} (task : Task C)
     (before after : ShelfState) (old new : SinkState) (ended : Status) : Type 0 where
   -- where the job ends with an answer, it is one to its files, and was written and put whole
   pub answer : IsAnswered ended →

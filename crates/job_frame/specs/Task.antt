@@ -2,7 +2,6 @@
 use Rattle.std.specs.Prelude.{◌≡◌, ℕ, ◌≤◌, List, [], ◌∷◌, length, take, Option, None, Some}
 use Rattle.ev_outside.specs.Shelf.{Files, bytes_under}
 use Rattle.job_frame.specs.Writes.{Written}
-use Rattle.job_frame.specs.declared.cause.Cause.{Cause}
 use Rattle.job_frame.specs.declared.status.Status.{Status}
 use Rattle.job_frame.specs.declared.status.Status.TheVariants as status
 
@@ -17,7 +16,8 @@ pub record Outcome : Type 0 where
   pub writes : List Written
   pub text : List ℕ
 
-pub record Task : Type 1 where
+-- a job whose causes are such values
+pub record Task (C : Type 0) : Type 1 where
   -- the files that are read, in order
   pub reads : List Read
   -- the bytes of the first of them break no rule, so that the next is read
@@ -25,7 +25,7 @@ pub record Task : Type 1 where
   -- what is answered to the bytes of all of them
   pub answers : List (List ℕ) → Outcome → Type 0
   -- what is heard of an answer with this status and this text, if anything is
-  pub heard : Status → List ℕ → Option Cause → Type 0
+  pub heard : Status → List ℕ → Option C → Type 0
   -- these files are written before an answer is sought
   pub writes_first : List Written → Type 0
   -- these bytes leave open what is found, and so the status: the written files tell it
@@ -56,7 +56,7 @@ AreRead files [] (bytes ∷ more) = ⊥
 AreRead files (r ∷ rs) [] = ⊥
 
 -- the task answers so to these files
-pub record Answers (task : Task) (files : Option Files) (o : Outcome) : Type 0 where
+pub record Answers {C : Type 0} (task : Task C) (files : Option Files) (o : Outcome) : Type 0 where
   pub bytes : List (List ℕ)
   pub read : AreRead files task.reads bytes
   pub answer : task.answers bytes o

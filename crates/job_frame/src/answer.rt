@@ -1,11 +1,11 @@
 //! Why a step of a job may be the last, and the line of a refusal.
 
 ghost use Rattle.std.specs.Prelude.{◌≡◌, [], IfErr, IfOk, Some};
-ghost use Rattle.plan_writer.specs.RefusalText.{IsRule, refusal_text};
+ghost use Rattle.refusal_lines.specs.RefusalText.{IsRule, refusal_text};
 
-use crate::{Answer, Cause, Found, Status};
+use crate::{Answer, Found, JobCause, Status};
 use ev_outside::ShelfFault;
-use plan_writer::{Refusal, push_refusal};
+use refusal_lines::{Refusal, push_refusal};
 use std::alloc::{AllocError, Global};
 
 /// Why a step of the job is the last.
@@ -18,27 +18,27 @@ pub enum Ended {
 }
 
 /// The line of a refusal.
-pub fn refuse(alloc: Global, refusal: Refusal) -> Result<Answer, AllocError>
+pub fn refuse<C: JobCause>(alloc: Global, refusal: Refusal) -> Result<Answer<C>, AllocError>
     requires { IsRule refusal }
     ensures status { IfOk result (λ a. a.status ≡ Status.Refused) }
     ensures text { IfOk result (λ a. a.text.items ≡ refusal_text refusal) }
-    ensures cause { IfOk result (λ a. a.cause ≡ Some (Cause.Refused refusal)) }
+    ensures cause { IfOk result (λ a. a.cause ≡ Some (C.refused refusal)) }
 {
     let mut text = Vec::new(alloc);
     push_refusal(alloc, &mut text, &refusal)?;
     Ok(Answer {
         status: Status::Refused,
         text,
-        cause: Some(Cause::Refused(refusal)),
+        cause: Some(C::refused(refusal)),
     })
 }
 
 /// The line of a refusal as all that a job finds.
-pub fn refuse_job(alloc: Global, refusal: Refusal) -> Result<Found, ShelfFault>
+pub fn refuse_job<C: JobCause>(alloc: Global, refusal: Refusal) -> Result<Found<C>, ShelfFault>
     requires { IsRule refusal }
     ensures status { IfOk result (λ f. f.answer.status ≡ Status.Refused) }
     ensures text { IfOk result (λ f. f.answer.text.items ≡ refusal_text refusal) }
-    ensures cause { IfOk result (λ f. f.answer.cause ≡ Some (Cause.Refused refusal)) }
+    ensures cause { IfOk result (λ f. f.answer.cause ≡ Some (C.refused refusal)) }
     ensures files { IfOk result (λ f. f.files.items ≡ []) }
     ensures memory { IfErr result (λ fault. fault ≡ ShelfFault.Memory) }
 {

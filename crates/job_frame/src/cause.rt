@@ -1,55 +1,33 @@
-//! Why an answer isn't the one that was asked for, as a value.
+//! Why an answer isn't the one that was asked for, as a value of a program.
 
-use certificate_check::Verdict;
-use mixed_model::MixedVerdict;
-use near_proof::NearVerdict;
-use plan_check::PlanFault;
-use plan_writer::Refusal;
-use route_proof::RouteVerdict;
+ghost use Rattle.std.specs.Prelude.{◌≡◌, Option, Some};
+ghost use Rattle.refusal_lines.specs.declared.refusal.Refusal.{Refusal};
 
-/// What the first line of an answer tells, where it isn't the one that was asked for.
-#[derive(Clone, Copy, Debug, Drop, PartialEq, Eq)]
-pub enum Cause {
+use refusal_lines::Refusal;
+
+/// What the first line of an answer of a program tells, where it isn't the one that was asked for.
+/// Each program has causes of its own; these are in all of them.
+pub trait JobCause: Copy + Drop {
+    // that the words name no job
+    ghost words: { Self };
+    // that this rule of the files and the words is broken
+    ghost refused: { Refusal → Self };
+
     /// The words name no job.
-    Words,
+    fn words() -> Self
+        ensures { result ≡ words };
+
     /// A rule of the files and the words is broken.
-    Refused(Refusal),
-    /// The kind of vehicles with this number, counted from 0, doesn't agree with kind 0.
-    Kinds(usize),
-    /// The plan of a fleet breaks a rule.
-    Plan(PlanFault),
-    /// The certificate breaks a rule.
-    Certificate(Verdict),
-    /// The proof that a plan of a route is a fastest one breaks a rule.
-    Route(RouteVerdict),
-    /// The proof of a bound by near routes breaks a rule.
-    Near(NearVerdict),
-    /// The proof for kinds of vehicles breaks a rule.
-    Mixed(MixedVerdict),
-    /// No route of its own serves the customer at this node.
-    Alone(usize),
-    /// There is no plan of the fleet.
-    NoFleet,
-}
-
-impl Cause {
-    ghost use Rattle.std.specs.Prelude.{◌≡◌};
-    ghost use Rattle.job_frame.specs.Heard.{cause_beside};
-
-    /// That there is no plan of the fleet, where a bound says so.
-    pub fn beside(bound: Option<u128>) -> Option<Cause>
-        ensures { result ≡ cause_beside bound }
-    {
-        match bound {
-            None => Some(Cause::NoFleet),
-            Some(_) => None,
-        }
-    }
+    fn refused(refusal: Refusal) -> Self
+        ensures { result ≡ refused refusal };
 }
 
 /// Who hears why an answer isn't the one that was asked for, for who tells people what it means.
-/// Nothing is promised of it.
-pub trait CauseListener {
+pub trait CauseListener<C> {
+    // the cause that was heard last, where any was
+    ghost heard: { Self → Option C };
+
     /// Hears the cause of the answer that comes next, before anything is written or put.
-    fn hear(&mut self, cause: Cause);
+    fn hear(&mut self, cause: C)
+        ensures { heard self.new ≡ Some cause };
 }

@@ -9,6 +9,7 @@ ghost use Rattle.job_frame.specs.Faults.{Concludes, FailsWriting, StopsWriting};
 ghost use Rattle.job_frame.specs.Task.{IsAnswered};
 ghost use Rattle.job_frame.specs.Writes.{AreDifferent, Leaves};
 
+use crate::cause::JobCause;
 use crate::found::{Answer, Found, NewFile};
 use crate::status::Status;
 use ev_outside::{Shelf, ShelfFault, Sink, SinkFault};
@@ -16,7 +17,11 @@ use ev_outside::{Shelf, ShelfFault, Sink, SinkFault};
 /// What a job found is written and put: its files in order, then the text of its answer. The status
 /// is that of the answer, unless a file or the output fails or memory is refused; then nothing
 /// further is written or put.
-pub fn conclude<S: Shelf, K: Sink>(found: &Found, shelf: &mut S, out: &mut K) -> Status
+pub fn conclude<C: JobCause, S: Shelf, K: Sink>(
+    found: &Found<C>,
+    shelf: &mut S,
+    out: &mut K,
+) -> Status
     requires answered { IsAnswered found.now.answer.status }
     requires different { AreDifferent (outcome_of found.now).writes }
     ensures concludes { Concludes (outcome_of found.now) (S.state shelf.old) (S.state shelf.new)
@@ -59,7 +64,7 @@ fn write_all<S: Shelf>(files: &[NewFile], shelf: &mut S) -> Result<(), ShelfFaul
 
 /// Puts the text of an answer. The status is that of the answer, unless the output fails or memory
 /// is refused. Where the text is empty the output isn't called.
-pub fn put_answer<K: Sink>(answer: &Answer, out: &mut K) -> Status
+pub fn put_answer<C: JobCause, K: Sink>(answer: &Answer<C>, out: &mut K) -> Status
     requires { IsAnswered answer.now.status }
     ensures answer { IsAnswered result → (result ≡ answer.now.status)
         × Adds (K.state out.old).written (K.state out.new).written answer.now.text.items }

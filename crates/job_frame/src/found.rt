@@ -1,21 +1,25 @@
 //! What a job finds before anything is written.
 
-use crate::cause::{Cause, CauseListener};
+ghost use Rattle.std.specs.Prelude.{◌≡◌, IfSome, Some};
+
+use crate::cause::{CauseListener, JobCause};
 use crate::status::Status;
 use std::alloc::{AllocError, Global};
 
 /// What is put, and the status that goes with it.
 #[derive(Drop)]
-pub struct Answer {
+pub struct Answer<C: JobCause> {
     pub status: Status,
     pub text: Vec<u8>,
     /// What the first line tells, where it isn't what was asked for.
-    pub cause: Option<Cause>,
+    pub cause: Option<C>,
 }
 
-impl Answer {
+impl<C: JobCause> Answer<C> {
     /// A listener hears the cause, where there is one.
-    pub fn tell<L: CauseListener>(&self, listener: &mut L) {
+    pub fn tell<L: CauseListener<C>>(&self, listener: &mut L)
+        ensures { IfSome self.now.cause (λ cause. L.heard listener.new ≡ Some cause) }
+    {
         if let Some(cause) = self.cause {
             listener.hear(cause);
         }
@@ -31,8 +35,8 @@ pub struct NewFile {
 
 /// What a job finds: its answer, and the files that are written, in order, before it is put.
 #[derive(Drop)]
-pub struct Found {
-    pub answer: Answer,
+pub struct Found<C: JobCause> {
+    pub answer: Answer<C>,
     pub files: Vec<NewFile>,
 }
 
@@ -50,13 +54,13 @@ impl NewFile {
     }
 }
 
-impl Found {
+impl<C: JobCause> Found<C> {
     ghost use Rattle.std.specs.Prelude.{◌≡◌, ◌∷◌, [], IfOk, map};
     ghost use Rattle.job_frame.specs.Finds.{written_by};
     ghost use Rattle.job_frame.specs.declared.found.Found.{Found};
 
     /// An answer for which no file is written.
-    pub fn alone(alloc: Global, answer: Answer) -> Found
+    pub fn alone(alloc: Global, answer: Answer<C>) -> Found<C>
         ensures answer { result.answer ≡ answer }
         ensures files { result.files.items ≡ [] }
     {
@@ -67,7 +71,11 @@ impl Found {
     }
 
     /// An answer before which one file is written.
-    pub fn with_file(alloc: Global, answer: Answer, file: NewFile) -> Result<Found, AllocError>
+    pub fn with_file(
+        alloc: Global,
+        answer: Answer<C>,
+        file: NewFile,
+    ) -> Result<Found<C>, AllocError>
         ensures answer { IfOk result (λ f. f.answer ≡ answer) }
         ensures files { IfOk result (λ f. map written_by f.files.items ≡ written_by file ∷ []) }
     {
@@ -79,10 +87,10 @@ impl Found {
     /// An answer before which two files are written, in this order.
     pub fn with_files(
         alloc: Global,
-        answer: Answer,
+        answer: Answer<C>,
         first: NewFile,
         second: NewFile,
-    ) -> Result<Found, AllocError>
+    ) -> Result<Found<C>, AllocError>
         ensures answer { IfOk result (λ f. f.answer ≡ answer) }
         ensures files { IfOk result (λ f.
             map written_by f.files.items ≡ written_by first ∷ written_by second ∷ []) }

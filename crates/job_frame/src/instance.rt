@@ -7,7 +7,7 @@ ghost use Rattle.job_frame.specs.LimitedNetwork.{HasNetwork};
 
 use crate::answer::Ended;
 use instance_reader::{Instance, ReadFault, read_instance};
-use plan_writer::Refusal;
+use refusal_lines::Refusal;
 use std::alloc::Global;
 
 /// Why an instance isn't read. Want of memory is no rule.

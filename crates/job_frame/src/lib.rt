@@ -1,4 +1,4 @@
-//! What is alike in all jobs of the program: files are read in their order, an answer is found,
+//! What is alike in all jobs, whichever program does them: files are read in their order, an answer is found,
 //! files are written, and a text is put.
 //!
 //! A job is seen as a task (`specs/Task.antt`): which files it reads, what it answers to their
@@ -9,8 +9,8 @@
 //!
 //! Beside that the steps that many jobs begin and end with: how much of a file is read
 //! (`caps.rt`), an instance with the limit of the words (`instance.rt`), the line of a refusal
-//! (`answer.rt`), why an answer isn't the one that was asked for, as a value, and who hears it
-//! (`cause.rt`), the two files of a search (`planned.rt`), and who is told by what a job's times
+//! (`answer.rt`), why an answer isn't the one that was asked for, as a value of the program, and who
+//! hears it (`cause.rt`), the two files of a search (`planned.rt`), and who is told by what a job's times
 //! are scaled (`scale.rt`).
 #![tactic(auto)]
 
@@ -27,7 +27,7 @@ mod status;
 
 pub use answer::{Ended, refuse, refuse_job};
 pub use caps::{MOST_BYTES, MOST_CERTIFICATE_BYTES};
-pub use cause::{Cause, CauseListener};
+pub use cause::{CauseListener, JobCause};
 pub use concluding::{conclude, put_answer};
 pub use found::{Answer, Found, NewFile};
 pub use instance::limited_instance;

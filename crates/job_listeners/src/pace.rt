@@ -1,5 +1,7 @@
 //! When a further line is due.
 
+use std::env;
+use std::rt::Env;
 use std::time::Duration;
 
 /// How many seconds nothing is told at first.
@@ -46,5 +48,13 @@ impl Pace {
         }
         self.next = now.checked_add(Duration::from_secs(BETWEEN));
         true
+    }
+}
+
+/// Whether people want to be told: unless the variable `EVROUTE_PROGRESS` is `0`.
+pub fn wants_progress<R: Env + Alloc>(rt: &R) -> bool {
+    match env::var(rt, "EVROUTE_PROGRESS") {
+        Ok(value) => value.as_str() != "0",
+        Err(_) => true,
     }
 }

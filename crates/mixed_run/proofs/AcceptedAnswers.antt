@@ -21,9 +21,10 @@ use Rattle.mixed_run.specs.KindFiles.{HasKinds}
 use Rattle.mixed_run.specs.declared.judging.MixedJudgement.{MixedJudgement}
 use Rattle.mixed_run.specs.declared.judging.MixedJudgement.TheVariants as judgement
 use Rattle.mixed_run.specs.declared.refusal.MixedRefusal.TheVariants.{Plain}
-use Rattle.plan_writer.specs.RefusalText.{refusal_text}
-use Rattle.plan_writer.specs.declared.refusal.Refusal.{Refusal}
+use Rattle.refusal_lines.specs.RefusalText.{refusal_text}
+use Rattle.refusal_lines.specs.declared.refusal.Refusal.{Refusal}
 use Rattle.report_lines.specs.Lines.{IsBoundOf}
+use Rattle.evroute_causes.specs.declared.cause.Cause.{Cause}
 
 -- ---- the bound
 
@@ -46,7 +47,7 @@ plan_refused limit files kinds count plan_bytes given ended r has many same is r
     (subst (λ (n : ℕ). IsPlanEnded n plan_bytes ended) many (subst (λ (bs : List ℕ). IsPlanEnded count bs ended) same refused)) in
     inr (inl (record { kinds = kinds; has = has; fault = first.0; is = ap (λ (x : Refusal). Plain x) first.1; first = first.2 }))
 
-pub refused_answers : {E : Type 0} (limit : Option ℕ) (files : List (List ℕ)) (kinds : List Network) (plan : Option (List MixedRoute)) (plan_bytes cert_bytes : List ℕ) (ended : Ended) (r : Refusal) (made : Result Answer E) →
+pub refused_answers : {E : Type 0} (limit : Option ℕ) (files : List (List ℕ)) (kinds : List Network) (plan : Option (List MixedRoute)) (plan_bytes cert_bytes : List ℕ) (ended : Ended) (r : Refusal) (made : Result (Answer Cause) E) →
     HasPlan limit files plan_bytes kinds plan → ended ≡ Refused r → IsRuleOrMemory ended → IsProofEnded kinds cert_bytes ended
     → IfOk made (λ a. a.status ≡ status.Refused) → IfOk made (λ a. a.text.items ≡ refusal_text r)
     → IfOk made (λ a. CheckMixedAnswers limit files plan_bytes cert_bytes a.status a.text.items)
@@ -61,7 +62,7 @@ refused_answers limit files kinds plan plan_bytes cert_bytes ended r (Ok a) has 
 -- ---- the report
 
 pub report_answers : {E : Type 0} (limit : Option ℕ) (files : List (List ℕ)) (plan_bytes cert_bytes : List ℕ)
-    (kinds : List Network) (first : Network) (plan : Option (List MixedRoute)) (p : MixedProof) (found : MixedJudgement) (made : Result Answer E) → first_of kinds ≡ first →
+    (kinds : List Network) (first : Network) (plan : Option (List MixedRoute)) (p : MixedProof) (found : MixedJudgement) (made : Result (Answer Cause) E) → first_of kinds ≡ first →
     HasPlan limit files plan_bytes kinds plan → HasProof kinds cert_bytes p → IsJudgementOf kinds plan p found
     → IfOk made (λ a. a.status ≡ judged_status found) → IfOk made (λ a. a.text.items ≡ judgement_text first.denominator found)
     → IfOk made (λ a. CheckMixedAnswers limit files plan_bytes cert_bytes a.status a.text.items)

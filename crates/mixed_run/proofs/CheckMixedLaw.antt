@@ -6,7 +6,7 @@ use Rattle.ev_model.specs.Network.{Network}
 use Rattle.ev_text.proofs.Results.{Err-ne-Ok, Ok-injective}
 use Rattle.fleet_model.specs.ClosedListRules.{at_home, at_start, at_step}
 use Rattle.job_frame.proofs.OneStatus.{ExcludeEachOther, IsPlain, lawful}
-use Rattle.job_frame.proofs.Performed.{IsLawful}
+use Rattle.job_frame.specs.Lawful.{IsLawful}
 use Rattle.job_frame.specs.Task.{Outcome}
 use Rattle.job_frame.specs.declared.status.Status.{Status}
 use Rattle.job_frame.specs.declared.status.Status.TheVariants as status

@@ -23,7 +23,8 @@ use Rattle.mixed_run.specs.declared.refusal.Halt.{Halt}
 use Rattle.mixed_run.specs.declared.refusal.Halt.TheVariants.{Refused, Stopped}
 use Rattle.mixed_run.specs.declared.refusal.MixedRefusal.{MixedRefusal}
 use Rattle.mixed_run.specs.declared.refusal.MixedRefusal.TheVariants.{Plain}
-use Rattle.plan_writer.specs.declared.refusal.Refusal.{Refusal}
+use Rattle.refusal_lines.specs.declared.refusal.Refusal.{Refusal}
+use Rattle.evroute_causes.specs.declared.cause.Cause.{Cause}
 
 -- ---- one file
 
@@ -112,7 +113,7 @@ refused_is_no_failure {A} halt r is failed =
     let same : halt ≡ Stopped shelf.Failed = ap (λ (made : Result A Halt). halt_of made) failed in
     cc
 
-pub stopped_finds : {A : Type 0} (task : Task) (limit : Option ℕ) (names : List (List ℕ)) (Refuses : List (List ℕ) → MixedRefusal → Type 0) (before after : ShelfState) (halt : Halt) (fault : ShelfFault) →
+pub stopped_finds : {A : Type 0} (task : Task Cause) (limit : Option ℕ) (names : List (List ℕ)) (Refuses : List (List ℕ) → MixedRefusal → Type 0) (before after : ShelfState) (halt : Halt) (fault : ShelfFault) →
     halt ≡ Stopped fault → IsHalt Refuses limit names before after (Stopped fault) → (FailsFile limit names before after → FailsReading task before after)
     → ((◌≡◌ {A = Result A Halt} (Err halt) (Err (Stopped shelf.Failed)) → ⊥) → CountsStay before after)
     → CountsNeverFall before after → after.files ≡ before.files → Finds task before after (Err fault)

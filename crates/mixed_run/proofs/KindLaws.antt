@@ -9,7 +9,7 @@ use Rattle.mixed_model.specs.Agreement.{IsFirstApart}
 use Rattle.mixed_run.specs.KindFiles.{AreUnfit, HasKinds, HaveNetworks, IsFileRefused, IsFileRule, IsKindsRefused, IsMixedRule}
 use Rattle.mixed_run.specs.declared.refusal.MixedRefusal.{MixedRefusal}
 use Rattle.mixed_run.specs.declared.refusal.MixedRefusal.TheVariants.{Plain, Kinds}
-use Rattle.plan_writer.specs.declared.refusal.Refusal.TheVariants as refusal
+use Rattle.refusal_lines.specs.declared.refusal.Refusal.TheVariants as refusal
 
 pub same_networks : (limit : Option ℕ) (files : List (List ℕ)) (ks gs : List Network) → HaveNetworks limit files ks → HaveNetworks limit files gs → ks ≡ gs
 same_networks limit [] [] [] p q = refl

@@ -22,7 +22,7 @@ use Rattle.mixed_run.specs.declared.refusal.Halt.{Halt}
 use Rattle.mixed_run.specs.declared.refusal.Halt.TheVariants.{Refused, Stopped}
 use Rattle.mixed_run.specs.declared.refusal.MixedRefusal.{MixedRefusal}
 use Rattle.mixed_run.specs.declared.refusal.MixedRefusal.TheVariants.{Plain, Kinds}
-use Rattle.plan_writer.specs.declared.refusal.Refusal.TheVariants as refusal
+use Rattle.refusal_lines.specs.declared.refusal.Refusal.TheVariants as refusal
 
 -- ---- reads behind others
 

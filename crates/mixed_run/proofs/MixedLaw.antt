@@ -6,7 +6,7 @@ use Rattle.ev_outside.specs.Shelf.{Files, HoldsUnder}
 use Rattle.ev_text.proofs.Results.{Ok-injective}
 use Rattle.ev_text.proofs.WholeReads.{ranged-spells}
 use Rattle.ev_text.specs.Texts.{StandsUnlessLonger}
-use Rattle.job_frame.proofs.Performed.{AreWrittenAlike, IsLawful}
+use Rattle.job_frame.specs.Lawful.{AreWrittenAlike, IsLawful}
 use Rattle.job_frame.specs.Task.{Outcome}
 use Rattle.job_frame.specs.Writes.{HoldsAll, Written}
 use Rattle.job_frame.specs.declared.status.Status.{Status}

@@ -3,8 +3,8 @@ use Rattle.std.specs.Prelude.{◌≡◌, ◌≢◌, ℕ, ◌⊎◌, ◌<◌, Lis
 use Rattle.ev_model.specs.Network.{Network}
 use Rattle.certificate_parts.specs.declared.cert_text.CertText.{CertText}
 use Rattle.job_frame.specs.Task.{Outcome, Read, Task}
-use Rattle.job_frame.specs.declared.cause.Cause.{Cause}
-use Rattle.job_frame.specs.declared.cause.Cause.TheVariants as cause
+use Rattle.evroute_causes.specs.declared.cause.Cause.{Cause}
+use Rattle.evroute_causes.specs.declared.cause.Cause.TheVariants as cause
 use Rattle.job_frame.specs.declared.status.Status.{Status}
 use Rattle.job_frame.specs.declared.status.Status.TheVariants as status
 use Rattle.job_frame.specs.Caps.{certificate_read, file_read}
@@ -26,7 +26,7 @@ use Rattle.mixed_text.specs.Written.{written_mixed}
 use Rattle.plan_check.specs.declared.fault.PlanFault.{PlanFault}
 use Rattle.plan_writer.specs.CheckText.{check_text}
 use Rattle.plan_writer.specs.declared.check.Judgement.TheVariants as plain
-use Rattle.plan_writer.specs.declared.refusal.Refusal.TheVariants as refusal
+use Rattle.refusal_lines.specs.declared.refusal.Refusal.TheVariants as refusal
 use Rattle.route_plan.specs.declared.text.plan_text.PlanText.{PlanText}
 use Rattle.command_line.specs.Words.{MixedJob}
 use Rattle.mixed_run.specs.KindFiles.{HasKinds, HaveNetworks, HearsMixedRefusal, IsKindsRefused, IsMixedRule, kind_reads, mixed_refusal_text}
@@ -220,7 +220,7 @@ abbrev pub check_mixed_reads : MixedJob → List Read
 check_mixed_reads job =
     kind_reads job.files ++ file_read job.plan ∷ certificate_read job.cert ∷ []
 
-abbrev pub check_mixed_task : MixedJob → Task
+abbrev pub check_mixed_task : MixedJob → Task Cause
 check_mixed_task job = record {
   reads = check_mixed_reads job;
   goes_on = λ bytes. AmongFiles job bytes ⊎ BehindFiles job bytes ⊎ BehindPlan job bytes;

@@ -12,7 +12,7 @@ use Rattle.mixed_model.specs.declared.proof.MixedRoute.{MixedRoute}
 use Rattle.mixed_model.specs.declared.verdict.MixedVerdict.TheVariants as verdict
 use Rattle.mixed_model.specs.MixedReading.{mixed_plan_in}
 use Rattle.mixed_text.specs.MixedIn.{mixed_in}
-use Rattle.plan_writer.specs.declared.refusal.Refusal.TheVariants as refusal
+use Rattle.refusal_lines.specs.declared.refusal.Refusal.TheVariants as refusal
 use Rattle.route_plan.specs.declared.text.plan_text.PlanText.{PlanText}
 use Rattle.report_lines.specs.Lines.{IsBoundOf}
 use Rattle.mixed_run.specs.CheckMixedAnswer.{IsRejection, IsValid}

@@ -10,10 +10,10 @@ use Rattle.instance_reader.specs.Instance.{most_customers}
 use Rattle.job_frame.specs.LimitedNetwork.{HasNetwork, IsNetworkRefused}
 use Rattle.mixed_model.specs.Kinds.{AreKinds, first_of}
 use Rattle.mixed_model.specs.Agreement.{IsFirstApart}
-use Rattle.plan_writer.specs.RefusalText.{IsRule, refusal_text}
-use Rattle.plan_writer.specs.declared.refusal.Refusal.TheVariants as refusal
-use Rattle.job_frame.specs.declared.cause.Cause.{Cause}
-use Rattle.job_frame.specs.declared.cause.Cause.TheVariants as cause
+use Rattle.refusal_lines.specs.RefusalText.{IsRule, refusal_text}
+use Rattle.refusal_lines.specs.declared.refusal.Refusal.TheVariants as refusal
+use Rattle.evroute_causes.specs.declared.cause.Cause.{Cause}
+use Rattle.evroute_causes.specs.declared.cause.Cause.TheVariants as cause
 use Rattle.job_frame.specs.declared.status.Status.{Status}
 use Rattle.job_frame.specs.declared.status.Status.TheVariants as status
 use Rattle.report_lines.specs.Lines.{number_line}

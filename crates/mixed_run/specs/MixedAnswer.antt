@@ -3,10 +3,10 @@ use Rattle.std.specs.Prelude.{◌≡◌, ◌↔◌, ◌⊎◌, ℕ, ◌*◌, ◌
 use Rattle.certificate_parts.specs.Limits.{most_bytes}
 use Rattle.ev_model.specs.Network.{Network}
 use Rattle.fleet_model.specs.Prices.{price_total}
-use Rattle.job_frame.specs.Heard.{HearsElse, search_cause}
+use Rattle.evroute_causes.specs.Heard.{HearsElse, search_cause}
 use Rattle.job_frame.specs.Task.{Task}
 use Rattle.job_frame.specs.Writes.{Written}
-use Rattle.job_frame.specs.declared.cause.Cause.{Cause}
+use Rattle.evroute_causes.specs.declared.cause.Cause.{Cause}
 use Rattle.job_frame.specs.declared.status.Status.{Status}
 use Rattle.job_frame.specs.declared.status.Status.TheVariants as status
 use Rattle.mixed_fleet.specs.Outcome.{IsOutcome}
@@ -125,7 +125,7 @@ mixed_heard answered text heard =
 
 -- the instances are read in order, as long as each takes the limit; what a search finds is left
 -- open
-abbrev pub mixed_task : MixedJob → Task
+abbrev pub mixed_task : MixedJob → Task Cause
 mixed_task job = record {
   reads = kind_reads job.files;
   goes_on = λ bytes. (kinds : List Network) × HaveNetworks job.limit bytes kinds;

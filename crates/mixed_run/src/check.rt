@@ -19,6 +19,7 @@ use crate::kinds::kinds_of_files;
 use crate::refusal::{Halt, refuse_mixed_job};
 use command_line::MixedWords;
 use ev_outside::{Shelf, ShelfFault};
+use evroute_causes::Cause;
 use instance_reader::Instance;
 use job_frame::{Ended, Found, MOST_BYTES, MOST_CERTIFICATE_BYTES, read_file, refuse_job};
 use mixed_model::{MixedRoute, PlanText, read_mixed_plan};
@@ -31,7 +32,7 @@ pub fn check_mixed_files<S: Shelf>(
     alloc: Global,
     job: &MixedWords,
     shelf: &mut S,
-) -> Result<Found, ShelfFault>
+) -> Result<Found<Cause>, ShelfFault>
     requires { IsMixedJob job.now }
     ensures { Finds (check_mixed_task (mixed_value job.now))
         (S.state shelf.old) (S.state shelf.new) result }
@@ -50,7 +51,7 @@ fn check_on<S: Shelf>(
     kinds: &[Instance],
     job: &MixedWords,
     shelf: &mut S,
-) -> Result<Found, ShelfFault>
+) -> Result<Found<Cause>, ShelfFault>
     requires kinds { AreKinds kinds.now }
     requires few { customer_count (first_of kinds.now) ≤ most_customers }
     ensures { (files : List (List ℕ))
@@ -78,7 +79,7 @@ fn check_plan<S: Shelf>(
     plan: Option<&[MixedRoute]>,
     job: &MixedWords,
     shelf: &mut S,
-) -> Result<Found, ShelfFault>
+) -> Result<Found<Cause>, ShelfFault>
     requires kinds { AreKinds kinds.now }
     requires few { customer_count (first_of kinds.now) ≤ most_customers }
     requires known { AreKnown kinds.now (option_map (λ p. p.now) plan) }

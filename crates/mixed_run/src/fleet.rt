@@ -16,6 +16,7 @@ use crate::planning::plan_all;
 use crate::refusal::{Halt, refuse_mixed_job};
 use command_line::MixedWords;
 use ev_outside::{Shelf, ShelfFault};
+use evroute_causes::Cause;
 use instance_reader::Instance;
 use job_frame::{Found, ScaleWatcher};
 use mixed_fleet::RoundWatcher;
@@ -28,7 +29,7 @@ pub fn mixed<S: Shelf, W: RoundWatcher + ScaleWatcher>(
     job: &MixedWords,
     shelf: &mut S,
     watcher: &mut W,
-) -> Result<Found, ShelfFault>
+) -> Result<Found<Cause>, ShelfFault>
     requires { IsMixedJob job.now }
     ensures { Finds (mixed_task (mixed_value job.now))
         (S.state shelf.old) (S.state shelf.new) result }
@@ -50,7 +51,7 @@ fn plan_on<W: RoundWatcher + ScaleWatcher>(
     kinds: &[Instance],
     job: &MixedWords,
     watcher: &mut W,
-) -> Result<Found, AllocError>
+) -> Result<Found<Cause>, AllocError>
     requires networks { All IsNetwork kinds.now }
     requires kinds { AreKinds kinds.now }
     requires few { customer_count (first_of kinds.now) ≤ most_customers }

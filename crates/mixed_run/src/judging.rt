@@ -10,8 +10,9 @@ ghost use Rattle.mixed_model.specs.Ranges.{MixedFits};
 ghost use Rattle.mixed_run.specs.CheckMixedAnswer.{BreaksFirst, CheckMixedAnswers, HasPlan, HasProof, IsValid, check_mixed_heard, judged_cause, judged_status, judgement_text};
 ghost use Rattle.mixed_run.specs.Judged.{AreKnown, HasLines, IsJudgementOf, IsProofEnded};
 
+use evroute_causes::Cause;
 use instance_reader::Instance;
-use job_frame::{Answer, Cause, Ended, Status, refuse};
+use job_frame::{Answer, Ended, Status, refuse};
 use mixed_model::{MixedProof, MixedRoute, MixedVerdict, PlanFault, check_mixed, check_mixed_plan};
 use mixed_text::{CertText, push_mixed_verdict, read_mixed};
 use plan_writer::{Judgement, Refusal, push_check_report};
@@ -39,7 +40,7 @@ pub fn judge_text(
     kinds: &[Instance],
     plan: Option<&[MixedRoute]>,
     bytes: &[u8],
-) -> Result<Answer, AllocError>
+) -> Result<Answer<Cause>, AllocError>
     requires kinds { AreKinds kinds.now }
     requires few { customer_count (first_of kinds.now) ≤ most_customers }
     requires known { AreKnown kinds.now (option_map (λ p. p.now) plan) }
@@ -79,7 +80,7 @@ fn report_on(
     kinds: &[Instance],
     plan: Option<&[MixedRoute]>,
     proof: &MixedProof,
-) -> Result<Answer, AllocError>
+) -> Result<Answer<Cause>, AllocError>
     requires kinds { AreKinds kinds.now }
     requires few { customer_count (first_of kinds.now) ≤ most_customers }
     requires known { AreKnown kinds.now (option_map (λ p. p.now) plan) }
@@ -143,7 +144,11 @@ fn cost_of(kinds: &[Instance], plan: Option<&[MixedRoute]>) -> Result<Option<u12
 
 /// The lines of what is found, over the denominator of the first kind, which is that of all, and
 /// the status that goes with them.
-fn report(alloc: Global, first: &Instance, judgement: &MixedJudgement) -> Result<Answer, AllocError>
+fn report(
+    alloc: Global,
+    first: &Instance,
+    judgement: &MixedJudgement,
+) -> Result<Answer<Cause>, AllocError>
     requires { HasLines judgement.now }
     ensures status { IfOk result (λ a. a.status ≡ judged_status judgement.now) }
     ensures text { IfOk result

@@ -18,7 +18,7 @@ use instance_reader::{Instance, MOST_CUSTOMERS};
 use job_frame::{Ended, MOST_BYTES, limited_instance, read_file};
 use mixed_model::kinds_agree;
 use plan_writer::Refusal;
-use std::alloc::Global;
+use std::alloc::{AllocFailed, Global};
 
 /// The kinds of vehicles of the files, one to eight: each file is an instance that takes the limit
 /// of the words, they agree, and there aren't too many customers. The files are read in their
@@ -74,9 +74,10 @@ fn read_kinds<S: Shelf>(
                 Ok(kind) => kind,
                 Err(halt) => return Err(halt),
             };
-            let Ok(()) = kinds.push(kind) else {
-                return Err(Halt::Stopped(ShelfFault::Memory));
-            };
+            match kinds.push(kind) {
+                Ok(()) => {}
+                Err(AllocFailed { .. }) => return Err(Halt::Stopped(ShelfFault::Memory)),
+            }
             read_kinds(alloc, others, limit, shelf, kinds)
         }
     }

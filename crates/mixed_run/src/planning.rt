@@ -5,7 +5,7 @@ ghost use Rattle.std.specs.List.{All};
 ghost use Rattle.certificate_parts.specs.Ranges.{customer_count};
 ghost use Rattle.ev_model.specs.Network.{IsNetwork};
 ghost use Rattle.instance_reader.specs.Instance.{most_customers};
-ghost use Rattle.job_frame.specs.Heard.{cause_beside};
+ghost use Rattle.evroute_causes.specs.Heard.{cause_beside};
 ghost use Rattle.mixed_fleet.specs.Outcome.{IsOutcome};
 ghost use Rattle.mixed_fleet.specs.Proofs.{IsBestProof};
 ghost use Rattle.mixed_model.specs.Kinds.{AreKinds, first_of};
@@ -17,8 +17,9 @@ ghost use Rattle.plan_writer.specs.declared.fleet.RootLine.{RootLine};
 
 use certificate_check::price_total;
 use ev_list::Listed;
+use evroute_causes::Cause;
 use instance_reader::Instance;
-use job_frame::{Answer, Cause, Planned, ScaleWatcher, Status};
+use job_frame::{Answer, Planned, ScaleWatcher, Status};
 use mixed_fleet::{MixedOutcome, RoundWatcher, plan_mixed_watched};
 use mixed_model::{MixedProof, MixedRoot, MixedRoute, push_mixed_plan};
 use mixed_text::{push_mixed, written_mixed_proofs_are_read};
@@ -30,7 +31,7 @@ pub fn plan_all<W: RoundWatcher + ScaleWatcher>(
     alloc: Global,
     kinds: &[Instance],
     watcher: &mut W,
-) -> Result<Planned, AllocError>
+) -> Result<Planned<Cause>, AllocError>
     requires networks { All IsNetwork kinds.now }
     requires kinds { AreKinds kinds.now }
     requires few { customer_count (first_of kinds.now) ≤ most_customers }
@@ -72,7 +73,11 @@ fn held_routes(plan: &Option<Listed<MixedRoute>>) -> Option<&[MixedRoute]>
 }
 
 /// The report on a search, and its status.
-fn report(alloc: Global, kinds: &[Instance], outcome: &MixedOutcome) -> Result<Answer, AllocError>
+fn report(
+    alloc: Global,
+    kinds: &[Instance],
+    outcome: &MixedOutcome,
+) -> Result<Answer<Cause>, AllocError>
     requires kinds { AreKinds kinds.now }
     requires few { customer_count (first_of kinds.now) ≤ most_customers }
     requires outcome { IsOutcome kinds.now outcome.now }

@@ -4,7 +4,8 @@ ghost use Rattle.std.specs.Prelude.{◌≡◌, [], IfErr, IfOk, Some};
 ghost use Rattle.mixed_run.specs.KindFiles.{IsMixedRule, mixed_cause, mixed_refusal_text};
 
 use ev_outside::ShelfFault;
-use job_frame::{Answer, Cause, Found, Status, refuse};
+use evroute_causes::Cause;
+use job_frame::{Answer, Found, Status, refuse};
 use mixed_model::push_kinds_refusal;
 use plan_writer::Refusal;
 use std::alloc::{AllocError, Global};
@@ -28,7 +29,7 @@ pub enum Halt {
 }
 
 /// The line of a refusal.
-pub fn refuse_mixed(alloc: Global, refusal: MixedRefusal) -> Result<Answer, AllocError>
+pub fn refuse_mixed(alloc: Global, refusal: MixedRefusal) -> Result<Answer<Cause>, AllocError>
     requires { IsMixedRule refusal }
     ensures status { IfOk result (λ a. a.status ≡ Status.Refused) }
     ensures text { IfOk result (λ a. a.text.items ≡ mixed_refusal_text refusal) }
@@ -49,7 +50,7 @@ pub fn refuse_mixed(alloc: Global, refusal: MixedRefusal) -> Result<Answer, Allo
 }
 
 /// The line of a refusal as all that a job finds.
-pub fn refuse_mixed_job(alloc: Global, refusal: MixedRefusal) -> Result<Found, ShelfFault>
+pub fn refuse_mixed_job(alloc: Global, refusal: MixedRefusal) -> Result<Found<Cause>, ShelfFault>
     requires { IsMixedRule refusal }
     ensures status { IfOk result (λ f. f.answer.status ≡ Status.Refused) }
     ensures text { IfOk result (λ f. f.answer.text.items ≡ mixed_refusal_text refusal) }

@@ -12,7 +12,11 @@ use route_plan::RoutePlan;
 use std::alloc::{AllocError, Global};
 
 /// The least time of an order, found by a search.
-pub(crate) fn charge(alloc: Global, inst: &Instance, order: &[usize]) -> Result<Option<u64>, AllocError>
+pub(crate) fn charge(
+    alloc: Global,
+    inst: &Instance,
+    order: &[usize],
+) -> Result<Option<u64>, AllocError>
     requires order { IsOrder inst.now order.now }
     requires some { order.now ≢ [] }
     ensures { IfOk result (IsTimeOf inst.now order.now) }

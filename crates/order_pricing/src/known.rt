@@ -45,7 +45,11 @@ impl Known {
 const MOST_KNOWN: usize = 1 << 16;
 
 /// What is known of an order.
-pub(crate) fn recall(inst: &Instance, known: &IndexMap<Vec<usize>, Known>, order: &[usize]) -> Option<Known>
+pub(crate) fn recall(
+    inst: &Instance,
+    known: &IndexMap<Vec<usize>, Known>,
+    order: &[usize],
+) -> Option<Known>
     requires { AreKnown inst.now known.now.entries }
     ensures { IfSome result (IsKnownOf inst.now order.now) }
 {

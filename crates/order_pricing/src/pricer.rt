@@ -107,11 +107,7 @@ impl<'a> Pricer<'a> {
     }
 
     /// The least time of an order; `None` exactly where it has none. It is charged, and remembered.
-    pub fn least_time(
-        &mut self,
-        alloc: Global,
-        order: &[usize],
-    ) -> Result<Option<u64>, AllocError>
+    pub fn least_time(&mut self, alloc: Global, order: &[usize]) -> Result<Option<u64>, AllocError>
         requires { IsOrder self.old order.now }
         ensures network { self.new ≡ self.old }
         ensures time { IfOk result (IsTimeOf self.old order.now) }

@@ -1,145 +1,52 @@
-//! The commands of the program, as the usage text has them.
+//! The commands of a program, as its usage text has them.
 
 /// A command: its word, the names behind it in order, how many more there may be like the last, and
-/// its options.
+/// its options. A program without commands has one whose word is empty.
 #[derive(Clone, Copy)]
-pub(crate) struct Command {
-    pub(crate) word: &'static str,
-    pub(crate) names: &'static [&'static str],
-    pub(crate) more: usize,
-    pub(crate) options: &'static [NumberOption],
+pub struct Command {
+    pub word: &'static str,
+    pub names: &'static [&'static str],
+    pub more: usize,
+    pub options: &'static [CommandOption],
 }
 
-/// An option, whose value is a whole number from `least` to `most`.
+/// An option.
 #[derive(Clone, Copy)]
-pub(crate) struct NumberOption {
-    pub(crate) word: &'static str,
-    pub(crate) least: u64,
-    pub(crate) most: u64,
-    pub(crate) is_required: bool,
+pub struct CommandOption {
+    pub word: &'static str,
+    pub value: OptionValue,
+    pub is_required: bool,
 }
 
-const LIMIT: NumberOption = NumberOption {
-    word: "--limit",
-    least: 0,
-    most: 1_000_000_000_000_000_000,
-    is_required: false,
-};
+/// What stands behind an option.
+#[derive(Clone, Copy)]
+pub enum OptionValue {
+    /// A whole number from `least` to `most`.
+    Number { least: u64, most: u64 },
+    /// The name of a file.
+    Name,
+    /// Nothing.
+    Nothing,
+}
 
-const CHARGE: NumberOption = NumberOption {
-    word: "--charge",
-    least: 0,
-    most: 1_000_000_000_000_000_000,
-    is_required: false,
-};
+impl Command {
+    /// The option of the command with this word.
+    pub(crate) fn option(&self, word: &str) -> Option<CommandOption> {
+        self.options.iter().copied().find(|it| it.word == word)
+    }
+}
 
-const NODES: NumberOption = NumberOption {
-    word: "--nodes",
-    least: 1,
-    most: 1_000_000_000_000_000_000,
-    is_required: false,
-};
-
-const TIME_DIGITS: NumberOption = NumberOption {
-    word: "--time-digits",
-    least: 0,
-    most: 1_000_000_000,
-    is_required: true,
-};
-
-const ENERGY_DIGITS: NumberOption = NumberOption {
-    word: "--energy-digits",
-    least: 0,
-    most: 1_000_000_000,
-    is_required: true,
-};
-
-const NEAR: NumberOption = NumberOption {
-    word: "--near",
-    least: 0,
-    most: 1_000_000_000,
-    is_required: true,
-};
-
-/// The commands.
-const COMMANDS: &[Command] = &[
-    Command {
-        word: "fixed",
-        names: &["FILE", "ROUTE"],
-        more: 0,
-        options: &[LIMIT, CHARGE],
-    },
-    Command {
-        word: "fleet",
-        names: &["FILE", "PLAN", "CERT"],
-        more: 0,
-        options: &[LIMIT, NODES],
-    },
-    Command {
-        word: "check",
-        names: &["FILE", "PLAN", "CERT"],
-        more: 0,
-        options: &[LIMIT],
-    },
-    Command {
-        word: "convert",
-        names: &["FILE", "OUTFILE"],
-        more: 0,
-        options: &[TIME_DIGITS, ENERGY_DIGITS],
-    },
-    Command {
-        word: "make",
-        names: &["SEED", "CUSTOMERS", "STATIONS", "OUTFILE"],
-        more: 0,
-        options: &[],
-    },
-    Command {
-        word: "bound",
-        names: &["FILE", "CERT"],
-        more: 0,
-        options: &[NEAR, LIMIT],
-    },
-    Command {
-        word: "check-bound",
-        names: &["FILE", "CERT"],
-        more: 0,
-        options: &[LIMIT],
-    },
-    Command {
-        word: "prove",
-        names: &["FILE", "ROUTE", "CERT"],
-        more: 0,
-        options: &[LIMIT, CHARGE],
-    },
-    Command {
-        word: "check-route",
-        names: &["FILE", "ROUTE", "CERT"],
-        more: 0,
-        options: &[LIMIT, CHARGE],
-    },
-    Command {
-        word: "improve",
-        names: &["FILE", "PLAN", "OUTFILE"],
-        more: 0,
-        options: &[LIMIT],
-    },
-    Command {
-        word: "mixed",
-        names: &["PLAN", "CERT", "FILE"],
-        more: 7,
-        options: &[LIMIT],
-    },
-    Command {
-        word: "check-mixed",
-        names: &["PLAN", "CERT", "FILE"],
-        more: 7,
-        options: &[LIMIT],
-    },
-];
-
-/// The command of a word.
-pub(crate) fn command_of(word: &str) -> Option<Command> {
-    COMMANDS.iter().copied().find(|it| it.word == word)
+/// Whether a word is an option of one of these commands behind which nothing stands.
+pub(crate) fn is_bare(commands: &[Command], word: &str) -> bool {
+    commands.iter().any(|command| match command.option(word) {
+        Some(
+            CommandOption {
+                value: OptionValue::Nothing,
+                ..
+            },
+        ) => true,
+        _ => false,
+    })
 }
 
 /// The greatest number that a name stands for; `None` where it is no number.

@@ -1,10 +1,8 @@
 //! From which byte on a file is no JSON text.
 
-use crate::names::{instances_of, names_of};
+use crate::names::{Instances, or_the_file};
 use ev_outside::Shelf;
-use instance_reader::{MOST_BYTES, ReadFault};
-use job_frame::Cause;
-use plan_writer::Refusal;
+use instance_reader::MOST_BYTES;
 use serde_json::Value;
 use serde_json::error::Category;
 use std::alloc::{AllocError, Global};
@@ -13,20 +11,15 @@ use std::alloc::{AllocError, Global};
 const MARK: &[u8] = b"\xef\xbb\xbf";
 
 /// What is said where an instance was refused since it is no JSON text: from which byte on, counted
-/// from 0. The files of instances are read again, and the first of them is told that is none.
-/// `None` for other causes, and where they can't be had or are JSON texts by now.
+/// from 0. The instances are read again, and the first of them is told that is none. `None` where
+/// they can't be had or are JSON texts by now.
 pub fn broken_json<S: Shelf>(
     alloc: Global,
     shelf: &mut S,
-    words: &[String],
-    cause: Cause,
+    instances: Instances<'_>,
 ) -> Result<Option<String>, AllocError> {
-    if cause != Cause::Refused(Refusal::Instance(ReadFault::NotJson)) {
-        return Ok(None);
-    }
-    let names = names_of(alloc, words)?;
-    for file in instances_of(names.as_slice()) {
-        if let Some(told) = told_in(alloc, shelf, file)? {
+    for at in 0..instances.count() {
+        if let Some(told) = told_in(alloc, shelf, or_the_file(instances.at(at)))? {
             return Ok(Some(told));
         }
     }

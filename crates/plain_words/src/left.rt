@@ -1,14 +1,13 @@
 //! What stands in the files of a job that failed.
 
-use crate::names::{names_of, written_of};
-use job_frame::Cause;
+use crate::names::JobNames;
 use std::alloc::{AllocError, Global};
 
 /// What failed last.
 #[derive(Clone, Copy)]
 pub enum Failed<'a> {
-    /// The output, to which an answer with this cause was to go.
-    Output(Option<Cause>),
+    /// The output, behind the files of the job.
+    Output,
     /// A file that was opened, by its name.
     File(&'a str),
     /// A file that wasn't opened, or was left as it was, by its name.
@@ -20,26 +19,21 @@ pub enum Failed<'a> {
 /// `None` where no file was to be written, as where one that is read failed.
 pub fn left_behind(
     alloc: Global,
-    words: &[String],
+    names: &JobNames<'_>,
     failed: Failed<'_>,
 ) -> Result<Option<String>, AllocError> {
-    let names = names_of(alloc, words)?;
-    let Some(files) = written_of(names.as_slice()) else {
-        return Ok(None);
-    };
-    match place_of(files, failed) {
-        Some(at) => told_of(alloc, files, at, left_of(failed)),
+    match place_of(&names.writes, failed) {
+        Some(at) => told_of(alloc, &names.writes, at, left_of(failed)),
         None => Ok(None),
     }
 }
 
 /// At which of these files it failed; behind all of them where it was the output.
-fn place_of(files: &[&str], failed: Failed<'_>) -> Option<usize> {
+fn place_of(files: &[Option<&str>], failed: Failed<'_>) -> Option<usize> {
     match failed {
-        Failed::Output(cause) if is_behind_files(cause) => Some(files.len()),
-        Failed::Output(_) => None,
+        Failed::Output => Some(files.len()),
         Failed::File(name) | Failed::Unchanged(name) => {
-            files.iter().position(|file| *file == name)
+            files.iter().position(|file| *file == Some(name))
         }
     }
 }
@@ -52,22 +46,19 @@ fn left_of(failed: Failed<'_>) -> &'static str {
     }
 }
 
-/// Whether an answer with this cause is put behind the files of a job: a refusal, a broken rule, a
-/// customer out of reach and the usage text come where none is written.
-pub(crate) fn is_behind_files(cause: Option<Cause>) -> bool {
-    matches!(cause, None | Some(Cause::NoFleet))
-}
-
 /// What is said of files of which those before a place were written, and the one there failed, of
 /// which so much is known.
 fn told_of(
     alloc: Global,
-    files: &[&str],
+    files: &[Option<&str>],
     failed: usize,
     left: &'static str,
 ) -> Result<Option<String>, AllocError> {
     let mut told = String::new(alloc);
     for (at, file) in files.iter().enumerate() {
+        let Some(file) = file else {
+            continue;
+        };
         if at > 0 {
             told.push_str(", ")?;
         }

@@ -1,118 +1,94 @@
-//! Names among the words of a job.
+//! The names of a job's files.
 
 use std::alloc::{AllocError, Global};
+use std::fs::metadata;
+use std::rt::Files;
 
-/// The words that are neither options nor their values: the command and its names, in order. Behind
-/// a word `--` each word is one; an option's value is the next word, or follows a `=`.
-pub(crate) fn names_of<'a>(alloc: Global, words: &'a [String]) -> Result<Vec<&'a str>, AllocError> {
-    let mut names = Vec::new(alloc);
-    let mut is_value = false;
-    let mut is_behind = false;
-    for word in words {
-        let word = word.as_str();
-        if is_value {
-            is_value = false;
-        } else if is_behind || !is_option(word) {
-            names.push(word)?;
-        } else if word == "--" {
-            is_behind = true;
-        } else {
-            is_value = !word.contains('=');
+/// The instances that a job reads.
+#[derive(Clone, Copy)]
+pub enum Instances<'a> {
+    /// None.
+    None,
+    /// One.
+    One(&'a str),
+    /// One for each kind of vehicles.
+    Kinds(&'a [String]),
+}
+
+/// What a job reads and writes, by name.
+#[derive(Clone, Copy)]
+pub struct JobNames<'a> {
+    /// The instances that it reads.
+    pub instances: Instances<'a>,
+    /// The limit on the time of a route, where its words give one.
+    pub limit: Option<u64>,
+    /// The word of the route, where it has one.
+    pub route: Option<&'a str>,
+    /// The file of the plan that it reads.
+    pub plan: Option<&'a str>,
+    /// The file of the certificate, or of the proof, that it reads.
+    pub proof: Option<&'a str>,
+    /// What that file holds.
+    pub proof_is: &'static str,
+    /// The files that it writes, in order.
+    pub writes: [Option<&'a str>; 2],
+    /// Whether it writes them behind a search, which takes long.
+    pub has_search: bool,
+    /// Who reads the last of them again, where it is a certificate or a proof.
+    pub judge: Option<&'static str>,
+}
+
+impl<'a> Instances<'a> {
+    /// The instance at a place, counted from 0.
+    pub fn at(&self, at: usize) -> Option<&'a str> {
+        match self {
+            Instances::None => None,
+            Instances::One(name) if at == 0 => Some(*name),
+            Instances::One(_) => None,
+            Instances::Kinds(names) => names.get(at).map(|name| name.as_str()),
         }
     }
-    Ok(names)
+
+    /// How many there are.
+    pub fn count(&self) -> usize {
+        match self {
+            Instances::None => 0,
+            Instances::One(_) => 1,
+            Instances::Kinds(names) => names.len(),
+        }
+    }
+
+    /// One of them, in words.
+    pub fn one_of(&self, alloc: Global) -> Result<String, AllocError> {
+        let mut told = String::new(alloc);
+        for at in 0..self.count() {
+            if at > 0 {
+                told.push_str(" or ")?;
+            }
+            told.push_str(or_the_file(self.at(at)))?;
+        }
+        if told.is_empty() {
+            told.push_str("the file")?;
+        }
+        Ok(told)
+    }
 }
 
-/// Whether a word is an option, or the end of options.
-pub(crate) fn is_option(word: &str) -> bool {
-    word.starts_with('-') && word != "-"
-}
-
-/// The name at a place, or what stands for one that isn't there.
-pub(crate) fn name_at<'a>(names: &[&'a str], at: usize) -> &'a str {
-    match names.get(at) {
+/// A name, or what stands for one that isn't there.
+pub(crate) fn or_the_file(name: Option<&str>) -> &str {
+    match name {
         Some(name) => name,
         None => "the file",
     }
 }
 
-/// The names of the instances of a job: of several kinds of vehicles all behind PLAN and CERT, else
-/// the first.
-pub(crate) fn instances_of<'a, 'b>(names: &'b [&'a str]) -> &'b [&'a str] {
-    match names {
-        ["mixed" | "check-mixed", _, _, files @ ..] => files,
-        [_, _, ..] => &names[1..2],
-        _ => &[],
-    }
-}
-
-/// The name of the plan of a job that reads one.
-pub(crate) fn plan_of<'a>(names: &[&'a str]) -> &'a str {
-    match name_at(names, 0) {
-        "check-mixed" => name_at(names, 1),
-        _ => name_at(names, 2),
-    }
-}
-
-/// The name of the certificate, or the proof, of a job that reads one.
-pub(crate) fn certificate_of<'a>(names: &[&'a str]) -> &'a str {
-    match name_at(names, 0) {
-        "check-bound" | "check-mixed" => name_at(names, 2),
-        _ => name_at(names, 3),
-    }
-}
-
-/// The file of the kind with a number, which is counted from 0.
-pub(crate) fn kind_file<'a>(names: &[&'a str], kind: u64) -> &'a str {
-    name_at(instances_of(names), kind as usize)
-}
-
-/// The files that a job writes, in order.
-pub(crate) fn written_of<'a, 'b>(names: &'b [&'a str]) -> Option<&'b [&'a str]> {
-    match name_at(names, 0) {
-        "mixed" => names.get(1..3),
-        "fleet" | "bound" | "convert" => names.get(2..),
-        "improve" | "prove" => names.get(3..),
-        "make" => names.get(4..),
-        _ => None,
-    }
-}
-
-/// Those that a job writes behind a search; `None` where it has too few names or too many.
-pub(crate) fn search_files<'a, 'b>(names: &'b [&'a str]) -> Option<&'b [&'a str]> {
-    let count = match name_at(names, 0) {
-        "fleet" | "improve" | "prove" => 4,
-        "bound" => 3,
-        "mixed" => names.len(),
-        _ => return None,
-    };
-    if names.len() == count {
-        written_of(names)
-    } else {
-        None
-    }
-}
-
-/// One of these files, in words.
-pub(crate) fn one_of(alloc: Global, files: &[&str]) -> Result<String, AllocError> {
-    if files.is_empty() {
-        return String::from_str(alloc, "the file");
-    }
-    files.join(alloc, " or ")
-}
-
-/// The value of an option, which is the next word or follows a `=`.
-pub(crate) fn option_value<'a>(words: &'a [String], option: &str) -> Option<&'a str> {
-    let mut is_next = false;
-    for word in words {
-        let word = word.as_str();
-        if is_next {
-            return Some(word);
-        }
-        match word.split_once('=') {
-            Some((name, value)) if name == option => return Some(value),
-            _ => is_next = word == option,
+/// Whether each of these instances is a regular file: a pipe gives its bytes once.
+pub fn are_regular<R: Files>(files: &R, instances: Instances<'_>) -> bool {
+    for at in 0..instances.count() {
+        match metadata(files, or_the_file(instances.at(at))) {
+            Ok(found) if found.is_file() => {}
+            _ => return false,
         }
     }
-    None
+    true
 }

@@ -1,12 +1,12 @@
 //! A sentence whose marks stand for what is known of a job.
 
-use crate::names::{certificate_of, instances_of, kind_file, name_at, names_of, one_of, plan_of};
+use crate::names::{JobNames, or_the_file};
 use instance_reader::{Part, Place};
 use std::alloc::{AllocError, Global};
 
 /// A sentence, and what its own marks stand for.
 #[derive(Clone, Copy)]
-pub(crate) struct Sentence {
+pub struct Sentence {
     /// What is said. The marks `{1}`, `{2}` and `{3}` stand for the numbers, `{place}` and `{word}`
     /// for these, and those in capitals for names of the job.
     says: &'static str,
@@ -17,7 +17,7 @@ pub(crate) struct Sentence {
 
 impl Sentence {
     /// A sentence with no mark of its own.
-    pub(crate) fn plain(says: &'static str) -> Sentence {
+    pub fn plain(says: &'static str) -> Sentence {
         Sentence {
             says,
             numbers: [0; 3],
@@ -27,17 +27,17 @@ impl Sentence {
     }
 
     /// A sentence about a number of a certificate or a plan.
-    pub(crate) fn one(says: &'static str, first: usize) -> Sentence {
+    pub fn one(says: &'static str, first: usize) -> Sentence {
         Sentence::three(says, first, 0, 0)
     }
 
     /// A sentence about two numbers.
-    pub(crate) fn two(says: &'static str, first: usize, second: usize) -> Sentence {
+    pub fn two(says: &'static str, first: usize, second: usize) -> Sentence {
         Sentence::three(says, first, second, 0)
     }
 
     /// A sentence about three numbers.
-    pub(crate) fn three(says: &'static str, first: usize, second: usize, third: usize) -> Sentence {
+    pub fn three(says: &'static str, first: usize, second: usize, third: usize) -> Sentence {
         Sentence {
             numbers: [first as u64, second as u64, third as u64],
             ..Sentence::plain(says)
@@ -45,7 +45,7 @@ impl Sentence {
     }
 
     /// A sentence about an amount.
-    pub(crate) fn about(says: &'static str, amount: u64) -> Sentence {
+    pub fn about(says: &'static str, amount: u64) -> Sentence {
         Sentence {
             numbers: [amount, 0, 0],
             ..Sentence::plain(says)
@@ -53,7 +53,7 @@ impl Sentence {
     }
 
     /// A sentence about a place in an instance.
-    pub(crate) fn placed(says: &'static str, place: Place) -> Sentence {
+    pub fn placed(says: &'static str, place: Place) -> Sentence {
         Sentence {
             place: Some(place),
             ..Sentence::plain(says)
@@ -61,17 +61,17 @@ impl Sentence {
     }
 
     /// A sentence with a word.
-    pub(crate) fn worded(says: &'static str, word: &'static str) -> Sentence {
+    pub fn worded(says: &'static str, word: &'static str) -> Sentence {
         Sentence::plain(says).saying(word)
     }
 
     /// The same sentence with a word.
-    pub(crate) fn saying(self, word: &'static str) -> Sentence {
+    pub fn saying(self, word: &'static str) -> Sentence {
         Sentence { word, ..self }
     }
 
     /// The same sentence with an amount as its second number.
-    pub(crate) fn then(self, amount: u64) -> Sentence {
+    pub fn then(self, amount: u64) -> Sentence {
         let [first, _, third] = self.numbers;
         Sentence {
             numbers: [first, amount, third],
@@ -79,10 +79,8 @@ impl Sentence {
         }
     }
 
-    /// The sentence for a job of these words, which stand behind the program's name.
-    pub(crate) fn told(self, alloc: Global, words: &[String]) -> Result<String, AllocError> {
-        let names = names_of(alloc, words)?;
-        let names = names.as_slice();
+    /// The sentence for a job with these names.
+    pub fn told(self, alloc: Global, names: &JobNames<'_>) -> Result<String, AllocError> {
         let mut told = String::new(alloc);
         for piece in self.says.split('{') {
             match piece.split_once('}') {
@@ -101,7 +99,7 @@ impl Sentence {
         &self,
         alloc: Global,
         told: &mut String,
-        names: &[&str],
+        names: &JobNames<'_>,
         mark: &str,
     ) -> Result<(), AllocError> {
         let [first, second, third] = self.numbers;
@@ -110,19 +108,20 @@ impl Sentence {
             "2" => push_number(alloc, told, second),
             "3" => push_number(alloc, told, third),
             "place" => push_place(alloc, told, self.place),
-            "FILE" => told.push_str(one_of(alloc, instances_of(names))?.as_str()),
-            "file of kind" => told.push_str(kind_file(names, first)),
+            "FILE" => told.push_str(names.instances.one_of(alloc)?.as_str()),
             _ => told.push_str(self.word_at(names, mark)),
         }
     }
 
     /// The word that a mark stands for.
-    fn word_at<'a>(&self, names: &[&'a str], mark: &str) -> &'a str {
+    fn word_at<'a>(&self, names: &JobNames<'a>, mark: &str) -> &'a str {
+        let [first, _, _] = self.numbers;
         match mark {
-            "PLAN" => plan_of(names),
-            "CERT" => certificate_of(names),
-            "ROUTE" => name_at(names, 2),
-            "a certificate" => certificate(names),
+            "file of kind" => or_the_file(names.instances.at(first as usize)),
+            "PLAN" => or_the_file(names.plan),
+            "CERT" => or_the_file(names.proof),
+            "ROUTE" => or_the_file(names.route),
+            "a certificate" => names.proof_is,
             _ => self.word,
         }
     }
@@ -160,16 +159,5 @@ fn push_part(told: &mut String, part: Option<Part>) -> Result<(), AllocError> {
             told.push_str(part.name())
         }
         None => Ok(()),
-    }
-}
-
-/// What the file of a certificate holds for a command: the proof of a route for `check-route`, that
-/// of a bound for `check-bound`, one for kinds of vehicles for `check-mixed`.
-fn certificate(names: &[&str]) -> &'static str {
-    match name_at(names, 0) {
-        "check-route" => "a proof",
-        "check-bound" => "a proof of a bound",
-        "check-mixed" => "a proof for kinds of vehicles",
-        _ => "a certificate",
     }
 }

@@ -1,27 +1,28 @@
 //! Files that can't be written, seen before a long search.
 
-use crate::names::{names_of, search_files};
+use crate::names::JobNames;
 use std::alloc::{AllocError, Global};
 use std::fs::metadata;
 use std::io::ErrorKind;
 use std::path::Path;
 use std::rt::Files;
 
-/// Which file that `fleet`, `mixed`, `improve`, `bound` or `prove` would write behind its search
-/// can't be written, and why, as far as the system tells without a change: where a folder has its
-/// name, or its folder isn't there. `None` for other commands, which take no time.
+/// Which file that a job would write behind its search can't be written, and why, as far as the
+/// system tells without a change: where a folder has its name, or its folder isn't there. `None`
+/// for jobs without a search, which take no time.
 pub fn unwritable<R: Files>(
     alloc: Global,
     files: &R,
-    words: &[String],
+    names: &JobNames<'_>,
 ) -> Result<Option<String>, AllocError> {
-    let names = names_of(alloc, words)?;
-    let Some(written) = search_files(names.as_slice()) else {
+    if !names.has_search {
         return Ok(None);
-    };
-    for file in written {
-        if let Some(told) = told_of(alloc, files, file)? {
-            return Ok(Some(told));
+    }
+    for file in &names.writes {
+        if let Some(name) = file {
+            if let Some(told) = told_of(alloc, files, name)? {
+                return Ok(Some(told));
+            }
         }
     }
     Ok(None)

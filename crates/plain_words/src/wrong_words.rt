@@ -1,26 +1,56 @@
 //! Words that name no job: which of them is wrong.
 
-use crate::commands::{Command, NumberOption, command_of, greatest};
-use crate::names::{is_option, names_of};
+use crate::commands::{Command, CommandOption, OptionValue, greatest, is_bare};
 use std::alloc::{AllocError, Global};
 
-/// Which word is wrong, and why. `None` where the program was asked for its usage, or where no
-/// wrong word is found.
-pub(crate) fn in_words(alloc: Global, words: &[String]) -> Result<Option<String>, AllocError> {
+/// Which word of a call of a program with these commands is wrong, and why. `None` where the
+/// program was asked for its usage, or where no wrong word is found. The words stand behind its
+/// name.
+pub fn wrong_word(
+    alloc: Global,
+    program: &str,
+    commands: &[Command],
+    words: &[String],
+) -> Result<Option<String>, AllocError> {
     if asks_for_usage(words) {
         return Ok(None);
     }
-    let names = names_of(alloc, words)?;
-    let Some(first) = names.first() else {
-        return Ok(Some(format!(in alloc; "no command is named")?));
-    };
-    let Some(command) = command_of(first) else {
-        return Ok(Some(format!(in alloc; "{first} is no command")?));
-    };
-    if let Some(wrong) = wrong_options(alloc, first, &command, words)? {
+    let parted = parted_of(alloc, commands, words)?;
+    let names = parted.names.as_slice();
+    match commands {
+        [command] if command.word.is_empty() => {
+            wrong_call(alloc, program, command, names, parted.options.as_slice())
+        }
+        _ => {
+            let [first, names @ ..] = names else {
+                return Ok(Some(format!(in alloc; "no command is named")?));
+            };
+            match commands.iter().find(|command| command.word == *first) {
+                Some(command) => wrong_call(
+                    alloc,
+                    first,
+                    command,
+                    names,
+                    parted.options.as_slice(),
+                ),
+                None => Ok(Some(format!(in alloc; "{first} is no command")?)),
+            }
+        }
+    }
+}
+
+/// What is wrong with the options and the names of a command, or of a program, of this name.
+fn wrong_call(
+    alloc: Global,
+    name: &str,
+    command: &Command,
+    names: &[&str],
+    options: &[GivenOption<'_>],
+) -> Result<Option<String>, AllocError> {
+    if let Some(wrong) = wrong_options(alloc, name, command, options)? {
         return Ok(Some(wrong));
     }
-    wrong_names(alloc, first, &command, names.as_slice())
+    wrong_names(alloc, name, command, names, options)
 }
 
 /// Whether there are no words, or one of them asks how the program is called.
@@ -38,15 +68,52 @@ struct GivenOption<'a> {
     value: Option<&'a str>,
 }
 
+/// The words of a call: names and options, each in order.
+#[derive(Drop)]
+struct Parted<'a> {
+    names: Vec<&'a str>,
+    options: Vec<GivenOption<'a>>,
+}
+
+/// The names and the options among the words. Behind a word `--` each word is a name; the value of
+/// an option that has one is the next word, or follows a `=`.
+fn parted_of<'a>(
+    alloc: Global,
+    commands: &[Command],
+    words: &'a [String],
+) -> Result<Parted<'a>, AllocError> {
+    let mut names = Vec::new(alloc);
+    let mut options = Vec::new(alloc);
+    let mut is_value = false;
+    let mut is_behind = false;
+    for (at, word) in words.iter().enumerate() {
+        let word = word.as_str();
+        if is_value {
+            is_value = false;
+        } else if is_behind || !is_option(word) {
+            names.push(word)?;
+        } else if word == "--" {
+            is_behind = true;
+        } else {
+            is_value = !word.contains('=') && !is_bare(commands, word);
+            options.push(option_at(words, at, word))?;
+        }
+    }
+    Ok(Parted { names, options })
+}
+
+/// Whether a word is an option, or the end of options.
+fn is_option(word: &str) -> bool {
+    word.starts_with('-') && word != "-"
+}
+
 /// What is wrong with the options, from the left; last, which one is missing.
 fn wrong_options(
     alloc: Global,
     name: &str,
     command: &Command,
-    words: &[String],
+    given: &[GivenOption<'_>],
 ) -> Result<Option<String>, AllocError> {
-    let given = given_options(alloc, words)?;
-    let given = given.as_slice();
     for (at, option) in given.iter().enumerate() {
         if let Some(wrong) = wrong_option(alloc, name, command, *option)? {
             return Ok(Some(wrong));
@@ -56,27 +123,6 @@ fn wrong_options(
         }
     }
     missing_option(alloc, name, command, given)
-}
-
-/// The options among the words, in order.
-fn given_options<'a>(
-    alloc: Global,
-    words: &'a [String],
-) -> Result<Vec<GivenOption<'a>>, AllocError> {
-    let mut given = Vec::new(alloc);
-    let mut is_value = false;
-    for (at, word) in words.iter().enumerate() {
-        let word = word.as_str();
-        if is_value {
-            is_value = false;
-        } else if word == "--" {
-            break;
-        } else if is_option(word) {
-            is_value = !word.contains('=');
-            given.push(option_at(words, at, word))?;
-        }
-    }
-    Ok(given)
 }
 
 /// The option of the word at a place, and its value, which follows a `=` or is the next word.
@@ -105,7 +151,7 @@ fn wrong_option(
     command: &Command,
     given: GivenOption<'_>,
 ) -> Result<Option<String>, AllocError> {
-    match option_of(command, given.word) {
+    match command.option(given.word) {
         Some(known) => wrong_value(alloc, given, known),
         None => Ok(Some(format!(in alloc; "{} is no option of {name}", given.word)?)),
     }
@@ -115,29 +161,38 @@ fn wrong_option(
 fn wrong_value(
     alloc: Global,
     given: GivenOption<'_>,
-    known: NumberOption,
+    known: CommandOption,
 ) -> Result<Option<String>, AllocError> {
-    let NumberOption {
-        word,
-        least,
-        most,
-        ..
-    } = known;
-    match given.value {
-        None => Ok(Some(format!(in alloc; "{word} needs a number behind it")?)),
-        Some("0") if least > 0 => Ok(Some(format!(in alloc;
-            "{word} 0: the number is at least {least}"
-        )?)),
-        Some(value) if is_number(value, most) => Ok(None),
-        Some(value) => Ok(Some(format!(in alloc;
-            "{word} {value}: no whole number of at most {most}"
-        )?)),
+    let word = known.word;
+    match (known.value, given.value) {
+        (OptionValue::Number { least, most }, Some(value)) => {
+            wrong_number_of(alloc, word, value, least, most)
+        }
+        (OptionValue::Number { .. }, None) => {
+            Ok(Some(format!(in alloc; "{word} needs a number behind it")?))
+        }
+        (OptionValue::Name, None) => {
+            Ok(Some(format!(in alloc; "{word} needs a name behind it")?))
+        }
+        (OptionValue::Name, Some(_)) | (OptionValue::Nothing, _) => Ok(None),
     }
 }
 
-/// The option of a command with this word.
-fn option_of(command: &Command, word: &str) -> Option<NumberOption> {
-    command.options.iter().copied().find(|it| it.word == word)
+/// What is wrong with the number of an option.
+fn wrong_number_of(
+    alloc: Global,
+    word: &str,
+    value: &str,
+    least: u64,
+    most: u64,
+) -> Result<Option<String>, AllocError> {
+    if value == "0" && least > 0 {
+        return Ok(Some(format!(in alloc; "{word} 0: the number is at least {least}")?));
+    }
+    if is_number(value, most) {
+        return Ok(None);
+    }
+    Ok(Some(format!(in alloc; "{word} {value}: no whole number of at most {most}")?))
 }
 
 /// Which option has to be given and isn't.
@@ -161,8 +216,9 @@ fn wrong_names(
     name: &str,
     command: &Command,
     names: &[&str],
+    options: &[GivenOption<'_>],
 ) -> Result<Option<String>, AllocError> {
-    let given = names.len().saturating_sub(1);
+    let given = names.len();
     if let Some(wanted) = wrong_count(alloc, command, given)? {
         return Ok(Some(format!(in alloc;
             "{name} takes {wanted} names behind it, and {given} are given"
@@ -171,7 +227,7 @@ fn wrong_names(
     if let Some(wrong) = wrong_number(alloc, command, names)? {
         return Ok(Some(wrong));
     }
-    twice(alloc, names)
+    twice(alloc, command, names, options)
 }
 
 /// Which name is to be a number and is none.
@@ -180,7 +236,7 @@ fn wrong_number(
     command: &Command,
     names: &[&str],
 ) -> Result<Option<String>, AllocError> {
-    for (name, what) in names.iter().skip(1).zip(command.names) {
+    for (name, what) in names.iter().zip(command.names) {
         if let Some(most) = greatest(what) {
             if !is_number(name, most) {
                 return Ok(Some(format!(in alloc;
@@ -209,10 +265,31 @@ fn wrong_count(
     }
 }
 
-/// Which file is named twice.
-fn twice(alloc: Global, names: &[&str]) -> Result<Option<String>, AllocError> {
-    for (at, name) in names.iter().enumerate().skip(1) {
-        if names[at + 1..].contains(name) {
+/// Which file is named twice, behind the command or by an option.
+fn twice(
+    alloc: Global,
+    command: &Command,
+    names: &[&str],
+    options: &[GivenOption<'_>],
+) -> Result<Option<String>, AllocError> {
+    let mut files = Vec::new(alloc);
+    for name in names {
+        files.push(*name)?;
+    }
+    for option in options {
+        if let (Some(known), Some(value)) = (command.option(option.word), option.value) {
+            if let OptionValue::Name = known.value {
+                files.push(value)?;
+            }
+        }
+    }
+    named_twice(alloc, files.as_slice())
+}
+
+/// Which of these names stands twice among them.
+fn named_twice(alloc: Global, files: &[&str]) -> Result<Option<String>, AllocError> {
+    for (at, name) in files.iter().enumerate() {
+        if files[at + 1..].contains(name) {
             return Ok(Some(format!(in alloc; "{name} is named twice")?));
         }
     }

@@ -2,21 +2,10 @@
 use Rattle.std.specs.Prelude.{◌≢◌, ℕ, ◌++◌, ◌∷◌, [], List, Option, decimal, codes}
 use Rattle.certificate_check.specs.declared.verdict.Verdict.{Verdict}
 use Rattle.certificate_check.specs.declared.verdict.Verdict.TheVariants as verdict
-use Rattle.plan_check.specs.declared.fault.PlanFault.{PlanFault}
-use Rattle.plan_check.specs.declared.fault.PlanFault.TheVariants as plan
 use Rattle.report_lines.specs.Lines.{IsBoundOf, bounds_text}
-use Rattle.report_lines.specs.Walks.{walk_text}
+use Rattle.refusal_lines.specs.RejectedText.{rejected_text}
 use Rattle.plan_writer.specs.declared.check.Judgement.{Judgement}
 use Rattle.plan_writer.specs.declared.check.Judgement.TheVariants.{Accepted, Certificate, Plan}
-
--- the number of the rule that a plan breaks, and the route, the customer or the stop that breaks it
-abbrev pub rule_text : PlanFault → List ℕ
-rule_text (plan.Walk route fault) =
-    codes "1 route " ++ decimal route ++ codes " walk " ++ walk_text fault
-rule_text (plan.Twice customer) = codes "2 customer " ++ decimal customer
-rule_text (plan.Unserved customer) = codes "3 customer " ++ decimal customer
-rule_text (plan.EmptyRoute route) = codes "4 route " ++ decimal route
-rule_text (plan.Stray route at) = codes "5 route " ++ decimal route ++ codes " at " ++ decimal at
 
 -- the number of the rule that a certificate breaks, and the section, label, node or leaf that breaks it. No rule is broken by
 -- one that is accepted; the text is empty here
@@ -45,6 +34,6 @@ accepted_text denominator cost bound =
 
 abbrev pub check_text : ℕ → Judgement → List ℕ
 check_text denominator (Accepted cost bound) = accepted_text denominator cost bound
-check_text denominator (Plan fault) = codes "rejected plan " ++ rule_text fault ++ 10 ∷ []
+check_text denominator (Plan fault) = rejected_text fault
 check_text denominator (Certificate found) =
     codes "rejected certificate " ++ verdict_text found ++ 10 ∷ []

@@ -1,5 +1,4 @@
 pub mod CheckText
 pub mod FixedText
 pub mod FleetText
-pub mod RefusalText
 pub mod MakeText

@@ -3,14 +3,13 @@
 ghost use Rattle.std.specs.Prelude.{◌≡◌, ◌≢◌, ◌++◌, OnErr, OnOk};
 ghost use Rattle.certificate_check.specs.declared.verdict.Verdict.TheVariants as verdict;
 ghost use Rattle.ev_text.specs.Scans.{IsPrefixOf};
-ghost use Rattle.plan_check.specs.declared.fault.PlanFault.TheVariants as plan;
-ghost use Rattle.plan_writer.specs.CheckText.{IsJudged, check_text, rule_text, verdict_text};
+ghost use Rattle.plan_writer.specs.CheckText.{IsJudged, check_text, verdict_text};
 
 use certificate_check::Verdict;
 use instance_reader::Instance;
 use plan_check::PlanFault;
-use report_lines::{push_bounds, push_numbered, push_walk_rule, push_word};
-use route_plan::WalkFault;
+use refusal_lines::push_rejected_plan;
+use report_lines::{push_bounds, push_numbered, push_word};
 use std::alloc::{AllocError, Global};
 
 /// What the judges of a plan file and of a certificate say.
@@ -51,66 +50,13 @@ pub fn push_check_report(
             out.extend_from_slice(b"accepted\n")?;
             push_bounds(alloc, out, *cost, *bound, inst.denominator())
         }
-        Judgement::Plan(fault) => {
-            out.extend_from_slice(b"rejected plan ")?;
-            push_rule(alloc, out, fault)?;
-            out.extend_from_slice(b"\n")
-        }
+        Judgement::Plan(fault) => push_rejected_plan(alloc, out, fault),
         Judgement::Certificate(verdict) => {
             out.extend_from_slice(b"rejected certificate ")?;
             push_verdict(alloc, out, verdict)?;
             out.extend_from_slice(b"\n")
         }
     }
-}
-
-/// Appends the number of the rule that a plan breaks, and what breaks it.
-fn push_rule(alloc: Global, out: &mut Vec<u8>, fault: &PlanFault) -> Result<(), AllocError>
-    ensures ok { OnOk result (out.new.items ≡ out.old.items ++ rule_text fault.now) }
-    ensures err { OnErr result (IsPrefixOf out.old.items out.new.items) }
-{
-    match fault {
-        PlanFault::Walk { route, fault } => push_walk(alloc, out, *route, fault),
-        PlanFault::Twice { customer } => push_numbered(
-            alloc,
-            out,
-            b"2 customer ",
-            *customer as u128,
-        ),
-        PlanFault::Unserved { customer } => push_numbered(
-            alloc,
-            out,
-            b"3 customer ",
-            *customer as u128,
-        ),
-        PlanFault::EmptyRoute { route } => push_numbered(alloc, out, b"4 route ", *route as u128),
-        PlanFault::Stray { route, at } => push_stray(alloc, out, *route, *at),
-    }
-}
-
-/// Appends the rule on walks, the route, and the rule that its walk breaks.
-fn push_walk(
-    alloc: Global,
-    out: &mut Vec<u8>,
-    route: usize,
-    fault: &WalkFault,
-) -> Result<(), AllocError>
-    ensures ok { OnOk result
-        (out.new.items ≡ out.old.items ++ rule_text (plan.Walk route fault.now)) }
-    ensures err { OnErr result (IsPrefixOf out.old.items out.new.items) }
-{
-    push_numbered(alloc, out, b"1 route ", route as u128)?;
-    out.extend_from_slice(b" walk ")?;
-    push_walk_rule(alloc, out, fault)
-}
-
-/// Appends the rule on stray stops, the route, and the position of the stop.
-fn push_stray(alloc: Global, out: &mut Vec<u8>, route: usize, at: usize) -> Result<(), AllocError>
-    ensures ok { OnOk result (out.new.items ≡ out.old.items ++ rule_text (plan.Stray route at)) }
-    ensures err { OnErr result (IsPrefixOf out.old.items out.new.items) }
-{
-    push_numbered(alloc, out, b"5 route ", route as u128)?;
-    push_numbered(alloc, out, b" at ", at as u128)
 }
 
 /// Appends the number of the rule that a certificate breaks, and what breaks it.

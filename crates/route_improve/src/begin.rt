@@ -12,10 +12,10 @@ ghost use Rattle.order_pricing.specs.Orders.{IsOrder};
 ghost use Rattle.route_improve.specs.Begun.{IsRouteOf};
 ghost use Rattle.route_improve.specs.Routes.{AreRoutes, cost_of_routes};
 
-use order_pricing::Pricer;
 use crate::route::Route;
 use ev_model::Stop;
 use instance_reader::Instance;
+use order_pricing::Pricer;
 use route_plan::FleetPlan;
 use std::alloc::{AllocError, Global};
 

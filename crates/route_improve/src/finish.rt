@@ -6,10 +6,10 @@ ghost use Rattle.route_improve.specs.Finished.{ArePlansOf, IsPlanOf};
 ghost use Rattle.route_improve.specs.Arranged.{are_served};
 ghost use Rattle.route_improve.specs.Routes.{AreRoutes};
 
-use order_pricing::fastest_plan;
 use crate::route::Route;
 use ev_list::Listed;
 use instance_reader::Instance;
+use order_pricing::fastest_plan;
 use route_plan::{FleetPlan, RoutePlan};
 use std::alloc::{AllocError, Global};
 

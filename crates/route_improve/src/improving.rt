@@ -9,12 +9,12 @@ ghost use Rattle.route_improve.specs.Routes.{AreRoutes, cost_of_routes};
 use crate::begin::routes_of;
 use crate::finish::plan_of;
 use crate::own::{OwnFault, own_routes};
-use order_pricing::Pricer;
 use crate::route::Route;
 use crate::savings::join_routes;
 use crate::settling::settle_joined;
 use crate::watcher::{Course, MoveWatcher, Nobody};
 use instance_reader::Instance;
+use order_pricing::Pricer;
 use route_plan::FleetPlan;
 use std::alloc::{AllocError, Global};
 

@@ -6,8 +6,8 @@ ghost use Rattle.route_improve.specs.Routes.{AreNoCheaper, AreRoutes, IsSettledA
 ghost use Rattle.route_improve.specs.Taking.{AreOfPair, AreOfRoute};
 ghost use Rattle.route_improve.specs.Trying.{AreTried, HaveMove, IsNoExchange, IsNoRelocation};
 
-use order_pricing::Pricer;
 use crate::route::Route;
+use order_pricing::Pricer;
 use std::alloc::{AllocError, Global};
 
 /// Makes the relocation or the exchange of the customer at place `i` of route `a` to or with place

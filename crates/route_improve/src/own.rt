@@ -6,9 +6,9 @@ ghost use Rattle.plan_check.specs.FleetRules.{IsCustomer};
 ghost use Rattle.route_improve.specs.Improved.{IsFirstAlone, IsOwnFault};
 ghost use Rattle.route_improve.specs.Own.{AreOwn, IsOwn, IsOwnOrAlone};
 
-use order_pricing::fastest_plan;
 use crate::route::Route;
 use instance_reader::Instance;
+use order_pricing::fastest_plan;
 use std::alloc::{AllocError, AllocFailed, Global};
 
 /// Why there aren't routes for each customer alone.

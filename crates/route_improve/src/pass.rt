@@ -5,9 +5,9 @@ ghost use Rattle.route_improve.specs.Routes.{AreCheaper, AreRoutes, AreSettledTo
 ghost use Rattle.route_improve.specs.Trying.{AreTried, HaveMove};
 
 use crate::moves::try_moves;
-use order_pricing::Pricer;
 use crate::route::Route;
 use crate::watcher::{Course, MoveWatcher};
+use order_pricing::Pricer;
 use std::alloc::{AllocError, Global};
 
 /// Looks once at all relocations and exchanges, and makes those that are cheaper; whether one was

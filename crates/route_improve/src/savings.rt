@@ -6,10 +6,10 @@ ghost use Rattle.ev_model.specs.Network.{node_count};
 ghost use Rattle.route_improve.specs.Routes.{AreCheaper, AreNoDearer, AreRoutes};
 
 use crate::moves::{copy_of, take_pair};
-use order_pricing::Pricer;
 use crate::route::Route;
 use crate::watcher::{Course, MoveWatcher};
 use instance_reader::Instance;
+use order_pricing::Pricer;
 use std::alloc::{AllocError, Global};
 
 /// A customer who is to follow another, and how much time that saves beside a way home and out

@@ -6,11 +6,11 @@ ghost use Rattle.route_improve.specs.Arranged.{AreArranged, AreSettled, are_serv
 ghost use Rattle.route_improve.specs.Routes.{AreRoutes, AreSettledTo, cost_of_routes};
 
 use crate::pass::pass;
-use order_pricing::Pricer;
 use crate::route::Route;
 use crate::savings::join_routes;
 use crate::watcher::{Course, MoveWatcher};
 use instance_reader::Instance;
+use order_pricing::Pricer;
 use std::alloc::{AllocError, Global};
 
 /// Makes moves until none makes the routes cheaper. In the end the routes with customers stand in

@@ -10,12 +10,12 @@ ghost use Rattle.route_improve.specs.Routes.{AreCheaper, AreRoutes, cost_of_rout
 use crate::begin::routes_of;
 use crate::finish::plan_of;
 use crate::pass::improve_customer;
-use order_pricing::Pricer;
 use crate::route::Route;
 use crate::savings::join_routes;
 use crate::settling::arranged;
 use crate::watcher::{Course, Nobody};
 use instance_reader::Instance;
+use order_pricing::Pricer;
 use route_plan::FleetPlan;
 use std::alloc::{AllocError, Global};
 

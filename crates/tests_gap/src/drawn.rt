@@ -37,7 +37,7 @@ fn compare(alloc: Global, number: u64) -> Option<Compared> {
     if inst.customers().len() > 128 {
         return None;
     }
-    let found = close_gap(alloc, &inst, None, &mut Never {}, &mut Nobody {}).ok()?;
+    let found = close_gap(alloc, &inst, None, &mut Never {}, &mut Nobody::new()).ok()?;
     Some(Compared {
         cost: cost_of(alloc, &inst, &found),
         bound: found.proof.bound,

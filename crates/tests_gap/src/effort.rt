@@ -27,7 +27,7 @@ fn bound_on(alloc: Global, text: &str) -> Option<u128> {
     if inst.customers().len() > 128 {
         return None;
     }
-    let found = close_gap(alloc, &inst, None, &mut Never {}, &mut Nobody {}).ok()?;
+    let found = close_gap(alloc, &inst, None, &mut Never {}, &mut Nobody::new()).ok()?;
     found.proof.bound
 }
 

@@ -1,7 +1,7 @@
 //! Files in memory that tests run on.
 
 use ev_outside::{MemoryShelf, MemorySink};
-use evgap_run::{AtOnce, Nobody, Status, run, run_watched};
+use evgap_run::{AtOnce, Evgap, Nobody, Status, run};
 use std::alloc::{AllocError, Global};
 use std::process::Abort;
 
@@ -53,14 +53,11 @@ pub fn run_at_once(
 ) -> Result<(Status, Vec<u8>), AllocError> {
     let words = words_of(alloc, line)?;
     let mut out = MemorySink::new(alloc, Vec::new(alloc));
-    let status = run_watched(
-        alloc,
-        words.as_slice(),
-        shelf,
-        &mut out,
-        &mut AtOnce {},
-        &mut Nobody {},
-    );
+    let mut program = Evgap {
+        clock: AtOnce {},
+        watcher: Nobody::new(),
+    };
+    let status = job_ending::run(alloc, words.as_slice(), shelf, &mut out, &mut program);
     Ok((status, Vec::from_slice(alloc, out.bytes())?))
 }
 

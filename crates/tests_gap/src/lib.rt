@@ -14,7 +14,6 @@ mod effort;
 #[cfg(test)]
 mod files;
 #[cfg(test)]
-mod heard;
 #[cfg(test)]
 mod judged;
 #[cfg(test)]

@@ -1,7 +1,8 @@
 use crate::files::{CHARGED, assert_begins, certificate_with, run_on, run_with, shelf_with};
 use command_line::usage;
 use ev_outside::{Failure, MemoryShelf};
-use evroute_run::{Message, Status};
+use evroute_run::Status;
+use job_ending::Message;
 use std::alloc::{AllocError, Global};
 use std::io::Error;
 use std::process::Abort;

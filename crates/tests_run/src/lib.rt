@@ -15,7 +15,6 @@ mod files;
 #[cfg(test)]
 mod fleets;
 #[cfg(test)]
-mod heard;
 #[cfg(test)]
 mod improved;
 #[cfg(test)]

@@ -2,18 +2,15 @@
 //! plans and proofs.
 
 use crate::files::{assert_begins, assert_file, assert_run, run_with, words_of};
+use command_line::{Job, job_words};
 use ev_outside::MemoryShelf;
 use evroute_run::Status;
-use instance_reader::ReadFault;
-use job_frame::Cause;
-use plain_words::{broken_json, out_of_reach};
-use plan_writer::Refusal;
+use evroute_words::names_of;
+use plain_words::{JobNames, broken_json};
+use proof_words::out_of_reach;
 use std::alloc::{AllocError, Global};
 use std::process::Abort;
 use worked_instances::{ONE_STATION, THREE_CUSTOMERS, TWO_CUSTOMERS};
-
-/// The cause where an instance is no JSON text.
-const NO_JSON: Cause = Cause::Refused(Refusal::Instance(ReadFault::NotJson));
 
 /// A plan with both kinds of vehicles.
 const BOTH: &str = "evroute mixed plan 1\nroutes 2\nkind 1 route 0 1 0\nkind 0 route 0 2 0\n";
@@ -256,6 +253,13 @@ fn the_first_broken_rule_of_a_proof_is_told(rt: HostRuntime) {
     }
 }
 
+/// The job of a line, or the test fails.
+fn job_of(rt: &impl Abort, alloc: Global, line: &str) -> Job {
+    let words = words_of(alloc, line).expect(rt, "memory");
+    let job = job_words(alloc, words.as_slice()).expect(rt, "memory");
+    job.expect(rt, "a job")
+}
+
 #[test]
 fn people_are_told_which_file_and_which_customer_it_is(rt: HostRuntime) {
     let alloc = rt.alloc();
@@ -270,13 +274,18 @@ fn people_are_told_which_file_and_which_customer_it_is(rt: HostRuntime) {
             "U: no route of its own serves customer 1 within the limit",
         ),
     ] {
-        let words = words_of(alloc, line).expect(&rt, "memory");
-        let told = out_of_reach(alloc, &mut shelf, words.as_slice(), Cause::NoFleet);
+        let job = job_of(&rt, alloc, line);
+        let JobNames {
+            instances,
+            limit,
+            ..
+        } = names_of(&job);
+        let told = out_of_reach(alloc, &mut shelf, instances, limit);
         let told = told.expect(&rt, "memory").expect(&rt, "words");
         assert_eq!(rt; told.as_str(), want);
     }
-    let words = words_of(alloc, "check-mixed P Q A X").expect(&rt, "memory");
-    let told = broken_json(alloc, &mut shelf, words.as_slice(), NO_JSON);
+    let job = job_of(&rt, alloc, "check-mixed P Q A X");
+    let told = broken_json(alloc, &mut shelf, names_of(&job).instances);
     let told = told.expect(&rt, "memory").expect(&rt, "words");
     assert_eq!(rt; told.as_str(), "X: the JSON text ends too early, at byte 1");
 }

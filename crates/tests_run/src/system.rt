@@ -1,6 +1,7 @@
 use crate::files::words_of;
 use ev_outside::{FileShelf, OutSink};
-use evroute_run::{Diagnostics, Message, Nobody, run_to_end};
+use evroute_run::{Evroute, Nobody};
+use job_ending::{Diagnostics, Message, run_to_end};
 use std::alloc::AllocError;
 use std::io::{self, Error, ErrorKind};
 use std::process::ExitCode;
@@ -33,15 +34,18 @@ fn run_on_system(rt: &HostRuntime, words: io::Result<Vec<String>>) -> (ExitCode,
     let mut people = Heard {
         lines: String::new(alloc),
     };
-    let code = run_to_end(
+    let mut program = Evroute {
+        watcher: Nobody::new(),
+    };
+    let end = run_to_end(
         alloc,
-        words,
+        &words,
         &mut shelf,
         &mut out,
         &mut people,
-        &mut Nobody {},
+        &mut program,
     );
-    (code, people.lines)
+    (end.code, people.lines)
 }
 
 #[test]

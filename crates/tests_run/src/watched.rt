@@ -3,10 +3,12 @@
 use crate::files::{shelf_with, words_of};
 use ev_outside::MemorySink;
 use evroute_run::{
-    MoveProgress, MoveWatcher, Progress, RisingProgress, RoundProgress, RoundWatcher, ScaleWatcher,
-    Status, Watcher, run_watched,
+    Evroute, MoveProgress, MoveWatcher, Progress, RisingProgress, RoundProgress, RoundWatcher,
+    ScaleWatcher, Status, Watcher,
 };
-use job_listeners::{ToldProgress, wants_progress};
+use evroute_words::ToldProgress;
+use job_ending::run;
+use job_listeners::wants_progress;
 use std::alloc::{AllocError, Global};
 use std::cell::Cell;
 use std::env::FillError;
@@ -172,8 +174,10 @@ fn watched(
     let mut out = MemorySink::new(alloc, Vec::new(alloc));
     let words = words_of(alloc, job.line)?;
     let desk = Desk::new(alloc, step);
-    let mut progress = ToldProgress::new(&desk, is_wanted);
-    let status = run_watched(alloc, words.as_slice(), &mut shelf, &mut out, &mut progress);
+    let mut program = Evroute {
+        watcher: ToldProgress::new(alloc, &desk, is_wanted),
+    };
+    let status = run(alloc, words.as_slice(), &mut shelf, &mut out, &mut program);
     let mut left = Vec::new(alloc);
     for &name in &["P", "Q", "O"] {
         left.extend_from_slice(shelf.get(name).unwrap_or(b"".as_slice()))?;

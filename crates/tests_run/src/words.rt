@@ -3,16 +3,18 @@
 use certificate_check::Verdict;
 use certificate_parts::CertText;
 use charge_curve::CurveFault;
+use command_line::{Job, job_words};
 use ev_outside::MemoryShelf;
 use ev_text::TextFault;
+use evroute_causes::Cause;
+use evroute_words::{in_words, left_by_file, left_by_output, told_behind};
 use instance_reader::{Key, Part, Place, ReadFault};
-use job_frame::Cause;
 use job_listeners::{OutOfMemory, most_memory};
 use mixed_model::MixedVerdict;
 use near_proof::NearVerdict;
-use plain_words::{Failed, broken_json, in_words, left_behind, told_behind};
+use plain_words::{Failed, Instances, broken_json};
 use plan_check::PlanFault;
-use plan_writer::Refusal;
+use refusal_lines::Refusal;
 use route_plan::{PlanText, RouteFault, WalkFault};
 use route_proof::RouteVerdict;
 use std::alloc::{AllocError, Global};
@@ -41,7 +43,8 @@ fn parted(alloc: Global, words: &str) -> Result<Vec<String>, AllocError> {
 /// What is said of a cause for these words, which are parted by blanks.
 fn said(alloc: Global, words: &str, cause: Cause) -> Result<String, AllocError> {
     let list = parted(alloc, words)?;
-    match in_words(alloc, list.as_slice(), cause)? {
+    let job = job_words(alloc, list.as_slice())?;
+    match in_words(alloc, list.as_slice(), job.as_ref(), cause)? {
         Some(text) => Ok(text),
         None => Ok(String::new(alloc)),
     }
@@ -339,10 +342,9 @@ fn a_wrong_word_is_named(rt: HostRuntime) {
 
 /// What is told of the bytes of a file `A` that is no JSON text, or nothing.
 fn told_of(alloc: Global, bytes: &[u8]) -> Result<Option<String>, AllocError> {
-    let words = parted(alloc, "fleet A P Q")?;
     let mut shelf = MemoryShelf::new(alloc, Vec::new(alloc));
     shelf.set("A", bytes)?;
-    broken_json(alloc, &mut shelf, words.as_slice(), NO_JSON)
+    broken_json(alloc, &mut shelf, Instances::One("A"))
 }
 
 #[test]
@@ -384,88 +386,110 @@ fn what_is_told_behind_a_job_reads_no_device(rt: HostRuntime) {
         ("fleet a b c", None, ""),
     ] {
         let list = parted(alloc, words).expect(&rt, "memory");
-        let told = told_behind(alloc, &rt, list.as_slice(), cause).expect(&rt, "memory");
+        let job = job_words(alloc, list.as_slice()).expect(&rt, "memory");
+        let told = told_behind(alloc, &rt, list.as_slice(), job.as_ref(), cause);
+        let told = told.expect(&rt, "memory");
         let told = told.unwrap_or(String::new(alloc));
         assert_eq!(rt; told.as_str(), want, "{words}");
     }
 }
 
+/// The job of these words, which are parted by blanks.
+fn job_of(alloc: Global, words: &str) -> Result<Option<Job>, AllocError> {
+    job_words(alloc, parted(alloc, words)?.as_slice())
+}
+
 /// What a failure leaves is told so, or the test fails.
-fn assert_left(rt: &impl Abort, alloc: Global, words: &str, failed: Failed<'_>, want: &str) {
-    let list = parted(alloc, words).expect(rt, "memory");
-    let told = left_behind(alloc, list.as_slice(), failed).expect(rt, "memory");
-    let told = told.unwrap_or(String::new(alloc));
-    assert_eq!(rt; told.as_str(), want, "{words}");
+fn assert_left(
+    rt: &impl Abort,
+    words: &str,
+    told: Result<Option<String>, AllocError>,
+    want: Option<&str>,
+) {
+    let told = told.expect(rt, "memory");
+    assert_eq!(rt; told.as_ref().map(|told| told.as_str()), want, "{words}");
 }
 
 #[test]
-fn what_a_failure_leaves_is_told(rt: HostRuntime) {
+fn what_a_failed_file_leaves_is_told(rt: HostRuntime) {
+    let alloc = rt.alloc();
     for &(words, failed, want) in &[
         (
             "fleet a --limit 3 b c",
             Failed::File("b"),
-            "b may hold a part, and is to be written again, c is as it was before",
+            Some("b may hold a part, and is to be written again, c is as it was before"),
         ),
         (
             "fleet a b c",
             Failed::File("c"),
-            "b is whole, c may hold a part, and is to be written again",
+            Some("b is whole, c may hold a part, and is to be written again"),
         ),
         (
             "fleet a b c",
             Failed::Unchanged("c"),
-            "b is whole, c wasn't written",
+            Some("b is whole, c wasn't written"),
         ),
         (
             "fleet a b c",
             Failed::Unchanged("b"),
-            "b wasn't written, c is as it was before",
+            Some("b wasn't written, c is as it was before"),
         ),
-        (
-            "fleet a b c",
-            Failed::Output(Some(Cause::NoFleet)),
-            "b is whole, c is whole",
-        ),
-        ("fleet a b c", Failed::Output(Some(NO_JSON)), ""),
-        ("fleet a b c", Failed::File("a"), ""),
+        ("fleet a b c", Failed::File("a"), None),
         (
             "improve a b c",
             Failed::File("c"),
-            "c may hold a part, and is to be written again",
+            Some("c may hold a part, and is to be written again"),
         ),
-        ("improve a b c", Failed::File("b"), ""),
+        ("improve a b c", Failed::File("b"), None),
         (
             "bound a c --near 2",
             Failed::File("c"),
-            "c may hold a part, and is to be written again",
+            Some("c may hold a part, and is to be written again"),
         ),
-        ("bound --near 2 a c", Failed::Output(None), "c is whole"),
-        ("bound a c --near 2", Failed::File("a"), ""),
-        ("check-bound a c", Failed::File("c"), ""),
+        ("bound a c --near 2", Failed::File("a"), None),
+        ("check-bound a c", Failed::File("c"), None),
         (
             "mixed p q a b",
             Failed::File("q"),
-            "p is whole, q may hold a part, and is to be written again",
+            Some("p is whole, q may hold a part, and is to be written again"),
         ),
-        (
-            "mixed --limit 3 p q a b",
-            Failed::Output(None),
-            "p is whole, q is whole",
-        ),
-        ("mixed p q a b", Failed::File("a"), ""),
-        ("mixed p q a b", Failed::Output(Some(Cause::Kinds(1))), ""),
-        ("check-mixed p q a b", Failed::File("p"), ""),
-        ("make 1 1 0 c", Failed::Output(None), "c is whole"),
-        ("improve a b c", Failed::Output(Some(Cause::Alone(1))), ""),
+        ("mixed p q a b", Failed::File("a"), None),
+        ("check-mixed p q a b", Failed::File("p"), None),
         (
             "convert a b --time-digits 0 --energy-digits 0",
             Failed::File("b"),
-            "b may hold a part, and is to be written again",
+            Some("b may hold a part, and is to be written again"),
         ),
-        ("check a b c", Failed::File("b"), ""),
-        ("fixed a 0,1,0", Failed::Output(None), ""),
+        ("check a b c", Failed::File("b"), None),
     ] {
-        assert_left(&rt, rt.alloc(), words, failed, want);
+        let job = job_of(alloc, words).expect(&rt, "memory");
+        assert_left(&rt, words, left_by_file(alloc, job.as_ref(), failed), want);
+    }
+}
+
+#[test]
+fn what_a_failed_output_leaves_is_told(rt: HostRuntime) {
+    let alloc = rt.alloc();
+    for &(words, cause, want) in &[
+        (
+            "fleet a b c",
+            Some(Cause::NoFleet),
+            Some("b is whole, c is whole"),
+        ),
+        ("fleet a b c", Some(NO_JSON), None),
+        ("bound --near 2 a c", None, Some("c is whole")),
+        (
+            "mixed --limit 3 p q a b",
+            None,
+            Some("p is whole, q is whole"),
+        ),
+        ("mixed p q a b", Some(Cause::Kinds(1)), None),
+        ("make 1 1 0 c", None, Some("c is whole")),
+        ("improve a b c", Some(Cause::Alone(1)), None),
+        ("fixed a 0,1,0", None, None),
+    ] {
+        let job = job_of(alloc, words).expect(&rt, "memory");
+        assert_left(&rt, words, left_by_output(alloc, job.as_ref(), cause), want);
     }
 }
 

@@ -3,7 +3,7 @@ use Rattle.std.specs.Option.{option_map}
 use Rattle.evgap_run.proofs.CheckFinds.{plan_fails, refused_by_plan}
 use Rattle.gap_words.specs.JobValue.{check_value}
 use Rattle.job_frame.proofs.BehindReads.{finds_behind, finds_refused, read_fails}
-use Rattle.job_frame.proofs.Hearing.{its_rule}
+use Rattle.evgap_run.proofs.Refusals.{its_rule}
 use Rattle.job_frame.proofs.FileReads.{named_read, read_still}
 use Rattle.route_plan.specs.PlanTexts.{SpellsFleetPlan}
 use Rattle.route_plan.specs.declared.plan.FleetPlan.{FleetPlan}

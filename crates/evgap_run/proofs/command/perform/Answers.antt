@@ -1,4 +1,4 @@
-use Rattle.evgap_run.proofs.Performed.{finished}
+use Rattle.evgap_run.proofs.Performed.{finished, finished_heard}
 use Rattle.evgap_run.proofs.command.perform.Goals as goal
 
 pub returns-in-Plan-clause-job : goal.returns-in-Plan-clause-job
@@ -6,3 +6,9 @@ returns-in-Plan-clause-job g c = finished _ _ c.finish.ensures.words c.finish.en
 
 pub returns-in-Check-clause-job : goal.returns-in-Check-clause-job
 returns-in-Check-clause-job g c = finished _ _ c.finish-in-Check.ensures.words c.finish-in-Check.ensures.finishes c.in-Check.is c.check.ensures
+
+pub returns-in-Plan-clause-heard : goal.returns-in-Plan-clause-heard
+returns-in-Plan-clause-heard g c = finished_heard _ _ c.finish.ensures.finishes c.finish.ensures.heard c.in-Plan.is c.plan.ensures
+
+pub returns-in-Check-clause-heard : goal.returns-in-Check-clause-heard
+returns-in-Check-clause-heard g c = finished_heard _ _ c.finish-in-Check.ensures.finishes c.finish-in-Check.ensures.heard c.in-Check.is c.check.ensures

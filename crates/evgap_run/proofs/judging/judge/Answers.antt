@@ -1,6 +1,6 @@
 use Rattle.std.proofs.Common.{rules}
 use Rattle.std.specs.Option.{option_map}
-use Rattle.fleet_steps.proofs.Costs.{is_bound_of_cost}
+use Rattle.near_steps.proofs.Bounds.{is_bound_of_cost}
 use Rattle.near_proof.specs.Truth.{IsTrue}
 use Rattle.evgap_run.proofs.judging.judge.Goals as goal
 

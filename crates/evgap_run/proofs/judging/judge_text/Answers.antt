@@ -1,7 +1,7 @@
 use Rattle.std.specs.Option.{option_map}
 use Rattle.evgap_run.proofs.CheckFinds.{refused_answers}
 use Rattle.evgap_run.specs.Judged.{HearsJudgement}
-use Rattle.job_frame.proofs.Hearing.{refusal_is_heard}
+use Rattle.evgap_run.proofs.Refusals.{refusal_is_heard}
 use Rattle.evgap_run.proofs.judging.judge_text.Goals as goal
 
 pub returns-in-Ok-clause-answers : goal.returns-in-Ok-clause-answers

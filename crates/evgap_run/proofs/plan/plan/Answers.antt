@@ -3,7 +3,7 @@ use Rattle.evgap_run.proofs.PlanFinds.{refused_early}
 use Rattle.fleet_steps.specs.FleetNetwork.{HasFleetNetwork}
 use Rattle.gap_words.specs.JobValue.{plan_value}
 use Rattle.job_frame.proofs.BehindReads.{finds_behind, finds_refused, first_fails}
-use Rattle.job_frame.proofs.Hearing.{its_rule}
+use Rattle.evgap_run.proofs.Refusals.{its_rule}
 use Rattle.job_frame.proofs.FileReads.{named_read, read_still}
 use Rattle.evgap_run.proofs.plan.plan.Goals as goal
 

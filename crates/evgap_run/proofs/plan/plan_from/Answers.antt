@@ -6,6 +6,7 @@ use Rattle.fleet_steps.proofs.Hearing.{broken_plan_is_heard}
 use Rattle.fleet_steps.specs.PlanFile.{IsUnfit}
 use Rattle.gap_words.specs.JobValue.{plan_value}
 use Rattle.plan_check.specs.declared.fault.LargeFault.{LargeFault}
+use Rattle.evgap_run.specs.declared.cause.Cause.TheVariants as cause
 use Rattle.evgap_run.proofs.plan.plan_from.Goals as goal
 
 pub plan_judged-requires-clause-start : goal.plan_judged-requires-clause-start
@@ -21,4 +22,4 @@ returns-in-Err-Plan-clause-answers g c = λ bytes more has.
 pub returns-in-Err-Plan-clause-heard : goal.returns-in-Err-Plan-clause-heard
 returns-in-Err-Plan-clause-heard g c =
     broken_is_heard c.reject.result
-    (broken_plan_is_heard c.args.inst.now.denominator c.in-Err-Plan.fault c.reject.result c.reject.ensures.status c.reject.ensures.text c.reject.ensures.cause)
+    (broken_plan_is_heard cause.Plan c.in-Err-Plan.fault c.reject.result c.reject.ensures.status c.reject.ensures.text c.reject.ensures.cause)

@@ -1,9 +1,9 @@
 use Rattle.std.proofs.Common.{[], ◌∷◌, Option, subst, sym, ◌⊎◌}
 use Rattle.evgap_run.proofs.PlanFinds.{has_start, puts_no_start}
 use Rattle.evgap_run.specs.PlanAnswer.{HearsFound}
-use Rattle.fleet_steps.specs.Heard.{HearsBrokenPlan}
+use Rattle.evgap_run.specs.Heard.{HearsBrokenPlan}
 use Rattle.gap_words.specs.JobValue.{plan_value}
-use Rattle.job_frame.proofs.Hearing.{refused_job_is_heard}
+use Rattle.evgap_run.proofs.Refusals.{refused_job_is_heard}
 use Rattle.route_plan.specs.PlanTexts.{SpellsFleetPlan}
 use Rattle.route_plan.specs.declared.plan.FleetPlan.{FleetPlan}
 use Rattle.std.specs.Option.{option_map}

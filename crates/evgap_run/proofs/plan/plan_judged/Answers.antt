@@ -2,7 +2,7 @@ use Rattle.std.specs.Option.{option_map}
 use Rattle.evgap_run.proofs.PlanFinds.{puts_plan, start_costs}
 use Rattle.evgap_run.specs.PlanAnswer.{plan_heard}
 use Rattle.gap_words.specs.JobValue.{plan_value}
-use Rattle.job_frame.proofs.Hearing.{found_is_heard}
+use Rattle.evgap_run.proofs.Refusals.{found_is_heard}
 use Rattle.evgap_run.proofs.plan.plan_judged.Goals as goal
 
 pub returns-clause-answers : goal.returns-clause-answers

@@ -6,7 +6,7 @@ use Rattle.evroute_run.proofs.BoundFinds.{bound_found, bound_refused, found_is_a
 use Rattle.job_frame.proofs.BehindReads.{finds_found, finds_refused, first_fails}
 use Rattle.job_frame.proofs.FileReads.{named_read}
 use Rattle.job_frame.specs.Finds.{outcome_of}
-use Rattle.job_frame.proofs.Hearing.{its_rule}
+use Rattle.evroute_causes.proofs.Hearing.{its_rule}
 use Rattle.evroute_run.proofs.bound.bound.Goals as goal
 
 pub returns-in-Err : goal.returns-in-Err

@@ -1,9 +1,9 @@
 use Rattle.std.specs.Prelude.{string_bytes}
 use Rattle.evroute_run.proofs.BoundFinds.{puts_bound}
 use Rattle.evroute_run.proofs.Hearing.{bound_is_heard}
-use Rattle.job_frame.proofs.Hearing.{found_is_heard}
+use Rattle.evroute_causes.proofs.Hearing.{found_is_heard}
 use Rattle.job_frame.specs.Finds.{written_by}
-use Rattle.job_frame.specs.Heard.{HearsSearch}
+use Rattle.evroute_causes.specs.Heard.{HearsSearch}
 use Rattle.evroute_run.proofs.bound.bound_on.Goals as goal
 
 pub know_read_back-requires-clause-fits : goal.know_read_back-requires-clause-fits

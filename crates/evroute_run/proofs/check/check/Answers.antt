@@ -7,7 +7,7 @@ use Rattle.evroute_run.proofs.Endings.{check_at_instance}
 use Rattle.fleet_steps.specs.FleetNetwork.{HasFleetNetwork}
 use Rattle.job_frame.proofs.BehindReads.{finds_behind, finds_refused, first_fails}
 use Rattle.job_frame.proofs.FileReads.{named_read, read_still}
-use Rattle.job_frame.proofs.Hearing.{its_rule}
+use Rattle.evroute_causes.proofs.Hearing.{its_rule}
 use Rattle.evroute_run.proofs.check.check.Goals as goal
 
 pub returns-in-Err : goal.returns-in-Err

@@ -9,7 +9,7 @@ use Rattle.job_frame.proofs.BehindReads.{finds_behind, finds_refused, read_fails
 use Rattle.job_frame.proofs.FileReads.{named_read, read_still}
 use Rattle.route_plan.specs.PlanTexts.{SpellsFleetPlan}
 use Rattle.route_plan.specs.declared.plan.FleetPlan.{FleetPlan}
-use Rattle.job_frame.proofs.Hearing.{its_rule}
+use Rattle.evroute_causes.proofs.Hearing.{its_rule}
 use Rattle.evroute_run.proofs.check.check_on.Goals as goal
 
 pub returns-in-Err : goal.returns-in-Err

@@ -1,7 +1,7 @@
 use Rattle.evroute_run.proofs.CheckBoundFinds.{refused_answers}
 use Rattle.evroute_run.proofs.Endings.{check_bound_at_proof}
 use Rattle.evroute_run.specs.CheckBoundAnswer.{HearsNearVerdict}
-use Rattle.job_frame.proofs.Hearing.{refusal_is_heard}
+use Rattle.evroute_causes.proofs.Hearing.{refusal_is_heard}
 use Rattle.evroute_run.proofs.check_bound.judge_text.Goals as goal
 
 pub returns-in-Ok-clause-answers : goal.returns-in-Ok-clause-answers

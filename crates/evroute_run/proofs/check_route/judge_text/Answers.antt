@@ -1,8 +1,8 @@
 use Rattle.std.proofs.Common.{◌⊎◌}
 use Rattle.evroute_run.proofs.CheckRouteFinds.{refused_answers}
 use Rattle.evroute_run.specs.CheckRouteAnswer.{HearsBrokenProof}
-use Rattle.job_frame.proofs.Hearing.{refusal_is_heard}
-use Rattle.job_frame.specs.Heard.{HearsDone}
+use Rattle.evroute_causes.proofs.Hearing.{refusal_is_heard}
+use Rattle.evroute_causes.specs.Heard.{HearsDone}
 use Rattle.evroute_run.proofs.check_route.judge_text.Goals as goal
 
 pub returns-in-Ok-clause-answers : goal.returns-in-Ok-clause-answers

@@ -1,4 +1,4 @@
-use Rattle.evroute_run.proofs.Performed.{finished, value_performs}
+use Rattle.evroute_run.proofs.Performed.{finished, finished_heard, value_hears, value_performs}
 use Rattle.evroute_run.proofs.command.perform.Goals as goal
 
 pub returns-in-Fixed-clause-job : goal.returns-in-Fixed-clause-job
@@ -36,3 +36,39 @@ returns-in-Mixed-clause-job g c = finished _ _ c.finish-in-Mixed.ensures.words c
 
 pub returns-in-CheckMixed-clause-job : goal.returns-in-CheckMixed-clause-job
 returns-in-CheckMixed-clause-job g c = finished _ _ c.finish-in-CheckMixed.ensures.words c.finish-in-CheckMixed.ensures.finishes c.in-CheckMixed.is c.check_mixed_files.ensures
+
+pub returns-in-Fixed-clause-heard : goal.returns-in-Fixed-clause-heard
+returns-in-Fixed-clause-heard g c = finished_heard _ _ c.finish.ensures.finishes c.finish.ensures.heard c.in-Fixed.is c.fixed.ensures
+
+pub returns-in-Fleet-clause-heard : goal.returns-in-Fleet-clause-heard
+returns-in-Fleet-clause-heard g c = finished_heard _ _ c.finish-in-Fleet.ensures.finishes c.finish-in-Fleet.ensures.heard c.in-Fleet.is c.fleet.ensures
+
+pub returns-in-Check-clause-heard : goal.returns-in-Check-clause-heard
+returns-in-Check-clause-heard g c = finished_heard _ _ c.finish-in-Check.ensures.finishes c.finish-in-Check.ensures.heard c.in-Check.is c.check.ensures
+
+pub returns-in-Convert-clause-heard : goal.returns-in-Convert-clause-heard
+returns-in-Convert-clause-heard g c = finished_heard _ _ c.finish-in-Convert.ensures.finishes c.finish-in-Convert.ensures.heard c.in-Convert.is c.convert.ensures
+
+pub returns-in-Bound-clause-heard : goal.returns-in-Bound-clause-heard
+returns-in-Bound-clause-heard g c = finished_heard _ _ c.finish-in-Bound.ensures.finishes c.finish-in-Bound.ensures.heard c.in-Bound.is c.bound.ensures
+
+pub returns-in-CheckBound-clause-heard : goal.returns-in-CheckBound-clause-heard
+returns-in-CheckBound-clause-heard g c = finished_heard _ _ c.finish-in-CheckBound.ensures.finishes c.finish-in-CheckBound.ensures.heard c.in-CheckBound.is c.check_bound.ensures
+
+pub returns-in-Prove-clause-heard : goal.returns-in-Prove-clause-heard
+returns-in-Prove-clause-heard g c = finished_heard _ _ c.finish-in-Prove.ensures.finishes c.finish-in-Prove.ensures.heard c.in-Prove.is c.prove.ensures
+
+pub returns-in-CheckRoute-clause-heard : goal.returns-in-CheckRoute-clause-heard
+returns-in-CheckRoute-clause-heard g c = finished_heard _ _ c.finish-in-CheckRoute.ensures.finishes c.finish-in-CheckRoute.ensures.heard c.in-CheckRoute.is c.check_route.ensures
+
+pub returns-in-Improve-clause-heard : goal.returns-in-Improve-clause-heard
+returns-in-Improve-clause-heard g c = finished_heard _ _ c.finish-in-Improve.ensures.finishes c.finish-in-Improve.ensures.heard c.in-Improve.is c.improve.ensures
+
+pub returns-in-Mixed-clause-heard : goal.returns-in-Mixed-clause-heard
+returns-in-Mixed-clause-heard g c = finished_heard _ _ c.finish-in-Mixed.ensures.finishes c.finish-in-Mixed.ensures.heard c.in-Mixed.is c.mixed.ensures
+
+pub returns-in-CheckMixed-clause-heard : goal.returns-in-CheckMixed-clause-heard
+returns-in-CheckMixed-clause-heard g c = finished_heard _ _ c.finish-in-CheckMixed.ensures.finishes c.finish-in-CheckMixed.ensures.heard c.in-CheckMixed.is c.check_mixed_files.ensures
+
+pub returns-in-Make-clause-heard : goal.returns-in-Make-clause-heard
+returns-in-Make-clause-heard g c = value_hears _ _ c.in-Make.is c.make.ensures.heard

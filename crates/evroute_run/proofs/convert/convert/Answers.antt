@@ -10,8 +10,8 @@ use Rattle.job_frame.proofs.FileReads.{finds_as, named_read, ok_is_no_error}
 use Rattle.job_frame.specs.Finds.{written_by}
 use Rattle.job_frame.specs.Writes.{Written}
 use Rattle.job_frame.specs.declared.status.Status.TheVariants as status
-use Rattle.plan_writer.specs.declared.refusal.Refusal.TheVariants as refusal
-use Rattle.job_frame.proofs.Hearing.{its_rule}
+use Rattle.refusal_lines.specs.declared.refusal.Refusal.TheVariants as refusal
+use Rattle.evroute_causes.proofs.Hearing.{its_rule}
 use Rattle.evroute_run.proofs.convert.convert.Goals as goal
 
 pub returns-in-Err : goal.returns-in-Err

@@ -6,8 +6,8 @@ use Rattle.evroute_run.proofs.FleetFinds.{both_differ, fleet_found, fleet_refuse
 use Rattle.job_frame.proofs.BehindReads.{finds_found, finds_refused, first_fails}
 use Rattle.job_frame.proofs.FileReads.{named_read}
 use Rattle.job_frame.specs.Finds.{outcome_of}
-use Rattle.plan_writer.specs.RefusalText.{refusal_text}
-use Rattle.job_frame.proofs.Hearing.{its_rule}
+use Rattle.refusal_lines.specs.RefusalText.{refusal_text}
+use Rattle.evroute_causes.proofs.Hearing.{its_rule}
 use Rattle.evroute_run.proofs.fleet.fleet.Goals as goal
 
 pub returns-in-Err : goal.returns-in-Err

@@ -6,7 +6,7 @@ use Rattle.evroute_run.proofs.ImproveFinds.{refused_at_instance}
 use Rattle.job_frame.specs.LimitedNetwork.{HasNetwork}
 use Rattle.job_frame.proofs.BehindReads.{finds_behind, finds_refused, first_fails}
 use Rattle.job_frame.proofs.FileReads.{named_read, read_still}
-use Rattle.job_frame.proofs.Hearing.{its_rule}
+use Rattle.evroute_causes.proofs.Hearing.{its_rule}
 use Rattle.evroute_run.proofs.improve.improve.Goals as goal
 
 pub returns-in-Err : goal.returns-in-Err

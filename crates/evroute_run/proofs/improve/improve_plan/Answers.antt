@@ -5,6 +5,7 @@ use Rattle.evroute_run.proofs.Hearing.{broken_is_heard}
 use Rattle.fleet_steps.proofs.Hearing.{broken_plan_is_heard}
 use Rattle.fleet_steps.specs.PlanFile.{IsUnfit}
 use Rattle.plan_check.specs.declared.fault.LargeFault.{LargeFault}
+use Rattle.evroute_causes.specs.declared.cause.Cause.TheVariants as cause
 use Rattle.evroute_run.proofs.improve.improve_plan.Goals as goal
 
 pub returns-in-Err-Plan-clause-answers : goal.returns-in-Err-Plan-clause-answers
@@ -18,4 +19,4 @@ returns-in-Err-Plan-clause-answers t c = λ limit file plan_bytes has.
 pub returns-in-Err-Plan-clause-heard : goal.returns-in-Err-Plan-clause-heard
 returns-in-Err-Plan-clause-heard t c =
     broken_is_heard c.reject.result
-    (broken_plan_is_heard c.args.inst.now.denominator c.in-Err-Plan.fault c.reject.result c.reject.ensures.status c.reject.ensures.text c.reject.ensures.cause)
+    (broken_plan_is_heard cause.Plan c.in-Err-Plan.fault c.reject.result c.reject.ensures.status c.reject.ensures.text c.reject.ensures.cause)

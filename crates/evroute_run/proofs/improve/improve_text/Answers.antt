@@ -2,9 +2,9 @@ use Rattle.std.proofs.Common.{Option, subst, sym, ◌⊎◌}
 use Rattle.evroute_run.proofs.Endings.{improve_at_plan}
 use Rattle.evroute_run.proofs.ImproveFinds.{puts_refusal}
 use Rattle.evroute_run.specs.ImproveAnswer.{HearsAlone}
-use Rattle.fleet_steps.specs.Heard.{HearsBrokenPlan}
-use Rattle.job_frame.proofs.Hearing.{refused_job_is_heard}
-use Rattle.job_frame.specs.Heard.{HearsDone}
+use Rattle.evroute_causes.specs.Heard.{HearsBrokenPlan}
+use Rattle.evroute_causes.proofs.Hearing.{refused_job_is_heard}
+use Rattle.evroute_causes.specs.Heard.{HearsDone}
 use Rattle.route_plan.specs.PlanTexts.{SpellsFleetPlan}
 use Rattle.route_plan.specs.declared.plan.FleetPlan.{FleetPlan}
 use Rattle.evroute_run.proofs.improve.improve_text.Goals as goal

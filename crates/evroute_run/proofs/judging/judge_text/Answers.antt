@@ -1,7 +1,7 @@
 use Rattle.std.specs.Option.{option_map}
 use Rattle.evroute_run.proofs.Refused.{refused_answers}
 use Rattle.evroute_run.specs.CheckAnswer.{HearsJudgement}
-use Rattle.job_frame.proofs.Hearing.{refusal_is_heard}
+use Rattle.evroute_causes.proofs.Hearing.{refusal_is_heard}
 use Rattle.evroute_run.proofs.judging.judge_text.Goals as goal
 
 pub returns-in-Ok-clause-answers : goal.returns-in-Ok-clause-answers

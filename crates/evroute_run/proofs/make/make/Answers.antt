@@ -5,15 +5,15 @@ use Rattle.command_line.specs.Words.{MakeJob, make_job_of}
 use Rattle.evroute_run.proofs.MakeFinds.{make_refused, makes_network}
 use Rattle.evroute_run.proofs.MakeLaw.{make_lawful}
 use Rattle.evroute_run.specs.MakeAnswer.{HasNoInstance, made_file, make_task}
-use Rattle.job_ending.proofs.Finished.{performs_finished}
+use Rattle.job_ending.proofs.Finished.{hears_finished, performs_finished}
 use Rattle.job_frame.proofs.FileReads.{finds_alone, nothing_fails, nothing_falls, ok_is_no_error}
-use Rattle.job_frame.proofs.Hearing.{refused_job_is_heard}
+use Rattle.evroute_causes.proofs.Hearing.{refused_job_is_heard}
 use Rattle.job_frame.proofs.Performed.{performs_unwritten}
-use Rattle.job_frame.specs.Heard.{HearsElse, no_cause}
+use Rattle.evroute_causes.specs.Heard.{HearsElse, no_cause}
 use Rattle.job_frame.proofs.FileWrites.{at_once_fails, is_written, leaves_one}
 use Rattle.job_frame.specs.declared.status.Status.TheVariants as status
-use Rattle.plan_writer.specs.RefusalText.{refusal_text}
-use Rattle.plan_writer.specs.declared.refusal.Refusal.TheVariants as refusal
+use Rattle.refusal_lines.specs.RefusalText.{refusal_text}
+use Rattle.refusal_lines.specs.declared.refusal.Refusal.TheVariants as refusal
 use Rattle.evroute_run.proofs.make.make.Goals as goal
 
 pub returns-in-Ok-write-clause-job : goal.returns-in-Ok-write-clause-job
@@ -27,6 +27,31 @@ returns-in-Ok-write-clause-job g c =
     (leaves_one (made_file job) before after
     (is_written (made_file job) before after c.as_str.result.now c.as_slice.result.now c.as_str.ensures.value (c.as_slice.ensures.value ∙ c.in-Ok.ensures.text)
     c.in-Ok-write.ensures.bytes c.in-Ok-write.ensures.others (c.in-Ok-write.ensures.stays (λ failed. ok_is_no_error failed))))
+
+pub returns-in-Ok-write-clause-heard : goal.returns-in-Ok-write-clause-heard
+returns-in-Ok-write-clause-heard g c =
+    let w = c.args.job.now in
+    let job : MakeJob = make_job_of w.seed w.customers w.stations (string_bytes w.outfile) in
+    let before = g.S.Shelf.state c.args.shelf.now in
+    let after = g.S.Shelf.state c.write.new.self in
+    let within : HasNoInstance job → ⊥ = λ none. ok_is_no_error ((c.in-Ok.ensures.range).1 none) in
+    c.put_summary.ensures.heard job refl (makes_network job c.in-Ok.made.instance c.in-Ok.made.text.items within c.in-Ok.ensures.text c.in-Ok.ensures.means) before after
+    (leaves_one (made_file job) before after
+    (is_written (made_file job) before after c.as_str.result.now c.as_slice.result.now c.as_str.ensures.value (c.as_slice.ensures.value ∙ c.in-Ok.ensures.text)
+    c.in-Ok-write.ensures.bytes c.in-Ok-write.ensures.others (c.in-Ok-write.ensures.stays (λ failed. ok_is_no_error failed))))
+    (g.L.CauseListener.heard c.args.listener.now)
+
+pub returns-in-Err-Range-clause-heard : goal.returns-in-Err-Range-clause-heard
+returns-in-Err-Range-clause-heard g c =
+    let w = c.args.job.now in
+    let job : MakeJob = make_job_of w.seed w.customers w.stations (string_bytes w.outfile) in
+    let shelf = g.S.Shelf.state c.args.shelf.now in
+    hears_finished (make_task job) c.refuse_job.result
+    (finds_alone (make_task job) shelf shelf status.Refused (refusal_text refusal.Maker) c.refuse_job.result
+    (make_refused job shelf.files (c.in-Err-Range.ensures.range.0 (search rules))) tt
+    (refused_job_is_heard (HearsElse no_cause) refusal.Maker c.refuse_job.result c.refuse_job.ensures.status c.refuse_job.ensures.text c.refuse_job.ensures.cause)
+    c.refuse_job.ensures.status c.refuse_job.ensures.text c.refuse_job.ensures.files c.refuse_job.ensures.memory (nothing_fails shelf) (nothing_falls shelf) refl)
+    c.finish.ensures.finishes c.finish.ensures.heard
 
 pub returns-in-Err-Failed-clause-job : goal.returns-in-Err-Failed-clause-job
 returns-in-Err-Failed-clause-job g c =

@@ -1,8 +1,8 @@
 use Rattle.std.proofs.Common.{List, ℕ, subst, sym}
 use Rattle.evroute_run.proofs.ProveFinds.{puts_refusal}
 use Rattle.evroute_run.specs.FixedAnswer.{IsTask}
-use Rattle.job_frame.proofs.Hearing.{refused_job_is_heard}
-use Rattle.job_frame.specs.Heard.{HearsElse, no_cause}
+use Rattle.evroute_causes.proofs.Hearing.{refused_job_is_heard}
+use Rattle.evroute_causes.specs.Heard.{HearsElse, no_cause}
 use Rattle.evroute_run.proofs.prove.prove_text.Goals as goal
 
 pub returns-in-Ok-prove_trip-clause-answers : goal.returns-in-Ok-prove_trip-clause-answers

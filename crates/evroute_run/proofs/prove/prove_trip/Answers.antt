@@ -1,8 +1,8 @@
 use Rattle.std.proofs.Common.{arith}
 use Rattle.evroute_run.proofs.ProveFinds.{puts_proved}
-use Rattle.job_frame.proofs.Hearing.{found_is_heard}
+use Rattle.evroute_causes.proofs.Hearing.{found_is_heard}
 use Rattle.job_frame.specs.Finds.{written_by}
-use Rattle.job_frame.specs.Heard.{HearsRefusals}
+use Rattle.evroute_causes.specs.Heard.{HearsRefusals}
 use Rattle.evroute_run.proofs.prove.prove_trip.Goals as goal
 
 pub returns-clause-answers : goal.returns-clause-answers

@@ -1,6 +1,8 @@
 use Rattle.std.proofs.Common.{List, ℕ, refl, subst}
 use Rattle.evview_run.proofs.ViewFinds.{refused_early}
 use Rattle.job_frame.proofs.BehindReads.{finds_behind, finds_refused, first_fails}
+use Rattle.evview_run.specs.declared.cause.Cause.TheVariants as cause
+use Rattle.job_frame.proofs.Hearing.{its_rule}
 use Rattle.job_frame.proofs.FileReads.{named_read, read_still}
 use Rattle.job_frame.specs.LimitedNetwork.{HasNetwork}
 use Rattle.view_words.specs.JobValue.{job_value}
@@ -25,5 +27,5 @@ returns-in-Err-Refused g c =
     let read = named_read _ _ _ _ _ c.as_str.ensures.value c.in-Ok.ensures.bytes in
     let line = refused_early (job_value c.args.job.now) before.files bytes c.as_slice.result.now c.in-Err-Refused.field-0 c.in-Err-Refused.refusal
     read c.as_slice.ensures.value c.in-Err-Refused.field-0-is c.in-Err-Refused.ensures.ended in
-    finds_refused line tt c.refuse_job.ensures.cause c.refuse_job.ensures.status c.refuse_job.ensures.text c.refuse_job.ensures.files c.refuse_job.ensures.memory
+    finds_refused line (its_rule cause.Refused c.in-Err-Refused.refusal) c.refuse_job.ensures.cause c.refuse_job.ensures.status c.refuse_job.ensures.text c.refuse_job.ensures.files c.refuse_job.ensures.memory
     c.in-Ok.ensures.stays c.in-Ok.ensures.falls c.in-Ok.ensures.files

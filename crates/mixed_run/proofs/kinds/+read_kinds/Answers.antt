@@ -33,11 +33,11 @@ returns-in-Err-clause-halt g t c =
     first_halts c.args.limit (string_bytes file) (names_of (take (length files - 1) (drop 1 files))) (names_of files) (g.S.Shelf.state c.args.shelf.now) (g.S.Shelf.state c.read_kind.new.shelf) c.in-Err.halt
     (names_in files file c.in-len1-up.len_at_least c.file-item.is) c.in-Err.ensures.halt
 
-pub returns-in_default-clause-falls : goal.returns-in_default-clause-falls
-returns-in_default-clause-falls = grind (arith, common_steps)
+pub returns-in-Err-push-clause-falls : goal.returns-in-Err-push-clause-falls
+returns-in-Err-push-clause-falls = grind (arith, common_steps)
 
-pub returns-in_default-clause-stays : goal.returns-in_default-clause-stays
-returns-in_default-clause-stays = grind (arith, common_steps)
+pub returns-in-Err-push-clause-stays : goal.returns-in-Err-push-clause-stays
+returns-in-Err-push-clause-stays = grind (arith, common_steps)
 
 pub returns-in-empty-clause-ok : goal.returns-in-empty-clause-ok
 returns-in-empty-clause-ok = grind (arith, common_steps)

@@ -1,0 +1,48 @@
+//! Why an answer isn't the one that was asked for, as a value.
+
+ghost use Rattle.evgap_run.specs.declared.cause.Cause.TheVariants as cause;
+
+use fleet_steps::PlanCause;
+use job_frame::JobCause;
+use near_proof::NearVerdict;
+use plan_check::PlanFault;
+use refusal_lines::Refusal;
+
+/// What the first line of an answer tells, where it isn't the one that was asked for.
+#[derive(Clone, Copy, Debug, Drop, PartialEq, Eq)]
+pub enum Cause {
+    /// The words name no job.
+    Words,
+    /// A rule of the files and the words is broken.
+    Refused(Refusal),
+    /// The plan of a fleet breaks a rule.
+    Plan(PlanFault),
+    /// The proof of a bound by near routes breaks a rule.
+    Near(NearVerdict),
+    /// No route of its own serves the customer at this node.
+    Alone(usize),
+    /// There is no plan of the fleet.
+    NoFleet,
+}
+
+impl JobCause for Cause {
+    ghost words = { cause.Words };
+
+    ghost refused = { λ refusal. cause.Refused refusal };
+
+    fn words() -> Self {
+        Cause::Words
+    }
+
+    fn refused(refusal: Refusal) -> Self {
+        Cause::Refused(refusal)
+    }
+}
+
+impl PlanCause for Cause {
+    ghost broken = { λ fault. cause.Plan fault };
+
+    fn broken(fault: PlanFault) -> Self {
+        Cause::Plan(fault)
+    }
+}

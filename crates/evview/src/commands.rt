@@ -1,0 +1,47 @@
+//! What `evview` takes, as its usage text has it.
+
+use plain_words::{Command, CommandOption, OptionValue};
+
+const LIMIT: CommandOption = CommandOption {
+    word: "--limit",
+    value: OptionValue::Number {
+        least: 0,
+        most: 1_000_000_000_000_000_000,
+    },
+    is_required: false,
+};
+
+const ROUTE: CommandOption = CommandOption {
+    word: "--route",
+    value: OptionValue::Number {
+        least: 0,
+        most: 1_000_000_000_000_000_000,
+    },
+    is_required: false,
+};
+
+const EXACT: CommandOption = CommandOption {
+    word: "--exact",
+    value: OptionValue::Nothing,
+    is_required: false,
+};
+
+const SVG: CommandOption = CommandOption {
+    word: "--svg",
+    value: OptionValue::Name,
+    is_required: false,
+};
+
+const JSON: CommandOption = CommandOption {
+    word: "--json",
+    value: OptionValue::Name,
+    is_required: false,
+};
+
+/// It has no commands but one without a word.
+pub(crate) const COMMANDS: &[Command] = &[Command {
+    word: "",
+    names: &["FILE", "PLAN"],
+    more: 0,
+    options: &[LIMIT, ROUTE, EXACT, SVG, JSON],
+}];

@@ -1,9 +1,0 @@
-use Rattle.std.proofs.Common.{arith}
-use Rattle.std.proofs.lemmas.Grind.{common_steps}
-use Rattle.plan_writer.proofs.check.push_walk.Goals as goal
-
-pub returns-clause-ok : goal.returns-clause-ok
-returns-clause-ok = grind (arith, common_steps)
-
-pub returns-clause-err : goal.returns-clause-err
-returns-clause-err = grind (arith, common_steps)

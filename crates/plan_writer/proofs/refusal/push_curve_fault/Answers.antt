@@ -1,6 +1,0 @@
-use Rattle.std.proofs.Common.{arith}
-use Rattle.std.proofs.lemmas.Grind.{common_steps}
-use Rattle.plan_writer.proofs.refusal.push_curve_fault.Goals as goal
-
-pub returns-clause-err : goal.returns-clause-err
-returns-clause-err = grind (arith, common_steps)

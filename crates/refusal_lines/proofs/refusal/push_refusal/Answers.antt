@@ -1,0 +1,15 @@
+use Rattle.std.proofs.Common.{arith}
+use Rattle.std.proofs.lemmas.Grind.{common_steps}
+use Rattle.refusal_lines.proofs.refusal.push_refusal.Goals as goal
+
+pub returns-in_err-push_cause-clause-err : goal.returns-in_err-push_cause-clause-err
+returns-in_err-push_cause-clause-err = grind (arith, common_steps)
+
+pub returns-clause-err : goal.returns-clause-err
+returns-clause-err = grind (arith, common_steps)
+
+pub returns-in_err-extend_from_slice-clause-err : goal.returns-in_err-extend_from_slice-clause-err
+returns-in_err-extend_from_slice-clause-err = grind (arith, common_steps)
+
+pub returns-clause-ok : goal.returns-clause-ok
+returns-clause-ok = grind (arith, common_steps)
