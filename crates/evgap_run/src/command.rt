@@ -100,7 +100,6 @@ impl<C: JobClock + Drop, W: JobWatcher + Drop> Program for Evgap<C, W> {
 
     ghost heard = { λ program. W.heard program.watcher };
 
-
     fn usage(&self) -> &'static str {
         usage()
     }

@@ -149,7 +149,6 @@ impl<W: JobWatcher + Drop> Program for Evroute<W> {
 
     ghost heard = { λ program. W.heard program.watcher };
 
-
     fn usage(&self) -> &'static str {
         usage()
     }

@@ -91,7 +91,6 @@ impl<L: CauseListener<Cause> + Drop> Program for Evview<L> {
 
     ghost heard = { λ program. L.heard program.listener };
 
-
     fn usage(&self) -> &'static str {
         usage()
     }

@@ -1,6 +1,6 @@
 //! Outputs, over the calls of the system and in memory.
 
-use ev_outside::{MemorySink, OutSink, Sink, SinkFault, SureSink};
+use ev_outside::{OutSink, Sink, SinkFault, SureSink};
 use std::cell::Cell;
 use std::fmt::Display;
 use std::io::{self, Error, ErrorKind, Print};
@@ -96,22 +96,6 @@ fn the_output_takes_what_is_put(rt: HostRuntime) {
     put_into(&mut out, b"the output takes this line\n").expect(&rt, "a put");
     put_into(&mut out, b"").expect(&rt, "a put");
     assert!(rt; out.stream().last_failure().is_none());
-}
-
-#[test]
-fn a_failing_sink_in_memory_keeps_the_first_half(rt: HostRuntime) {
-    let alloc = rt.alloc();
-    let fails = [1, 2].to_vec(alloc).expect(&rt, "memory");
-    let mut sink = MemorySink::new(alloc, fails);
-    for &(text, wanted) in &[
-        ("whole;", Ok(())),
-        ("12345", Err(SinkFault::Failed)),
-        ("x", Err(SinkFault::Failed)),
-        (";end", Ok(())),
-    ] {
-        assert_eq!(rt; put_into(&mut sink, text.as_bytes()), wanted, "{text}");
-    }
-    assert_eq!(rt; sink.bytes(), b"whole;12;end".as_slice());
 }
 
 #[test]

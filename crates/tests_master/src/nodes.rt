@@ -1,131 +1,82 @@
-//! Worked instances: the bound of a node without decided pairs, and its estimate.
+//! Worked instances: the bound of a node and its estimate.
 
-ghost use Rattle.std.specs.Prelude.{◌≤◌, IfSome, length};
-ghost use Rattle.instance_reader.specs.Instance.{customer_nodes, most_customers};
-ghost use Rattle.route_pool.specs.Pool.{IsPool};
+ghost use Rattle.std.specs.Prelude.{◌≡◌, ◌≤◌, IfSome};
 
-use crate::instances::{instance, pairs_without};
+use crate::instances::{forbidding, instance, pairs_without};
 use column_pool::{NodeBound, bound_node, estimate_node};
 use customer_sets::Pairs;
-use instance_reader::Instance;
-use route_pool::{ColumnPool, put_own_route};
+use route_pool::ColumnPool;
 use std::alloc::Global;
-use worked_instances::{ONE_STATION, THREE_CUSTOMERS, TWO_CUSTOMERS};
+use worked_instances::{THREE_CUSTOMERS, TWO_CUSTOMERS};
 
-/// What a bound by a table tells.
-#[derive(Clone, Copy, Debug, PartialEq, Eq)]
-pub(crate) enum Told {
-    /// The price sum, the weight, the number that the shares are over, and how many shares there
-    /// are.
-    Exact(i128, u64, u64, usize),
-    Empty,
-    /// How many columns the basis has, and the sum of the rising prices.
-    Wide(usize, i128),
-}
-
-/// A pool with the route of the first customer alone.
-fn first_route(alloc: Global, inst: &Instance) -> Option<ColumnPool>
-    ensures { IfSome result (IsPool inst.now) }
-{
-    let mut pool = ColumnPool::new(alloc);
-    for node in inst.customers() {
-        put_own_route(alloc, inst, &mut pool, *node).ok()?;
-        return Some(pool);
-    }
-    Some(pool)
-}
-
-/// The sum of the prices.
-fn price_sum(prices: &[i128]) -> Option<i128> {
-    let mut sum: i128 = 0;
-    for price in prices {
-        sum = sum.checked_add(*price)?;
-    }
-    Some(sum)
-}
-
-/// What a bound tells.
-fn summary_of(bound: NodeBound) -> Option<Told> {
-    match bound {
+/// What a bound tells: the weight and the price sum, and how many routes have shares.
+fn told(bound: NodeBound) -> Option<(u64, i128, usize)> {
+    let (section, routes) = match bound {
         NodeBound::Exact {
             section,
-            over,
             shares,
-        } => {
-            let sum = price_sum(section.prices.as_slice())?;
-            Some(Told::Exact(sum, section.weight, over, shares.len()))
-        }
-        NodeBound::Empty { section: _ } => Some(Told::Empty),
-        NodeBound::Wide {
-            columns: _,
-            basis,
-            section,
-        } => {
-            let sum = price_sum(section.prices.as_slice())?;
-            Some(Told::Wide(basis.len(), sum))
-        }
+            ..
+        } => (section, shares.len()),
+        NodeBound::Empty { section } => (section, 0),
+        NodeBound::Wide { .. } => return None,
+    };
+    let mut sum = 0i128;
+    for price in section.prices.as_slice() {
+        sum = sum.saturating_add(*price);
     }
+    Some((section.weight, sum, routes))
 }
 
-/// What the bound without a pair tells, where the pool has the route of the first customer.
-pub(crate) fn bounded(alloc: Global, text: &str, limit: u64) -> Option<Told> {
+/// The bound without a pair, and the estimate where no customer follows another, by the routes that
+/// the bound needs.
+fn bounded(alloc: Global, text: &str, limit: u64) -> Option<((u64, i128, usize), Option<u128>)> {
     let inst = instance(alloc, text, limit)?;
-    let pairs = Pairs::new(inst.customers().len());
-    let mut pool = first_route(alloc, &inst)?;
-    let bound = bound_node(alloc, &inst, &pairs, &mut pool).ok()?;
-    summary_of(bound)
-}
-
-#[test]
-fn bounds_without_pairs_are_linear_optima(rt: HostRuntime) {
-    let alloc = rt.alloc();
-    for &(text, limit, answer) in &[
-        (THREE_CUSTOMERS, 11, Told::Exact(33, 2, 2, 3)),
-        (TWO_CUSTOMERS, 7, Told::Empty),
-        (TWO_CUSTOMERS, 12, Told::Exact(16, 1, 1, 2)),
-        (TWO_CUSTOMERS, 13, Told::Exact(13, 1, 1, 1)),
-        (ONE_STATION, 43, Told::Exact(43, 1, 1, 1)),
-    ] {
-        assert_eq!(rt; bounded(alloc, text, limit), Some(answer));
-    }
-}
-
-/// The routes that the bound of the root needs.
-fn priced_routes(alloc: Global, inst: &Instance) -> Option<ColumnPool>
-    requires { length (customer_nodes inst.now) ≤ most_customers }
-    ensures { IfSome result (IsPool inst.now) }
-{
     let mut pool = ColumnPool::new(alloc);
     let pairs = Pairs::new(inst.customers().len());
-    bound_node(alloc, inst, &pairs, &mut pool).ok()?;
-    Some(pool)
-}
-
-/// The estimate of the node where these pairs are forbidden, by the routes that the bound of the
-/// root needs.
-fn estimated(
-    alloc: Global,
-    text: &str,
-    limit: u64,
-    forbidden: &[(usize, usize)],
-) -> Option<Option<u128>> {
-    let inst = instance(alloc, text, limit)?;
-    let pool = priced_routes(alloc, &inst)?;
-    let pairs = pairs_without(inst.customers().len(), forbidden)?;
-    estimate_node(alloc, &inst, &pairs, &pool).ok()
+    let bound = bound_node(alloc, &inst, &pairs, &mut pool).ok()?;
+    let apart = pairs_without(inst.customers().len(), &[(1, 2), (2, 1)])?;
+    let estimate = estimate_node(alloc, &inst, &apart, &pool).ok()?;
+    Some((told(bound)?, estimate))
 }
 
 #[test]
-fn estimates_are_optima_over_the_routes_of_the_pool(rt: HostRuntime) {
+fn bounds_are_linear_optima_and_estimates_are_those_of_the_pool(rt: HostRuntime) {
     let alloc = rt.alloc();
-    let cases: &[(&str, u64, &[(usize, usize)], Option<u128>)] = &[
-        (THREE_CUSTOMERS, 11, &[], Some(17)),
-        (THREE_CUSTOMERS, 11, &[(1, 2), (2, 1)], Some(19)),
-        (TWO_CUSTOMERS, 13, &[], Some(13)),
-        (TWO_CUSTOMERS, 13, &[(1, 2), (2, 1)], Some(16)),
-        (TWO_CUSTOMERS, 7, &[], None),
-    ];
-    for &(text, limit, forbidden, answer) in cases {
-        assert_eq!(rt; estimated(alloc, text, limit, forbidden), Some(answer));
+    for &(text, limit, bound, estimate) in &[
+        (THREE_CUSTOMERS, 11, (2, 33, 3), Some(19)),
+        (TWO_CUSTOMERS, 13, (1, 13, 1), Some(16)),
+        (TWO_CUSTOMERS, 7, (0, 2, 0), None),
+    ] {
+        assert_eq!(rt; bounded(alloc, text, limit), Some((bound, estimate)));
     }
+}
+
+/// The pairs of so many customers, of whom 1 goes to 2 and 2 to 3, where they are decided.
+fn chained(customers: usize) -> Option<Pairs>
+    requires { customers ≤ 128 }
+    ensures { IfSome result (λ pairs. pairs.customers ≡ customers) }
+{
+    let mut pairs = Pairs::new(customers);
+    if customers != 3 {
+        return None;
+    }
+    pairs.require(1, 2);
+    pairs.require(2, 3);
+    let pairs = forbidding(pairs, &[(3, 1)])?;
+    if pairs.decided() { Some(pairs) } else { None }
+}
+
+/// The bound of three customers in a chain.
+fn bound_of_chain(alloc: Global, limit: u64) -> Option<(u64, i128, usize)> {
+    let inst = instance(alloc, THREE_CUSTOMERS, limit)?;
+    let pairs = chained(inst.customers().len())?;
+    let mut pool = ColumnPool::new(alloc);
+    told(bound_node(alloc, &inst, &pairs, &mut pool).ok()?)
+}
+
+#[test]
+fn the_bound_of_a_chain_is_the_cost_of_its_plan(rt: HostRuntime) {
+    let alloc = rt.alloc();
+    assert_eq!(rt; bound_of_chain(alloc, 14), Some((1, 14, 1)));
+    assert_eq!(rt; bound_of_chain(alloc, 13), Some((0, 1, 0)));
 }

@@ -1,74 +1,80 @@
-//! Pivots of a table.
-
-ghost use Rattle.std.specs.Prelude.{◌≤◌};
+//! A table of three customers, with a column for each two of them: a pivot, its optimum, and a basis
+//! of it that isn't too wide.
 
 use crate::sets::set_of;
-use master_table::{Caps, Table, TableFault};
+use bound_certificate::entries_of;
+use certificate_parts::BasisEntry;
+use master_simplex::{ListedRoute, Lp, is_too_wide, solve};
+use master_table::{Caps, Table};
 use std::alloc::Global;
 use std::process::Abort;
 
-/// Three customers, and a column for each two of them, with a cap of `body` for the body equations.
-fn each_two(rt: &impl Abort, alloc: Global, body: u64) -> Table
-    requires some { 1 ≤ body }
-    requires few { body ≤ 2 }
-{
-    let mut table = Table::new(alloc, 3, Caps { body, cost: 100 }).expect(rt, "memory");
-    for &bits in &[3, 6, 5] {
+/// The customers of each column, by their bits.
+const PAIRS: [u64; 3] = [3, 6, 5];
+
+/// The table, with the first column in the basis.
+fn each_two(rt: &impl Abort, alloc: Global) -> Table {
+    let caps = Caps {
+        body: 1 << 40,
+        cost: 1 << 84,
+    };
+    let mut table = Table::new(alloc, 3, caps).expect(rt, "memory");
+    for &bits in &PAIRS {
         table.add_column(set_of(bits), 11).expect(rt, "memory");
     }
+    assert!(rt; table.rows() == 3 && table.columns() == 6);
+    assert!(rt; table.entry(0, 3) != 0);
+    assert!(rt; table.pivot(0, 3).is_ok());
     table
 }
 
-/// The pivot, where there is one.
-fn pivot(rt: &impl Abort, table: &mut Table, row: usize, col: usize) -> Result<(), TableFault> {
-    assert!(rt; row < table.rows() && col < table.columns());
-    assert!(rt; table.entry(row, col) != 0);
-    table.pivot(row, col)
-}
-
-/// The entry, where there is one.
-fn entry(rt: &impl Abort, table: &Table, row: usize, col: usize) -> i128 {
-    assert!(rt; row < table.rows() + 2 && col <= table.columns());
-    table.entry(row, col)
+/// What the optimum says: the weight, the price sum, what the shares are over, and how many there
+/// are.
+fn said(lp: &Lp) -> (u64, i128, u64, usize) {
+    let mut sum: i128 = 0;
+    for price in &lp.prices {
+        sum = sum.saturating_add(*price);
+    }
+    (lp.weight, sum, lp.over, lp.shares.len())
 }
 
 #[test]
-fn a_coefficient_of_two_is_past_a_cap_of_one(rt: HostRuntime) {
-    let mut table = each_two(&rt, rt.alloc(), 1);
-    assert_eq!(rt; pivot(&rt, &mut table, 0, 3), Ok(()));
-    assert_eq!(rt;
-        pivot(&rt, &mut table, 1, 4),
-        Err(TableFault::Wide { row: 2, col: 5 })
-    );
-    assert_eq!(rt; entry(&rt, &table, 2, 5), 1);
-}
-
-/// The row has these entries, or the test fails.
-fn assert_row(rt: &impl Abort, table: &Table, i: usize, row: &[i128]) {
-    for (j, x) in row.iter().enumerate() {
-        assert_eq!(rt; entry(rt, table, i, j), *x);
+fn three_pairs_cover_by_halves(rt: HostRuntime) {
+    let alloc = rt.alloc();
+    let mut table = each_two(&rt, alloc);
+    match solve(alloc, &mut table) {
+        Ok(lp) => assert_eq!(rt; said(&lp), (2, 33, 2, 3)),
+        Err(_) => panic!(rt; "no answer"),
     }
 }
 
-/// The rows, where the columns of customers 0 and 1 and of customers 1 and 2 are in the basis.
-const ROWS: [[i128; 7]; 5] = [
-    [1, 0, 0, 1, 0, 1, 1],
-    [-1, 1, 0, 0, 1, -1, 0],
-    [1, -1, 1, 0, 0, 2, 1],
-    [0, -11, 0, 0, 0, 11, -11],
-    [1, -1, 1, 0, 0, 2, 1],
-];
+/// Whether the basis of all columns is too wide, and how many entries are listed.
+fn listed(alloc: Global) -> Option<(bool, usize)> {
+    let routes = [
+        ListedRoute {
+            set: set_of(3),
+            time: 11,
+        },
+        ListedRoute {
+            set: set_of(6),
+            time: 11,
+        },
+        ListedRoute {
+            set: set_of(5),
+            time: 11,
+        },
+    ];
+    let is_wide = is_too_wide(alloc, 3, &routes, &[3, 4, 5]).ok()?;
+    let entries = entries_of(alloc, 3, &[3, 1, 5]).ok()?;
+    let is_helper = matches!(entries.as_slice().get(1), Some(BasisEntry::Helper(1)));
+    if is_helper {
+        Some((is_wide, entries.len()))
+    } else {
+        None
+    }
+}
 
 #[test]
-fn rows_are_brought_to_the_basis(rt: HostRuntime) {
-    let mut table = each_two(&rt, rt.alloc(), 2);
-    assert_eq!(rt; pivot(&rt, &mut table, 0, 3), Ok(()));
-    assert_eq!(rt; pivot(&rt, &mut table, 1, 4), Ok(()));
-    for (i, row) in ROWS.iter().enumerate() {
-        assert_row(&rt, &table, i, row);
-    }
-    assert_eq!(rt; table.weight(), 1);
-    assert_eq!(rt; table.helper_weight(), 1);
-    assert_eq!(rt; table.caps(), Caps { body: 2, cost: 100 });
-    assert!(rt; table.rows() == 3 && table.basic(0) == 3 && table.basic(2) == 2);
+fn small_bases_are_not_too_wide(rt: HostRuntime) {
+    assert_eq!(rt; listed(rt.alloc()), Some((false, 3)));
 }

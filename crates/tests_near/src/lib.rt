@@ -1,26 +1,13 @@
-//! Tests of bounds by near routes: worked instances, edges, and drawn instances beside a plain
-//! enumeration of all near routes; and of the judge of their proofs beside a look at each level of
-//! each label. They stand here so that what they run isn't proved once more with them.
+//! Tests of bounds by near routes on worked instances: by rising prices, also from start prices, and
+//! by prices of a linear optimum; and of prices and amounts that cover, on problems whose optima are
+//! known. They stand here so that what they run isn't proved once more with them. Drawn instances are
+//! compared by `tools/drawn_runs`, changed proofs by `judge/compare.py`.
 #![tactic(auto)]
 
 #[cfg(test)]
-mod changes;
+mod covers;
 #[cfg(test)]
-mod drawn;
-#[cfg(test)]
-mod edges;
-#[cfg(test)]
-mod enumerated;
-#[cfg(test)]
-mod judging;
-#[cfg(test)]
-mod levels;
-#[cfg(test)]
-mod orders;
-#[cfg(test)]
-mod starts;
-#[cfg(test)]
-mod tightness;
+mod found;
 #[cfg(test)]
 mod told;
 #[cfg(test)]

@@ -13,13 +13,13 @@ use ng_pricing::{
 };
 use std::alloc::{AllocError, Global};
 
-/// What a bound says.
-#[derive(Drop)]
-pub(crate) struct Told {
-    /// The bound, scaled.
-    pub(crate) bound: Option<u128>,
-    /// The price of each customer, by number.
-    pub(crate) prices: Vec<u64>,
+/// What a bound says: the bound, scaled, and the price of each customer, by number.
+pub(crate) type Told = (Option<u128>, Vec<u64>);
+
+/// The instance of a text under a limit.
+pub(crate) fn instance(alloc: Global, text: &str, limit: u64) -> Option<Instance> {
+    let inst = read_instance(alloc, text.as_bytes()).ok()?;
+    inst.with_limit(limit).ok()
 }
 
 /// What the bound of an instance says, with so many near customers; `None` where memory is refused,
@@ -32,7 +32,7 @@ pub(crate) fn judged(alloc: Global, inst: &Instance, near: usize) -> Option<Told
     told_by(alloc, inst, proof)
 }
 
-/// The same of the bound from start prices, by the near sets of so many near customers.
+/// The same of the bound from start prices.
 pub(crate) fn judged_from(
     alloc: Global,
     inst: &Instance,
@@ -84,41 +84,14 @@ fn told_by(alloc: Global, inst: &Instance, proof: NearProof) -> Option<Told>
     requires few { length (customer_nodes inst.now) ≤ most_customers }
     requires fits { NearFits inst.now proof }
 {
-    if check_near(alloc, inst, &proof).ok()? != NearVerdict::Accepted {
-        return None;
-    }
-    if !is_read_back(alloc, inst, &proof)? {
-        return None;
-    }
-    Some(Told {
-        bound: proof.bound,
-        prices: proof.prices.into_vec(),
-    })
-}
-
-/// What the bound of the instance of a text says.
-pub(crate) fn judged_text(alloc: Global, text: &str, near: usize) -> Option<Told> {
-    let inst = read_instance(alloc, text.as_bytes()).ok()?;
-    judged(alloc, &inst, near)
-}
-
-/// What the bound of the instance of a text says under a limit.
-pub(crate) fn judged_within(alloc: Global, text: &str, limit: u64, near: usize) -> Option<Told> {
-    let inst = read_instance(alloc, text.as_bytes()).ok()?;
-    let inst = inst.with_limit(limit).ok()?;
-    judged(alloc, &inst, near)
-}
-
-/// Whether what is read of the text of a proof has the same text, and the same bound.
-fn is_read_back(alloc: Global, inst: &Instance, proof: &NearProof) -> Option<bool>
-    requires { length (customer_nodes inst.now) ≤ most_customers }
-{
     let mut text = Vec::new(alloc);
-    push_near(alloc, &mut text, inst, proof).ok()?;
-    let Ok(read) = read_near(alloc, inst, text.as_slice()) else {
-        return Some(false);
-    };
-    let mut again = Vec::new(alloc);
-    push_near(alloc, &mut again, inst, &read).ok()?;
-    Some(read.bound == proof.bound && again.as_slice() == text.as_slice())
+    push_near(alloc, &mut text, inst, &proof).ok()?;
+    let read = read_near(alloc, inst, text.as_slice()).ok()?;
+    if check_near(alloc, inst, &read).ok()? != NearVerdict::Accepted {
+        return None;
+    }
+    if read.bound != proof.bound {
+        return None;
+    }
+    Some((proof.bound, proof.prices.into_vec()))
 }

@@ -1,5 +1,8 @@
 //! The answers of both solvers.
 
+ghost use Rattle.std.specs.Prelude.{◌≤◌, IfSome};
+ghost use Rattle.ev_model.specs.Route.{IsRoute};
+
 use frvcp_labels::solve_route;
 use instance_reader::{Instance, read_instance};
 use level_table::solve_levels;
@@ -15,13 +18,21 @@ pub(crate) fn instance_of(alloc: Global, text: &str, limit: Option<u64>) -> Opti
     }
 }
 
+/// The route of a word, where a vehicle may start on it from this level.
+pub(crate) fn route_of(alloc: Global, inst: &Instance, word: &str, start: u64) -> Option<Vec<usize>>
+    ensures route { IfSome result (λ route. IsRoute inst.now route.items) }
+    ensures start { IfSome result (λ route. start ≤ inst.now.capacity) }
+{
+    if start > inst.max_q() {
+        return None;
+    }
+    read_route(alloc, word, inst).ok()
+}
+
 /// How long a plan takes, scaled.
 fn time(inst: &Instance, start: u64, plan: Option<RoutePlan>) -> Option<u64> {
     let plan = plan?;
-    match walk(inst, start, plan.stops.as_slice()) {
-        Ok(walk) => Some(walk.time),
-        Err(_) => None,
-    }
+    Some(walk(inst, start, plan.stops.as_slice()).ok()?.time)
 }
 
 /// How long the plans by the table and by labels take, each `None` where there is none.
@@ -31,12 +42,7 @@ pub(crate) fn both_times(
     word: &str,
     start: u64,
 ) -> Option<(Option<u64>, Option<u64>)> {
-    let Ok(route) = read_route(alloc, word, inst) else {
-        return None;
-    };
-    if start > inst.max_q() {
-        return None;
-    }
+    let route = route_of(alloc, inst, word, start)?;
     let by_table = solve_levels(alloc, inst, route.as_slice(), start).ok()?;
     let by_labels = solve_route(alloc, inst, route.as_slice(), start).ok()?;
     Some((time(inst, start, by_table), time(inst, start, by_labels)))

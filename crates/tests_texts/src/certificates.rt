@@ -1,91 +1,46 @@
-//! Which certificates fit an instance.
+//! Certificates are read, judged and written.
 
-use bound_certificate::{Certificate, TreeLine, read_certificate};
-use ev_list::Listed;
+use crate::asserting::assert_text;
+use bound_certificate::{push_certificate, read_certificate};
+use certificate_check::{Verdict, check_certificate};
 use instance_reader::{Instance, read_instance};
-use std::alloc::{AllocError, Global};
-use worked_instances::{ONE_STATION, TWO_CUSTOMERS};
+use std::alloc::Global;
+use worked_instances::ONE_STATION;
 
 /// A certificate of the instance with one station.
-pub(crate) const FIRST: &str =
+const ACCEPTED: &str =
     "evroute certificate 1\nbound 43\nroot exact 1 1\nshare 1 0 v2+1 1 0\nsections 1\nsection 1 0 5\nprices 43\nlabel 0 0 - 10:0\nlabel 1 1 1 4:20\nlabel 0 2 - 7:16 8:17 10:29\nlabel 1 2 1 2:26 8:32 10:44\nlabel 1 1 1 5:22 6:23 8:35\nleaf 0\n";
 
-/// A certificate of the instance with a reserve.
-pub(crate) const SECOND: &str =
-    "evroute certificate 2\nlevels 1 0\nbound 46\nroot exact 1 1\nshare 1 0 1 v2+4 0\nsections 1\nsection 1 0 5\nprices 46\nlabel 0 0 - 10:0\nlabel 1 1 1 4:20\nlabel 0 2 - 7:16 8:17 10:29\nlabel 1 2 1 2:26 8:32 10:44\nlabel 1 1 1 5:22 6:23 8:35\nleaf 0\n";
+/// The same with a root that lists a basis, which isn't too wide.
+const NARROW: &str =
+    "evroute certificate 1\nbound 43\nroot wide 1\ncolumn 0 v2+1 1 0\nbasis 0\nsections 1\nsection 1 0 5\nprices 43\nlabel 0 0 - 10:0\nlabel 1 1 1 4:20\nlabel 0 2 - 7:16 8:17 10:29\nlabel 1 2 1 2:26 8:32 10:44\nlabel 1 1 1 5:22 6:23 8:35\nleaf 0\n";
 
-/// A certificate of two sections under a split, with a wide root, on the instance with two
-/// customers.
-pub(crate) const WIDE: &str =
-    "evroute certificate 1\nbound none\nroot wide 2\ncolumn 0 1\ncolumn 0\nbasis h2 0\nsections 2\nsection 0 0 0\nprices 0 1\nsection 3 2 1\nprices -5 0\npair 0 2\npair 1 0\nlabel 2 2 1,2 3:4\nsplit 1 2\nleaf 0\nleaf 1\n";
-
-const SPLIT: TreeLine = TreeLine::Split { i: 1, j: 2 };
-
-const ALIKE: TreeLine = TreeLine::Split { i: 2, j: 2 };
-
-const FIRST_LEAF: TreeLine = TreeLine::Leaf { section: 0 };
-
-const SECOND_LEAF: TreeLine = TreeLine::Leaf { section: 1 };
-
-/// A leaf that names a section that isn't there.
-const STRAY_LEAF: TreeLine = TreeLine::Leaf { section: 2 };
-
-/// The certificate of a text, where there are at most 128 customers.
-fn certificate_of(alloc: Global, inst: &Instance, text: &str) -> Option<Certificate> {
+/// The text of what is read of a certificate.
+fn again(alloc: Global, inst: &Instance, text: &str) -> Option<Vec<u8>> {
     if inst.customers().len() > 128 {
         return None;
     }
-    read_certificate(alloc, inst, text.as_bytes()).ok()
+    let certificate = read_certificate(alloc, inst, text.as_bytes()).ok()?;
+    let mut out = Vec::new(alloc);
+    push_certificate(alloc, &mut out, inst, &certificate).ok()?;
+    Some(out)
 }
 
-fn tree_of(alloc: Global, lines: &[TreeLine]) -> Result<Listed<TreeLine>, AllocError> {
-    Ok(Listed::from_vec(lines.to_vec(alloc)?))
-}
-
-/// Whether the certificate fits; `None` where there are too many customers.
-fn fits(inst: &Instance, certificate: &Certificate) -> Option<bool> {
+/// What the judge says of a certificate.
+fn judged(alloc: Global, inst: &Instance, text: &str) -> Option<Verdict> {
     if inst.customers().len() > 128 {
         return None;
     }
-    Some(certificate.fits(inst))
+    let certificate = read_certificate(alloc, inst, text.as_bytes()).ok()?;
+    check_certificate(alloc, inst, &certificate).ok()
 }
 
 #[test]
-fn what_is_out_of_range_does_not_fit(rt: HostRuntime) {
+fn certificates_are_read_judged_and_written(rt: HostRuntime) {
     let alloc = rt.alloc();
-    let inst = read_instance(alloc, TWO_CUSTOMERS.as_bytes()).expect(&rt, "an instance");
-    let mut certificate = certificate_of(alloc, &inst, WIDE).expect(&rt, "a certificate");
-    assert_eq!(rt; fits(&inst, &certificate), Some(true));
-    certificate.bound = Some(1 << 96);
-    assert_eq!(rt; fits(&inst, &certificate), Some(true));
-    certificate.bound = Some((1 << 96) + 1);
-    assert_eq!(rt; fits(&inst, &certificate), Some(false));
-}
-
-#[test]
-fn a_certificate_fits_by_its_tree(rt: HostRuntime) {
-    let alloc = rt.alloc();
-    let inst = read_instance(alloc, TWO_CUSTOMERS.as_bytes()).expect(&rt, "an instance");
-    let mut certificate = certificate_of(alloc, &inst, WIDE).expect(&rt, "a certificate");
-    let cases: &[(&[TreeLine], bool)] = &[
-        (&[SPLIT, FIRST_LEAF], false),
-        (&[FIRST_LEAF, SECOND_LEAF], false),
-        (&[ALIKE, FIRST_LEAF, SECOND_LEAF], false),
-        (&[STRAY_LEAF], false),
-        (&[SECOND_LEAF], true),
-    ];
-    for &(lines, wanted) in cases {
-        certificate.tree = tree_of(alloc, lines).expect(&rt, "memory");
-        assert_eq!(rt; fits(&inst, &certificate), Some(wanted));
+    let inst = read_instance(alloc, ONE_STATION.as_bytes()).expect(&rt, "an instance");
+    for &(text, verdict) in &[(ACCEPTED, Verdict::Accepted), (NARROW, Verdict::Root)] {
+        assert_text(&rt, again(alloc, &inst, text), text);
+        assert!(rt; judged(alloc, &inst, text) == Some(verdict));
     }
-}
-
-#[test]
-fn a_certificate_fits_its_own_instance(rt: HostRuntime) {
-    let alloc = rt.alloc();
-    let inst = read_instance(alloc, TWO_CUSTOMERS.as_bytes()).expect(&rt, "an instance");
-    let other = read_instance(alloc, ONE_STATION.as_bytes()).expect(&rt, "an instance");
-    let certificate = certificate_of(alloc, &inst, WIDE).expect(&rt, "a certificate");
-    assert_eq!(rt; fits(&inst, &certificate), Some(true));
-    assert_eq!(rt; fits(&other, &certificate), Some(false));
 }

@@ -1,19 +1,14 @@
-//! Tests of the texts that are read and written: instances, certificates, and what is put. They
-//! stand here so that the crates that they run aren't proved once more with them.
+//! Tests of the texts that are read and written: each call that takes memory once. They stand here so
+//! that the crates that they run aren't proved once more with them. What each text is, and where one
+//! that is none breaks off, is compared by `tools/text_runs`.
 #![tactic(auto)]
 
 #[cfg(test)]
-mod certificate_texts;
+mod asserting;
 #[cfg(test)]
 mod certificates;
 #[cfg(test)]
-mod instances;
-#[cfg(test)]
-mod judged;
-#[cfg(test)]
-mod near_texts;
-#[cfg(test)]
-mod proof_texts;
+mod proofs;
 #[cfg(test)]
 mod reports;
 #[cfg(test)]

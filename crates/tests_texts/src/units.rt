@@ -1,5 +1,6 @@
 //! That each key of an instance with a unit is one under which numbers become whole.
 
+use crate::asserting::assert_text;
 use decimal_import::convert;
 use instance_reader::{Key, Part};
 use std::alloc::{AllocError, Global};
@@ -32,9 +33,9 @@ fn object(alloc: Global, name: &str, number: &str) -> Result<String, AllocError>
 /// A number under a name becomes this one, or the test fails.
 fn assert_becomes(rt: &impl Abort, alloc: Global, name: &str, wanted: &str) {
     let text = object(alloc, name, "1.5").expect(rt, "memory");
-    let whole = convert(alloc, text.as_bytes(), 1, 2).expect(rt, "a text");
     let wanted = object(alloc, name, wanted).expect(rt, "memory");
-    assert_eq!(rt; whole.as_slice(), wanted.as_bytes());
+    let whole = convert(alloc, text.as_bytes(), 1, 2).ok();
+    assert_text(rt, whole, wanted.as_str());
 }
 
 #[test]
