@@ -5,7 +5,7 @@ use Rattle.fleet_steps.proofs.PlanFiles.{refused_holds_not, same_held, same_netw
 use Rattle.fleet_steps.proofs.Plans.{valid_breaks_none}
 use Rattle.fleet_steps.specs.PlanFile.{BreaksFirst, HoldsPlan}
 use Rattle.job_frame.proofs.OneStatus.{ExcludeEachOther, IsPlain, lawful, nothing_excludes}
-use Rattle.job_frame.proofs.Performed.{IsLawful}
+use Rattle.job_frame.specs.Lawful.{IsLawful}
 use Rattle.job_frame.specs.Task.{Outcome}
 use Rattle.job_frame.specs.Writes.{Written}
 use Rattle.job_frame.specs.declared.status.Status.{Status}
