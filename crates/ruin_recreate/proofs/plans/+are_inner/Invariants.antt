@@ -1,0 +1,5 @@
+use Rattle.std.proofs.Common.{length}
+use Rattle.ruin_recreate.proofs.plans.+are_inner.Given as goal
+
+abbrev pub decreases-are_inner : goal.decreases-are_inner
+decreases-are_inner l = length l.inner.now
