@@ -1,7 +1,7 @@
 //! Orders of customers are charged: the least time of a route, as far as it is below a bar.
 //!
-//! First by a bound, then by each single station in closed form, and then by labels, place by place:
-//! what is known of the levels and times with which a vehicle leaves a customer. Nothing is
+//! First by a bound, then by each single station in closed form, and then by labels, place by
+//! place: what is known of the levels and times with which a vehicle leaves a customer. Nothing is
 //! promised of what is found.
 
 use crate::gaps::Gaps;
@@ -36,7 +36,8 @@ struct Plugged {
     number: usize,
 }
 
-/// Two places, one behind the other, and what is asked of a vehicle that goes from one to the other.
+/// Two places, one behind the other, and what is asked of a vehicle that goes from the first to the
+/// second.
 #[derive(Clone, Copy)]
 struct Gap {
     from: usize,

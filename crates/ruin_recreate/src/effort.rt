@@ -19,7 +19,8 @@ const WORK_A_CUSTOMER: u64 = 200_000;
 const MOST_DOUBLINGS: u32 = 30;
 
 impl Effort {
-    /// The effort for so many customers, doubled so often: each doubling makes twice as many cycles.
+    /// The effort for so many customers, doubled so often: each doubling makes twice as many
+    /// cycles.
     pub fn of(customers: usize, doublings: u32) -> Effort {
         let mut cycles: u64 = 1;
         for _ in 0..doublings.min(MOST_DOUBLINGS) {
