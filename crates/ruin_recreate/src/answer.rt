@@ -113,8 +113,11 @@ fn cheaper_plan(
     requires { IsFleetPlan inst.now 1 (stops_of from.now.routes) }
     ensures { IfOk result (IsNoDearer inst.now from.now.routes) }
 {
-    let Ok(before) = check_large(alloc, inst, from) else {
-        return Err(AllocError);
+    let before = match check_large(alloc, inst, from) {
+        Ok(before) => before,
+        Err(LargeFault::Memory) => return Err(AllocError),
+        // A fleet plan breaks no rule; it would stay as it is.
+        Err(LargeFault::Plan { fault: _ }) => return improve_within(alloc, inst, from, MOVES_WORK),
     };
     if let Some(plan) = found {
         match check_large(alloc, inst, &plan) {
