@@ -36,7 +36,7 @@ fn run_on(rt: &HostRuntime, words: io::Result<Vec<String>>) -> ExitCode {
     let mut out = HeardSink::over(OutSink::new(rt));
     let mut people = PlainDiagnostics::new(alloc, rt, "evroute");
     let mut program = Evroute {
-        watcher: ToldProgress::new(alloc, rt, wants_progress(rt)),
+        watcher: ToldProgress::new(alloc, rt, rt, wants_progress(rt)),
     };
     let end = run_to_end(
         alloc,

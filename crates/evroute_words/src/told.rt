@@ -16,9 +16,10 @@ use std::rt::{Clock, Files};
 /// its beginning, and none within a second of another. Nothing is told, and nothing else changes,
 /// where the clock or standard error fails.
 #[derive(Drop)]
-pub struct ToldProgress<'a, R: Clock + Eprint + Files> {
+pub struct ToldProgress<'a, R: Clock + Eprint, F: Files> {
     alloc: Global,
     rt: &'a R,
+    files: &'a F,
     /// When the next line is due, where any is told.
     pace: Option<Pace>,
     denominator: u64,
@@ -26,9 +27,10 @@ pub struct ToldProgress<'a, R: Clock + Eprint + Files> {
     cause: Option<Cause>,
 }
 
-impl<'a, R: Clock + Eprint + Files> ToldProgress<'a, R> {
-    /// What begins now is told, where it is wanted.
-    pub fn new(alloc: Global, rt: &'a R, is_wanted: bool) -> Self {
+impl<'a, R: Clock + Eprint, F: Files> ToldProgress<'a, R, F> {
+    /// What begins now is told, where it is wanted, over this clock and standard error; and which of
+    /// these files can't be written, in any case.
+    pub fn new(alloc: Global, rt: &'a R, files: &'a F, is_wanted: bool) -> Self {
         let pace = match rt.monotonic() {
             Ok(now) if is_wanted => Some(Pace::beginning(now)),
             _ => None,
@@ -36,6 +38,7 @@ impl<'a, R: Clock + Eprint + Files> ToldProgress<'a, R> {
         ToldProgress {
             alloc,
             rt,
+            files,
             pace,
             denominator: 1,
             cause: None,
@@ -59,7 +62,7 @@ impl<'a, R: Clock + Eprint + Files> ToldProgress<'a, R> {
     }
 }
 
-impl<'a, R: Clock + Eprint + Files> Watcher for ToldProgress<'a, R> {
+impl<'a, R: Clock + Eprint, F: Files> Watcher for ToldProgress<'a, R, F> {
     fn watch(&mut self, progress: Progress) {
         if self.is_due() {
             let _ = self.rt.eprintln(SearchLine {
@@ -70,7 +73,7 @@ impl<'a, R: Clock + Eprint + Files> Watcher for ToldProgress<'a, R> {
     }
 }
 
-impl<'a, R: Clock + Eprint + Files> PriceWatcher for ToldProgress<'a, R> {
+impl<'a, R: Clock + Eprint, F: Files> PriceWatcher for ToldProgress<'a, R, F> {
     fn watch_prices(&mut self, progress: PriceProgress) {
         if self.is_due() {
             let _ = self.rt.eprintln(PricesLine {
@@ -81,7 +84,7 @@ impl<'a, R: Clock + Eprint + Files> PriceWatcher for ToldProgress<'a, R> {
     }
 }
 
-impl<'a, R: Clock + Eprint + Files> MoveWatcher for ToldProgress<'a, R> {
+impl<'a, R: Clock + Eprint, F: Files> MoveWatcher for ToldProgress<'a, R, F> {
     fn watch_moves(&mut self, progress: MoveProgress) {
         if self.is_due() {
             let _ = self.rt.eprintln(MovesLine {
@@ -92,7 +95,7 @@ impl<'a, R: Clock + Eprint + Files> MoveWatcher for ToldProgress<'a, R> {
     }
 }
 
-impl<'a, R: Clock + Eprint + Files> RoundWatcher for ToldProgress<'a, R> {
+impl<'a, R: Clock + Eprint, F: Files> RoundWatcher for ToldProgress<'a, R, F> {
     fn watch_rounds(&mut self, progress: RoundProgress) {
         if self.is_due() {
             let _ = self.rt.eprintln(RoundsLine {
@@ -116,13 +119,13 @@ impl<'a, R: Clock + Eprint + Files> RoundWatcher for ToldProgress<'a, R> {
     }
 }
 
-impl<'a, R: Clock + Eprint + Files> ScaleWatcher for ToldProgress<'a, R> {
+impl<'a, R: Clock + Eprint, F: Files> ScaleWatcher for ToldProgress<'a, R, F> {
     fn begin(&mut self, denominator: u64) {
         self.denominator = denominator;
     }
 }
 
-impl<'a, R: Clock + Eprint + Files> CauseListener<Cause> for ToldProgress<'a, R> {
+impl<'a, R: Clock + Eprint, F: Files> CauseListener<Cause> for ToldProgress<'a, R, F> {
     ghost heard = { λ told. told.cause };
 
     fn hear(&mut self, cause: Cause) {
@@ -130,10 +133,10 @@ impl<'a, R: Clock + Eprint + Files> CauseListener<Cause> for ToldProgress<'a, R>
     }
 }
 
-impl<'a, R: Clock + Eprint + Files> JobWatcher for ToldProgress<'a, R> {
+impl<'a, R: Clock + Eprint, F: Files> JobWatcher for ToldProgress<'a, R, F> {
     // The search goes on where a file can't be written: what becomes of it is for the files to say.
     fn watch_job(&mut self, job: &Job) {
-        if let Ok(Some(told)) = told_in_front(self.alloc, self.rt, job) {
+        if let Ok(Some(told)) = told_in_front(self.alloc, self.files, job) {
             let _ = eprintln!(self.rt; "evroute: {told}");
         }
     }

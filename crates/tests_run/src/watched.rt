@@ -15,7 +15,7 @@ use std::env::FillError;
 use std::fmt::Display;
 use std::io::{self, Eprint, Error, ErrorKind};
 use std::process::Abort;
-use std::rt::{Clock, Env};
+use std::rt::{Clock, Env, Files};
 use std::time::Duration;
 use worked_instances::{ONE_STATION, THREE_CUSTOMERS};
 
@@ -79,7 +79,7 @@ impl Eprint for Desk {
 #[test]
 fn the_first_line_comes_after_three_seconds_and_then_one_a_second(rt: HostRuntime) {
     let desk = Desk::new(rt.alloc(), Some(300));
-    let mut progress = ToldProgress::new(&desk, true);
+    let mut progress = ToldProgress::new(rt.alloc(), &desk, &rt, true);
     for moves in 0..25 {
         progress.watch_moves(MoveProgress { moves, cost: 7 });
     }
@@ -109,7 +109,7 @@ fn a_search_is_told_with_its_bound_and_its_gap(rt: HostRuntime) {
         (None, Some(17), ", bound 17/1, plan held 17/1, gap 0.00 %"),
         (Some(0), Some(0), ", bound 0/1, plan held 0/1"),
     ] {
-        let mut progress = ToldProgress::new(&desk, true);
+        let mut progress = ToldProgress::new(rt.alloc(), &desk, &rt, true);
         progress.watch(Progress {
             nodes: 5,
             open_nodes: 2,
@@ -125,7 +125,7 @@ fn a_search_is_told_with_its_bound_and_its_gap(rt: HostRuntime) {
 #[test]
 fn rounds_and_rising_prices_are_told(rt: HostRuntime) {
     let desk = Desk::new(rt.alloc(), Some(4000));
-    let mut progress = ToldProgress::new(&desk, true);
+    let mut progress = ToldProgress::new(rt.alloc(), &desk, &rt, true);
     progress.begin(10);
     for cost in [None, Some(17)] {
         progress.watch_rounds(RoundProgress {
@@ -163,8 +163,9 @@ struct OnInstance<'a> {
 }
 
 /// The program over the job's instance and no plan, and over a clock with this step.
-fn watched(
+fn watched<F: Files>(
     alloc: Global,
+    files: &F,
     job: OnInstance<'_>,
     step: Option<u64>,
     is_wanted: bool,
@@ -175,7 +176,7 @@ fn watched(
     let words = words_of(alloc, job.line)?;
     let desk = Desk::new(alloc, step);
     let mut program = Evroute {
-        watcher: ToldProgress::new(alloc, &desk, is_wanted),
+        watcher: ToldProgress::new(alloc, &desk, files, is_wanted),
     };
     let status = run(alloc, words.as_slice(), &mut shelf, &mut out, &mut program);
     let mut left = Vec::new(alloc);
@@ -192,8 +193,8 @@ fn watched(
 
 /// What is told of a job over a clock with this step. It ends, puts and leaves the same as the
 /// quick one, or the test fails.
-fn told_beside(
-    rt: &impl Abort,
+fn told_beside<R: Abort + Files>(
+    rt: &R,
     alloc: Global,
     job: OnInstance<'_>,
     quick: &Ended,
@@ -201,7 +202,7 @@ fn told_beside(
     is_wanted: bool,
 ) -> String {
     let line = job.line;
-    let other = watched(alloc, job, step, is_wanted).expect(rt, "memory");
+    let other = watched(alloc, rt, job, step, is_wanted).expect(rt, "memory");
     assert_eq!(rt; other.status, quick.status, "{line}");
     assert_eq!(rt; other.put.as_slice(), quick.put.as_slice(), "{line}");
     assert_eq!(rt; other.left.as_slice(), quick.left.as_slice(), "{line}");
@@ -209,9 +210,9 @@ fn told_beside(
 }
 
 /// A job is told so where it is slow, and else not, or the test fails.
-fn assert_watched(rt: &impl Abort, alloc: Global, job: OnInstance<'_>, want: &str) {
+fn assert_watched<R: Abort + Files>(rt: &R, alloc: Global, job: OnInstance<'_>, want: &str) {
     let line = job.line;
-    let quick = watched(alloc, job, Some(0), true).expect(rt, "memory");
+    let quick = watched(alloc, rt, job, Some(0), true).expect(rt, "memory");
     assert_eq!(rt; quick.status, Status::Done, "{line}");
     assert_eq!(rt; quick.told.as_str(), "", "{line}");
     let told = told_beside(rt, alloc, job, &quick, Some(4000), true);
