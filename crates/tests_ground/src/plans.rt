@@ -18,14 +18,12 @@ const LINE: &str = "route 0 v2+1 1 0\n";
 /// The same as the file of a fleet plan.
 const FILE: &str = "evroute plan 1\nroutes 1\nroute 0 v2+1 1 0\n";
 
-/// The line as it is read and written, and behind it the file with this route too, and one of no
-/// plan.
+/// The line as it is read and written, behind it the file, and one of no plan.
 fn written(alloc: Global) -> Option<Vec<u8>> {
     let mut out = Vec::new(alloc);
-    let mut fleet = read_fleet_plan(alloc, FILE.as_bytes()).ok()??;
+    let fleet = read_fleet_plan(alloc, FILE.as_bytes()).ok()??;
     let plan = read_plan(alloc, LINE.as_bytes()).ok()?;
     push_plan(alloc, &mut out, &plan).ok()?;
-    fleet.routes.push(plan).ok()?;
     push_fleet_plan(alloc, &mut out, Some(&fleet)).ok()?;
     push_fleet_plan(alloc, &mut out, None).ok()?;
     Some(out)
@@ -35,7 +33,7 @@ fn written(alloc: Global) -> Option<Vec<u8>> {
 fn plans_are_written_as_they_are_read(rt: HostRuntime) {
     let found = written(rt.alloc()).expect(&rt, "a text");
     let wanted =
-        "route 0 v2+1 1 0\nevroute plan 1\nroutes 2\nroute 0 v2+1 1 0\nroute 0 v2+1 1 0\nevroute plan 1\nnone\n";
+        "route 0 v2+1 1 0\nevroute plan 1\nroutes 1\nroute 0 v2+1 1 0\nevroute plan 1\nnone\n";
     assert_eq!(rt; found.as_slice(), wanted.as_bytes());
 }
 
