@@ -4,21 +4,32 @@
 use instance_reader::{Instance, read_instance};
 use level_table::{instance_text, least_cost};
 use route_improve::{Improved, check_large};
-use ruin_recreate::{Effort, GoOn, recreate};
+use route_plan::FleetPlan;
+use ruin_recreate::{Effort, GoOn, Recreated, recreate};
 use std::alloc::Global;
 
 /// Two customers: the one can't be left for home, the other not be reached from there.
 const PAIR: &str =
     r#"{"max_q":3,"css":[{"node_id":3,"cs_type":"fast"}],"breakpoints_by_type":[{"cs_type":"fast","time":[0,3],"charge":[0,3]}],"process_times":[0,0,0,0],"energy_matrix":[[0,1,9,9],[9,0,1,9],[1,9,0,9],[9,9,9,0]],"time_matrix":[[0,1,1,1],[1,0,1,1],[1,1,0,1],[1,1,1,0]]}"#;
 
+/// The plan that is found from none, `None` where there is none.
+fn plan_from_none(alloc: Global, inst: &Instance, effort: Effort, seed: u64) -> Option<FleetPlan> {
+    let found = recreate(alloc, inst, None, effort, seed, &mut GoOn).ok()?;
+    let Recreated {
+        outcome,
+        seen: _seen,
+    } = found;
+    match outcome {
+        Improved::Plan(plan) => Some(plan),
+        Improved::Alone(_) => None,
+    }
+}
+
 /// What the plan costs that is found from none, `None` where there is none.
 fn cost_from_none(alloc: Global, inst: &Instance, work: u64) -> Option<u128> {
     let effort = Effort { work, cycles: 2 };
-    let found = recreate(alloc, inst, None, effort, 1, &mut GoOn).ok()?;
-    match found.outcome {
-        Improved::Plan(plan) => check_large(alloc, inst, &plan).ok(),
-        Improved::Alone(_) => None,
-    }
+    let plan = plan_from_none(alloc, inst, effort, 1)?;
+    check_large(alloc, inst, &plan).ok()
 }
 
 #[test]
@@ -31,16 +42,13 @@ fn two_customers_without_own_routes_are_served_together(rt: HostRuntime) {
     assert_eq!(rt; cost, Some(3));
 }
 
-/// The nodes and amounts of a plan, route by route.
+/// The nodes and amounts of the plan that is found, route by route.
 fn stops(alloc: Global, inst: &Instance, seed: u64) -> Option<Vec<(usize, u64)>> {
     let effort = Effort {
         work: 30_000,
         cycles: 1,
     };
-    let found = recreate(alloc, inst, None, effort, seed, &mut GoOn).ok()?;
-    let Improved::Plan(plan) = found.outcome else {
-        return None;
-    };
+    let plan = plan_from_none(alloc, inst, effort, seed)?;
     let mut stops = Vec::new(alloc);
     for route in plan.routes.as_slice() {
         for stop in route.stops.as_slice() {
