@@ -2,15 +2,16 @@
 """A second judge of evroute's plans, certificates and proofs.
 
 It is written from the documents of the repository alone (docs/instances.md,
-plans.md, certificates.md, bounds.md, proofs.md), in their order and in their
-words, and puts the lines of `evroute check`, `check-bound`, `check-route` and
-`check-mixed`, with the same exit statuses. It counts in whole numbers and
-needs Python 3.9 and nothing else. It is tested against the proved judge, not
-proved itself: docs/second-judge.md.
+plans.md, certificates.md, bounds.md, near-trees.md, proofs.md), in their order
+and in their words, and puts the lines of `evroute check`, `check-bound`,
+`check-route` and `check-mixed` and of `evgap check`, with the same exit
+statuses. It counts in whole numbers and needs Python 3.9 and nothing else. It
+is tested against the proved judge, not proved itself: docs/second-judge.md.
 
 The parts: instances; plans; the values of labels; closed lists of labels;
 certificates; bases that are too wide; several kinds of vehicles; near proofs;
-proofs of routes; their texts; the text of an instance; the commands.
+trees over near routes; proofs of routes; their texts; the text of an instance;
+the commands.
 """
 
 from __future__ import annotations
@@ -44,6 +45,7 @@ MOST_BOUND = 2**96
 MOST_WEIGHT = 2**40
 MOST_PRICE = 2**84
 MOST_NEAR_PRICE = 10**18
+MOST_COUNTED_SETS = 64
 MOST_DIGITS = 38
 MOST_JSON_BYTES = 2**26
 MOST_PLAN_BYTES = 2**26
@@ -923,7 +925,9 @@ class NearProof(NamedTuple):
     labels: list[Label]
 
 
-def remembered(proof: NearProof, served: int, number: int) -> int:
+def remembered(
+    proof: Union[NearProof, NearLeaf], served: int, number: int
+) -> int:
     """Who is remembered behind a service of customer `number`: of those
     before, the ones of its near set; and the customer."""
     return (served & proof.near[number]) | (1 << number)
@@ -1013,6 +1017,252 @@ def is_near_route(
         memory = remembered(proof, memory, number)
     is_count = 1 <= len(served) <= len(instance.customers)
     return is_count and stray_stop(instance, stops) is None
+
+
+# --------------------------------------------------------------------------
+# Trees over near routes (docs/near-trees.md).
+# --------------------------------------------------------------------------
+
+# A last customer that is forgotten, `*`. Other lasts are nodes; 0 is nobody.
+ANYBODY = -1
+
+
+class Way(NamedTuple):
+    """What the splits and counts say on the way down."""
+
+    # Who may come next, by last: customers by the bits of their numbers, and
+    # home by the bit behind these.
+    nexts: dict[int, int]
+    # The range of the entries into each set that was counted.
+    ranges: dict[int, tuple[int, int]]
+
+
+class Count(NamedTuple):
+    """In the first tree at most so many entries into a set, in the second
+    more."""
+
+    most: int
+    members: int
+
+
+class Counted(NamedTuple):
+    """A set that is counted above a leaf: how often it is entered, and its
+    entry price there."""
+
+    members: int
+    least: int
+    most: int
+    price: int
+
+
+class NearLeaf(NamedTuple):
+    weight: int
+    # These two are by customers' numbers.
+    prices: list[int]
+    near: list[int]
+    labels: list[Label]
+    # Those of the way to the leaf.
+    nexts: dict[int, int]
+    counted: list[Counted]
+
+
+class NearTree(NamedTuple):
+    bound: Optional[int]
+    leaves: list[NearLeaf]
+
+
+def top_way(customers: dict[int, int]) -> Way:
+    """Nothing is forbidden or counted; nobody goes home before a service."""
+    home = 1 << len(customers)
+    nexts = dict.fromkeys(customers, 2 * home - 1)
+    return Way({ANYBODY: 2 * home - 1, 0: home - 1, **nexts}, {})
+
+
+def range_of(way: Way, members: int) -> tuple[int, int]:
+    """How often a set is entered at least and at most."""
+    return way.ranges.get(members, (1, bin(members).count("1")))
+
+
+def first_way(
+    way: Way, branch: Union[Split, Count], customers: dict[int, int]
+) -> Way:
+    """The way to the first tree of a branch."""
+    if isinstance(branch, Count):
+        least = range_of(way, branch.members)[0]
+        entries = {branch.members: (least, branch.most)}
+        return Way(way.nexts, {**way.ranges, **entries})
+    after = way.nexts[branch.i] & ~(1 << customers[branch.j])
+    return Way({**way.nexts, branch.i: after}, way.ranges)
+
+
+def second_way(
+    way: Way, branch: Union[Split, Count], customers: dict[int, int]
+) -> Way:
+    """The way to the second tree of a branch. A customer after himself is
+    never forbidden."""
+    if isinstance(branch, Count):
+        most = range_of(way, branch.members)[1]
+        entries = {branch.members: (branch.most + 1, most)}
+        return Way(way.nexts, {**way.ranges, **entries})
+    own, follower = 1 << customers[branch.i], 1 << customers[branch.j]
+    kept = (ANYBODY, branch.j)
+    nexts = {
+        last: after if last in kept else after & ~follower
+        for last, after in way.nexts.items()
+    }
+    nexts[branch.i] = way.nexts[branch.i] & (own | follower)
+    return Way(nexts, way.ranges)
+
+
+# Which of the counted sets a last is in, by their bits; ANYBODY by itself.
+Inside = int
+
+
+class Lasts:
+    """What may come next after each last at a leaf, and what it earns by
+    counted sets."""
+
+    def __init__(self, instance: Instance, leaf: NearLeaf) -> None:
+        self.customers = instance.customers
+        self.nexts = leaf.nexts
+        self.counted = leaf.counted
+        self.earned: dict[Inside, list[int]] = {}
+        self.less: dict[tuple[Inside, Inside], int] = {}
+        self.known: dict[tuple[int, int], bool] = {}
+
+    def inside(self, last: int) -> Inside:
+        if last not in self.customers:
+            return ANYBODY if last == ANYBODY else 0
+        own = 1 << self.customers[last]
+        is_in = [each.members & own > 0 for each in self.counted]
+        return sum(1 << at for at, each in enumerate(is_in) if each)
+
+    def may_follow(self, last: int, number: int) -> bool:
+        """Whether a customer, or home by the number behind these, may come
+        next."""
+        return self.nexts[last] >> number & 1 == 1
+
+    def earnings(self, last: int) -> list[int]:
+        """What each customer, by number, earns by counted sets."""
+        inside = self.inside(last)
+        if inside not in self.earned:
+            paid = [
+                (each.members, each.price)
+                for at, each in enumerate(self.counted)
+                if (each.price > 0 if inside < 0 else not inside >> at & 1)
+            ]
+            self.earned[inside] = [
+                sum(price for members, price in paid if members >> number & 1)
+                for number in self.customers.values()
+            ]
+        return self.earned[inside]
+
+    def earning_less(self, other: int, last: int) -> int:
+        """The customers who earn less after the other last."""
+        key = self.inside(other), self.inside(last)
+        if key not in self.less:
+            pairs = zip(self.earnings(other), self.earnings(last))
+            less = [c for c, (own, wanted) in enumerate(pairs) if own < wanted]
+            self.less[key] = sum(1 << c for c in less)
+        return self.less[key]
+
+    def stands_for(self, other: int, last: int) -> bool:
+        """Whether each who may come next after `last`, home too, may after
+        `other`, and earns no less there."""
+        key = other, last
+        if key not in self.known:
+            after = self.nexts[last]
+            missing = after & ~self.nexts[other]
+            less = after & self.earning_less(other, last)
+            self.known[key] = missing == 0 and less == 0
+        return self.known[key]
+
+
+class LeafLabels(LabelList):
+    """The labels of a leaf, of which one covers vehicles of each last that
+    its own stands for."""
+
+    def __init__(self, leaf: NearLeaf, lasts: Lasts) -> None:
+        super().__init__(leaf.weight, leaf.labels)
+        self.lasts = lasts
+        self.lasts_at: dict[int, list[int]] = {}
+        for last, node in self.at_place:
+            self.lasts_at.setdefault(node, []).append(last)
+
+    def coverers(self, state: Label) -> Iterator[tuple[Value, int]]:
+        for last in self.lasts_at.get(state.node, []):
+            if self.lasts.stands_for(last, state.last):
+                yield from super().coverers(state._replace(last=last))
+
+
+def leaf_steps(
+    instance: Instance, leaf: NearLeaf, lasts: Lasts, label: Label
+) -> Iterator[Label]:
+    """The states behind the steps from a label to customers and stations, by
+    rising node."""
+    for node in range(instance.nodes):
+        if node in instance.curves:
+            yield from states_at_station(instance, label, node, instance.limit)
+        elif node in instance.customers:
+            yield from leaf_state_at_customer(
+                instance, leaf, lasts, label, node
+            )
+
+
+def leaf_state_at_customer(
+    instance: Instance, leaf: NearLeaf, lasts: Lasts, label: Label, node: int
+) -> Iterator[Label]:
+    """The state behind a step to a customer who may come next and isn't
+    remembered."""
+    number = instance.customers[node]
+    is_remembered = label.served >> number & 1
+    if is_remembered or not lasts.may_follow(label.last, number):
+        return
+    value = arriving_at(instance, label, node, instance.limit)
+    if value is not None:
+        served = remembered(leaf, label.served, number)
+        earned = lasts.earnings(label.last)[number] + leaf.prices[number]
+        yield Label(node, node, served, 0, label.paid + earned, value)
+
+
+def leaf_way_home(
+    instance: Instance, lasts: Lasts, label: Label
+) -> Optional[int]:
+    if not lasts.may_follow(label.last, len(instance.customers)):
+        return None
+    return time_home(instance, label, instance.limit)
+
+
+def judge_leaf(instance: Instance, leaf: NearLeaf) -> None:
+    """The rules 1 to 3."""
+    lasts = Lasts(instance, leaf)
+    labels = LeafLabels(leaf, lasts)
+    steps = partial(leaf_steps, instance, leaf, lasts)
+    way_home = partial(leaf_way_home, instance, lasts)
+    judge_closed(instance.full, labels, steps, way_home)
+
+
+def shows_bound(leaf: NearLeaf, bound: Optional[int]) -> bool:
+    """Rule 4."""
+    total = sum(leaf.prices)
+    for each in leaf.counted:
+        total += each.price * (each.least if each.price > 0 else each.most)
+    if bound is None:
+        return leaf.weight == 0 and total > 0
+    return bound * leaf.weight < total + leaf.weight
+
+
+def judge_tree(instance: Instance, tree: NearTree) -> None:
+    """The rules 1 to 4."""
+    for number, leaf in enumerate(tree.leaves):
+        try:
+            judge_leaf(instance, leaf)
+        except BrokenList as broken:
+            place = f"leaf {number}{broken.place}"
+            raise Rejected(f"tree {broken.rule} {place}") from None
+    for number, leaf in enumerate(tree.leaves):
+        if not shows_bound(leaf, tree.bound):
+            raise Rejected(f"tree 4 leaf {number}")
 
 
 # --------------------------------------------------------------------------
@@ -1283,12 +1533,16 @@ class ProofText(Text):
 
     def price(self) -> int:
         """A price of a certificate, which may be below 0."""
+        return self.signed(MOST_PRICE)
+
+    def signed(self, most: int) -> int:
+        """A number that may be below 0."""
         at = self.at
         is_negative = self.takes(b"-")
         digits = self.digits()
         self.within(at, len(digits) <= MOST_DIGITS)
         size = int(digits)
-        self.within(at, size <= MOST_PRICE)
+        self.within(at, size <= most)
         self.within(at, not (is_negative and size == 0))
         return -size if is_negative else size
 
@@ -1478,6 +1732,66 @@ class ProofText(Text):
         value = self.value(instance)
         return Label(0, node, served, services, earned, value)
 
+    def branch(self, way: Way) -> Union[Split, Count, None]:
+        """A branch of a tree over near routes, or none at a leaf."""
+        word = self.word(b"split ", b"entries ", b"leaf\n")
+        if word == b"leaf\n":
+            return None
+        if word == b"entries ":
+            return self.entries(way)
+        split = self.split()
+        self.word(b"\n")
+        return split
+
+    def entries(self, way: Way) -> Count:
+        """How often a set is entered at most in the first tree. Whether the
+        number is in the range of the set, and the set not one too many, is
+        told once the line is whole."""
+        at = self.at
+        most = self.number(len(self.customers))
+        self.word(b" ")
+        set_at = self.at
+        members = self.customer_set()[0]
+        self.within(set_at, members > 0)
+        self.word(b"\n")
+        first, last = range_of(way, members)
+        self.within(at, first <= most < last)
+        is_known = members in way.ranges
+        self.within(set_at, is_known or len(way.ranges) < MOST_COUNTED_SETS)
+        return Count(most, members)
+
+    def near_leaf(self, way: Way) -> NearLeaf:
+        self.word(b"section ")
+        weight = self.number(MOST_WEIGHT)
+        self.word(b" ")
+        count = self.count()
+        prices = self.listed(b"prices", self.price)
+        near = self.near_sets()
+        counted = []
+        for members, (least, most) in way.ranges.items():
+            counted.append(Counted(members, least, most, self.entry_price()))
+        labels = [self.leaf_label(self.kinds[0]) for _ in range(count)]
+        return NearLeaf(weight, prices, near, labels, way.nexts, counted)
+
+    def entry_price(self) -> int:
+        self.word(b"entry ")
+        price = self.price()
+        self.word(b"\n")
+        return price
+
+    def leaf_label(self, instance: Instance) -> Label:
+        self.word(b"label ")
+        node = self.node(instance)
+        self.word(b" ")
+        last = node
+        if node in instance.curves:
+            last = ANYBODY if self.takes(b"*") else self.place()
+            self.word(b" ")
+        served = self.customer_set()[0]
+        self.word(b" ")
+        earned = self.signed(MOST_BOUND)
+        return Label(last, node, served, 0, earned, self.value(instance))
+
     def tight(self) -> list[Stop]:
         self.word(b"tight ")
         return self.stops()
@@ -1545,6 +1859,24 @@ def near_proof_in(text: ProofText) -> NearProof:
     routes = 0 if bound is None else len(prices)
     tight = [text.tight() for _ in range(routes)]
     return NearProof(bound, weight, prices, near, tight, labels)
+
+
+def near_tree_in(text: ProofText) -> NearTree:
+    text.head(b"near tree", 1)
+    bound = text.bound()
+    leaves = []
+    # The ways to the trees that are still to be read, each from above the
+    # last branch: the second trees of the branches that are open.
+    waiting: list[Callable[[], Way]] = [partial(top_way, text.customers)]
+    while waiting:
+        way = waiting.pop()()
+        branch = text.branch(way)
+        if branch is None:
+            leaves.append(text.near_leaf(way))
+        else:
+            for step in (second_way, first_way):
+                waiting.append(partial(step, way, branch, text.customers))
+    return NearTree(bound, leaves)
 
 
 def route_proof_in(route: list[int], text: ProofText) -> RouteProof:
@@ -2101,6 +2433,7 @@ evjudge.py check FILE PLAN CERT [--limit N]
 evjudge.py check-bound FILE CERT [--limit N]
 evjudge.py check-route FILE ROUTE CERT [--limit N] [--charge N]
 evjudge.py check-mixed PLAN CERT FILE.. [--limit N]
+evjudge.py gap-check FILE PLAN PROOF [--limit N]
 """
 
 ACCEPTED, REJECTED, WRONG_WORDS, REFUSED, FAILED = 0, 1, 2, 3, 4
@@ -2212,6 +2545,48 @@ def agree(one: Instance, other: Instance) -> bool:
     )
 
 
+TREE_HEAD = b"evroute near tree "
+
+
+def is_tree(name: str) -> bool:
+    """Whether a file that can be read begins as a tree over near routes."""
+    try:
+        return first_bytes(name, len(TREE_HEAD)).startswith(TREE_HEAD)
+    except OSError:
+        return False
+
+
+def gap_check(names: list[str], options: Options) -> list[str]:
+    """What `evgap check` says; and of trees over near routes besides, which
+    may have more customers."""
+    file, plan, proof = names
+    instance = instance_in(file, options.limit)
+    has_tree = is_tree(proof)
+    if not has_tree:
+        refuse_many_customers(instance)
+    routes = read_plan(first_bytes(plan, MOST_PLAN_BYTES))
+    shown: Union[NearTree, NearProof]
+    if has_tree:
+        shown = proof_in(proof, [instance], near_tree_in)
+    else:
+        shown = proof_in(proof, [instance], near_proof_in)
+    cost = None if routes is None else judge_plan([instance], routes)
+    if isinstance(shown, NearTree):
+        judge_tree(instance, shown)
+    else:
+        judge_near(instance, shown)
+    lines = accepted_lines(instance, cost, shown.bound)
+    return lines + per_cent_lines(cost, shown.bound)
+
+
+def per_cent_lines(cost: Optional[int], bound: Optional[int]) -> list[str]:
+    """The gap in per cent of the bound, rounded up to hundredths, if any."""
+    if cost is None or bound is None or bound == 0 < cost:
+        return []
+    hundredths = -(-(cost - bound) * 10000 // bound) if bound > 0 else 0
+    return [f"gap {hundredths // 100}.{hundredths % 100:02} %"]
+
+
 class Command(NamedTuple):
     run: Callable[[list[str], Options], list[str]]
     least_words: int
@@ -2226,6 +2601,7 @@ COMMANDS = {
     "check-bound": Command(check_bound, 2, 2, (), ("limit",)),
     "check-route": Command(check_route, 3, 3, (1,), ("limit", "charge")),
     "check-mixed": Command(check_mixed, 3, 10, (), ("limit",)),
+    "gap-check": Command(gap_check, 3, 3, (), ("limit",)),
 }
 
 
