@@ -1,16 +1,18 @@
 #!/usr/bin/env python3
-"""Compares the second judge with evroute on drawn and changed files.
+"""Compares the second judge with evroute and evgap on drawn and changed files.
 
-    compare.py PROGRAM [--seed N] [--cases N] [--kind KIND]
+    compare.py PROGRAM [--gap PROGRAM] [--seed N] [--cases N] [--kind KIND]
 
 It draws small instances, lets PROGRAM (a built evroute) write plans,
 certificates and proofs of them, changes these files and the instances in many
 ways, and asks PROGRAM and evjudge.py about each. Status and printed text have
 to be the same; of words that are no job, only the status, since each has a
-usage text of its own. There are N cases of each of four kinds, or of one:
-check, check-bound, check-route and check-mixed. The same seed draws the same
-cases, unless PROGRAM takes too long to write a file: then another instance is
-drawn.
+usage text of its own. There are N cases of each of five kinds, or of one:
+check, check-bound, check-route, check-mixed and gap-check. The last is asked
+of a built evgap: the one that --gap names, or else crates/evgap/out/evgap
+where PROGRAM is crates/evroute/out/evroute, or evgap beside PROGRAM; where it
+isn't there, this kind is left out. The same seed draws the same cases, unless
+a program takes too long to write a file: then another instance is drawn.
 
 It prints how often each answer came, and the files of each difference are
 left in a folder whose name it prints. The exit status is 0 where there is no
@@ -247,9 +249,11 @@ class Program:
     def run(
         self, words: list[str], seconds: int = JUDGE_SECONDS
     ) -> tuple[int, str]:
-        """The exit status, and what is put."""
+        """The exit status, and what is put. The second judge's name of what
+        evgap judges is another than evgap's own."""
+        own = ["check" if word == "gap-check" else word for word in words]
         done = subprocess.run(
-            [self.path, *words],
+            [self.path, *own],
             cwd=self.folder,
             stdin=subprocess.DEVNULL,
             stdout=subprocess.PIPE,
@@ -331,12 +335,22 @@ def other_kind(draw: Random, first: dict) -> dict:
     return other
 
 
+def draw_gap(draw: Random, program: Program) -> Case:
+    files = {"file": text_of(draw_instance(draw))}
+    words = ["plan", "file", "plan", "cert"]
+    if draw.random() < 0.3:
+        words += ["--seconds", "0"]
+    files = program.written(words, files).files
+    return Case(["gap-check", "file", "plan", "cert"], files)
+
+
 Drawing = Callable[[Random, Program], Case]
 KINDS: dict[str, Drawing] = {
     "check": draw_fleet,
     "check-bound": draw_near,
     "check-route": draw_route,
     "check-mixed": draw_mixed,
+    "gap-check": draw_gap,
 }
 
 
@@ -917,9 +931,19 @@ def compare_kind(
     return differences
 
 
+def gap_program(path: str) -> str:
+    """The evgap that belongs to an evroute."""
+    folder = os.path.dirname(path)
+    crate = os.path.join("evroute", "out")
+    if folder == crate or folder.endswith(os.path.join(os.sep, crate)):
+        folder = folder[: -len(crate)] + os.path.join("evgap", "out")
+    return os.path.join(folder, "evgap")
+
+
 def main() -> int:
     parser = argparse.ArgumentParser(description=__doc__.split("\n")[0])
     parser.add_argument("program")
+    parser.add_argument("--gap")
     parser.add_argument("--seed", type=int, default=1)
     parser.add_argument("--cases", type=int, default=200)
     parser.add_argument("--kind", choices=KINDS)
@@ -927,10 +951,15 @@ def main() -> int:
     kept = tempfile.mkdtemp(prefix="evroute-differences-")
     differences = 0
     with tempfile.TemporaryDirectory() as folder:
-        program = Program(words.program, folder)
         for kind in [words.kind] if words.kind else KINDS:
+            path = words.program
+            if kind == "gap-check":
+                path = words.gap or gap_program(path)
+                if not os.path.exists(path):
+                    print(f"{kind}: left out, since there is no {path}")
+                    continue
             differences += compare_kind(
-                kind, program, words.seed, words.cases, kept
+                kind, Program(path, folder), words.seed, words.cases, kept
             )
     if not differences:
         os.rmdir(kept)
