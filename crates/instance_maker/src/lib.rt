@@ -1,7 +1,8 @@
 //! Makes a large valid instance from a number.
 //!
 //! Its depot, customers and stations stand at drawn locations in a square of 1000 by 1000 units,
-//! and driving takes as much time and energy as the Manhattan distance.
+//! and driving takes as much time and energy as the Manhattan distance. What it means is shown
+//! beside.
 #![tactic(auto)]
 
 ghost use Rattle.std.specs.Prelude.{◌≡◌, ◌↔◌, ◌<◌, ◌≤◌, ◌+◌, ◌^◌, Some, IfOk, IsErrOf, IsUtf8, vec_len};
@@ -10,10 +11,14 @@ ghost use Rattle.instance_maker.specs.MadeInstance.{IsOutOfRange, made_value, ma
 
 mod generator;
 mod instance;
+mod laws;
+mod meaning;
 mod plane;
 
 use generator::MODULUS;
 use instance::instance_value;
+pub use laws::made_texts_are_instances;
+pub use meaning::{MadeInstance, made_instance};
 use std::alloc::{AllocError, Global};
 
 /// The most nodes of an instance.

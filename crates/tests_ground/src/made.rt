@@ -1,7 +1,6 @@
 //! Instances that are made from a number.
 
-use instance_maker::MakerFault;
-use made_instances::{made_instance, made_texts_are_instances};
+use instance_maker::{MakerFault, made_instance, made_texts_are_instances};
 
 #[test]
 fn a_made_instance_is_read(rt: HostRuntime) {

@@ -1,7 +1,7 @@
 use Rattle.std.proofs.Common.{◌∙◌, ap, arith}
 use Rattle.ev_model.specs.Network.{node_count}
-use Rattle.made_instances.proofs.Means.{breaks_no_rule, network_is, nodes_made}
-use Rattle.made_instances.proofs.made_instance.Goals as goal
+use Rattle.instance_maker.proofs.Means.{breaks_no_rule, network_is, nodes_made}
+use Rattle.instance_maker.proofs.meaning.made_instance.Goals as goal
 
 pub returns-in-Ok-read_instance-clause-network : goal.returns-in-Ok-read_instance-clause-network
 returns-in-Ok-read_instance-clause-network c =

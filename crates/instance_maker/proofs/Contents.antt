@@ -7,8 +7,8 @@ use Rattle.instance_maker.specs.Lists.{tabulate}
 use Rattle.instance_maker.specs.Locations.{distance_between, locations_of}
 use Rattle.instance_maker.specs.MadeInstance.{array_of, curves_value, distances_value, made_value, process_times_value, station_value, stations_value, whole}
 use Rattle.instance_reader.specs.Contents.{Contents, CurveOfType, Station, contents_of, curve_in, items_in, number_in, numbers_in, rows_in, station_in}
-use Rattle.made_instances.proofs.Along.{list_of-items_of, map-tabulate, numbers_mapped, numbers_replicated}
-use Rattle.made_instances.specs.MadeContents.{curves_made, distances_made, made_contents, process_times_made, station_made}
+use Rattle.instance_maker.proofs.Along.{list_of-items_of, map-tabulate, numbers_mapped, numbers_replicated}
+use Rattle.instance_maker.specs.MadeContents.{curves_made, distances_made, made_contents, process_times_made, station_made}
 
 pub items_in_array : (ds : List Data) → items_in (Some (array_of ds)) ≡ ds
 items_in_array ds = list_of-items_of ds

@@ -23,8 +23,8 @@ use Rattle.instance_reader.specs.declared.places.Key.{Key}
 use Rattle.instance_reader.specs.declared.places.Key.TheVariants.{Css, Energy, Service, Time}
 use Rattle.instance_reader.specs.declared.places.Place.{Place}
 use Rattle.std.specs.Option.{option_map}
-use Rattle.made_instances.proofs.Along.{AllOf-append, AllOf-below, AllOf-each, AllOf-map, AllOf-replicate, AllOf-tabulate, along_none, none_then, not_past}
-use Rattle.made_instances.specs.MadeContents.{curves_made, distances_made, made_contents, process_times_made, station_made}
+use Rattle.instance_maker.proofs.Along.{AllOf-append, AllOf-below, AllOf-each, AllOf-map, AllOf-replicate, AllOf-tabulate, along_none, none_then, not_past}
+use Rattle.instance_maker.specs.MadeContents.{curves_made, distances_made, made_contents, process_times_made, station_made}
 
 pub all_inside : (seed nodes : ℕ) → AllOf IsInSquare (locations_of seed nodes)
 all_inside seed nodes = AllOf-tabulate IsInSquare (location_of seed) nodes (λ node. (omega arith, omega arith))

@@ -12,7 +12,7 @@ use Rattle.instance_reader.specs.Search.{look_along}
 use Rattle.instance_reader.specs.declared.places.Key.{Key}
 use Rattle.instance_reader.specs.declared.places.Key.TheVariants.{Breaks, Css, Energy, Service, Time}
 use Rattle.instance_reader.specs.declared.places.Place.{Place}
-use Rattle.made_instances.proofs.Along.{AllOf-append, AllOf-each, AllOf-map, AllOf-replicate, AllOf-tabulate, along_none, list_of-items_of, none_then}
+use Rattle.instance_maker.proofs.Along.{AllOf-append, AllOf-each, AllOf-map, AllOf-replicate, AllOf-tabulate, along_none, list_of-items_of, none_then}
 
 -- an array passes where each item does
 array_passes : (look : Place → Data → Option Place) (place : Place) (ds : List Data) →

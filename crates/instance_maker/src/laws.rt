@@ -4,7 +4,7 @@ ghost use Rattle.std.specs.Prelude.{◌≤◌, ℕ, List, length};
 ghost use Rattle.instance_maker.specs.MadeInstance.{IsOutOfRange, made_value};
 ghost use Rattle.instance_reader.specs.Faults.{IsInstanceOf, longest};
 ghost use Rattle.instance_reader.specs.Values.{IsValueOf};
-ghost use Rattle.made_instances.specs.MadeContents.{made_network};
+ghost use Rattle.instance_maker.specs.MadeContents.{made_network};
 
 /// A text of which `serde_json` reads a made value breaks no rule of instances, and its denominator
 /// is 136.

@@ -8,7 +8,7 @@ use Rattle.std.specs.List.{All}
 use Rattle.ev_model.specs.Curve.{IsDenominator, IsMultipleOfSlopes}
 use Rattle.instance_reader.specs.Contents.{points_of}
 use Rattle.instance_reader.specs.Curves.{all_points}
-use Rattle.made_instances.specs.MadeContents.{curve_made, curves_made}
+use Rattle.instance_maker.specs.MadeContents.{curve_made, curves_made}
 use Rattle.std.specs.Prelude.{codes}
 
 abbrev fast : List (ℕ × ℕ)

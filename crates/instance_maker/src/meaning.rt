@@ -1,17 +1,13 @@
-//! Instances that are made from a number, and what they mean.
-#![tactic(auto)]
+//! What a made instance means.
 
 ghost use Rattle.std.specs.Prelude.{◌≡◌, ◌↔◌, ◌+◌, ◌≤◌, IfOk, IsErrOf};
 ghost use Rattle.ev_model.specs.Network.{node_count};
 ghost use Rattle.instance_maker.specs.MadeInstance.{IsOutOfRange, made_text};
 ghost use Rattle.instance_reader.specs.Faults.{IsInstanceOf};
-ghost use Rattle.made_instances.specs.MadeContents.{made_network};
+ghost use Rattle.instance_maker.specs.MadeContents.{made_network};
 
-mod laws;
-
-use instance_maker::{MakerFault, make_instance};
+use crate::{MakerFault, make_instance};
 use instance_reader::{Instance, ReadFault, read_instance};
-pub use laws::made_texts_are_instances;
 use std::alloc::Global;
 
 /// A made instance, and its text.

@@ -19,12 +19,12 @@ use Rattle.instance_reader.specs.Meaning.{network_of}
 use Rattle.instance_reader.specs.Values.{IsValueOf}
 use Rattle.instance_reader.specs.declared.faults.ReadFault.{ReadFault}
 use Rattle.instance_reader.specs.declared.faults.ReadFault.TheVariants as fault
-use Rattle.made_instances.proofs.Along.{none_then}
-use Rattle.made_instances.proofs.Contents.{contents_made}
-use Rattle.made_instances.proofs.Denominator.{denominator_is_136}
-use Rattle.made_instances.proofs.Early.{no_rule_is_broken_early}
-use Rattle.made_instances.proofs.KeysAndKinds.{no_key_is_missing, no_kind_is_wrong}
-use Rattle.made_instances.specs.MadeContents.{made_contents, made_denominator, made_network}
+use Rattle.instance_maker.proofs.Along.{none_then}
+use Rattle.instance_maker.proofs.Contents.{contents_made}
+use Rattle.instance_maker.proofs.Denominator.{denominator_is_136}
+use Rattle.instance_maker.proofs.Early.{no_rule_is_broken_early}
+use Rattle.instance_maker.proofs.KeysAndKinds.{no_key_is_missing, no_kind_is_wrong}
+use Rattle.instance_maker.specs.MadeContents.{made_contents, made_denominator, made_network}
 
 denominator_made : (seed customers stations : ℕ) → IsDenominatorOf (made_contents seed customers stations) made_denominator
 unfolding made_contents
