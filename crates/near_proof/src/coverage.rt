@@ -1,13 +1,15 @@
 //! Whether the states of a target are covered by labels.
 
-ghost use Rattle.std.specs.Prelude.{◌≡◌, ◌≤◌, IfNone, IfSome};
+ghost use Rattle.std.specs.Prelude.{◌≡◌, ◌≤◌, IfNone, IfSome, false, true};
+ghost use Rattle.charge_curve.specs.Points.{ArePoints, last_level};
 ghost use Rattle.dominance.specs.LevelTimes.{IsLevel, time_at};
-ghost use Rattle.label_steps.specs.Covering.{IsCoveredTo};
+ghost use Rattle.label_steps.specs.Covering.{IsCoveredAll, IsCoveredTo, IsMissed};
 ghost use Rattle.piece_fn.specs.PieceFn.{level_times};
 ghost use Rattle.near_proof.specs.Links.{AreEntries};
-ghost use Rattle.near_proof.specs.Targets.{covers_by};
+ghost use Rattle.near_proof.specs.Targets.{covers, covers_by};
 
 use crate::NearLabel;
+use crate::looks::{Looks, Sought};
 use crate::margins::margin;
 use customer_sets::CustSet;
 use dominance::LabelValue;
@@ -95,6 +97,78 @@ impl Covering for Asked<'_> {
     }
 }
 
+impl Asked<'_> {
+    /// Whether each state of the value is covered: those with its levels, at its times there.
+    pub(crate) fn covers_value(&self, looks: &mut Looks, value: &PieceFn) -> bool
+        ensures covered { result ≡ true →
+            IsCoveredAll (covers self.now) (level_times value.now) }
+        ensures missed { result ≡ false → IsMissed (covers self.now) (level_times value.now) }
+    {
+        let last = last_level(value);
+        let (mut level, _) = value.least();
+        while let Some(to) = self.reach_soon(looks, value, level) {
+            if to >= last {
+                return true;
+            }
+            level = to + 1;
+        }
+        false
+    }
+
+    /// A level up to which each state of the value is covered from a level on; `None` where the
+    /// state at that level is not covered.
+    fn reach_soon(&self, looks: &mut Looks, value: &PieceFn, level: u64) -> Option<u64>
+        requires level { IsLevel (level_times value.now) level }
+        ensures some { IfSome result
+            (IsCoveredTo (covers self.now) (level_times value.now) level) }
+        ensures none { IfNone result
+            (covers self.now level (time_at (level_times value.now) level) → ⊥) }
+    {
+        match self.reach_first(looks, value, level) {
+            Some(to) => Some(to),
+            None => self.reach(value, level),
+        }
+    }
+
+    /// The same by labels as they are looked at; `None` says nothing.
+    fn reach_first(&self, looks: &mut Looks, value: &PieceFn, level: u64) -> Option<u64>
+        requires level { IsLevel (level_times value.now) level }
+        ensures some { IfSome result
+            (IsCoveredTo (covers self.now) (level_times value.now) level) }
+    {
+        let Some(time) = value.at(level) else {
+            return None;
+        };
+        let node = self.target.node;
+        let sought = Sought::new(self.weight, &self.target, level, time);
+        for place in 0..looks.count(node) {
+            let brief = looks.at(node, place)?;
+            if !brief.may_cover(&sought) {
+                continue;
+            }
+            if let Some(to) = self.reach_of(brief.number, value, level, time) {
+                looks.raise(node, place);
+                return Some(to);
+            }
+        }
+        None
+    }
+
+    /// The same by the label with a number; `None` says nothing.
+    fn reach_of(&self, number: usize, value: &PieceFn, level: u64, time: u64) -> Option<u64>
+        requires level { IsLevel (level_times value.now) level }
+        requires time { time ≡ time_at (level_times value.now) level }
+        ensures { IfSome result
+            (IsCoveredTo (covers self.now) (level_times value.now) level) }
+    {
+        if number >= self.labels.len() {
+            return None;
+        }
+        let label = &self.labels[number];
+        reach_by(label, self.weight, &self.target, value, level, time)
+    }
+}
+
 /// How far the label covers the states of the value, from a level on; `None` exactly where it does
 /// not cover the state at that level, whose time is given.
 fn reach_by(
@@ -123,4 +197,13 @@ fn reach_by(
         Some(extra) => label.value.reach(value, extra, level),
         None => None,
     }
+}
+
+/// The highest level of a value.
+pub(crate) fn last_level(value: &PieceFn) -> u64
+    ensures value { result ≡ last_level value.now }
+    ensures valid { ArePoints value.now }
+{
+    let points = value.points();
+    points[points.len() - 1].0
 }

@@ -11,6 +11,7 @@ use crate::NearLabel;
 use crate::ends::earns_at_home;
 use crate::judge::Judge;
 use crate::links::ByNode;
+use crate::looks::Looks;
 use customer_sets::CustSet;
 use instance_reader::Instance;
 use label_index::entries;
@@ -73,7 +74,8 @@ pub fn first_fault(
     if !judge.covers_start(alloc) {
         return Ok(Some(NearLabelFault::Start));
     }
-    if let Some((label, node)) = judge.bad_step(alloc)? {
+    let mut looks = Looks::new(alloc, terms.weight, inst.nodes(), labels)?;
+    if let Some((label, node)) = judge.bad_step(alloc, &mut looks)? {
         return Ok(Some(NearLabelFault::Step { label, node }));
     }
     match judge.bad_end()? {
@@ -85,13 +87,17 @@ pub fn first_fault(
 impl Judge<'_> {
     /// The first step to a customer or a station that leads to a state that is not covered, by its
     /// label's number and the node.
-    fn bad_step(&self, alloc: Global) -> Result<Option<(usize, usize)>, AllocError>
+    fn bad_step(
+        &self,
+        alloc: Global,
+        looks: &mut Looks,
+    ) -> Result<Option<(usize, usize)>, AllocError>
         requires { IsJudge self.now }
         ensures { IfOk result (TellsBadStep self.now.inst.now (judged self.now)) }
     {
         let labels = self.labels;
         for (number, label) in labels.iter().enumerate() {
-            if let Some(node) = self.uncovered_node(alloc, label)? {
+            if let Some(node) = self.uncovered_node(alloc, looks, label)? {
                 return Ok(Some((number, node)));
             }
         }

@@ -13,6 +13,7 @@ mod faults;
 mod judge;
 mod laws;
 mod links;
+mod looks;
 mod margins;
 mod memory;
 mod nearby;

@@ -11,8 +11,9 @@ ghost use Rattle.near_proof.specs.Targets.{TellsEach};
 use crate::NearLabel;
 use crate::coverage::{Asked, Target};
 use crate::judge::Judge;
+use crate::looks::Looks;
 use crate::memory::{members_of, remembered_among};
-use label_steps::{arrival, covers_all, departures};
+use label_steps::{arrival, departures};
 use piece_fn::PieceFn;
 use std::alloc::{AllocError, Global};
 
@@ -44,6 +45,7 @@ impl Judge<'_> {
     /// Whether each step to a customer leads to a covered state.
     fn customer_is_covered(
         &self,
+        looks: &mut Looks,
         label: &NearLabel,
         members: &[usize],
         node: usize,
@@ -69,7 +71,7 @@ impl Judge<'_> {
             return Ok(true);
         };
         let target = self.after_service(label, members, node, customer);
-        Ok(covers_all(&self.asked(target), &value))
+        Ok(self.asked(target).covers_value(looks, &value))
     }
 
     /// Whether each step to a station, with any charge there, leads to a covered state. The time to
@@ -77,6 +79,7 @@ impl Judge<'_> {
     fn station_is_covered(
         &self,
         alloc: Global,
+        looks: &mut Looks,
         label: &NearLabel,
         node: usize,
     ) -> Result<bool, AllocError>
@@ -98,13 +101,14 @@ impl Judge<'_> {
             count: label.count,
             earned: label.earned,
         };
-        Ok(covers_each(&self.asked(target), &values))
+        Ok(covers_each(&self.asked(target), looks, &values))
     }
 
     /// Whether each step to the node leads to a covered state.
     fn step_is_covered(
         &self,
         alloc: Global,
+        looks: &mut Looks,
         label: &NearLabel,
         members: &[usize],
         node: usize,
@@ -119,10 +123,10 @@ impl Judge<'_> {
             return Ok(true);
         }
         if self.inst.curve_at(node).is_some() {
-            return self.station_is_covered(alloc, label, node);
+            return self.station_is_covered(alloc, looks, label, node);
         }
         match self.inst.customer_number(node) {
-            Some(customer) => self.customer_is_covered(label, members, node, customer),
+            Some(customer) => self.customer_is_covered(looks, label, members, node, customer),
             None => Ok(true),
         }
     }
@@ -131,6 +135,7 @@ impl Judge<'_> {
     pub(crate) fn uncovered_node(
         &self,
         alloc: Global,
+        looks: &mut Looks,
         label: &NearLabel,
     ) -> Result<Option<usize>, AllocError>
         requires judge { IsJudge self.now }
@@ -139,7 +144,7 @@ impl Judge<'_> {
     {
         let members = members_of(alloc, label.memory)?;
         for node in 0..self.inst.nodes() {
-            if !self.step_is_covered(alloc, label, &members, node)? {
+            if !self.step_is_covered(alloc, looks, label, &members, node)? {
                 return Ok(Some(node));
             }
         }
@@ -148,11 +153,11 @@ impl Judge<'_> {
 }
 
 /// Whether each state of each of the values is covered.
-fn covers_each(asked: &Asked<'_>, values: &[PieceFn]) -> bool
+fn covers_each(asked: &Asked<'_>, looks: &mut Looks, values: &[PieceFn]) -> bool
     ensures { TellsEach asked.now values.now result }
 {
     for value in values {
-        if !covers_all(asked, value) {
+        if !asked.covers_value(looks, value) {
             return false;
         }
     }

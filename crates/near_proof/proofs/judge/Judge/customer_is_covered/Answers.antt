@@ -44,6 +44,6 @@ returns c =
     let arrival : IsArrival (energy c.args.self.now.inst.now c.args.label.now.node c.args.node) (drive_time c.args.self.now.inst.now c.args.label.now.node c.args.node) (scaled_limit c.args.self.now.inst.now) c.args.self.now.inst.now.reserve (level_times c.args.label.now.value) (level_times c.in-Some.value) = subst (λ r. IsArrival (energy c.args.self.now.inst.now c.args.label.now.node c.args.node) (drive_time c.args.self.now.inst.now c.args.label.now.node c.args.node) (scaled_limit c.args.self.now.inst.now) r (level_times c.args.label.now.value) (level_times c.in-Some.value)) c.min_q-least.ensures.value named in
     let few = c.if-label-customers.false in
     let count : length c.customers.result.now ≡ customer_count c.args.self.now.inst.now = ap length c.customers.ensures.value ∙ counted g in
-    tells g j l x c.covers_all.result
-    (λ is. customer_covered g j l x n t w c.requires.customer.0 number c.after_service-target.ensures arrival (subst (λ (a : Asking). IsCoveredAll (covers a) (level_times c.in-Some.value)) c.asked.ensures (c.covers_all.ensures.covered is)))
-    (λ isnt. customer_missed g j l x n t w c.requires.customer.0 number c.after_service-target.ensures arrival c.requires.known c.requires.moves (sym c.has.ensures.value ∙ c.if-has.false) (omega (arith, few, count)) (subst (λ (a : Asking). IsMissed (covers a) (level_times c.in-Some.value)) c.asked.ensures (c.covers_all.ensures.missed isnt)))
+    tells g j l x c.covers_value.result
+    (λ is. customer_covered g j l x n t w c.requires.customer.0 number c.after_service-target.ensures arrival (subst (λ (a : Asking). IsCoveredAll (covers a) (level_times c.in-Some.value)) c.asked.ensures (c.covers_value.ensures.covered is)))
+    (λ isnt. customer_missed g j l x n t w c.requires.customer.0 number c.after_service-target.ensures arrival c.requires.known c.requires.moves (sym c.has.ensures.value ∙ c.if-has.false) (omega (arith, few, count)) (subst (λ (a : Asking). IsMissed (covers a) (level_times c.in-Some.value)) c.asked.ensures (c.covers_value.ensures.missed isnt)))
