@@ -148,7 +148,7 @@ impl Fleet {
     }
 
     /// Remembers a route as it is, where it wasn't changed in this turn yet.
-    fn touch(&mut self, alloc: Global, number: usize) -> Result<(), AllocError> {
+    pub(crate) fn touch(&mut self, alloc: Global, number: usize) -> Result<(), AllocError> {
         if self.is_touched(number) {
             return Ok(());
         }

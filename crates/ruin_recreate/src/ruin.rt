@@ -70,6 +70,7 @@ impl Search {
         let length = tour.order.len();
         let at = place_of(&tour.order, customer);
         let cut = self.cut(length, at, longest);
+        self.fleet.touch(alloc, number)?;
         self.part(number, cut)?;
         let time = if self.trial.is_empty() {
             Some(0)
