@@ -26,6 +26,20 @@ const EXACT: CommandOption = CommandOption {
     is_required: false,
 };
 
+const BEGIN: CommandOption = CommandOption {
+    word: "--begin",
+    value: OptionValue::Word { form: "HH:MM" },
+    is_required: false,
+};
+
+const UNIT: CommandOption = CommandOption {
+    word: "--unit",
+    value: OptionValue::Word {
+        form: "s, min or h",
+    },
+    is_required: false,
+};
+
 const SVG: CommandOption = CommandOption {
     word: "--svg",
     value: OptionValue::Name,
@@ -38,10 +52,16 @@ const JSON: CommandOption = CommandOption {
     is_required: false,
 };
 
+const CSV: CommandOption = CommandOption {
+    word: "--csv",
+    value: OptionValue::Name,
+    is_required: false,
+};
+
 /// It has no commands but one without a word.
 pub(crate) const COMMANDS: &[Command] = &[Command {
     word: "",
     names: &["FILE", "PLAN"],
     more: 0,
-    options: &[LIMIT, ROUTE, EXACT, SVG, JSON],
+    options: &[LIMIT, ROUTE, EXACT, BEGIN, UNIT, SVG, JSON, CSV],
 }];

@@ -4,7 +4,7 @@ use crate::commands::COMMANDS;
 use evview_run::Cause;
 pub(crate) use plain_words::Failed;
 use plain_words::{
-    Instances, JobNames, Sentence, left_behind, rejected_plan, told_refusal, wrong_word,
+    Instances, JobNames, Sentence, left_in, rejected_plan, told_refusal, wrong_word,
 };
 use std::alloc::{AllocError, Global};
 use std::rt::Files;
@@ -20,7 +20,8 @@ pub(crate) fn told_behind<R: Files>(
     cause: Option<Cause>,
 ) -> Result<Option<String>, AllocError> {
     let Some(job) = job else {
-        return wrong_word(alloc, "evview", COMMANDS, words);
+        let wrong = wrong_word(alloc, "evview", COMMANDS, words)?;
+        return wrong_or_clock(alloc, wrong, words);
     };
     let names = names_of(job);
     let sentence = match cause {
@@ -35,6 +36,28 @@ pub(crate) fn told_behind<R: Files>(
     Ok(Some(sentence.told(alloc, &names)?))
 }
 
+/// What is wrong with words that name no job: what was found, or else their clock, where they have
+/// words of one.
+fn wrong_or_clock(
+    alloc: Global,
+    wrong: Option<String>,
+    words: &[String],
+) -> Result<Option<String>, AllocError> {
+    if wrong.is_some() || !words.iter().any(|word| is_of_clock(word.as_str())) {
+        return Ok(wrong);
+    }
+    Ok(Some(String::from_str(
+        alloc,
+        "--begin is a time of day from 00:00 to 23:59, --unit is s, min or h, or one of them \
+with /N behind it, N from 1 to 1000000000, and both are given or neither",
+    )?))
+}
+
+/// Whether a word is an option of the clock.
+fn is_of_clock(word: &str) -> bool {
+    word.starts_with("--begin") || word.starts_with("--unit")
+}
+
 /// What stands in the files of a job where a file or the output failed; where it was the output,
 /// an answer with this cause was to go to it.
 pub(crate) fn told_left(
@@ -45,12 +68,21 @@ pub(crate) fn told_left(
 ) -> Result<Option<String>, AllocError> {
     match (job, failed) {
         (Some(_), Failed::Output) if cause.is_some() => Ok(None),
-        (Some(job), _) => left_behind(alloc, &names_of(job), failed),
+        (Some(job), _) => left_in(alloc, &written_by(job), failed),
         (None, _) => Ok(None),
     }
 }
 
-/// What a job reads and writes.
+/// The files that a job writes, in order.
+fn written_by(job: &Job) -> [Option<&str>; 3] {
+    [
+        job.svg.as_ref().map(|name| name.as_str()),
+        job.json.as_ref().map(|name| name.as_str()),
+        job.csv.as_ref().map(|name| name.as_str()),
+    ]
+}
+
+/// What a job reads.
 fn names_of(job: &Job) -> JobNames<'_> {
     JobNames {
         instances: Instances::One(job.file.as_str()),
@@ -59,10 +91,8 @@ fn names_of(job: &Job) -> JobNames<'_> {
         plan: Some(job.plan.as_str()),
         proof: None,
         proof_is: "a certificate",
-        writes: [
-            job.svg.as_ref().map(|name| name.as_str()),
-            job.json.as_ref().map(|name| name.as_str()),
-        ],
+        // More than two may be written: `written_by` has them all.
+        writes: [None, None],
         has_search: false,
         judge: None,
     }

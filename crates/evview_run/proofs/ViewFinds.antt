@@ -1,7 +1,8 @@
 -- What is found, and which of the reads failed.
 use Rattle.std.specs.Borrow.{Bor}
 use Rattle.std.specs.Option.{option_map}
-use Rattle.std.proofs.Common.{◌≡◌, ◌≢◌, ◌⊎◌, ℕ, ◌≤◌, List, [], ◌∷◌, ◌++◌, Global, Option, None, Some, Result, Ok, Err, IfOk, IfSome, String, ap, inl, inr, map, refl, string_bytes, subst, sym}
+use Rattle.std.proofs.Common.{◌≡◌, ◌≢◌, ◌⊎◌, ℕ, ◌≤◌, List, [], ◌∷◌, ◌++◌, true, Option, None, Some, Result, Ok, Err, IfOk, IfSome, ap, inl, inr, map, refl, subst, sym}
+use Rattle.call_words.specs.Names.{are_different}
 use Rattle.ev_model.specs.Fleet.{IsFleetPlan}
 use Rattle.ev_model.specs.Network.{Network}
 use Rattle.ev_outside.specs.Shelf.{Files, ShelfState}
@@ -28,14 +29,11 @@ use Rattle.refusal_lines.specs.RejectedText.{rejected_text}
 use Rattle.refusal_lines.specs.RefusalText.{IsRule, refusal_text}
 use Rattle.refusal_lines.specs.declared.refusal.Refusal.{Refusal}
 use Rattle.route_plan.specs.declared.plan.FleetPlan.{FleetPlan}
-use Rattle.schedule_texts.specs.JsonTexts.{json_text}
-use Rattle.schedule_texts.specs.Pictures.{picture_text}
 use Rattle.schedule_texts.specs.Tables.{table_text}
-use Rattle.view_words.specs.JobValue.{IsJob, job_value}
-use Rattle.view_words.specs.Words.{ViewPlan}
-use Rattle.view_words.specs.declared.Job.{Job}
-use Rattle.evview_run.specs.ViewAnswer.{HasRoute, PutsNoRoute, PutsRefusal, ViewAnswers, file_of, no_route_text, route_count, shown_of, view_task, view_heard}
+use Rattle.view_words.specs.Words.{ViewPlan, written_names}
+use Rattle.evview_run.specs.ViewAnswer.{HasRoute, PutsNoRoute, PutsRefusal, ViewAnswers, clock_of, files_of, no_route_text, route_count, shown_of, view_task, view_heard}
 use Rattle.evview_run.specs.declared.cause.Cause.{Cause}
+use Rattle.evview_run.proofs.WrittenNames.{files_differ}
 use Rattle.job_frame.proofs.Hearing.{HearsOfFound}
 
 -- a plan that costs something is a fleet plan
@@ -51,8 +49,8 @@ module _ (job : ViewPlan) (bytes plan_bytes : List ℕ) where
   -- a schedule, with the files that are asked for
   pub puts_schedule : {E : Type 0} (g : Network) (plan : Option FleetPlan) (cost : Option ℕ) (made : Result (Found Cause) E) → HasPlan job.limit bytes plan_bytes g plan → IsValid g plan cost → HasRoute job.route plan
       → IfOk made (λ f. f.answer.status ≡ status.Done)
-      → IfOk made (λ f. map written_by f.files.items ≡ file_of job.svg (picture_text (shown_of g job.route plan)) ++ file_of job.json (json_text (shown_of g job.route plan)))
-      → IfOk made (λ f. f.answer.text.items ≡ table_text job.exact (shown_of g job.route plan))
+      → IfOk made (λ f. map written_by f.files.items ≡ files_of job (shown_of g job.route plan))
+      → IfOk made (λ f. f.answer.text.items ≡ table_text job.exact (clock_of job.clock) (shown_of g job.route plan))
       → IfOk made (λ f. ViewAnswers job bytes plan_bytes f.answer.status (map written_by f.files.items) f.answer.text.items)
   puts_schedule {E} g plan cost (Err e) has valid route answered files text = tt
   puts_schedule {E} g plan cost (Ok f) has valid route answered files text =
@@ -106,35 +104,13 @@ puts_refusal {E} job bytes plan_bytes g ended r made network is rule refused ans
 
 -- ---- what the bytes of both files answer
 
--- the two files that are written have different names
-abbrev pub DifferIfBoth : Option (List ℕ) → Option (List ℕ) → Type 0
-DifferIfBoth svg json = IfSome svg (λ s. IfSome json (λ j. s ≢ j))
-
-pub job_differs : (w : Job) → IsJob w → DifferIfBoth (job_value w).svg (job_value w).json
-job_differs w is = by w.svg w.json is
-  where
-    by : (svg json : Option (String Global)) → IfSome svg (λ s. IfSome json (λ j. string_bytes s ≢ string_bytes j))
-        → DifferIfBoth (option_map (λ s. string_bytes s) svg) (option_map (λ s. string_bytes s) json)
-    by None json is = tt
-    by (Some svg) None is = tt
-    by (Some svg) (Some json) is = is
-
-files_differ : (svg json : Option (List ℕ)) (picture schedule : List ℕ) (ws : List Written) → DifferIfBoth svg json → ws ≡ file_of svg picture ++ file_of json schedule → AreDifferent ws
-files_differ svg json picture schedule ws differ is = subst (λ (xs : List Written). AreDifferent xs) (sym is) (by svg json differ)
-  where
-    by : (svg json : Option (List ℕ)) → DifferIfBoth svg json → AreDifferent (file_of svg picture ++ file_of json schedule)
-    by None None differ = tt
-    by None (Some json) differ = (tt, tt)
-    by (Some svg) None differ = (tt, tt)
-    by (Some svg) (Some json) differ = ((differ, tt), (tt, tt))
-
 refused_writes : (job : ViewPlan) (bytes plan_bytes : List ℕ) (ws : List Written) (text : List ℕ)
     → PutsRefusal job bytes plan_bytes ws text ⊎ PutsNoRoute job bytes plan_bytes ws text → AreDifferent ws
 refused_writes job bytes plan_bytes ws text (inl p) = no_write ws p.none
 refused_writes job bytes plan_bytes ws text (inr p) = no_write ws p.none
 
-answer_is_plain : (job : ViewPlan) (bytes plan_bytes : List ℕ) (s : Status) (ws : List Written) (text : List ℕ) → DifferIfBoth job.svg job.json → ViewAnswers job bytes plan_bytes s ws text → IsAnswered s × AreDifferent ws
-answer_is_plain job bytes plan_bytes status.Done ws text differ p = (tt, files_differ job.svg job.json (picture_text p.shown) (json_text p.shown) ws differ p.written)
+answer_is_plain : (job : ViewPlan) (bytes plan_bytes : List ℕ) (s : Status) (ws : List Written) (text : List ℕ) → are_different (written_names job) ≡ true → ViewAnswers job bytes plan_bytes s ws text → IsAnswered s × AreDifferent ws
+answer_is_plain job bytes plan_bytes status.Done ws text differ p = (tt, files_differ job p.shown ws differ p.written)
 answer_is_plain job bytes plan_bytes status.Negative ws text differ p = (tt, no_write ws p.none)
 answer_is_plain job bytes plan_bytes status.Refused ws text differ p = (tt, refused_writes job bytes plan_bytes ws text p)
 answer_is_plain job bytes plan_bytes status.Words ws text differ p = absurd p
@@ -142,7 +118,7 @@ answer_is_plain job bytes plan_bytes status.Fault ws text differ p = absurd p
 answer_is_plain job bytes plan_bytes status.Memory ws text differ p = absurd p
 answer_is_plain job bytes plan_bytes status.Stopped ws text differ p = absurd p
 
-pub view_found : {E : Type 0} (job : ViewPlan) (files : Option Files) (bytes plan_bytes given : List ℕ) (made : Result (Found Cause) E) → DifferIfBoth job.svg job.json
+pub view_found : {E : Type 0} (job : ViewPlan) (files : Option Files) (bytes plan_bytes given : List ℕ) (made : Result (Found Cause) E) → are_different (written_names job) ≡ true
     → AreReadUpTo most_bytes files job.file bytes → AreReadUpTo most_bytes files job.plan plan_bytes → given ≡ plan_bytes
     → IfOk made (λ f. ViewAnswers job bytes given f.answer.status (map written_by f.files.items) f.answer.text.items) → IfOk made (HearsOfFound view_heard)
     → IfOk made (λ f. IsFoundFor (view_task job) files f)

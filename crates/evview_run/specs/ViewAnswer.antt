@@ -20,8 +20,11 @@ use Rattle.refusal_lines.specs.declared.refusal.Refusal.{Refusal}
 use Rattle.route_plan.specs.declared.plan.FleetPlan.{FleetPlan}
 use Rattle.schedule_texts.specs.JsonTexts.{json_text}
 use Rattle.schedule_texts.specs.Pictures.{picture_text}
+use Rattle.schedule_texts.specs.Spreadsheets.{csv_text}
 use Rattle.schedule_texts.specs.Tables.{table_text}
+use Rattle.schedule_texts.specs.declared.clock.Clock.{Clock}
 use Rattle.view_words.specs.Words.{ViewPlan}
+use Rattle.view_words.specs.declared.clock.DayClock.{DayClock}
 use Rattle.evview_run.specs.declared.cause.Cause.{Cause}
 use Rattle.evview_run.specs.declared.cause.Cause.TheVariants as cause
 
@@ -54,9 +57,21 @@ abbrev pub shown_of : Network → Option ℕ → Option FleetPlan → Option Sch
 shown_of g route None = None
 shown_of g route (Some plan) = Some (part_of (schedule_of g (stops_of plan.routes)) route)
 
+-- the clock of the words, as that of the texts
+abbrev pub clock_of : Option DayClock → Option Clock
+clock_of None = None
+clock_of (Some c) = Some (record { begin = c.begin; seconds = c.seconds; parts = c.parts })
+
+-- the files that are asked for
+abbrev pub files_of : ViewPlan → Option Schedule → List Written
+files_of job shown =
+    file_of job.svg (picture_text (clock_of job.clock) shown)
+    ++ file_of job.json (json_text (clock_of job.clock) shown)
+    ++ file_of job.csv (csv_text (clock_of job.clock) shown)
+
 -- The plan is a fleet plan, or there is none, and the one route that is asked for is there. Its
--- schedule is put as tables, behind the files that are asked for, with its pictures and with it as
--- JSON.
+-- schedule is put as tables, behind the files that are asked for, with its pictures, and with it as
+-- JSON and as CSV.
 pub record PutsSchedule (job : ViewPlan) (bytes plan_bytes : List ℕ)
     (ws : List Written) (text : List ℕ) : Type 0 where
   pub files : HoldsPlan job.limit bytes plan_bytes
@@ -65,9 +80,8 @@ pub record PutsSchedule (job : ViewPlan) (bytes plan_bytes : List ℕ)
   pub route : HasRoute job.route files.plan
   pub shown : Option Schedule
   pub is : shown ≡ shown_of files.network job.route files.plan
-  pub written : ws
-      ≡ file_of job.svg (picture_text shown) ++ file_of job.json (json_text shown)
-  pub text_is : text ≡ table_text job.exact shown
+  pub written : ws ≡ files_of job shown
+  pub text_is : text ≡ table_text job.exact (clock_of job.clock) shown
 
 -- the first rule that the plan breaks is put, and nothing is written
 pub record PutsBrokenPlan (job : ViewPlan) (bytes plan_bytes : List ℕ)

@@ -18,11 +18,13 @@ use view_words::{Job, job_words, usage};
 
 /// The program: its words after its name, the files and the output.
 ///
-/// `FILE PLAN [--limit N] [--route N] [--exact] [--svg OUT] [--json OUT]` reads FILE as an instance
-/// with any number of customers, and PLAN as a fleet plan, or none; it writes the pictures of the
-/// plan's schedule into the OUT of `--svg`, and the schedule as JSON into that of `--json`, and
-/// puts the schedule as a table a route ([`Status::Done`]). `--route` leaves all routes out but
-/// one. Where the plan breaks a rule, the first one is put ([`Status::Negative`]).
+/// `FILE PLAN [--limit N] [--route N] [--exact] [--begin HH:MM --unit U] [--svg OUT] [--json OUT]
+/// [--csv OUT]` reads FILE as an instance with any number of customers, and PLAN as a fleet plan,
+/// or none; it writes the pictures of the plan's schedule into the OUT of `--svg`, the schedule as
+/// JSON into that of `--json`, and as CSV into that of `--csv`, and puts the schedule as a table a
+/// route ([`Status::Done`]). `--route` leaves all routes out but one; with `--begin` and `--unit`
+/// is told by the clock when something happens. Where the plan breaks a rule, the first one is put
+/// ([`Status::Negative`]).
 ///
 /// The line of the first broken rule of the files and words is put ([`Status::Refused`]): of the
 /// instance, of the limit, of the text of the plan, or that the plan has no such route. Other words

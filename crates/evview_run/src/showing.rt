@@ -2,15 +2,18 @@
 
 ghost use Rattle.std.specs.Prelude.{◌≡◌, ◌<◌, ◌++◌, IfOk, IfSome, None, OnOk, Some, length, map, option_map, string_bytes};
 ghost use Rattle.ev_model.specs.Fleet.{IsFleetPlan};
-ghost use Rattle.evview_run.specs.ViewAnswer.{HasRoute, file_of, part_of, shown_of};
+ghost use Rattle.evview_run.specs.ViewAnswer.{HasRoute, clock_of, file_of, files_of, part_of, shown_of};
 ghost use Rattle.job_frame.specs.Finds.{written_by};
 ghost use Rattle.plan_check.specs.FleetRules.{stops_of};
 ghost use Rattle.plan_schedule.specs.Schedules.{IsTimed};
 ghost use Rattle.route_plan.specs.PlanTexts.{FitsFile};
+ghost use Rattle.schedule_texts.specs.Clocks.{AreClocks};
 ghost use Rattle.schedule_texts.specs.JsonTexts.{json_text};
 ghost use Rattle.schedule_texts.specs.Options.{AreTimed};
 ghost use Rattle.schedule_texts.specs.Pictures.{picture_text};
+ghost use Rattle.schedule_texts.specs.Spreadsheets.{csv_text};
 ghost use Rattle.schedule_texts.specs.Tables.{table_text};
+ghost use Rattle.view_words.specs.Clocks.{IsDayClock};
 ghost use Rattle.view_words.specs.JobValue.{job_value};
 
 use crate::cause::Cause;
@@ -18,9 +21,9 @@ use instance_reader::Instance;
 use job_frame::{Answer, Found, NewFile, Status};
 use plan_schedule::{Schedule, only_route, schedule_plan};
 use route_plan::FleetPlan;
-use schedule_texts::{schedule_json, schedule_picture, schedule_table};
+use schedule_texts::{Clock, schedule_csv, schedule_json, schedule_picture, schedule_table};
 use std::alloc::{AllocError, Global};
-use view_words::Job;
+use view_words::{DayClock, Job};
 
 /// What is found for a fleet plan, or for none, with the one route that is asked for: its tables,
 /// and the files that are asked for.
@@ -33,21 +36,22 @@ pub fn show(
     requires fleet { IfSome plan (λ p. IsFleetPlan inst.now 1 (stops_of p.now.routes)) }
     requires text { FitsFile (option_map (λ p. p.now) plan) }
     requires route { HasRoute job.now.route (option_map (λ p. p.now) plan) }
+    requires clock { IfSome job.now.clock IsDayClock }
     ensures status { IfOk result (λ f. f.answer.status ≡ Status.Done) }
-    ensures files { IfOk result (λ f. map written_by f.files.items
-        ≡ file_of (job_value job.now).svg
-        (picture_text (shown_of inst.now job.now.route (option_map (λ p. p.now) plan.entry)))
-        ++ file_of (job_value job.now).json
-        (json_text (shown_of inst.now job.now.route (option_map (λ p. p.now) plan.entry)))) }
-    ensures text { IfOk result (λ f. f.answer.text.items ≡ table_text job.now.exact
+    ensures files { IfOk result (λ f. map written_by f.files.items ≡ files_of (job_value job.now)
+        (shown_of inst.now job.now.route (option_map (λ p. p.now) plan.entry))) }
+    ensures text { IfOk result (λ f. f.answer.text.items
+        ≡ table_text job.now.exact (clock_of job.now.clock)
         (shown_of inst.now job.now.route (option_map (λ p. p.now) plan.entry))) }
     ensures cause { IfOk result (λ f. f.answer.cause ≡ None) }
 {
     let shown = shown(alloc, inst, plan, job.route)?;
-    let text = schedule_table(alloc, shown.as_ref(), job.exact)?;
+    let clock = clock_of(job.clock);
+    let text = schedule_table(alloc, shown.as_ref(), job.exact, clock)?;
     let mut files = Vec::new(alloc);
-    push_picture(alloc, &mut files, &job.svg, shown.as_ref())?;
-    push_json(alloc, &mut files, &job.json, shown.as_ref())?;
+    push_picture(alloc, &mut files, &job.svg, shown.as_ref(), clock)?;
+    push_json(alloc, &mut files, &job.json, shown.as_ref(), clock)?;
+    push_csv(alloc, &mut files, &job.csv, shown.as_ref(), clock)?;
     let answer = Answer {
         status: Status::Done,
         text,
@@ -89,22 +93,40 @@ fn part_of(whole: Schedule, route: Option<u64>) -> Option<Schedule>
     }
 }
 
+/// The clock of the words, as that of the texts.
+fn clock_of(clock: Option<DayClock>) -> Option<Clock>
+    requires { IfSome clock IsDayClock }
+    ensures value { result ≡ clock_of clock }
+    ensures are { AreClocks result }
+{
+    match clock {
+        Some(clock) => Some(Clock {
+            begin: clock.begin,
+            seconds: clock.seconds,
+            parts: clock.parts,
+        }),
+        None => None,
+    }
+}
+
 /// Appends the file with the pictures, where it has a name.
 fn push_picture(
     alloc: Global,
     files: &mut Vec<NewFile>,
     name: &Option<String>,
     shown: Option<&Schedule>,
+    clock: Option<Clock>,
 ) -> Result<(), AllocError>
-    requires { AreTimed (option_map (λ s. s.now) shown) }
+    requires timed { AreTimed (option_map (λ s. s.now) shown) }
+    requires clock { AreClocks clock }
     ensures { OnOk result (map written_by files.new.items ≡ map written_by files.old.items
         ++ file_of (option_map (λ s. string_bytes s) name.now)
-        (picture_text (option_map (λ s. s.now) shown.entry))) }
+        (picture_text clock (option_map (λ s. s.now) shown.entry))) }
 {
     let Some(name) = name else {
         return Ok(());
     };
-    let bytes = schedule_picture(alloc, shown)?;
+    let bytes = schedule_picture(alloc, shown, clock)?;
     files.push(NewFile::new(alloc, name.as_str(), bytes)?)?;
     Ok(())
 }
@@ -115,15 +137,40 @@ fn push_json(
     files: &mut Vec<NewFile>,
     name: &Option<String>,
     shown: Option<&Schedule>,
+    clock: Option<Clock>,
 ) -> Result<(), AllocError>
+    requires timed { AreTimed (option_map (λ s. s.now) shown) }
+    requires clock { AreClocks clock }
     ensures { OnOk result (map written_by files.new.items ≡ map written_by files.old.items
         ++ file_of (option_map (λ s. string_bytes s) name.now)
-        (json_text (option_map (λ s. s.now) shown.entry))) }
+        (json_text clock (option_map (λ s. s.now) shown.entry))) }
 {
     let Some(name) = name else {
         return Ok(());
     };
-    let bytes = schedule_json(alloc, shown)?;
+    let bytes = schedule_json(alloc, shown, clock)?;
+    files.push(NewFile::new(alloc, name.as_str(), bytes)?)?;
+    Ok(())
+}
+
+/// Appends the file with the schedule as CSV, where it has a name.
+fn push_csv(
+    alloc: Global,
+    files: &mut Vec<NewFile>,
+    name: &Option<String>,
+    shown: Option<&Schedule>,
+    clock: Option<Clock>,
+) -> Result<(), AllocError>
+    requires timed { AreTimed (option_map (λ s. s.now) shown) }
+    requires clock { AreClocks clock }
+    ensures { OnOk result (map written_by files.new.items ≡ map written_by files.old.items
+        ++ file_of (option_map (λ s. string_bytes s) name.now)
+        (csv_text clock (option_map (λ s. s.now) shown.entry))) }
+{
+    let Some(name) = name else {
+        return Ok(());
+    };
+    let bytes = schedule_csv(alloc, shown, clock)?;
     files.push(NewFile::new(alloc, name.as_str(), bytes)?)?;
     Ok(())
 }

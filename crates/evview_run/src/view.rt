@@ -69,6 +69,7 @@ fn view_text(
     bytes: &[u8],
     job: &Job,
 ) -> Result<Found<Cause>, ShelfFault>
+    requires { IsJob job.now }
     ensures answers { (file : List ℕ) → HasNetwork job.now.limit file inst.now
         → IfOk result (λ f. ViewAnswers (job_value job.now) file bytes.now
         f.answer.status (map written_by f.files.items) f.answer.text.items) }
@@ -93,7 +94,8 @@ fn view_plan(
     plan: Option<&FleetPlan>,
     job: &Job,
 ) -> Result<Found<Cause>, AllocError>
-    requires { FitsFile (option_map (λ p. p.now) plan) }
+    requires job { IsJob job.now }
+    requires text { FitsFile (option_map (λ p. p.now) plan) }
     ensures answers { (file plan_bytes : List ℕ)
         → HasPlan job.now.limit file plan_bytes inst.now (option_map (λ p. p.now) plan.entry)
         → IfOk result (λ f. ViewAnswers (job_value job.now) file plan_bytes
@@ -158,6 +160,7 @@ fn view_judged(
     plan: Option<&FleetPlan>,
     job: &Job,
 ) -> Result<Found<Cause>, AllocError>
+    requires job { IsJob job.now }
     requires text { FitsFile (option_map (λ p. p.now) plan) }
     requires route { HasRoute job.now.route (option_map (λ p. p.now) plan) }
     ensures answers { (file plan_bytes : List ℕ)

@@ -25,6 +25,8 @@ pub enum OptionValue {
     Number { least: u64, most: u64 },
     /// The name of a file.
     Name,
+    /// A word of another form, as it is written in a usage text.
+    Word { form: &'static str },
     /// Nothing.
     Nothing,
 }

@@ -22,8 +22,17 @@ pub fn left_behind(
     names: &JobNames<'_>,
     failed: Failed<'_>,
 ) -> Result<Option<String>, AllocError> {
-    match place_of(&names.writes, failed) {
-        Some(at) => told_of(alloc, &names.writes, at, left_of(failed)),
+    left_in(alloc, &names.writes, failed)
+}
+
+/// The same of these files, any number of them, in the order in which they are written.
+pub fn left_in(
+    alloc: Global,
+    files: &[Option<&str>],
+    failed: Failed<'_>,
+) -> Result<Option<String>, AllocError> {
+    match place_of(files, failed) {
+        Some(at) => told_of(alloc, files, at, left_of(failed)),
         None => Ok(None),
     }
 }
@@ -59,7 +68,7 @@ fn told_of(
         let Some(file) = file else {
             continue;
         };
-        if at > 0 {
+        if !told.is_empty() {
             told.push_str(", ")?;
         }
         told.push_str(file)?;

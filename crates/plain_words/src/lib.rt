@@ -20,7 +20,7 @@ mod wrong_words;
 
 pub use commands::{Command, CommandOption, OptionValue};
 pub use json::broken_json;
-pub use left::{Failed, left_behind};
+pub use left::{Failed, left_behind, left_in};
 pub use length::long_proof;
 pub use names::{Instances, JobNames, are_regular};
 pub use refusals::{refused, told_refusal};

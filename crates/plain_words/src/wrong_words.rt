@@ -174,7 +174,11 @@ fn wrong_value(
         (OptionValue::Name, None) => {
             Ok(Some(format!(in alloc; "{word} needs a name behind it")?))
         }
-        (OptionValue::Name, Some(_)) | (OptionValue::Nothing, _) => Ok(None),
+        (OptionValue::Word { form }, None) => {
+            Ok(Some(format!(in alloc; "{word} needs {form} behind it")?))
+        }
+        (OptionValue::Name, Some(_)) | (OptionValue::Word { .. }, Some(_)) => Ok(None),
+        (OptionValue::Nothing, _) => Ok(None),
     }
 }
 

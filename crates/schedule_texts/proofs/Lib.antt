@@ -1,3 +1,4 @@
 pub mod Sizes
 pub mod Joined
 mod Steps
+mod Cells

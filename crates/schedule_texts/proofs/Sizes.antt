@@ -76,6 +76,29 @@ x_small time width latest small narrow =
     let less : time * width / latest ≤ time * width = div-le_self (time * width) latest in
     omega (arith, most, less)
 
+-- the parts of a second
+pub part_fits : (d p : ℕ) → d ≤ 10 ^ 9 → p ≤ 10 ^ 9 → d * p ≤ 10 ^ 18
+part_fits d p small few = let most : d * p ≤ 10 ^ 9 * 10 ^ 9 = mul-le-mul small few in omega (arith, most)
+
+pub part_narrow : (d p : ℕ) → d ≤ 10 ^ 9 → p ≤ 10 ^ 9 → d * p < 2 ^ 128
+part_narrow d p small few = let most = part_fits d p small few in omega (arith, most)
+
+pub part_some : (d p : ℕ) → 1 ≤ d → 1 ≤ p → 1 ≤ d * p
+part_some d p some more = let least : 1 * 1 ≤ d * p = mul-le-mul some more in omega (arith, least)
+
+pub second_fits : (time seconds : ℕ) → time < 2 ^ 64 → seconds ≤ 3600 → time * seconds < 2 ^ 76
+second_fits time seconds small short =
+    let up_to : time ≤ 2 ^ 64 = omega (arith, small) in
+    let most : time * seconds ≤ 2 ^ 64 * 3600 = mul-le-mul up_to short in
+    omega (arith, most)
+
+pub second_small : (sum over : ℕ) → sum < 2 ^ 80 → sum / over < 2 ^ 80
+second_small sum over small = let less : sum / over ≤ sum = div-le_self sum over in omega (arith, less, small)
+
+pub ruleset part_sizes = (part_fits, part_narrow, part_some)
+
+pub ruleset second_sizes = (second_fits, second_small)
+
 pub ruleset x_sizes = (x_fits, x_small)
 
 pub ruleset mark_sizes = (mark_fits, mark_wide, mark_small)

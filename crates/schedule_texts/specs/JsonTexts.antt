@@ -6,6 +6,8 @@ use Rattle.plan_schedule.specs.declared.schedule.RouteSchedule.{RouteSchedule}
 use Rattle.plan_schedule.specs.declared.schedule.Schedule.{Schedule}
 use Rattle.plan_schedule.specs.declared.schedule.Totals.{Totals}
 use Rattle.plan_schedule.specs.declared.schedule.Visit.{Visit}
+use Rattle.schedule_texts.specs.Clocks.{clock_text}
+use Rattle.schedule_texts.specs.declared.clock.Clock.{Clock}
 
 -- a name with its number, behind what parts it from others
 abbrev pub field : List ℕ → ℕ → List ℕ
@@ -43,13 +45,22 @@ stay_fields v =
     ++ field (codes ",\"level_left\":") v.level_left
     ++ field (codes ",\"leaving\":") v.leaving
 
+-- when the vehicle arrives and leaves by the clock, where there is one
+unfoldable pub clock_fields : Option Clock → ℕ → Visit → List ℕ
+clock_fields None denominator v = []
+clock_fields (Some c) denominator v =
+    codes ",\"arrival_clock\":\"" ++ clock_text c denominator v.arrival
+    ++ codes "\",\"leaving_clock\":\"" ++ clock_text c denominator v.leaving ++ codes "\""
+
 -- where a stop is
 unfoldable pub place_fields : Visit → List ℕ
 place_fields v =
     field (codes "{\"node\":") v.node ++ kind_field v.kind ++ inserted_field v.inserted
 
-abbrev pub visit_text : Visit → List ℕ
-visit_text v = place_fields v ++ way_fields v ++ stay_fields v ++ codes "}"
+abbrev pub visit_text : Option Clock → ℕ → Visit → List ℕ
+visit_text clock denominator v =
+    place_fields v ++ way_fields v ++ stay_fields v ++ clock_fields clock denominator v
+    ++ codes "}"
 
 -- the sums of a route or of a plan
 unfoldable pub totals_text : Totals → List ℕ
@@ -61,23 +72,25 @@ totals_text t =
     ++ field (codes ",\"energy_charged\":") t.energy_charged
     ++ field (codes ",\"stops\":") t.stops ++ codes "}"
 
-unfoldable pub route_text : RouteSchedule → List ℕ
-route_text r =
+unfoldable pub route_text : Option Clock → ℕ → RouteSchedule → List ℕ
+route_text clock denominator r =
     field (codes "{\"route\":") r.number ++ codes ",\"stops\":["
-    ++ items_from visit_text 0 r.visits ++ codes "],\"totals\":" ++ totals_text r.totals
+    ++ items_from (visit_text clock denominator) 0 r.visits ++ codes "],\"totals\":" ++ totals_text r.totals
     ++ codes "}"
 
 -- what stands of a plan behind the format
-unfoldable pub schedule_text : Schedule → List ℕ
-schedule_text s =
+unfoldable pub schedule_text : Option Clock → Schedule → List ℕ
+schedule_text clock s =
     field (codes "\"denominator\":") s.denominator ++ field (codes ",\"full\":") s.full
     ++ field (codes ",\"reserve\":") s.reserve ++ field (codes ",\"home\":") s.home
-    ++ codes ",\"routes\":[" ++ items_from route_text 0 s.routes ++ codes "],\"totals\":"
+    ++ codes ",\"routes\":[" ++ items_from (route_text clock s.denominator) 0 s.routes
+    ++ codes "],\"totals\":"
     ++ totals_text s.totals ++ codes "}\n"
 
-abbrev pub behind_format : Option Schedule → List ℕ
-behind_format None = codes "\"routes\":null}\n"
-behind_format (Some s) = schedule_text s
+abbrev pub behind_format : Option Clock → Option Schedule → List ℕ
+behind_format clock None = codes "\"routes\":null}\n"
+behind_format clock (Some s) = schedule_text clock s
 
-abbrev pub json_text : Option Schedule → List ℕ
-json_text schedule = codes "{\"format\":\"evview schedule 1\"," ++ behind_format schedule
+abbrev pub json_text : Option Clock → Option Schedule → List ℕ
+json_text clock schedule =
+    codes "{\"format\":\"evview schedule 1\"," ++ behind_format clock schedule

@@ -1,8 +1,10 @@
 pub mod Options
 pub mod Decimals
+pub mod Clocks
 pub mod Latest
 pub mod Tables
 pub mod JsonTexts
+pub mod Spreadsheets
 pub mod Scales
 pub mod Axes
 pub mod Frames

@@ -4,6 +4,7 @@ use Rattle.plan_schedule.specs.declared.schedule.RouteSchedule.{RouteSchedule}
 use Rattle.plan_schedule.specs.declared.schedule.Schedule.{Schedule}
 use Rattle.schedule_texts.specs.Panels.{panels_text}
 use Rattle.schedule_texts.specs.Scales.{scale_of}
+use Rattle.schedule_texts.specs.declared.clock.Clock.{Clock}
 use Rattle.schedule_texts.specs.declared.picture.scale.Scale.{Scale}
 
 -- how a page of a size begins
@@ -58,9 +59,9 @@ routes_text scale reserve [] = none_text (codes "no routes")
 routes_text scale reserve (r ∷ rs) =
     head_text scale.width (length (r ∷ rs)) ++ panels_text scale reserve 0 (r ∷ rs)
 
-abbrev pub page_text : Option Schedule → List ℕ
-page_text None = none_text (codes "no plan")
-page_text (Some s) = routes_text (scale_of s) s.reserve s.routes
+abbrev pub page_text : Option Clock → Option Schedule → List ℕ
+page_text clock None = none_text (codes "no plan")
+page_text clock (Some s) = routes_text (scale_of clock s) s.reserve s.routes
 
-abbrev pub picture_text : Option Schedule → List ℕ
-picture_text schedule = page_text schedule ++ codes "</svg>\n"
+abbrev pub picture_text : Option Clock → Option Schedule → List ℕ
+picture_text clock schedule = page_text clock schedule ++ codes "</svg>\n"

@@ -1,8 +1,10 @@
 -- Where times and levels stand in a panel. Lengths are in tenths of a pixel.
-use Rattle.std.specs.Prelude.{ℕ, ◌+◌, ◌-◌, ◌*◌, ◌/◌, ◌≤◌, ◌^◌, List, [], ◌∷◌, length, max, min}
+use Rattle.std.specs.Prelude.{ℕ, ◌+◌, ◌-◌, ◌*◌, ◌/◌, ◌≤◌, ◌^◌, List, [], ◌∷◌, Option, length, max, min}
 use Rattle.plan_schedule.specs.declared.schedule.RouteSchedule.{RouteSchedule}
 use Rattle.plan_schedule.specs.declared.schedule.Schedule.{Schedule}
+use Rattle.schedule_texts.specs.Clocks.{AreClocks}
 use Rattle.schedule_texts.specs.Latest.{latest_of}
+use Rattle.schedule_texts.specs.declared.clock.Clock.{Clock}
 use Rattle.schedule_texts.specs.declared.picture.scale.Scale.{Scale}
 
 -- the most stops of a route
@@ -11,20 +13,22 @@ most_stops most [] = most
 most_stops most (r ∷ rs) = most_stops (max most (length r.visits)) rs
 
 -- a picture is as wide as the most stops of a route ask for, from 800 to 3200 pixels; all panels have the same times
-abbrev pub scale_of : Schedule → Scale
-scale_of s = record {
+abbrev pub scale_of : Option Clock → Schedule → Scale
+scale_of clock s = record {
   width = 200 * min (max (most_stops 0 s.routes) 40) 160;
   latest = latest_of 0 s.routes;
   full = s.full;
   denominator = s.denominator;
+  clock = clock;
 }
 
--- the numbers of a scale are those of an instance
+-- the numbers of a scale are those of an instance and of a clock
 pub record IsScale (scale : Scale) : Type 0 where
   pub wide : 8000 ≤ scale.width
   pub narrow : scale.width ≤ 32000
   pub some_denominator : 1 ≤ scale.denominator
   pub small_denominator : scale.denominator ≤ 10 ^ 9
+  pub clock : AreClocks scale.clock
 
 -- where a scaled time stands, from the left: the latest at the right end
 abbrev pub x_at : Scale → ℕ → ℕ

@@ -1,9 +1,9 @@
 -- The shapes of stops, where the vehicle arrives: a diamond is the depot, a circle a customer, a square a station.
-use Rattle.std.specs.Prelude.{ℕ, ◌+◌, ◌-◌, ◌++◌, List, [], ◌∷◌, codes, decimal}
+use Rattle.std.specs.Prelude.{ℕ, ◌+◌, ◌-◌, ◌++◌, List, [], ◌∷◌, codes, decimal, false}
 use Rattle.plan_schedule.specs.declared.schedule.PlaceKind.{PlaceKind}
 use Rattle.plan_schedule.specs.declared.schedule.PlaceKind.TheVariants.{Depot, Customer, Station}
 use Rattle.plan_schedule.specs.declared.schedule.Visit.{Visit}
-use Rattle.schedule_texts.specs.Decimals.{decimal_text}
+use Rattle.schedule_texts.specs.Clocks.{moment_text}
 use Rattle.schedule_texts.specs.Scales.{x_at, y_at}
 use Rattle.schedule_texts.specs.declared.picture.scale.Scale.{Scale}
 
@@ -48,16 +48,16 @@ abbrev pub place_text : Visit → List ℕ
 place_text v = kind_words v.kind ++ decimal v.node
 
 -- what a pointer at a shape is told
-unfoldable pub title_text : ℕ → ℕ → Visit → List ℕ
-title_text denominator at v =
+unfoldable pub title_text : Scale → ℕ → Visit → List ℕ
+title_text scale at v =
     (codes "<title>stop " ++ decimal at) ++ place_text v ++ codes ", arrival "
-    ++ decimal_text denominator v.arrival ++ (codes ", level " ++ decimal v.level)
+    ++ moment_text scale.clock false scale.denominator v.arrival ++ (codes ", level " ++ decimal v.level)
     ++ codes "</title>"
 
 abbrev pub stop_text : Scale → ℕ → Visit → List ℕ
 stop_text scale at v =
     shape_text v.kind (x_at scale v.arrival) (y_at scale v.level)
-    ++ title_text scale.denominator at v ++ shape_end v.kind
+    ++ title_text scale at v ++ shape_end v.kind
 
 -- the shapes of visits, of which the first has this position
 abbrev pub stops_text : Scale → ℕ → List Visit → List ℕ

@@ -1,5 +1,5 @@
 -- The schedule as a table.
-use Rattle.std.specs.Prelude.{ℕ, ◌+◌, ◌++◌, Bool, List, [], ◌∷◌, Option, None, Some, codes, decimal, length, max, nat_lt, if◌then◌else◌}
+use Rattle.std.specs.Prelude.{ℕ, ◌+◌, ◌++◌, ◌≤◌, ◌^◌, Bool, List, [], ◌∷◌, Option, None, Some, codes, decimal, length, max, nat_lt, if◌then◌else◌}
 use Rattle.ev_text.specs.Texts.{joined_texts}
 use Rattle.report_lines.specs.Lines.{number_line}
 use Rattle.plan_schedule.specs.declared.schedule.PlaceKind.{PlaceKind}
@@ -8,16 +8,25 @@ use Rattle.plan_schedule.specs.declared.schedule.RouteSchedule.{RouteSchedule}
 use Rattle.plan_schedule.specs.declared.schedule.Schedule.{Schedule}
 use Rattle.plan_schedule.specs.declared.schedule.Totals.{Totals}
 use Rattle.plan_schedule.specs.declared.schedule.Visit.{Visit}
+use Rattle.schedule_texts.specs.Clocks.{AreClocks, moment_text}
 use Rattle.schedule_texts.specs.Decimals.{cell, time_text}
 use Rattle.schedule_texts.specs.Latest.{latest_of}
+use Rattle.schedule_texts.specs.declared.clock.Clock.{Clock}
 use Rattle.schedule_texts.specs.declared.table.Columns.{Columns}
 
+-- how wide the latest time is, as a time and as a moment
+abbrev pub latest_width : Bool → Option Clock → ℕ → ℕ → ℕ
+latest_width exact clock denominator latest =
+    max (length (time_text exact denominator latest))
+    (length (moment_text clock exact denominator latest))
+
 -- columns of times are as wide as the latest time and nine places at least, those of levels as a full battery and five
-abbrev pub columns_of : Bool → Schedule → Columns
-columns_of exact s = record {
+abbrev pub columns_of : Bool → Option Clock → Schedule → Columns
+columns_of exact clock s = record {
   exact = exact;
+  clock = clock;
   denominator = s.denominator;
-  time = max (length (time_text exact s.denominator (latest_of 0 s.routes))) 9;
+  time = max (latest_width exact clock s.denominator (latest_of 0 s.routes)) 9;
   level = max (length (decimal s.full)) 5;
 }
 
@@ -26,6 +35,16 @@ number_cell width number = cell width (decimal number)
 
 abbrev pub time_cell : Columns → ℕ → List ℕ
 time_cell c time = cell c.time (time_text c.exact c.denominator time)
+
+-- when something happens: by the clock where there is one
+abbrev pub moment_cell : Columns → ℕ → List ℕ
+moment_cell c time = cell c.time (moment_text c.clock c.exact c.denominator time)
+
+-- the numbers of a layout are those of an instance and of a clock
+pub record AreColumns (c : Columns) : Type 0 where
+  pub some : 1 ≤ c.denominator
+  pub small : c.denominator ≤ 10 ^ 9
+  pub clock : AreClocks c.clock
 
 -- what a node is, behind two spaces, eight places wide
 abbrev pub kind_cell : PlaceKind → List ℕ
@@ -55,8 +74,8 @@ place_cells at v = number_cell 4 at ++ number_cell 4 v.node ++ kind_cell v.kind
 -- when, and with which levels
 unfoldable pub stay_cells : Columns → Visit → List ℕ
 stay_cells c v =
-    time_cell c v.arrival ++ number_cell c.level v.level ++ charge_cells c v
-    ++ time_cell c v.leaving
+    moment_cell c v.arrival ++ number_cell c.level v.level ++ charge_cells c v
+    ++ moment_cell c v.leaving
 
 -- the row of a visit
 abbrev pub row_text : Columns → ℕ → Visit → List ℕ
@@ -101,6 +120,6 @@ unfoldable pub plan_text : Columns → Schedule → List ℕ
 plan_text c s =
     joined_texts (route_text c) s.routes ++ codes "total of the plan: " ++ sums_text c s.totals
 
-abbrev pub table_text : Bool → Option Schedule → List ℕ
-table_text exact None = codes "no plan\n"
-table_text exact (Some s) = plan_text (columns_of exact s) s
+abbrev pub table_text : Bool → Option Clock → Option Schedule → List ℕ
+table_text exact clock None = codes "no plan\n"
+table_text exact clock (Some s) = plan_text (columns_of exact clock s) s

@@ -1,30 +1,48 @@
 //! The schedule as one JSON text.
 
-ghost use Rattle.std.specs.Prelude.{◌≡◌, ◌++◌, OnOk, IfOk, option_map};
-ghost use Rattle.schedule_texts.specs.JsonTexts.{inserted_field, items_from, json_text, kind_field, mark, place_fields, route_text, schedule_text, stay_fields, totals_text, visit_text, way_fields};
+ghost use Rattle.std.specs.Prelude.{◌≡◌, ◌≤◌, ◌^◌, ◌++◌, OnOk, IfOk, option_map};
+ghost use Rattle.plan_schedule.specs.Schedules.{IsTimed};
+ghost use Rattle.schedule_texts.specs.Clocks.{AreClocks};
+ghost use Rattle.schedule_texts.specs.Options.{AreTimed};
+ghost use Rattle.schedule_texts.specs.JsonTexts.{clock_fields, inserted_field, items_from, json_text, kind_field, mark, place_fields, route_text, schedule_text, stay_fields, totals_text, visit_text, way_fields};
 
+use crate::clock::{Clock, push_clock_time};
 use plan_schedule::{PlaceKind, RouteSchedule, Schedule, Totals, Visit};
 use report_lines::{push_numbered, push_word};
 use std::alloc::{AllocError, Global};
 
 /// The schedule as one JSON text, as `docs/schedule.md` has it: times are scaled, whole numbers
-/// over the denominator. Without a plan its routes are `null`. The only refusal is want of memory.
-pub fn schedule_json(alloc: Global, schedule: Option<&Schedule>) -> Result<Vec<u8>, AllocError>
+/// over the denominator; with a clock those of arriving and of leaving are told as times of day too.
+/// Without a plan its routes are `null`. The only refusal is want of memory.
+pub fn schedule_json(
+    alloc: Global,
+    schedule: Option<&Schedule>,
+    clock: Option<Clock>,
+) -> Result<Vec<u8>, AllocError>
+    requires timed { AreTimed (option_map (λ s. s.now) schedule) }
+    requires clock { AreClocks clock }
     ensures { IfOk result
-        (λ text. text.items ≡ json_text (option_map (λ s. s.now) schedule.entry)) }
+        (λ text. text.items ≡ json_text clock (option_map (λ s. s.now) schedule.entry)) }
 {
     let mut out = Vec::new(alloc);
     out.extend_from_slice(b"{\"format\":\"evview schedule 1\",")?;
     match schedule {
-        Some(schedule) => push_schedule(alloc, &mut out, schedule)?,
+        Some(schedule) => push_schedule(alloc, &mut out, schedule, clock)?,
         None => out.extend_from_slice(b"\"routes\":null}\n")?,
     }
     Ok(out)
 }
 
 /// Appends what stands of a plan behind the format.
-fn push_schedule(alloc: Global, out: &mut Vec<u8>, schedule: &Schedule) -> Result<(), AllocError>
-    ensures { OnOk result (out.new.items ≡ out.old.items ++ schedule_text schedule.now) }
+fn push_schedule(
+    alloc: Global,
+    out: &mut Vec<u8>,
+    schedule: &Schedule,
+    clock: Option<Clock>,
+) -> Result<(), AllocError>
+    requires timed { IsTimed schedule.now }
+    requires clock { AreClocks clock }
+    ensures { OnOk result (out.new.items ≡ out.old.items ++ schedule_text clock schedule.now) }
 {
     push_numbered(
         alloc,
@@ -36,7 +54,8 @@ fn push_schedule(alloc: Global, out: &mut Vec<u8>, schedule: &Schedule) -> Resul
     push_numbered(alloc, out, b",\"reserve\":", schedule.reserve as u128)?;
     push_numbered(alloc, out, b",\"home\":", schedule.home as u128)?;
     push_word(out, b",\"routes\":[")?;
-    push_routes(alloc, out, schedule.routes.as_slice())?;
+    let routes = schedule.routes.as_slice();
+    push_routes(alloc, out, clock, schedule.denominator, routes)?;
     push_word(out, b"],\"totals\":")?;
     push_totals(alloc, out, &schedule.totals)?;
     push_word(out, b"}\n")?;
@@ -44,12 +63,22 @@ fn push_schedule(alloc: Global, out: &mut Vec<u8>, schedule: &Schedule) -> Resul
 }
 
 /// Appends routes, parted by commas.
-fn push_routes(alloc: Global, out: &mut Vec<u8>, routes: &[RouteSchedule]) -> Result<(), AllocError>
-    ensures { OnOk result (out.new.items ≡ out.old.items ++ items_from route_text 0 routes.now) }
+fn push_routes(
+    alloc: Global,
+    out: &mut Vec<u8>,
+    clock: Option<Clock>,
+    denominator: u64,
+    routes: &[RouteSchedule],
+) -> Result<(), AllocError>
+    requires some { 1 ≤ denominator }
+    requires small { denominator ≤ 10 ^ 9 }
+    requires clock { AreClocks clock }
+    ensures { OnOk result (out.new.items
+        ≡ out.old.items ++ items_from (route_text clock denominator) 0 routes.now) }
 {
     for (at, route) in routes.iter().enumerate() {
         out.extend_from_slice(mark(at))?;
-        push_route(alloc, out, route)?;
+        push_route(alloc, out, clock, denominator, route)?;
     }
     Ok(())
 }
@@ -62,12 +91,22 @@ fn mark(at: usize) -> &'static [u8]
 }
 
 /// Appends a route.
-fn push_route(alloc: Global, out: &mut Vec<u8>, route: &RouteSchedule) -> Result<(), AllocError>
-    ensures { OnOk result (out.new.items ≡ out.old.items ++ route_text route.now) }
+fn push_route(
+    alloc: Global,
+    out: &mut Vec<u8>,
+    clock: Option<Clock>,
+    denominator: u64,
+    route: &RouteSchedule,
+) -> Result<(), AllocError>
+    requires some { 1 ≤ denominator }
+    requires small { denominator ≤ 10 ^ 9 }
+    requires clock { AreClocks clock }
+    ensures { OnOk result
+        (out.new.items ≡ out.old.items ++ route_text clock denominator route.now) }
 {
     push_numbered(alloc, out, b"{\"route\":", route.number as u128)?;
     push_word(out, b",\"stops\":[")?;
-    push_visits(alloc, out, route.visits.as_slice())?;
+    push_visits(alloc, out, clock, denominator, route.visits.as_slice())?;
     push_word(out, b"],\"totals\":")?;
     push_totals(alloc, out, &route.totals)?;
     push_word(out, b"}")?;
@@ -75,24 +114,71 @@ fn push_route(alloc: Global, out: &mut Vec<u8>, route: &RouteSchedule) -> Result
 }
 
 /// Appends visits, parted by commas.
-fn push_visits(alloc: Global, out: &mut Vec<u8>, visits: &[Visit]) -> Result<(), AllocError>
-    ensures { OnOk result (out.new.items ≡ out.old.items ++ items_from visit_text 0 visits.now) }
+fn push_visits(
+    alloc: Global,
+    out: &mut Vec<u8>,
+    clock: Option<Clock>,
+    denominator: u64,
+    visits: &[Visit],
+) -> Result<(), AllocError>
+    requires some { 1 ≤ denominator }
+    requires small { denominator ≤ 10 ^ 9 }
+    requires clock { AreClocks clock }
+    ensures { OnOk result (out.new.items
+        ≡ out.old.items ++ items_from (visit_text clock denominator) 0 visits.now) }
 {
     for (at, visit) in visits.iter().enumerate() {
         out.extend_from_slice(mark(at))?;
-        push_visit(alloc, out, visit)?;
+        push_visit(alloc, out, clock, denominator, visit)?;
     }
     Ok(())
 }
 
 /// Appends a visit.
-fn push_visit(alloc: Global, out: &mut Vec<u8>, visit: &Visit) -> Result<(), AllocError>
-    ensures { OnOk result (out.new.items ≡ out.old.items ++ visit_text visit.now) }
+fn push_visit(
+    alloc: Global,
+    out: &mut Vec<u8>,
+    clock: Option<Clock>,
+    denominator: u64,
+    visit: &Visit,
+) -> Result<(), AllocError>
+    requires some { 1 ≤ denominator }
+    requires small { denominator ≤ 10 ^ 9 }
+    requires clock { AreClocks clock }
+    ensures { OnOk result
+        (out.new.items ≡ out.old.items ++ visit_text clock denominator visit.now) }
 {
     push_place(alloc, out, visit)?;
     push_way(alloc, out, visit)?;
     push_stay(alloc, out, visit)?;
+    push_clock(alloc, out, clock, denominator, visit)?;
     out.extend_from_slice(b"}")
+}
+
+/// Appends when the vehicle arrives and leaves by the clock, where there is one.
+#[tactic(auto, unfolding(crate::specs::JsonTexts::clock_fields))]
+fn push_clock(
+    alloc: Global,
+    out: &mut Vec<u8>,
+    clock: Option<Clock>,
+    denominator: u64,
+    visit: &Visit,
+) -> Result<(), AllocError>
+    requires some { 1 ≤ denominator }
+    requires small { denominator ≤ 10 ^ 9 }
+    requires clock { AreClocks clock }
+    ensures { OnOk result
+        (out.new.items ≡ out.old.items ++ clock_fields clock denominator visit.now) }
+{
+    let Some(clock) = clock else {
+        return Ok(());
+    };
+    push_word(out, b",\"arrival_clock\":\"")?;
+    push_clock_time(alloc, out, clock, denominator, visit.arrival)?;
+    push_word(out, b"\",\"leaving_clock\":\"")?;
+    push_clock_time(alloc, out, clock, denominator, visit.leaving)?;
+    push_word(out, b"\"")?;
+    Ok(())
 }
 
 /// Appends where a stop is.

@@ -17,7 +17,7 @@ pub(crate) fn latest_of(routes: &[RouteSchedule]) -> u64
 }
 
 /// The greatest of a time and those of leaving.
-fn latest_in(time: u64, visits: &[Visit]) -> u64
+pub(crate) fn latest_in(time: u64, visits: &[Visit]) -> u64
     ensures { result ≡ latest_in time visits.now }
 {
     let mut latest = time;

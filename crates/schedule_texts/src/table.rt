@@ -1,11 +1,13 @@
 //! The schedule as a table.
 
-ghost use Rattle.std.specs.Prelude.{◌≡◌, ◌≤◌, ◌++◌, OnOk, IfOk, option_map};
+ghost use Rattle.std.specs.Prelude.{◌≡◌, ◌≤◌, ◌^◌, ◌++◌, OnOk, IfOk, option_map};
 ghost use Rattle.ev_text.specs.Texts.{joined_texts};
 ghost use Rattle.plan_schedule.specs.Schedules.{IsTimed};
+ghost use Rattle.schedule_texts.specs.Clocks.{AreClocks};
 ghost use Rattle.schedule_texts.specs.Options.{AreTimed};
-ghost use Rattle.schedule_texts.specs.Tables.{charge_cells, columns_of, energies_text, header_text, kind_cell, number_cell, place_cells, plan_text, route_text, row_text, rows_text, stay_cells, sum_text, sums_text, table_text, time_cell, times_text};
+ghost use Rattle.schedule_texts.specs.Tables.{AreColumns, charge_cells, columns_of, energies_text, header_text, kind_cell, latest_width, moment_cell, number_cell, place_cells, plan_text, route_text, row_text, rows_text, stay_cells, sum_text, sums_text, table_text, time_cell, times_text};
 
+use crate::clock::{Clock, push_moment};
 use crate::decimals::{push_cell, push_time};
 use crate::latest::latest_of;
 use plan_schedule::{PlaceKind, RouteSchedule, Schedule, Totals, Visit};
@@ -16,6 +18,7 @@ use std::alloc::{AllocError, Global};
 #[derive(Clone, Copy)]
 struct Columns {
     exact: bool,
+    clock: Option<Clock>,
     denominator: u64,
     time: usize,
     level: usize,
@@ -24,20 +27,22 @@ struct Columns {
 /// The schedule as a table: for each route a line a stop, and the sums; below them those of the
 /// plan. Without a plan it is the line `no plan`.
 ///
-/// Times are `X/D` where they are to be exact, and else decimals. The only refusal is want of
-/// memory.
+/// Times are `X/D` where they are to be exact, and else decimals; with a clock those of arriving and
+/// of leaving are times of day. The only refusal is want of memory.
 pub fn schedule_table(
     alloc: Global,
     schedule: Option<&Schedule>,
     exact: bool,
+    clock: Option<Clock>,
 ) -> Result<Vec<u8>, AllocError>
-    requires { AreTimed (option_map (λ s. s.now) schedule) }
+    requires timed { AreTimed (option_map (λ s. s.now) schedule) }
+    requires clock { AreClocks clock }
     ensures { IfOk result
-        (λ text. text.items ≡ table_text exact (option_map (λ s. s.now) schedule.entry)) }
+        (λ text. text.items ≡ table_text exact clock (option_map (λ s. s.now) schedule.entry)) }
 {
     let mut out = Vec::new(alloc);
     match schedule {
-        Some(schedule) => push_table(alloc, &mut out, schedule, exact)?,
+        Some(schedule) => push_table(alloc, &mut out, schedule, exact, clock)?,
         None => out.extend_from_slice(b"no plan\n")?,
     }
     Ok(out)
@@ -49,12 +54,14 @@ fn push_table(
     out: &mut Vec<u8>,
     schedule: &Schedule,
     exact: bool,
+    clock: Option<Clock>,
 ) -> Result<(), AllocError>
-    requires { IsTimed schedule.now }
+    requires timed { IsTimed schedule.now }
+    requires clock { AreClocks clock }
     ensures { OnOk result (out.new.items
-        ≡ out.old.items ++ plan_text (columns_of exact schedule.now) schedule.now) }
+        ≡ out.old.items ++ plan_text (columns_of exact clock schedule.now) schedule.now) }
 {
-    let columns = columns_of(alloc, schedule, exact)?;
+    let columns = columns_of(alloc, schedule, exact, clock)?;
     push_plan(alloc, out, columns, schedule)
 }
 
@@ -65,7 +72,7 @@ fn push_plan(
     columns: Columns,
     schedule: &Schedule,
 ) -> Result<(), AllocError>
-    requires { 1 ≤ columns.denominator }
+    requires { AreColumns columns }
     ensures { OnOk result (out.new.items ≡ out.old.items ++ plan_text columns schedule.now) }
 {
     push_routes(alloc, out, columns, schedule.routes.as_slice())?;
@@ -81,7 +88,7 @@ fn push_routes(
     columns: Columns,
     routes: &[RouteSchedule],
 ) -> Result<(), AllocError>
-    requires { 1 ≤ columns.denominator }
+    requires { AreColumns columns }
     ensures { OnOk result
         (out.new.items ≡ out.old.items ++ joined_texts (route_text columns) routes.now) }
 {
@@ -92,26 +99,48 @@ fn push_routes(
 }
 
 /// How the table of a plan is laid out.
-fn columns_of(alloc: Global, schedule: &Schedule, exact: bool) -> Result<Columns, AllocError>
-    requires { IsTimed schedule.now }
-    ensures { IfOk result (λ c. c ≡ columns_of exact schedule.now) }
+fn columns_of(
+    alloc: Global,
+    schedule: &Schedule,
+    exact: bool,
+    clock: Option<Clock>,
+) -> Result<Columns, AllocError>
+    requires timed { IsTimed schedule.now }
+    requires clock { AreClocks clock }
+    ensures value { IfOk result (λ c. c ≡ columns_of exact clock schedule.now) }
+    ensures are { IfOk result AreColumns }
 {
-    let mut time = Vec::new(alloc);
+    let denominator = schedule.denominator;
     let latest = latest_of(schedule.routes.as_slice());
-    push_time(
-        alloc,
-        &mut time,
-        exact,
-        schedule.denominator,
-        latest as u128,
-    )?;
+    let width = latest_width(alloc, exact, clock, denominator, latest)?;
     let full = schedule.full.to_string(alloc)?;
     Ok(Columns {
         exact,
-        denominator: schedule.denominator,
-        time: time.len().max(9),
+        clock,
+        denominator,
+        time: width.max(9),
         level: full.len().max(5),
     })
+}
+
+/// How wide the latest time is, as a time and as a moment.
+fn latest_width(
+    alloc: Global,
+    exact: bool,
+    clock: Option<Clock>,
+    denominator: u64,
+    latest: u64,
+) -> Result<usize, AllocError>
+    requires some { 1 ≤ denominator }
+    requires small { denominator ≤ 10 ^ 9 }
+    requires clock { AreClocks clock }
+    ensures { IfOk result (λ width. width ≡ latest_width exact clock denominator latest) }
+{
+    let mut time = Vec::new(alloc);
+    push_time(alloc, &mut time, exact, denominator, latest as u128)?;
+    let mut moment = Vec::new(alloc);
+    push_moment(alloc, &mut moment, clock, exact, denominator, latest)?;
+    Ok(time.len().max(moment.len()))
 }
 
 /// Appends the lines of a route.
@@ -121,7 +150,7 @@ fn push_route(
     columns: Columns,
     route: &RouteSchedule,
 ) -> Result<(), AllocError>
-    requires { 1 ≤ columns.denominator }
+    requires { AreColumns columns }
     ensures { OnOk result (out.new.items ≡ out.old.items ++ route_text columns route.now) }
 {
     push_number_line(alloc, out, b"route ", route.number as u128)?;
@@ -156,7 +185,7 @@ fn push_rows(
     columns: Columns,
     visits: &[Visit],
 ) -> Result<(), AllocError>
-    requires { 1 ≤ columns.denominator }
+    requires { AreColumns columns }
     ensures { OnOk result (out.new.items ≡ out.old.items ++ rows_text columns 0 visits.now) }
 {
     for (at, visit) in visits.iter().enumerate() {
@@ -173,7 +202,7 @@ fn push_row(
     at: usize,
     visit: &Visit,
 ) -> Result<(), AllocError>
-    requires { 1 ≤ columns.denominator }
+    requires { AreColumns columns }
     ensures { OnOk result (out.new.items ≡ out.old.items ++ row_text columns at visit.now) }
 {
     push_place(alloc, out, at, visit)?;
@@ -199,13 +228,13 @@ fn push_stay(
     columns: Columns,
     visit: &Visit,
 ) -> Result<(), AllocError>
-    requires { 1 ≤ columns.denominator }
+    requires { AreColumns columns }
     ensures { OnOk result (out.new.items ≡ out.old.items ++ stay_cells columns visit.now) }
 {
-    push_time_cell(alloc, out, columns, visit.arrival)?;
+    push_moment_cell(alloc, out, columns, visit.arrival)?;
     push_number(alloc, out, columns.level, visit.level as u128)?;
     push_charge(alloc, out, columns, visit)?;
-    push_time_cell(alloc, out, columns, visit.leaving)
+    push_moment_cell(alloc, out, columns, visit.leaving)
 }
 
 /// What a node is, behind two spaces, eight places wide.
@@ -228,7 +257,7 @@ fn push_charge(
     columns: Columns,
     visit: &Visit,
 ) -> Result<(), AllocError>
-    requires { 1 ≤ columns.denominator }
+    requires { AreColumns columns }
     ensures { OnOk result (out.new.items ≡ out.old.items ++ charge_cells columns visit.now) }
 {
     if visit.charged > 0 {
@@ -262,7 +291,7 @@ fn push_time_cell(
     columns: Columns,
     time: u64,
 ) -> Result<(), AllocError>
-    requires { 1 ≤ columns.denominator }
+    requires { AreColumns columns }
     ensures { OnOk result (out.new.items ≡ out.old.items ++ time_cell columns time) }
 {
     let mut text = Vec::new(alloc);
@@ -276,6 +305,28 @@ fn push_time_cell(
     push_cell(alloc, out, columns.time, text.as_slice())
 }
 
+/// Appends the cell of when something happens.
+fn push_moment_cell(
+    alloc: Global,
+    out: &mut Vec<u8>,
+    columns: Columns,
+    time: u64,
+) -> Result<(), AllocError>
+    requires { AreColumns columns }
+    ensures { OnOk result (out.new.items ≡ out.old.items ++ moment_cell columns time) }
+{
+    let mut text = Vec::new(alloc);
+    push_moment(
+        alloc,
+        &mut text,
+        columns.clock,
+        columns.exact,
+        columns.denominator,
+        time,
+    )?;
+    push_cell(alloc, out, columns.time, text.as_slice())
+}
+
 /// Appends the sums of a route or of a plan, and the end of the line.
 fn push_sums(
     alloc: Global,
@@ -283,7 +334,7 @@ fn push_sums(
     columns: Columns,
     totals: &Totals,
 ) -> Result<(), AllocError>
-    requires { 1 ≤ columns.denominator }
+    requires { AreColumns columns }
     ensures { OnOk result (out.new.items ≡ out.old.items ++ sums_text columns totals.now) }
 {
     push_times(alloc, out, columns, totals)?;
@@ -298,7 +349,7 @@ fn push_times(
     columns: Columns,
     totals: &Totals,
 ) -> Result<(), AllocError>
-    requires { 1 ≤ columns.denominator }
+    requires { AreColumns columns }
     ensures { OnOk result (out.new.items ≡ out.old.items ++ times_text columns totals.now) }
 {
     push_sum(alloc, out, columns, b"time ", totals.time)?;
@@ -326,7 +377,7 @@ fn push_sum(
     word: &[u8],
     time: u128,
 ) -> Result<(), AllocError>
-    requires { 1 ≤ columns.denominator }
+    requires { AreColumns columns }
     ensures { OnOk result (out.new.items ≡ out.old.items ++ sum_text columns word.now time) }
 {
     out.extend_from_slice(word)?;

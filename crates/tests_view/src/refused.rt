@@ -29,11 +29,11 @@ fn the_first_broken_rule_is_put_and_nothing_is_written(rt: HostRuntime) {
             "refused limit 1000000000000000000\n",
         ),
         (
-            "A A --svg S",
+            "A A --svg S --csv C",
             ONE_STATION,
             BY_STATION,
             Status::Words,
-            "evview FILE PLAN [--limit N] [--route N] [--exact] [--svg OUT] [--json OUT]\n",
+            "evview FILE PLAN [--limit N] [--route N] [--exact] [--begin HH:MM --unit U] [--svg OUT] [--json OUT] [--csv OUT]\n",
         ),
         (
             "A P --svg S --json J",
@@ -64,14 +64,14 @@ fn the_first_broken_rule_is_put_and_nothing_is_written(rt: HostRuntime) {
             "refused plan 4 at 35\n",
         ),
         (
-            "A P --svg S --json J --route 1",
+            "A P --svg S --json J --csv C --route 1",
             ONE_STATION,
             BY_STATION,
             Status::Refused,
             "refused number 1\n",
         ),
         (
-            "A P --svg S --json J --route 1",
+            "A P --svg S --json J --csv C --route 1",
             ONE_STATION,
             OUT,
             Status::Refused,
@@ -152,6 +152,7 @@ fn the_first_broken_rule_is_put_and_nothing_is_written(rt: HostRuntime) {
         assert_run(&rt, alloc, line, &mut shelf, status, put);
         assert_file(&rt, &shelf, "S", None);
         assert_file(&rt, &shelf, "J", None);
+        assert_file(&rt, &shelf, "C", None);
     }
 }
 

@@ -48,6 +48,12 @@ fn the_schedule_is_put_as_tables(rt: HostRuntime) {
         ),
         ("A P --exact", NO_STATION, NONE, "no plan\n"),
         (
+            "A P --begin 23:50 --unit min",
+            ONE_STATION,
+            BY_STATION,
+            "route 0\n  stop  node  what         arrival  level   plug time   from     to     leaving\n     0     0  depot       23:50:00     10           -      -      -    23:50:00\n     1     2  station     23:58:00      7        0.00      7      8    23:58:30\n     2     1  customer  00:01:30+1      6           -      -      -  00:01:30+1\n     3     0  depot     00:11:30+1      0           -      -      -  00:11:30+1\ntotal of route 0: time 21.50, driving 21.00, serving 0.00, plugging in 0.00, charging 0.50, energy driven 11, energy charged 1, stops 4\n\ntotal of the plan: time 21.50, driving 21.00, serving 0.00, plugging in 0.00, charging 0.50, energy driven 11, energy charged 1, stops 4\n",
+        ),
+        (
             "A P --exact --limit 8",
             NARROW,
             OUT,
@@ -70,6 +76,12 @@ fn the_schedule_is_written_as_json(rt: HostRuntime) {
             "{\"format\":\"evview schedule 1\",\"denominator\":1,\"full\":10,\"reserve\":0,\"home\":0,\"routes\":[\n{\"route\":0,\"stops\":[\n{\"node\":0,\"kind\":\"depot\",\"inserted\":false,\"energy\":0,\"driving\":0,\"arrival\":0,\"level\":10,\"service\":0,\"plugging\":0,\"charging\":0,\"charged\":0,\"level_left\":10,\"leaving\":0},\n{\"node\":1,\"kind\":\"customer\",\"inserted\":false,\"energy\":1,\"driving\":4,\"arrival\":4,\"level\":9,\"service\":0,\"plugging\":0,\"charging\":0,\"charged\":0,\"level_left\":9,\"leaving\":4},\n{\"node\":0,\"kind\":\"depot\",\"inserted\":false,\"energy\":1,\"driving\":4,\"arrival\":8,\"level\":8,\"service\":0,\"plugging\":0,\"charging\":0,\"charged\":0,\"level_left\":8,\"leaving\":8}],\"totals\":{\"time\":8,\"driving\":8,\"serving\":0,\"plugging\":0,\"charging\":0,\"energy_driven\":2,\"energy_charged\":0,\"stops\":3}}],\"totals\":{\"time\":8,\"driving\":8,\"serving\":0,\"plugging\":0,\"charging\":0,\"energy_driven\":2,\"energy_charged\":0,\"stops\":3}}\n",
         ),
         (
+            "A P --json J --begin 08:00 --unit h/2",
+            NO_STATION,
+            OUT,
+            "{\"format\":\"evview schedule 1\",\"denominator\":1,\"full\":10,\"reserve\":0,\"home\":0,\"routes\":[\n{\"route\":0,\"stops\":[\n{\"node\":0,\"kind\":\"depot\",\"inserted\":false,\"energy\":0,\"driving\":0,\"arrival\":0,\"level\":10,\"service\":0,\"plugging\":0,\"charging\":0,\"charged\":0,\"level_left\":10,\"leaving\":0,\"arrival_clock\":\"08:00:00\",\"leaving_clock\":\"08:00:00\"},\n{\"node\":1,\"kind\":\"customer\",\"inserted\":false,\"energy\":1,\"driving\":4,\"arrival\":4,\"level\":9,\"service\":0,\"plugging\":0,\"charging\":0,\"charged\":0,\"level_left\":9,\"leaving\":4,\"arrival_clock\":\"10:00:00\",\"leaving_clock\":\"10:00:00\"},\n{\"node\":0,\"kind\":\"depot\",\"inserted\":false,\"energy\":1,\"driving\":4,\"arrival\":8,\"level\":8,\"service\":0,\"plugging\":0,\"charging\":0,\"charged\":0,\"level_left\":8,\"leaving\":8,\"arrival_clock\":\"12:00:00\",\"leaving_clock\":\"12:00:00\"}],\"totals\":{\"time\":8,\"driving\":8,\"serving\":0,\"plugging\":0,\"charging\":0,\"energy_driven\":2,\"energy_charged\":0,\"stops\":3}}],\"totals\":{\"time\":8,\"driving\":8,\"serving\":0,\"plugging\":0,\"charging\":0,\"energy_driven\":2,\"energy_charged\":0,\"stops\":3}}\n",
+        ),
+        (
             "A P --svg S --json=J",
             NO_STATION,
             NONE,
@@ -86,6 +98,42 @@ fn the_schedule_is_written_as_json(rt: HostRuntime) {
         let ended = run_with(alloc, line, &mut shelf, &[]).expect(&rt, "memory");
         assert_eq!(rt; ended.0, Status::Done, "{line}");
         assert_file(&rt, &shelf, "J", Some(want));
+    }
+}
+
+#[test]
+fn the_schedule_is_written_as_csv(rt: HostRuntime) {
+    let alloc = rt.alloc();
+    for &(line, instance, plan, want) in &[
+        (
+            "A P --csv C",
+            ONE_STATION,
+            BY_STATION,
+            "route,stop,node,what,arrival,level,plug time,charge begin,charge end,from,to,leaving\n0,0,0,depot,0.00,10,,,,,,0.00\n0,1,2,station,8.00,7,0.00,8.00,8.50,7,8,8.50\n0,2,1,customer,11.50,6,,,,,,11.50\n0,3,0,depot,21.50,0,,,,,,21.50\n",
+        ),
+        (
+            "A P --csv C --route 1 --exact",
+            TWO_CUSTOMERS,
+            OUT_AND_BACK,
+            "route,stop,node,what,arrival,level,plug time,charge begin,charge end,from,to,leaving\n1,0,0,depot,0.00,10,,,,,,0.00\n1,1,1,customer,4.00,9,,,,,,4.00\n1,2,0,depot,8.00,8,,,,,,8.00\n",
+        ),
+        (
+            "A P --csv C --begin 06:00 --unit s/2",
+            ONE_STATION,
+            BY_STATION,
+            "route,stop,node,what,arrival,level,plug time,charge begin,charge end,from,to,leaving\n0,0,0,depot,06:00:00,10,,,,,,06:00:00\n0,1,2,station,06:00:04,7,0.00,06:00:04,06:00:04,7,8,06:00:04\n0,2,1,customer,06:00:06,6,,,,,,06:00:06\n0,3,0,depot,06:00:11,0,,,,,,06:00:11\n",
+        ),
+        (
+            "A P --csv=C",
+            NO_STATION,
+            NONE,
+            "route,stop,node,what,arrival,level,plug time,charge begin,charge end,from,to,leaving\n",
+        ),
+    ] {
+        let mut shelf = shelf_with(alloc, instance, plan, &[]).expect(&rt, "memory");
+        let ended = run_with(alloc, line, &mut shelf, &[]).expect(&rt, "memory");
+        assert_eq!(rt; ended.0, Status::Done, "{line}");
+        assert_file(&rt, &shelf, "C", Some(want));
     }
 }
 

@@ -18,9 +18,14 @@ fn told(alloc: Global, job: &Job) -> Option<String> {
     let limit = job.limit.unwrap_or(0);
     let route = job.route.unwrap_or(0);
     let exact = job.exact;
+    let clock = match job.clock {
+        Some(clock) => format!(in alloc; "{}+{}/{}", clock.begin, clock.seconds, clock.parts).ok()?,
+        None => String::from_str(alloc, "-").ok()?,
+    };
     let svg = name_or_dash(&job.svg);
     let json = name_or_dash(&job.json);
-    format!(in alloc; "{limit} {route} {exact} {svg} {json}").ok()
+    let csv = name_or_dash(&job.csv);
+    format!(in alloc; "{limit} {route} {exact} {clock} {svg} {json} {csv}").ok()
 }
 
 /// What the words of a line name, in short; `None` where they name no job.
@@ -34,14 +39,24 @@ fn named(alloc: Global, line: &str) -> Option<String> {
 fn words_name_a_job_or_none(rt: HostRuntime) {
     let alloc = rt.alloc();
     for &(line, want) in &[
-        ("A P", "0 0 false - -"),
-        ("A P --limit 5 --route 7", "5 7 false - -"),
-        ("--exact A --route=0 P", "0 0 true - -"),
-        ("A P --svg S", "0 0 false S -"),
-        ("A --json J P --svg=S --exact", "0 0 true S J"),
+        ("A P", "0 0 false - - - -"),
+        ("A P --limit 5 --route 7", "5 7 false - - - -"),
+        ("--exact A --route=0 P", "0 0 true - - - -"),
+        ("A P --svg S", "0 0 false - S - -"),
+        ("A --json J P --svg=S --exact", "0 0 true - S J -"),
         (
             "A P --limit 1000000000000000000",
-            "1000000000000000000 0 false - -",
+            "1000000000000000000 0 false - - - -",
+        ),
+        ("A P --csv C --json J --svg S", "0 0 false - S J C"),
+        ("A P --begin 07:30 --unit min", "0 0 false 450+60/1 - - -"),
+        (
+            "A P --begin 00:00 --unit=h/100 --exact",
+            "0 0 true 0+3600/100 - - -",
+        ),
+        (
+            "A P --unit s/1000000000 --begin 23:59",
+            "0 0 false 1439+1/1000000000 - - -",
         ),
         ("A", ""),
         ("A P Q", ""),
@@ -49,11 +64,23 @@ fn words_name_a_job_or_none(rt: HostRuntime) {
         ("A P --svg P", ""),
         ("A P --json A", ""),
         ("A P --svg S --json S", ""),
+        ("A P --csv S --json J --svg S", ""),
+        ("A P --csv A", ""),
+        ("A P --csv", ""),
         ("A P --limit 1000000000000000001", ""),
         ("A P --route 01", ""),
         ("A P --route -1", ""),
         ("A P --exact --exact", ""),
         ("A P --exact=1", ""),
+        ("A P --begin 07:30", ""),
+        ("A P --unit min", ""),
+        ("A P --begin 7:30 --unit min", ""),
+        ("A P --begin 24:00 --unit min", ""),
+        ("A P --begin 07:60 --unit min", ""),
+        ("A P --begin 07:30 --unit m", ""),
+        ("A P --begin 07:30 --unit min/", ""),
+        ("A P --begin 07:30 --unit min/0", ""),
+        ("A P --begin 07:30 --unit h/1000000001", ""),
         ("A P --seconds 1", ""),
         ("--help", ""),
     ] {

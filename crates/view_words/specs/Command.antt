@@ -1,4 +1,4 @@
--- The command that reads the words of `evview`: its name, two positionals, a flag, and four options
+-- The command that reads the words of `evview`: its name, two positionals, a flag, and seven options
 -- of one value each. It has no flag for help and none for a version.
 use Rattle.std.specs.Prelude.{Some, codes, true}
 use Rattle.clap.specs.Words.{App, Rule, Text, new_rule, with_rule}
@@ -24,9 +24,19 @@ with_choice app =
     (with_rule (with_rule app (option_rule (codes "limit"))) (option_rule (codes "route")))
     (flag_rule (codes "exact"))
 
+-- the clock by which is told when something happens
+abbrev pub with_clock : App → App
+with_clock app =
+    with_rule (with_rule app (option_rule (codes "begin"))) (option_rule (codes "unit"))
+
 -- the names of the files that are written
 abbrev pub with_outputs : App → App
-with_outputs app = with_rule (with_rule app (option_rule (codes "svg"))) (option_rule (codes "json"))
+with_outputs app =
+    with_rule
+    (with_rule (with_rule app (option_rule (codes "svg"))) (option_rule (codes "json")))
+    (option_rule (codes "csv"))
 
 unfoldable pub evview : App
-evview = with_outputs (with_choice (with_names (without_arguments (codes "evview"))))
+evview =
+    with_outputs
+    (with_clock (with_choice (with_names (without_arguments (codes "evview")))))

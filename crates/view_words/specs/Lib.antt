@@ -1,4 +1,5 @@
 pub mod Command
+pub mod Clocks
 pub mod Words
 pub mod JobValue
 pub mod Usage

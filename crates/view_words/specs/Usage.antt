@@ -1,5 +1,7 @@
 -- How `evview` is called.
-use Rattle.std.specs.Prelude.{List, ℕ, codes}
+use Rattle.std.specs.Prelude.{List, ℕ, ◌++◌, codes}
 
 abbrev pub usage_text : List ℕ
-usage_text = codes "evview FILE PLAN [--limit N] [--route N] [--exact] [--svg OUT] [--json OUT]\n"
+usage_text =
+    codes "evview FILE PLAN [--limit N] [--route N] [--exact] [--begin HH:MM --unit U] "
+    ++ codes "[--svg OUT] [--json OUT] [--csv OUT]\n"

@@ -6,20 +6,24 @@ use Rattle.clap.specs.Words.{Row, Text, fault_of, first_of, matches_of}
 use Rattle.call_words.specs.Matches.{job_unless, limit_in}
 use Rattle.call_words.specs.Names.{are_different}
 use Rattle.call_words.specs.Numbers.{most_value, optional_number}
+use Rattle.view_words.specs.Clocks.{clock_of}
 use Rattle.view_words.specs.Command.{evview}
+use Rattle.view_words.specs.declared.clock.DayClock.{DayClock}
 
 -- the job of showing a plan: the names of the files with the instance and the plan, the limit where
 -- one is given, the number of the one route that is shown where it is given, whether times are
--- shown as they are scaled, and the names of the files into which the pictures and the schedule are
--- written, where they are given
+-- shown as they are scaled, the clock by which is told when something happens where one is given, and the names of the files into which the pictures and the schedule, as
+-- JSON and as CSV, are written, where they are given
 pub record ViewPlan : Type 0 where
   pub file : Text
   pub plan : Text
   pub limit : Option ℕ
   pub route : Option ℕ
   pub exact : Bool
+  pub clock : Option DayClock
   pub svg : Option Text
   pub json : Option Text
+  pub csv : Option Text
 
 -- the number of the route that is shown, where it is given; none where its value is no number of
 -- one
@@ -31,6 +35,10 @@ abbrev pub exact_in : List Row → Bool
 exact_in rows =
     option_map_or (λ value. bytes_eq value (codes "true")) (first_of (codes "exact") rows) false
 
+-- the clock, where it is given; none where its words are no clock
+abbrev pub clock_in : List Row → Option (Option DayClock)
+clock_in rows = clock_of (first_of (codes "begin") rows) (first_of (codes "unit") rows)
+
 -- the name of the file for the pictures
 abbrev pub svg_in : List Row → Option Text
 svg_in rows = first_of (codes "svg") rows
@@ -39,40 +47,54 @@ svg_in rows = first_of (codes "svg") rows
 abbrev pub json_in : List Row → Option Text
 json_in rows = first_of (codes "json") rows
 
--- a name, where there is one, before others
-abbrev pub with_name : Option Text → List Text → List Text
-with_name None names = names
-with_name (Some name) names = name ∷ names
+-- the name of the file for the schedule as CSV
+abbrev pub csv_in : List Row → Option Text
+csv_in rows = first_of (codes "csv") rows
 
--- the names of all files
-abbrev pub all_names : Text → Text → Option Text → Option Text → List Text
-all_names file plan svg json = with_name svg (with_name json (file ∷ plan ∷ []))
+-- the names that are given
+abbrev pub given_names : List (Option Text) → List Text
+given_names [] = []
+given_names (None ∷ names) = given_names names
+given_names (Some name ∷ names) = name ∷ given_names names
+
+-- the names of all files: of those that are written, and of those that are read
+abbrev pub all_names : Text → Text → Option Text → Option Text → Option Text → List Text
+all_names file plan svg json csv =
+    given_names (svg ∷ json ∷ csv ∷ Some file ∷ Some plan ∷ [])
 
 -- the job of these words
-abbrev pub view_job_of : Text → Text → Option ℕ → Option ℕ → Bool → Option Text → Option Text →
-    ViewPlan
-view_job_of file plan limit route exact svg json = record {
+abbrev pub view_job_of : Text → Text → Option ℕ → Option ℕ → Bool → Option DayClock → Option Text →
+    Option Text → Option Text → ViewPlan
+view_job_of file plan limit route exact clock svg json csv = record {
   file = file;
   plan = plan;
   limit = limit;
   route = route;
   exact = exact;
+  clock = clock;
   svg = svg;
   json = json;
+  csv = csv;
 }
 
--- the same, where the values of the options are numbers
-abbrev pub view_with : Text → Text → Option (Option ℕ) → Option (Option ℕ) → List Row →
-    Option ViewPlan
-view_with file plan (Some limit) (Some route) rows =
-    Some (view_job_of file plan limit route (exact_in rows) (svg_in rows) (json_in rows))
-view_with file plan limit route rows = None
+-- the names of the files that a job writes
+abbrev pub written_names : ViewPlan → List Text
+written_names job = given_names (job.svg ∷ job.json ∷ job.csv ∷ [])
 
--- `FILE PLAN [--limit N] [--route N] [--exact] [--svg OUT] [--json OUT]`
+-- the same, where the values of the options are numbers and a clock
+abbrev pub view_with : Text → Text → Option (Option ℕ) → Option (Option ℕ) →
+    Option (Option DayClock) → List Row → Option ViewPlan
+view_with file plan (Some limit) (Some route) (Some clock) rows =
+    Some (view_job_of file plan limit route (exact_in rows) clock (svg_in rows) (json_in rows)
+    (csv_in rows))
+view_with file plan limit route clock rows = None
+
+-- `FILE PLAN [--limit N] [--route N] [--exact] [--begin HH:MM --unit U] [--svg OUT] [--json OUT]
+-- [--csv OUT]`
 abbrev pub view_of : Text → Text → List Row → Option ViewPlan
 view_of file plan rows =
-    if are_different (all_names file plan (svg_in rows) (json_in rows))
-    then view_with file plan (limit_in rows) (route_in rows) rows
+    if are_different (all_names file plan (svg_in rows) (json_in rows) (csv_in rows))
+    then view_with file plan (limit_in rows) (route_in rows) (clock_in rows) rows
     else None
 
 -- the job of what the command finds

@@ -4,7 +4,7 @@ ghost use Rattle.std.specs.Prelude.{◌≡◌, IfOk};
 ghost use Rattle.clap.specs.Words.{app_of, with_rule};
 ghost use Rattle.clap.specs.Walk.{texts};
 ghost use Rattle.call_words.specs.Matches.{IsMatched};
-ghost use Rattle.view_words.specs.Command.{evview, flag_rule, with_choice, with_names, with_outputs, word_rule};
+ghost use Rattle.view_words.specs.Command.{evview, flag_rule, with_choice, with_clock, with_names, with_outputs, word_rule};
 
 use call_words::{matches_of, with_option, without_arguments};
 use clap::{Arg, ArgAction, ArgMatches, Command};
@@ -56,12 +56,21 @@ fn with_choice<'a>(alloc: Global, command: Command<'a>) -> Result<Command<'a>, A
     with_flag(alloc, command, "exact")
 }
 
+/// The command and the clock by which is told when something happens.
+fn with_clock<'a>(alloc: Global, command: Command<'a>) -> Result<Command<'a>, AllocError>
+    ensures { IfOk result (λ c. app_of c ≡ with_clock (app_of command.entry)) }
+{
+    let command = with_option(alloc, command, "begin")?;
+    with_option(alloc, command, "unit")
+}
+
 /// The command and the names of the files that are written.
 fn with_outputs<'a>(alloc: Global, command: Command<'a>) -> Result<Command<'a>, AllocError>
     ensures { IfOk result (λ c. app_of c ≡ with_outputs (app_of command.entry)) }
 {
     let command = with_option(alloc, command, "svg")?;
-    with_option(alloc, command, "json")
+    let command = with_option(alloc, command, "json")?;
+    with_option(alloc, command, "csv")
 }
 
 /// The command.
@@ -71,6 +80,7 @@ fn evview<'a>(alloc: Global) -> Result<Command<'a>, AllocError>
 {
     let command = with_names(alloc, without_arguments(alloc, PROGRAM))?;
     let command = with_choice(alloc, command)?;
+    let command = with_clock(alloc, command)?;
     with_outputs(alloc, command)
 }
 

@@ -2,12 +2,14 @@
 
 ghost use Rattle.std.specs.Prelude.{◌≡◌, IfOk, IfSome, option_map, string_bytes};
 ghost use Rattle.call_words.specs.Matches.{rows_in};
-ghost use Rattle.call_words.specs.Names.{are_different};
-ghost use Rattle.view_words.specs.JobValue.{AnswersJob, IsJob};
-ghost use Rattle.view_words.specs.Words.{all_names, exact_in, job_in, route_in, view_of};
+ghost use Rattle.call_words.specs.Names.{are_different, is_listed};
+ghost use Rattle.view_words.specs.JobValue.{AnswersJob, IsJob, names_in};
+ghost use Rattle.view_words.specs.Clocks.{IsDayClock};
+ghost use Rattle.view_words.specs.Words.{clock_in, exact_in, given_names, job_in, route_in, view_of};
 
 use crate::Job;
-use call_words::{GREATEST_VALUE, are_different, first_of, limit_in, optional_number};
+use crate::clock::{DayClock, clock_of};
+use call_words::{GREATEST_VALUE, first_of, limit_in, optional_number};
 use clap::ArgMatches;
 use std::alloc::{AllocError, Global};
 
@@ -27,6 +29,14 @@ fn exact_in(matches: &ArgMatches<'_>) -> bool
         Some(value) => value == "true",
         None => false,
     }
+}
+
+/// The clock, where it is given; `None` where its words are no clock.
+fn clock_in(matches: &ArgMatches<'_>) -> Option<Option<DayClock>>
+    ensures value { result ≡ clock_in (rows_in matches.now) }
+    ensures is { IfSome result (λ clock. IfSome clock IsDayClock) }
+{
+    clock_of(first_of(matches, "begin"), first_of(matches, "unit"))
 }
 
 /// The job of what the command finds.
@@ -51,10 +61,14 @@ fn view_job(
     ensures is { IfOk result (λ job. IfSome job IsJob) }
 {
     let (svg, json) = (first_of(matches, "svg"), first_of(matches, "json"));
-    if !all_differ(file, plan, svg, json) {
+    let csv = first_of(matches, "csv");
+    if !given_differ(&[svg, json, csv, Some(file), Some(plan)]) {
         return Ok(None);
     }
     let (Some(limit), Some(route)) = (limit_in(matches), route_in(matches)) else {
+        return Ok(None);
+    };
+    let Some(clock) = clock_in(matches) else {
         return Ok(None);
     };
     Ok(Some(Job {
@@ -63,21 +77,36 @@ fn view_job(
         limit,
         route,
         exact: exact_in(matches),
+        clock,
         svg: owned(alloc, svg)?,
         json: owned(alloc, json)?,
+        csv: owned(alloc, csv)?,
     }))
 }
 
-/// Whether no two of the names of the files are the same text.
-fn all_differ(file: &str, plan: &str, svg: Option<&str>, json: Option<&str>) -> bool
-    ensures { result ≡ are_different (all_names file.now plan.now
-        (option_map (λ text. text.now) svg.entry) (option_map (λ text. text.now) json.entry)) }
+/// Whether no two of the names that are given are the same text.
+fn given_differ(names: &[Option<&str>]) -> bool
+    ensures { result ≡ are_different (given_names (names_in names.now)) }
 {
-    match (svg, json) {
-        (Some(svg), Some(json)) => are_different(&[svg, json, file, plan]),
-        (Some(svg), None) => are_different(&[svg, file, plan]),
-        (None, Some(json)) => are_different(&[json, file, plan]),
-        (None, None) => are_different(&[file, plan]),
+    match names {
+        [] => true,
+        [name, others @ ..] => match name {
+            None => given_differ(others),
+            Some(name) => !is_given(name, others) && given_differ(others),
+        },
+    }
+}
+
+/// Whether a text is among the names that are given.
+fn is_given(text: &str, names: &[Option<&str>]) -> bool
+    ensures { result ≡ is_listed text.now (given_names (names_in names.now)) }
+{
+    match names {
+        [] => false,
+        [name, others @ ..] => match name {
+            None => is_given(text, others),
+            Some(name) => *name == text || is_given(text, others),
+        },
     }
 }
 

@@ -1,11 +1,13 @@
 //! The page of a picture.
 
 ghost use Rattle.std.specs.Prelude.{◌≡◌, ◌++◌, IfOk, OnOk, Some, option_map};
+ghost use Rattle.schedule_texts.specs.Clocks.{AreClocks};
 ghost use Rattle.schedule_texts.specs.Options.{AreTimed};
 ghost use Rattle.plan_schedule.specs.Schedules.{IsTimed};
 ghost use Rattle.schedule_texts.specs.Pictures.{head_text, legend_text, none_text, page_text, picture_text, routes_text, size_text, style_text};
 ghost use Rattle.schedule_texts.specs.Scales.{IsScale};
 
+use crate::clock::Clock;
 use crate::picture::panel::push_panels;
 use crate::picture::scale::{Scale, scale_of};
 use plan_schedule::{RouteSchedule, Schedule};
@@ -34,15 +36,21 @@ const LEGEND: &[u8] = b"<rect width='100%' height='100%' fill='#ffffff'/>\n\
 <text x='4580' y='640'>breakpoint of a charging curve</text>\n";
 
 /// The schedule as a picture in SVG: for each route a panel with the level of its battery over
-/// time. Without a plan it says so. The only refusal is want of memory.
-pub fn schedule_picture(alloc: Global, schedule: Option<&Schedule>) -> Result<Vec<u8>, AllocError>
-    requires { AreTimed (option_map (λ s. s.now) schedule) }
+/// time; with a clock headings and titles tell times of day. Without a plan it says so. The only
+/// refusal is want of memory.
+pub fn schedule_picture(
+    alloc: Global,
+    schedule: Option<&Schedule>,
+    clock: Option<Clock>,
+) -> Result<Vec<u8>, AllocError>
+    requires timed { AreTimed (option_map (λ s. s.now) schedule) }
+    requires clock { AreClocks clock }
     ensures { IfOk result
-        (λ text. text.items ≡ picture_text (option_map (λ s. s.now) schedule.entry)) }
+        (λ text. text.items ≡ picture_text clock (option_map (λ s. s.now) schedule.entry)) }
 {
     let mut out = Vec::new(alloc);
     match schedule {
-        Some(schedule) => push_plan(alloc, &mut out, schedule)?,
+        Some(schedule) => push_plan(alloc, &mut out, schedule, clock)?,
         None => push_none(alloc, &mut out, b"no plan")?,
     }
     out.extend_from_slice(b"</svg>\n")?;
@@ -50,11 +58,17 @@ pub fn schedule_picture(alloc: Global, schedule: Option<&Schedule>) -> Result<Ve
 }
 
 /// Appends the picture of a plan, but for the end.
-fn push_plan(alloc: Global, out: &mut Vec<u8>, schedule: &Schedule) -> Result<(), AllocError>
-    requires { IsTimed schedule.now }
-    ensures { OnOk result (out.new.items ≡ out.old.items ++ page_text (Some schedule.now)) }
+fn push_plan(
+    alloc: Global,
+    out: &mut Vec<u8>,
+    schedule: &Schedule,
+    clock: Option<Clock>,
+) -> Result<(), AllocError>
+    requires timed { IsTimed schedule.now }
+    requires clock { AreClocks clock }
+    ensures { OnOk result (out.new.items ≡ out.old.items ++ page_text clock (Some schedule.now)) }
 {
-    let scale = scale_of(schedule);
+    let scale = scale_of(schedule, clock);
     push_routes(
         alloc,
         out,

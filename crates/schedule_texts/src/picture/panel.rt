@@ -1,10 +1,12 @@
 //! The panel of a route.
 
 ghost use Rattle.std.specs.Prelude.{◌≡◌, ◌≤◌, ◌++◌, OnOk};
-ghost use Rattle.schedule_texts.specs.Panels.{heading_text, panel_text, panels_text, placed_text};
+ghost use Rattle.schedule_texts.specs.Panels.{heading_text, panel_text, panels_text, placed_text, span_text};
 ghost use Rattle.schedule_texts.specs.Scales.{IsScale};
 
+use crate::clock::push_clock_time;
 use crate::decimals::push_decimal;
+use crate::latest::latest_in;
 use crate::picture::axis::push_axis;
 use crate::picture::frame::push_frame;
 use crate::picture::line::{push_bends, push_line};
@@ -69,7 +71,7 @@ fn push_panel(
     requires { IsScale scale }
     ensures { OnOk result (out.new.items ≡ out.old.items ++ panel_text scale reserve route.now) }
 {
-    push_heading(alloc, out, scale.denominator, route)?;
+    push_heading(alloc, out, scale, route)?;
     push_axis(alloc, out, scale)?;
     push_frame(alloc, out, scale, reserve)?;
     push_names(alloc, out, scale, route.visits.as_slice())?;
@@ -83,11 +85,11 @@ fn push_panel(
 fn push_heading(
     alloc: Global,
     out: &mut Vec<u8>,
-    denominator: u64,
+    scale: Scale,
     route: &RouteSchedule,
 ) -> Result<(), AllocError>
-    requires { 1 ≤ denominator }
-    ensures { OnOk result (out.new.items ≡ out.old.items ++ heading_text denominator route.now) }
+    requires { IsScale scale }
+    ensures { OnOk result (out.new.items ≡ out.old.items ++ heading_text scale route.now) }
 {
     push_numbered(
         alloc,
@@ -97,13 +99,36 @@ fn push_heading(
     )?;
     push_numbered(alloc, out, b": stops ", route.totals.stops)?;
     push_word(out, b", time ")?;
-    push_decimal(alloc, out, denominator, route.totals.time)?;
+    push_decimal(alloc, out, scale.denominator, route.totals.time)?;
     push_numbered(
         alloc,
         out,
         b", energy charged ",
         route.totals.energy_charged,
     )?;
+    push_span(alloc, out, scale, route)?;
     push_word(out, b"</text>\n")?;
     Ok(())
+}
+
+/// Appends when the vehicle begins and ends by the clock, where there is one.
+#[tactic(auto, unfolding(crate::specs::Panels::span_text))]
+fn push_span(
+    alloc: Global,
+    out: &mut Vec<u8>,
+    scale: Scale,
+    route: &RouteSchedule,
+) -> Result<(), AllocError>
+    requires { IsScale scale }
+    ensures { OnOk result (out.new.items
+        ≡ out.old.items ++ span_text scale.clock scale.denominator route.now) }
+{
+    let Some(clock) = scale.clock else {
+        return Ok(());
+    };
+    let last = latest_in(0, route.visits.as_slice());
+    push_word(out, b", from ")?;
+    push_clock_time(alloc, out, clock, scale.denominator, 0)?;
+    push_word(out, b" to ")?;
+    push_clock_time(alloc, out, clock, scale.denominator, last)
 }

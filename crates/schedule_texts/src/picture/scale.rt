@@ -2,8 +2,10 @@
 
 ghost use Rattle.std.specs.Prelude.{◌≡◌, ◌≤◌, ◌<◌, ◌^◌};
 ghost use Rattle.plan_schedule.specs.Schedules.{IsTimed};
+ghost use Rattle.schedule_texts.specs.Clocks.{AreClocks};
 ghost use Rattle.schedule_texts.specs.Scales.{IsScale, mark_at, most_stops, scale_of, x_at, y_at};
 
+use crate::clock::Clock;
 use crate::latest::latest_of;
 use plan_schedule::{RouteSchedule, Schedule};
 
@@ -18,13 +20,16 @@ pub(crate) struct Scale {
     pub full: u64,
     /// The number by which times are scaled.
     pub denominator: u64,
+    /// The clock by which moments are told, where there is one.
+    pub clock: Option<Clock>,
 }
 
 /// The scale of the picture of a plan: all panels have the same times, and the more stops a route
 /// has, the wider they are, from 800 to 3200 pixels.
-pub(crate) fn scale_of(schedule: &Schedule) -> Scale
-    requires { IsTimed schedule.now }
-    ensures value { result ≡ scale_of schedule.now }
+pub(crate) fn scale_of(schedule: &Schedule, clock: Option<Clock>) -> Scale
+    requires timed { IsTimed schedule.now }
+    requires clock { AreClocks clock }
+    ensures value { result ≡ scale_of clock schedule.now }
     ensures scale { IsScale result }
 {
     let routes = schedule.routes.as_slice();
@@ -34,6 +39,7 @@ pub(crate) fn scale_of(schedule: &Schedule) -> Scale
         latest: latest_of(routes),
         full: schedule.full,
         denominator: schedule.denominator,
+        clock,
     }
 }
 

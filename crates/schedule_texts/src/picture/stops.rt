@@ -4,7 +4,7 @@ ghost use Rattle.std.specs.Prelude.{◌≡◌, ◌≤◌, ◌++◌, OnOk};
 ghost use Rattle.schedule_texts.specs.Scales.{IsScale};
 ghost use Rattle.schedule_texts.specs.Shapes.{circle_text, diamond_text, kind_words, place_text, shape_end, shape_text, square_text, stop_text, stops_text, title_text};
 
-use crate::decimals::push_decimal;
+use crate::clock::push_moment;
 use crate::picture::scale::{Scale, x_at, y_at};
 use plan_schedule::{PlaceKind, Visit};
 use report_lines::{push_numbered, push_word};
@@ -41,7 +41,7 @@ fn push_stop(
     let x = x_at(scale, visit.arrival as u128);
     let y = y_at(scale, visit.level);
     push_shape(alloc, out, visit.kind, x, y)?;
-    push_title(alloc, out, scale.denominator, at, visit)?;
+    push_title(alloc, out, scale, at, visit)?;
     out.extend_from_slice(shape_end(visit.kind))
 }
 
@@ -109,17 +109,24 @@ fn shape_end(kind: PlaceKind) -> &'static [u8]
 fn push_title(
     alloc: Global,
     out: &mut Vec<u8>,
-    denominator: u64,
+    scale: Scale,
     at: usize,
     visit: &Visit,
 ) -> Result<(), AllocError>
-    requires { 1 ≤ denominator }
-    ensures { OnOk result (out.new.items ≡ out.old.items ++ title_text denominator at visit.now) }
+    requires { IsScale scale }
+    ensures { OnOk result (out.new.items ≡ out.old.items ++ title_text scale at visit.now) }
 {
     push_numbered(alloc, out, b"<title>stop ", at as u128)?;
     push_place(alloc, out, visit)?;
     push_word(out, b", arrival ")?;
-    push_decimal(alloc, out, denominator, visit.arrival as u128)?;
+    push_moment(
+        alloc,
+        out,
+        scale.clock,
+        false,
+        scale.denominator,
+        visit.arrival,
+    )?;
     push_numbered(alloc, out, b", level ", visit.level as u128)?;
     push_word(out, b"</title>")?;
     Ok(())

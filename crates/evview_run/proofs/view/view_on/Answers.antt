@@ -1,4 +1,4 @@
-use Rattle.evview_run.proofs.ViewFinds.{job_differs, plan_fails, view_found}
+use Rattle.evview_run.proofs.ViewFinds.{plan_fails, view_found}
 use Rattle.job_frame.proofs.BehindReads.{finds_made, read_fails}
 use Rattle.job_frame.proofs.FileReads.{named_read}
 use Rattle.view_words.specs.JobValue.{job_value}
@@ -19,6 +19,6 @@ returns g c = λ bytes read network.
     let read_plan = named_read _ _ _ _ _ c.as_str.ensures.value c.in-Ok.ensures.bytes in
     finds_made c.view_text.result
     (view_found (job_value w) before.files bytes plan_bytes c.as_slice.result.now c.view_text.result
-    (job_differs w c.requires) read read_plan c.as_slice.ensures.value (c.view_text.ensures.answers bytes network) c.view_text.ensures.heard)
+    c.requires.different read read_plan c.as_slice.ensures.value (c.view_text.ensures.answers bytes network) c.view_text.ensures.heard)
     c.view_text.ensures.memory
     c.in-Ok.ensures.stays c.in-Ok.ensures.falls c.in-Ok.ensures.files

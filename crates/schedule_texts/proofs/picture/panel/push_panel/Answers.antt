@@ -15,7 +15,7 @@ pub returns : goal.returns
 unfolding panel_text
 returns c =
     let x = c.args.out.now.items in
-    let a1 : List ℕ = heading_text c.args.scale.denominator c.args.route.now in
+    let a1 : List ℕ = heading_text c.args.scale c.args.route.now in
     let y1 = c.push_heading.new.out.items in
     let a2 : List ℕ = axis_text c.args.scale in
     let y2 = c.push_axis.new.out.items in

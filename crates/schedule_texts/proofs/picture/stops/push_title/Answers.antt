@@ -1,5 +1,5 @@
-use Rattle.std.proofs.Common.{◌≡◌, ℕ, ◌++◌, List, codes, decimal}
-use Rattle.schedule_texts.specs.Decimals.{decimal_text}
+use Rattle.std.proofs.Common.{◌≡◌, ℕ, ◌++◌, List, codes, decimal, false}
+use Rattle.schedule_texts.specs.Clocks.{moment_text}
 use Rattle.schedule_texts.specs.Shapes.{place_text}
 use Rattle.schedule_texts.specs.Shapes.{title_text}
 use Rattle.schedule_texts.proofs.Joined.{join}
@@ -15,8 +15,8 @@ returns c =
     let y2 = c.push_place.new.out.items in
     let a3 : List ℕ = codes ", arrival " in
     let y3 = c.push_word.new.out.items in
-    let a4 : List ℕ = decimal_text c.args.denominator c.args.visit.now.arrival in
-    let y4 = c.push_decimal.new.out.items in
+    let a4 : List ℕ = moment_text c.args.scale.clock false c.args.scale.denominator c.args.visit.now.arrival in
+    let y4 = c.push_moment.new.out.items in
     let a5 : List ℕ = codes ", level " ++ decimal c.args.visit.now.level in
     let y5 = c.push_numbered-2.new.out.items in
     let a6 : List ℕ = codes "</title>" in
@@ -24,7 +24,7 @@ returns c =
     let e1 : y1 ≡ x ++ a1 = c.in_ok-push_numbered.ensures.ok in
     let e2 : y2 ≡ y1 ++ a2 = c.in_ok-push_place.ensures in
     let e3 : y3 ≡ y2 ++ a3 = c.in_ok-push_word.ensures.ok in
-    let e4 : y4 ≡ y3 ++ a4 = c.in_ok-push_decimal.ensures in
+    let e4 : y4 ≡ y3 ++ a4 = c.in_ok-push_moment.ensures in
     let e5 : y5 ≡ y4 ++ a5 = c.in_ok-push_numbered-2.ensures.ok in
     let e6 : y6 ≡ y5 ++ a6 = c.in_ok-push_word-2.ensures.ok in
     let t2 = join x y1 y2 (a1) a2 e1 e2 in

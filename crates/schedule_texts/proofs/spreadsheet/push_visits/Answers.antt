@@ -1,0 +1,6 @@
+use Rattle.std.proofs.Common.{arith}
+use Rattle.std.proofs.lemmas.Grind.{common_steps}
+use Rattle.schedule_texts.proofs.spreadsheet.push_visits.Goals as goal
+
+pub loop-at-preserved : goal.loop-at-preserved
+loop-at-preserved = grind (arith, common_steps)
