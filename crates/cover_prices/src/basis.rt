@@ -2,6 +2,7 @@
 
 use crate::columns::Column;
 use crate::fixed::{ONE, at, narrow, product, put, ratio, rounded};
+use crate::rows::{Row, Sense};
 use std::alloc::{AllocError, Global};
 
 /// No pivot of a rebuilt basis is smaller.
@@ -14,6 +15,8 @@ pub(crate) enum Member {
     Helper(usize),
     /// By which a customer is covered more than once.
     Surplus(usize),
+    /// By which a row is covered less often than it may be.
+    Slack(usize),
     /// The column of the pool at a place.
     Column(usize),
 }
@@ -23,6 +26,8 @@ pub(crate) enum Member {
 pub(crate) struct Basis {
     /// The members, by row.
     pub(crate) members: Vec<Member>,
+    /// The members to begin with, by row.
+    firsts: Vec<Member>,
     /// The rows of the inverse.
     rows: Vec<Vec<i64>>,
     /// The row that others are cleared by.
@@ -32,33 +37,33 @@ pub(crate) struct Basis {
 }
 
 impl Basis {
-    /// The basis of the helpers.
-    pub(crate) fn new(alloc: Global, customers: usize) -> Result<Basis, AllocError> {
-        let mut members = Vec::with_capacity(alloc, customers)?;
-        let mut rows = Vec::with_capacity(alloc, customers)?;
-        for customer in 0..customers {
-            members.push(Member::Helper(customer))?;
-            rows.push(vec![in alloc; 0; customers]?)?;
+    /// The basis of the helpers, and of the slack of rows that need no helper.
+    pub(crate) fn new(alloc: Global, wanted: &[Row]) -> Result<Basis, AllocError> {
+        let firsts = first_members(alloc, wanted)?;
+        let mut rows = Vec::with_capacity(alloc, wanted.len())?;
+        for _ in 0..wanted.len() {
+            rows.push(vec![in alloc; 0; wanted.len()]?)?;
         }
         let mut basis = Basis {
-            members,
+            members: firsts.clone()?,
+            firsts,
             rows,
-            pivot_row: Vec::with_capacity(alloc, customers)?,
-            sums: vec![in alloc; 0; customers]?,
+            pivot_row: Vec::with_capacity(alloc, wanted.len())?,
+            sums: vec![in alloc; 0; wanted.len()]?,
         };
         basis.reset();
         Ok(basis)
     }
 
-    /// Becomes the basis of the helpers.
+    /// Becomes the basis to begin with.
     pub(crate) fn reset(&mut self) {
         self.clear_rows();
-        for (customer, member) in self.members.iter_mut().enumerate() {
-            *member = Member::Helper(customer);
+        for (member, first) in self.members.iter_mut().zip(self.firsts.iter()) {
+            *member = *first;
         }
     }
 
-    /// Lets the inverse be that of the basis of the helpers.
+    /// Lets the inverse be that of the basis to begin with.
     fn clear_rows(&mut self) {
         for (place, row) in self.rows.iter_mut().enumerate() {
             set_unit(row, place);
@@ -69,7 +74,7 @@ impl Basis {
     fn cost_of(&self, columns: &[Column], dearest: i64, member: Member) -> i64 {
         match member {
             Member::Helper(_) => dearest,
-            Member::Surplus(_) => 0,
+            Member::Surplus(_) | Member::Slack(_) => 0,
             Member::Column(place) => match columns.get(place) {
                 Some(column) => column.cost,
                 None => dearest,
@@ -244,6 +249,19 @@ impl Basis {
     }
 }
 
+/// The members of the basis to begin with: the slack of a row that may be left uncovered, else its
+/// helper.
+fn first_members(alloc: Global, wanted: &[Row]) -> Result<Vec<Member>, AllocError> {
+    let mut members = Vec::with_capacity(alloc, wanted.len())?;
+    for (place, row) in wanted.iter().enumerate() {
+        members.push(match row.sense {
+            Sense::AtLeast | Sense::Exactly => Member::Helper(place),
+            Sense::AtMost => Member::Slack(place),
+        })?;
+    }
+    Ok(members)
+}
+
 /// Lets a row be that of the unit matrix.
 fn set_unit(row: &mut [i64], place: usize) {
     for entry in row.iter_mut() {
@@ -255,7 +273,7 @@ fn set_unit(row: &mut [i64], place: usize) {
 /// How many customers a member serves, 0 where it is no column of the pool.
 fn length_of(columns: &[Column], member: Member) -> usize {
     match member {
-        Member::Helper(_) | Member::Surplus(_) => 0,
+        Member::Helper(_) | Member::Surplus(_) | Member::Slack(_) => 0,
         Member::Column(place) => match columns.get(place) {
             Some(column) => column.services.len(),
             None => 0,
@@ -266,8 +284,8 @@ fn length_of(columns: &[Column], member: Member) -> usize {
 /// The sum over a member's services of a number for each customer.
 pub(crate) fn sum_over(columns: &[Column], member: Member, numbers: &[i64]) -> i64 {
     match member {
-        Member::Helper(customer) => at(numbers, customer),
-        Member::Surplus(customer) => at(numbers, customer).saturating_neg(),
+        Member::Helper(row) | Member::Slack(row) => at(numbers, row),
+        Member::Surplus(row) => at(numbers, row).saturating_neg(),
         Member::Column(place) => match columns.get(place) {
             Some(column) => column.sum_of(numbers),
             None => 0,
@@ -278,8 +296,8 @@ pub(crate) fn sum_over(columns: &[Column], member: Member, numbers: &[i64]) -> i
 /// Takes an amount of a member from what is left, by customer.
 fn take_member(columns: &[Column], member: Member, amount: i64, left: &mut [i64]) {
     match member {
-        Member::Helper(customer) => take(left, customer, amount),
-        Member::Surplus(customer) => take(left, customer, amount.saturating_neg()),
+        Member::Helper(row) | Member::Slack(row) => take(left, row, amount),
+        Member::Surplus(row) => take(left, row, amount.saturating_neg()),
         Member::Column(place) => {
             if let Some(column) = columns.get(place) {
                 for service in &column.services {

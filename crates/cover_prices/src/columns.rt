@@ -6,12 +6,23 @@ use std::alloc::{AllocError, Global};
 /// No column costs more.
 const MOST_COST: i64 = 1 << 61;
 
-/// How often a column serves a customer.
+/// How often a column serves a customer, or counts in another row.
 #[derive(Clone, Copy, Debug, PartialEq, Eq)]
 pub struct Service {
-    /// The customer's number.
+    /// The customer's number, or that of the row.
     pub customer: usize,
     pub count: i64,
+}
+
+/// Whether a column is taken.
+#[derive(Clone, Copy, Debug, PartialEq, Eq)]
+pub(crate) enum Standing {
+    /// It may be.
+    Active,
+    /// It waits until it earns.
+    Resting,
+    /// Never any more.
+    Banned,
 }
 
 /// A column: whom it serves, and what it costs.
@@ -19,8 +30,7 @@ pub struct Service {
 pub(crate) struct Column {
     pub(crate) services: Vec<Service>,
     pub(crate) cost: i64,
-    /// Whether it may not be taken any more.
-    pub(crate) is_banned: bool,
+    pub(crate) standing: Standing,
 }
 
 impl Column {
@@ -35,7 +45,7 @@ impl Column {
         Ok(Column {
             services: own,
             cost: narrow(i128::from(cost)).min(MOST_COST),
-            is_banned: false,
+            standing: Standing::Active,
         })
     }
 
@@ -54,6 +64,21 @@ impl Column {
         self.cost.saturating_sub(self.sum_of(prices))
     }
 
+    /// Whether it may be taken.
+    pub(crate) fn is_active(&self) -> bool {
+        self.standing == Standing::Active
+    }
+
+    /// What those services earn whose prices are above 0.
+    pub(crate) fn gains(&self, prices: &[i64]) -> i64 {
+        let mut sum: i64 = 0;
+        for service in &self.services {
+            let price = at(prices, service.customer).max(0);
+            sum = sum.saturating_add(price.saturating_mul(service.count));
+        }
+        sum
+    }
+
     /// How many services there are.
     pub(crate) fn service_count(&self) -> i64 {
         let mut count: i64 = 0;
@@ -66,12 +91,12 @@ impl Column {
     /// Lets a column be as dear as helpers for all its services, and not be taken any more.
     pub(crate) fn ban(&mut self, dearest: i64) {
         self.cost = narrow(product(dearest, self.service_count())).min(MOST_COST);
-        self.is_banned = true;
+        self.standing = Standing::Banned;
     }
 }
 
 /// For each customer, by number, the places of the columns that serve him, with how often they do.
-/// Columns that are banned are left out.
+/// Columns that aren't active are left out.
 pub(crate) fn columns_by_customer(
     alloc: Global,
     columns: &[Column],
@@ -82,7 +107,7 @@ pub(crate) fn columns_by_customer(
         all.push(Vec::new(alloc))?;
     }
     for (place, column) in columns.iter().enumerate() {
-        if !column.is_banned {
+        if column.is_active() {
             push_services(&mut all, place, column)?;
         }
     }

@@ -1,7 +1,8 @@
 //! The master problem.
 
-use crate::columns::{Column, Service};
-use crate::repair::lower;
+use crate::columns::{Column, Service, Standing};
+use crate::repair::{fit, lower};
+use crate::rows::{Row, copied_rows, served_rows};
 use crate::simplex::Simplex;
 use crate::volume::Volume;
 use std::alloc::{AllocError, Global};
@@ -23,16 +24,17 @@ const MOST_PARTS: u64 = 1 << 24;
 /// promises to end, and that no column of the pool costs less than its services earn isn't proved.
 #[derive(Drop)]
 pub struct Cover {
-    columns: Vec<Column>,
+    pub(crate) columns: Vec<Column>,
+    rows: Vec<Row>,
     /// How many parts a unit of cost has here.
-    parts: u64,
-    /// What it costs to cover a customer once without a column, in parts, as all costs below.
+    pub(crate) parts: u64,
+    /// What it costs to cover a row once without a column, in parts, as all costs below.
     dearest: i64,
-    volume: Volume,
-    simplex: Simplex,
+    pub(crate) volume: Volume,
+    pub(crate) simplex: Simplex,
     /// Whether the volume method is used.
     is_volume: bool,
-    prices: Vec<i64>,
+    pub(crate) prices: Vec<i64>,
     /// To which amounts the columns are taken.
     amounts: Vec<i64>,
     /// How much is covered without columns.
@@ -43,17 +45,29 @@ impl Cover {
     /// The problem without columns, in which covering a customer once without one costs so much.
     /// Prices are first found by the volume method.
     pub fn new(alloc: Global, customers: usize, dearest: u64) -> Result<Cover, AllocError> {
+        Cover::over(alloc, served_rows(alloc, customers)?, dearest)
+    }
+
+    /// The problem without columns over rows of any sense: the customers, by number, and what else
+    /// columns are counted by.
+    pub fn with_rows(alloc: Global, rows: &[Row], dearest: u64) -> Result<Cover, AllocError> {
+        Cover::over(alloc, copied_rows(alloc, rows)?, dearest)
+    }
+
+    /// The problem without columns over these rows.
+    fn over(alloc: Global, rows: Vec<Row>, dearest: u64) -> Result<Cover, AllocError> {
         let parts = parts_for(dearest);
         Ok(Cover {
             columns: Vec::new(alloc),
             parts,
             dearest: dearest.saturating_mul(parts).min(MOST_PRICE) as i64,
-            volume: Volume::new(alloc, customers)?,
-            simplex: Simplex::new(alloc, customers)?,
+            volume: Volume::new(alloc, rows.len())?,
+            simplex: Simplex::new(alloc, &rows)?,
             is_volume: true,
-            prices: vec![in alloc; 0; customers]?,
+            prices: vec![in alloc; 0; rows.len()]?,
             amounts: Vec::new(alloc),
             lacking: 0,
+            rows,
         })
     }
 
@@ -64,7 +78,29 @@ impl Cover {
         services: &[Service],
         cost: u64,
     ) -> Result<(), AllocError> {
-        let column = Column::new(alloc, services, cost.saturating_mul(self.parts))?;
+        self.add(alloc, services, cost, Standing::Active)
+    }
+
+    /// Puts a column behind the others that isn't taken before it is woken.
+    pub fn add_resting(
+        &mut self,
+        alloc: Global,
+        services: &[Service],
+        cost: u64,
+    ) -> Result<(), AllocError> {
+        self.add(alloc, services, cost, Standing::Resting)
+    }
+
+    /// Puts a column behind the others.
+    fn add(
+        &mut self,
+        alloc: Global,
+        services: &[Service],
+        cost: u64,
+        standing: Standing,
+    ) -> Result<(), AllocError> {
+        let mut column = Column::new(alloc, services, cost.saturating_mul(self.parts))?;
+        column.standing = standing;
         self.columns.push(column)?;
         self.amounts.push(0)?;
         self.volume.add_column()?;
@@ -75,7 +111,7 @@ impl Cover {
     pub fn ban(&mut self, place: usize) {
         if let Some(column) = self.columns.get_mut(place) {
             column.ban(self.dearest);
-            self.volume.ban(place);
+            self.volume.drop_column(place);
         }
     }
 
@@ -92,12 +128,15 @@ impl Cover {
     /// Finds prices for the columns there are, and by the simplex method amounts.
     pub fn solve(&mut self, alloc: Global) -> Result<(), AllocError> {
         if self.is_volume {
-            self.volume.solve(alloc, &self.columns, self.dearest)?;
+            self.volume
+                .solve(alloc, &self.columns, &self.rows, self.dearest)?;
             copy_into(&mut self.prices, self.volume.center());
         } else {
-            self.simplex.solve(alloc, &self.columns, self.dearest)?;
+            self.simplex
+                .solve(alloc, &self.columns, &self.rows, self.dearest)?;
             self.lacking = self.simplex.find_shares(&self.columns, &mut self.amounts);
             copy_into(&mut self.prices, self.simplex.prices());
+            fit(&self.rows, self.dearest, &mut self.prices);
             lower(alloc, &self.columns, &mut self.prices)?;
             self.volume.set_center(&self.prices);
         }
@@ -105,7 +144,7 @@ impl Cover {
         Ok(())
     }
 
-    /// The prices of the customers, by number, at least 0.
+    /// The prices of the rows, by number, each as its row may have it.
     pub fn prices(&self) -> &[i64] {
         &self.prices
     }
@@ -134,11 +173,21 @@ fn parts_for(dearest: u64) -> u64 {
     parts
 }
 
-/// Numbers of parts as whole units.
+/// Numbers of parts as whole units, rounded down.
 fn round_down(numbers: &mut [i64], parts: u64) {
     let parts = i64::try_from(parts).unwrap_or(1);
     for number in numbers.iter_mut() {
-        *number = (*number).max(0).checked_div(parts).unwrap_or(0);
+        *number = floor_of(*number, parts);
+    }
+}
+
+/// A quotient, rounded down.
+fn floor_of(over: i64, under: i64) -> i64 {
+    let part = over.checked_div(under).unwrap_or(0);
+    if over < part.saturating_mul(under) {
+        part.saturating_sub(1)
+    } else {
+        part
     }
 }
 

@@ -1,5 +1,5 @@
 //! The master problem that covers customers by columns, each with how often it serves them: prices
-//! that are no less than 0, and amounts, in whole numbers.
+//! and amounts, in whole numbers.
 //!
 //! First by the volume method (Barahona, Anbil 2000), and then by the revised simplex method with
 //! the inverse of the basis in fixed point, and prices and amounts corrected by what whole columns
@@ -12,8 +12,12 @@ mod columns;
 mod cover;
 mod fixed;
 mod repair;
+mod rows;
 mod simplex;
 mod volume;
+mod waking;
 
 pub use columns::Service;
 pub use cover::Cover;
+pub use rows::{Row, Sense};
+pub use waking::Choice;

@@ -2,22 +2,27 @@
 
 use crate::columns::{Column, columns_by_customer};
 use crate::fixed::{at, narrow, product, put};
+use crate::rows::Row;
 use std::alloc::{AllocError, Global};
 
+/// Lets prices be such as their rows may have.
+pub(crate) fn fit(rows: &[Row], dearest: i64, prices: &mut [i64]) {
+    for (price, row) in prices.iter_mut().zip(rows) {
+        *price = row.fitted(*price, dearest);
+    }
+}
+
 /// Lowers prices until no column costs less than its services earn: of each one that does, in
-/// proportion, those that earn most first. Prices below 0 become 0.
+/// proportion, those that earn most first. Prices that aren't above 0 stay.
 pub(crate) fn lower(
     alloc: Global,
     columns: &[Column],
     prices: &mut [i64],
 ) -> Result<(), AllocError> {
-    for price in prices.iter_mut() {
-        *price = (*price).max(0);
-    }
     let mut earning = Vec::new(alloc);
     for (place, column) in columns.iter().enumerate() {
         let reduced = column.reduced_cost(prices);
-        if !column.is_banned && reduced < 0 {
+        if column.is_active() && reduced < 0 {
             earning.push((reduced, place))?;
         }
     }
@@ -30,17 +35,19 @@ pub(crate) fn lower(
     Ok(())
 }
 
-/// Lowers the prices of a column's services in proportion, until it doesn't earn.
+/// Lowers the prices above 0 of a column's services in proportion, until it doesn't earn.
 fn lower_of(column: &Column, prices: &mut [i64]) {
     let reduced = column.reduced_cost(prices);
     if reduced >= 0 {
         return;
     }
-    let earned = column.cost.saturating_sub(reduced);
+    let earned = column.gains(prices);
     for service in &column.services {
         let price = at(prices, service.customer);
-        let cut = share_of(reduced.saturating_neg(), price, earned);
-        put(prices, service.customer, price.saturating_sub(cut).max(0));
+        if price > 0 {
+            let cut = share_of(reduced.saturating_neg(), price, earned);
+            put(prices, service.customer, price.saturating_sub(cut).max(0));
+        }
     }
 }
 
@@ -52,19 +59,21 @@ fn share_of(amount: i64, price: i64, earned: i64) -> i64 {
     narrow(over.checked_div(i128::from(earned)).unwrap_or(0))
 }
 
-/// Raises the prices one by one, each as far as no column earns by it, and up to `most`.
+/// Raises the prices one by one, each as far as no column earns by it, and as its row may have.
 pub(crate) fn raise(
     alloc: Global,
     columns: &[Column],
+    rows: &[Row],
+    dearest: i64,
     prices: &mut [i64],
-    most: i64,
 ) -> Result<(), AllocError> {
     let mut rooms = Vec::with_capacity(alloc, columns.len())?;
     for column in columns {
         rooms.push(column.reduced_cost(prices))?;
     }
     let by_customer = columns_by_customer(alloc, columns, prices.len())?;
-    for (price, serving) in prices.iter_mut().zip(by_customer.iter()) {
+    for ((price, row), serving) in prices.iter_mut().zip(rows).zip(by_customer.iter()) {
+        let most = row.greatest_price(dearest);
         let rise = room_of(&rooms, serving).min(most.saturating_sub(*price));
         if rise > 0 {
             *price = price.saturating_add(rise);

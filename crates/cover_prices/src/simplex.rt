@@ -3,6 +3,7 @@
 use crate::basis::{Basis, Member, sum_over};
 use crate::columns::Column;
 use crate::fixed::{ONE, at, narrow, product, put, rounded};
+use crate::rows::{Row, Sense};
 use std::alloc::{AllocError, Global};
 
 /// A column enters whose reduced cost is below this.
@@ -33,8 +34,10 @@ pub(crate) struct Simplex {
     basis: Basis,
     /// Whether each column of the pool is in the basis.
     is_basic: Vec<bool>,
-    /// What is to be covered of each customer: a little more than one.
+    /// What is to be covered of each row: a little more than is wanted.
     right: Vec<i64>,
+    /// What is wanted of each row.
+    wanted: Vec<i64>,
     /// The amounts of the members, by row.
     amounts: Vec<i64>,
     prices: Vec<i64>,
@@ -56,17 +59,19 @@ struct Run {
 }
 
 impl Simplex {
-    /// The basis of the helpers.
-    pub(crate) fn new(alloc: Global, customers: usize) -> Result<Simplex, AllocError> {
-        let right = right_sides(alloc, customers)?;
+    /// The basis to begin with.
+    pub(crate) fn new(alloc: Global, rows: &[Row]) -> Result<Simplex, AllocError> {
+        let right = right_sides(alloc, rows)?;
+        let count = rows.len();
         Ok(Simplex {
-            basis: Basis::new(alloc, customers)?,
+            basis: Basis::new(alloc, rows)?,
             is_basic: Vec::new(alloc),
             amounts: right.clone()?,
             right,
-            prices: vec![in alloc; 0; customers]?,
-            entries: vec![in alloc; 0; customers]?,
-            spare: vec![in alloc; 0; customers]?,
+            wanted: wanted_sides(alloc, rows)?,
+            prices: vec![in alloc; 0; count]?,
+            entries: vec![in alloc; 0; count]?,
+            spare: vec![in alloc; 0; count]?,
             since: 0,
         })
     }
@@ -75,6 +80,11 @@ impl Simplex {
     pub(crate) fn add_column(&mut self) -> Result<(), AllocError> {
         self.is_basic.push(false)?;
         Ok(())
+    }
+
+    /// Whether the column at a place is in the basis.
+    pub(crate) fn is_basic(&self, place: usize) -> bool {
+        self.is_basic.get(place).copied().unwrap_or(false)
     }
 
     /// The prices of the last call.
@@ -87,6 +97,7 @@ impl Simplex {
         &mut self,
         alloc: Global,
         columns: &[Column],
+        rows: &[Row],
         dearest: i64,
     ) -> Result<(), AllocError> {
         let mut run = Run {
@@ -95,7 +106,7 @@ impl Simplex {
             resets: 0,
         };
         for _ in 0..self.most_steps() {
-            if !self.step(alloc, columns, dearest, &mut run)? {
+            if !self.step(alloc, columns, rows, dearest, &mut run)? {
                 break;
             }
         }
@@ -112,6 +123,7 @@ impl Simplex {
         &mut self,
         alloc: Global,
         columns: &[Column],
+        rows: &[Row],
         dearest: i64,
         run: &mut Run,
     ) -> Result<bool, AllocError> {
@@ -123,7 +135,7 @@ impl Simplex {
                 return self.mend(alloc, columns, run);
             }
         }
-        let Some(entering) = self.entering(columns) else {
+        let Some(entering) = self.entering(columns, rows) else {
             let goes_on = !run.is_full;
             run.is_full = true;
             return Ok(goes_on);
@@ -194,11 +206,26 @@ impl Simplex {
     }
 
     /// The column of least reduced cost that may enter, if that is low enough.
-    fn entering(&self, columns: &[Column]) -> Option<Member> {
+    fn entering(&self, columns: &[Column], rows: &[Row]) -> Option<Member> {
+        let (mut least, mut best) = self.entering_column(columns);
+        for (place, (price, row)) in self.prices.iter().zip(rows).enumerate() {
+            if let Some((reduced, member)) = by_row(*row, *price, place) {
+                if reduced < least {
+                    least = reduced;
+                    best = Some(member);
+                }
+            }
+        }
+        best
+    }
+
+    /// The column of the pool of least reduced cost that may enter, if that is low enough, and its
+    /// reduced cost.
+    fn entering_column(&self, columns: &[Column]) -> (i64, Option<Member>) {
         let mut best = None;
         let mut least = ENTRY;
         for (place, (column, is_basic)) in columns.iter().zip(self.is_basic.iter()).enumerate() {
-            if !*is_basic && !column.is_banned {
+            if !*is_basic && column.is_active() {
                 let reduced = column.reduced_cost(&self.prices);
                 if reduced < least {
                     least = reduced;
@@ -206,13 +233,7 @@ impl Simplex {
                 }
             }
         }
-        for (customer, price) in self.prices.iter().enumerate() {
-            if *price < least {
-                least = *price;
-                best = Some(Member::Surplus(customer));
-            }
-        }
-        best
+        (least, best)
     }
 
     /// The row of the member that leaves, by Harris's rule: of those whose amounts fall to 0 first
@@ -278,7 +299,7 @@ impl Simplex {
                 Some(column) => column.cost,
                 None => 0,
             },
-            Member::Helper(_) | Member::Surplus(_) => 0,
+            Member::Helper(_) | Member::Surplus(_) | Member::Slack(_) => 0,
         };
         let reduced = cost.saturating_sub(sum_over(columns, entering, &self.prices));
         let entry = i128::from(at(&self.entries, place));
@@ -300,14 +321,14 @@ impl Simplex {
         put(&mut self.amounts, place, rise);
     }
 
-    /// Puts the amounts of the columns of the pool that cover each customer just once, and answers
-    /// how much of helpers that takes.
+    /// Puts the amounts of the columns of the pool that cover each row just as often as is wanted,
+    /// and answers how much of helpers that takes.
     pub(crate) fn find_shares(&mut self, columns: &[Column], shares: &mut [i64]) -> i64 {
         for share in shares.iter_mut() {
             *share = 0;
         }
-        for own in self.entries.iter_mut() {
-            *own = ONE;
+        for (own, wanted) in self.entries.iter_mut().zip(self.wanted.iter()) {
+            *own = *wanted;
         }
         let mut amounts_left = 0;
         self.basis
@@ -316,12 +337,21 @@ impl Simplex {
             match member {
                 Member::Column(place) => put(shares, *place, *amount),
                 Member::Helper(_) => amounts_left = amount.saturating_add(amounts_left),
-                Member::Surplus(_) => {}
+                Member::Surplus(_) | Member::Slack(_) => {}
             }
         }
         self.basis
             .find_amounts(columns, &self.right, &mut self.spare, &mut self.amounts);
         amounts_left
+    }
+}
+
+/// What of a row may enter at a price, and its reduced cost.
+fn by_row(row: Row, price: i64, place: usize) -> Option<(i64, Member)> {
+    match row.sense {
+        Sense::AtLeast => Some((price, Member::Surplus(place))),
+        Sense::Exactly => None,
+        Sense::AtMost => Some((price.saturating_neg(), Member::Slack(place))),
     }
 }
 
@@ -342,17 +372,27 @@ fn is_less(over: i64, under: i64, other: Option<(i64, i64)>) -> bool {
     }
 }
 
-/// What is to be covered of each customer: one, and a little more by chance, so that few pivots
-/// leave the cost as it is.
-fn right_sides(alloc: Global, customers: usize) -> Result<Vec<i64>, AllocError> {
+/// What is wanted of each row.
+fn wanted_sides(alloc: Global, rows: &[Row]) -> Result<Vec<i64>, AllocError> {
+    let mut wanted = Vec::with_capacity(alloc, rows.len())?;
+    for row in rows {
+        wanted.push(ONE.saturating_mul(row.wanted()))?;
+    }
+    Ok(wanted)
+}
+
+/// What is to be covered of each row: what is wanted, and a little more by chance, so that few
+/// pivots leave the cost as it is.
+fn right_sides(alloc: Global, rows: &[Row]) -> Result<Vec<i64>, AllocError> {
     let mut state: u64 = 88_172_645_463_325_252;
-    let mut right = Vec::with_capacity(alloc, customers)?;
-    for _ in 0..customers {
+    let mut right = Vec::with_capacity(alloc, rows.len())?;
+    for row in rows {
         state ^= state << 13;
         state ^= state >> 7;
         state ^= state << 17;
         let chance = (state % (1 << 20)) as i64;
-        right.push(ONE + (1 << 17) + chance)?;
+        let wanted = ONE.saturating_mul(row.wanted());
+        right.push(wanted.saturating_add((1 << 17) + chance))?;
     }
     Ok(right)
 }

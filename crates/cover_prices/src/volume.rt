@@ -3,7 +3,8 @@
 
 use crate::columns::{Column, Service};
 use crate::fixed::{at, narrow, product, put};
-use crate::repair::{lower, raise};
+use crate::repair::{fit, lower, raise};
+use crate::rows::{Row, Sense};
 use std::alloc::{AllocError, Global};
 
 /// How many steps are made at once.
@@ -74,8 +75,8 @@ impl Volume {
         Ok(())
     }
 
-    /// Takes nothing of a column any more.
-    pub(crate) fn ban(&mut self, place: usize) {
+    /// Takes nothing of a column for now.
+    pub(crate) fn drop_column(&mut self, place: usize) {
         put(&mut self.shares, place, 0);
     }
 
@@ -97,30 +98,42 @@ impl Volume {
         &mut self,
         alloc: Global,
         columns: &[Column],
+        rows: &[Row],
         dearest: i64,
     ) -> Result<(), AllocError> {
-        lower(alloc, columns, &mut self.center)?;
-        raise(alloc, columns, &mut self.center, dearest)?;
-        let best = value(columns, &self.center, &mut self.earns);
+        self.mend(alloc, columns, rows, dearest)?;
+        let best = value(columns, rows, &self.center, &mut self.earns);
         let mut pace = Pace::new(best);
         for _ in 0..STEPS {
-            if !self.step(columns, dearest, &mut pace) {
+            if !self.step(columns, rows, dearest, &mut pace) {
                 break;
             }
         }
+        self.mend(alloc, columns, rows, dearest)
+    }
+
+    /// Lets no column earn by the best prices, but raises them as far as that lasts.
+    fn mend(
+        &mut self,
+        alloc: Global,
+        columns: &[Column],
+        rows: &[Row],
+        dearest: i64,
+    ) -> Result<(), AllocError> {
+        fit(rows, dearest, &mut self.center);
         lower(alloc, columns, &mut self.center)?;
-        raise(alloc, columns, &mut self.center, dearest)
+        raise(alloc, columns, rows, dearest, &mut self.center)
     }
 
     /// Takes a step. Whether anything is left to be covered.
-    fn step(&mut self, columns: &[Column], dearest: i64, pace: &mut Pace) -> bool {
-        find_gaps(columns, &self.shares, &mut self.gaps);
-        let norm = norm_of(&self.gaps, &self.center);
+    fn step(&mut self, columns: &[Column], rows: &[Row], dearest: i64, pace: &mut Pace) -> bool {
+        find_gaps(columns, rows, &self.shares, &mut self.gaps);
+        let norm = norm_of(&self.gaps, &self.center, rows);
         if norm == 0 {
             return false;
         }
-        self.try_prices(pace, norm, dearest);
-        let found = value(columns, &self.tried, &mut self.earns);
+        self.try_prices(pace, norm, rows, dearest);
+        let found = value(columns, rows, &self.tried, &mut self.earns);
         pull(&mut self.shares, &self.earns, columns);
         if pace.learn(found) {
             for (own, price) in self.center.iter_mut().zip(self.tried.iter()) {
@@ -131,14 +144,16 @@ impl Volume {
     }
 
     /// The prices of a step.
-    fn try_prices(&mut self, pace: &Pace, norm: i128, dearest: i64) {
+    fn try_prices(&mut self, pace: &Pace, norm: i128, rows: &[Row], dearest: i64) {
         let aim = product(pace.size, pace.target.saturating_sub(pace.best)) >> SIZE_BITS;
         let under = (norm >> SHARE_BITS).max(1);
-        for (place, tried) in self.tried.iter_mut().enumerate() {
-            let gap = i128::from(at(&self.gaps, place));
-            let step = aim.saturating_mul(gap).checked_div(under).unwrap_or(0);
-            let price = at(&self.center, place).saturating_add(narrow(step));
-            *tried = price.min(dearest).max(0);
+        for (tried, price) in self.tried.iter_mut().zip(self.center.iter()) {
+            *tried = *price;
+        }
+        for ((tried, gap), row) in self.tried.iter_mut().zip(self.gaps.iter()).zip(rows) {
+            let step = aim.saturating_mul(i128::from(*gap));
+            let rise = narrow(step.checked_div(under).unwrap_or(0));
+            *tried = row.fitted((*tried).saturating_add(rise), dearest);
         }
     }
 }
@@ -181,15 +196,16 @@ fn above(value: i64) -> i64 {
     value.saturating_add(value / 50)
 }
 
-/// What prices bound: their sum, less what the columns earn that earn, which are told.
-fn value(columns: &[Column], prices: &[i64], earns: &mut [bool]) -> i64 {
+/// What prices bound: their sum, each as often as its row is to be covered, less what the columns
+/// earn that earn, which are told.
+fn value(columns: &[Column], rows: &[Row], prices: &[i64], earns: &mut [bool]) -> i64 {
     let mut sum: i128 = 0;
-    for price in prices {
-        sum = sum.saturating_add(i128::from(*price));
+    for (price, row) in prices.iter().zip(rows) {
+        sum = sum.saturating_add(product(*price, row.wanted()));
     }
     for (column, earns) in columns.iter().zip(earns.iter_mut()) {
         let reduced = column.reduced_cost(prices);
-        *earns = !column.is_banned && reduced < 0;
+        *earns = column.is_active() && reduced < 0;
         if *earns {
             sum = sum.saturating_add(i128::from(reduced));
         }
@@ -197,10 +213,10 @@ fn value(columns: &[Column], prices: &[i64], earns: &mut [bool]) -> i64 {
     narrow(sum)
 }
 
-/// What the shares of the columns leave uncovered, by customer.
-fn find_gaps(columns: &[Column], shares: &[i64], gaps: &mut [i64]) {
-    for gap in gaps.iter_mut() {
-        *gap = WHOLE;
+/// What the shares of the columns leave uncovered, by row.
+fn find_gaps(columns: &[Column], rows: &[Row], shares: &[i64], gaps: &mut [i64]) {
+    for (gap, row) in gaps.iter_mut().zip(rows) {
+        *gap = WHOLE.saturating_mul(row.wanted());
     }
     for (column, share) in columns.iter().zip(shares) {
         if *share != 0 {
@@ -218,25 +234,34 @@ fn cover(services: &[Service], share: i64, gaps: &mut [i64]) {
     }
 }
 
-/// The square of the gaps, without those that can't lower a price any more.
-fn norm_of(gaps: &[i64], center: &[i64]) -> i128 {
+/// The square of the gaps, without those that can't lower, or raise, a price past 0.
+fn norm_of(gaps: &[i64], center: &[i64], rows: &[Row]) -> i128 {
     let mut norm: i128 = 0;
-    for (gap, price) in gaps.iter().zip(center) {
-        if *gap >= 0 || *price != 0 {
+    for ((gap, price), row) in gaps.iter().zip(center).zip(rows) {
+        if *price != 0 || may_move(*row, *gap) {
             norm = norm.saturating_add(product(*gap, *gap));
         }
     }
     norm
 }
 
+/// Whether the price 0 of a row moves where so much is uncovered.
+fn may_move(row: Row, gap: i64) -> bool {
+    match row.sense {
+        Sense::AtLeast => gap >= 0,
+        Sense::Exactly => true,
+        Sense::AtMost => gap <= 0,
+    }
+}
+
 /// Moves the shares to those of the columns that earn.
 fn pull(shares: &mut [i64], earns: &[bool], columns: &[Column]) {
     for (place, share) in shares.iter_mut().enumerate() {
-        let is_banned = match columns.get(place) {
-            Some(column) => column.is_banned,
-            None => true,
+        let is_active = match columns.get(place) {
+            Some(column) => column.is_active(),
+            None => false,
         };
-        if !is_banned {
+        if is_active {
             let aim = if earns.get(place).copied().unwrap_or(false) {
                 WHOLE
             } else {

@@ -1,11 +1,14 @@
 //! Prices and amounts of the master problem that covers, on problems whose optima are known.
 
-use cover_prices::{Cover, Service};
+use cover_prices::{Choice, Cover, Row, Sense, Service};
 use std::alloc::{AllocError, Global};
 use std::process::Abort;
 
 /// One, as amounts are told.
 const ONE: i64 = 1 << 32;
+
+/// A third of it, and two.
+const THIRDS: (i64, i64) = (1_431_655_765, 2_863_311_531);
 
 /// What it costs to cover a customer without a column.
 const DEAREST: u64 = 1_000_000;
@@ -83,4 +86,60 @@ fn a_banned_column_is_taken_no_more(rt: HostRuntime) {
     }
     cover.solve(alloc).expect(&rt, "memory");
     assert_near(&rt, &[sum_of(cover.prices())], &[230_000], 80);
+}
+
+/// A problem of three customers, each served just once, whose fourth row is covered by all columns
+/// but the last one, twice at most.
+fn parted(alloc: Global) -> Result<Cover, AllocError> {
+    let once = Row {
+        sense: Sense::Exactly,
+        count: 1,
+    };
+    let twice = Row {
+        sense: Sense::AtMost,
+        count: 2,
+    };
+    let mut cover = Cover::with_rows(alloc, &[once, once, once, twice], DEAREST)?;
+    for customer in [0, 1, 2] {
+        let alone = [service(customer, 1), service(3, 1)];
+        cover.add_column(alloc, &alone, 100_000)?;
+    }
+    let all = [service(0, 1), service(1, 1), service(2, 1)];
+    cover.add_column(alloc, &all, 600_000)?;
+    Ok(cover)
+}
+
+#[test]
+fn a_row_may_be_covered_exactly_or_so_often_at_most(rt: HostRuntime) {
+    let mut cover = parted(rt.alloc()).expect(&rt, "memory");
+    cover.refine();
+    cover.solve(rt.alloc()).expect(&rt, "memory");
+    assert_near(
+        &rt,
+        cover.prices(),
+        &[200_000, 200_000, 200_000, -100_000],
+        40,
+    );
+    let (one, two) = THIRDS;
+    let amounts = [two, two, two, one];
+    assert_near(&rt, cover.amounts(), &amounts, 1 << 10);
+}
+
+#[test]
+fn a_column_rests_until_it_earns(rt: HostRuntime) {
+    let alloc = rt.alloc();
+    let mut cover = pairs(alloc, 4).expect(&rt, "memory");
+    for cost in [90_000, 130_000] {
+        cover
+            .add_resting(alloc, &[service(0, 1), service(1, 1), service(2, 1)], cost)
+            .expect(&rt, "memory");
+    }
+    cover.refine();
+    let choice = Choice { most: 9, spread: 1 };
+    cover.solve(alloc).expect(&rt, "memory");
+    assert_eq!(rt; cover.wake(alloc, choice).expect(&rt, "memory"), 1);
+    cover.solve(alloc).expect(&rt, "memory");
+    assert_near(&rt, &[sum_of(cover.prices())], &[130_000], 80);
+    assert_eq!(rt; cover.wake(alloc, choice).expect(&rt, "memory"), 0);
+    assert_eq!(rt; cover.rest_above(1_000), 3);
 }
