@@ -8,6 +8,8 @@ mod accepted;
 #[cfg(test)]
 mod candidates;
 #[cfg(test)]
+mod clocks;
+#[cfg(test)]
 mod drawn;
 #[cfg(test)]
 mod edges;
