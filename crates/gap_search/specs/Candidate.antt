@@ -1,6 +1,5 @@
 -- What is made of a candidate for a near proof, of which nothing is known.
-use Rattle.std.specs.Prelude.{◌≡◌, ◌≢◌, ◌⊎◌, ℕ, Option, None, Some, Ok, Err}
-use Rattle.certificate_parts.specs.declared.cert_text.CertText.{CertText}
+use Rattle.std.specs.Prelude.{◌≡◌, ◌≢◌, ◌⊎◌, ℕ, Option, None, Some, Ok, IsErr}
 use Rattle.ev_model.specs.Network.{Network}
 use Rattle.near_proof.specs.NearSets.{AreNearSets}
 use Rattle.near_proof.specs.Verdicts.{IsVerdict}
@@ -22,8 +21,7 @@ pub record IsReadAs (g : Network) (candidate p : NearProof) : Type 0 where
 
 -- its text is none of a proof in its ranges, or is too long
 abbrev pub IsUnread : Network → NearProof → Type 0
-IsUnread g candidate =
-    (fault : CertText) × (near_in g (near_text (written_near g candidate)) ≡ Err fault)
+IsUnread g candidate = IsErr (near_in g (near_text (written_near g candidate)))
 
 -- a proof breaks a rule of the judge
 abbrev pub IsRejected : Network → NearProof → Type 0

@@ -1,6 +1,6 @@
 //! The judgement on a near proof that a search found, of which nothing is known.
 
-ghost use Rattle.std.specs.Prelude.{◌≤◌, IfOk, length};
+ghost use Rattle.std.specs.Prelude.{◌≡◌, ◌≢◌, ◌≤◌, IfOk, length};
 ghost use Rattle.gap_search.specs.Candidate.{IsJudged};
 ghost use Rattle.instance_reader.specs.Instance.{customer_nodes, most_customers};
 
@@ -37,11 +37,20 @@ pub(crate) fn judge(
     push_near(alloc, &mut text, inst, candidate)?;
     let proof = match read_near(alloc, inst, text.as_slice()) {
         Ok(proof) => proof,
-        Err(CertText::Memory) => return Err(AllocError),
-        Err(_) => return Ok(Judged::Unread),
+        Err(fault) => return unread(fault),
     };
     match check_near(alloc, inst, &proof)? {
         NearVerdict::Accepted => Ok(Judged::Accepted { proof }),
         _ => Ok(Judged::Rejected { proof }),
+    }
+}
+
+/// A candidate whose text isn't read, unless memory was refused.
+fn unread(fault: CertText) -> Result<Judged, AllocError>
+    ensures { IfOk result (λ judged. (judged ≡ Judged.Unread) × (fault ≢ CertText.Memory)) }
+{
+    match fault {
+        CertText::Memory => Err(AllocError),
+        _ => Ok(Judged::Unread),
     }
 }
