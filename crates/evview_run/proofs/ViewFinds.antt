@@ -36,6 +36,7 @@ use Rattle.view_words.specs.Words.{ViewPlan}
 use Rattle.view_words.specs.declared.Job.{Job}
 use Rattle.evview_run.specs.ViewAnswer.{HasRoute, PutsNoRoute, PutsRefusal, ViewAnswers, file_of, no_route_text, route_count, shown_of, view_task, view_heard}
 use Rattle.evview_run.specs.declared.cause.Cause.{Cause}
+use Rattle.evview_run.proofs.Shown.{time_is_cost}
 use Rattle.job_frame.proofs.Hearing.{HearsOfFound}
 
 -- a plan that costs something is a fleet plan
@@ -63,6 +64,7 @@ module _ (job : ViewPlan) (bytes plan_bytes : List ℕ) where
         route = route;
         shown = shown_of g job.route plan;
         is = refl;
+        time = time_is_cost g job.route plan cost valid;
         written = files;
         text_is = text;
       })

@@ -16,8 +16,6 @@ use Rattle.route_improve.specs.declared.improving.Improved.{Improved}
 use Rattle.route_improve.specs.declared.improving.Improved.TheVariants.{Plan, Alone}
 use Rattle.route_plan.specs.declared.plan.FleetPlan.{FleetPlan}
 use Rattle.route_plan.specs.declared.plan.RoutePlan.{RoutePlan}
-use Rattle.gap_search.specs.declared.judged.Judged.{Judged}
-use Rattle.gap_search.specs.declared.judged.Judged.TheVariants.{Accepted, Rejected, Unread}
 use Rattle.gap_search.specs.declared.outcome.GapOutcome.{GapOutcome}
 
 -- a near proof that is accepted, and so is true, and whose text is read as it where it isn't too
@@ -27,12 +25,6 @@ pub record IsGapProof (g : Network) (p : NearProof) : Type 0 where
   pub kept : IsKept p
   pub accepted : IsAccepted g p
   pub shows : IsTrue g p
-
--- what is made of a candidate for a proof
-abbrev pub IsJudged : Network → Judged → Type 0
-IsJudged g (Accepted proof) = IsGapProof g proof
-IsJudged g (Rejected proof) = NearFits g proof
-IsJudged g Unread = Unit {0}
 
 -- the cost is no more than that of the plan to begin with, or, where there was none, than that of
 -- routes for the customers alone, if each has one

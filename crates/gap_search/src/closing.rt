@@ -2,20 +2,17 @@
 
 ghost use Rattle.std.specs.Prelude.{◌≡◌, ◌≤◌, IfOk, IfSome, length, option_map};
 ghost use Rattle.ev_model.specs.Fleet.{IsFleetPlan};
-ghost use Rattle.gap_search.specs.Gap.{IsGapOutcome, IsGapProof};
+ghost use Rattle.gap_search.specs.Gap.{IsGapOutcome};
 ghost use Rattle.instance_reader.specs.Instance.{customer_nodes, most_customers};
 ghost use Rattle.plan_check.specs.FleetRules.{stops_of};
 
-use crate::few_near::few_near_from;
-use crate::judged::{Judged, judge};
+use crate::candidate::proof_of_candidate;
 use crate::offers::cost_of_plan;
 use crate::outcome::GapOutcome;
 use crate::plans::{FoundRoutes, cheaper};
 use crate::watcher::{GapProgress, GapWatcher};
 use instance_reader::Instance;
 use near_columns::{GapClock, NearFound, search_near};
-use near_proof::NearProof;
-use ng_pricing::{PriceWatcher, near_bound_from};
 use route_improve::{Improved, improve_watched};
 use route_plan::FleetPlan;
 use std::alloc::{AllocError, Global};
@@ -52,7 +49,7 @@ pub fn close_gap<C: GapClock, W: GapWatcher>(
         orders,
         dives,
     } = search_near(alloc, inst, clock, watcher)?;
-    let proof = proof_of(alloc, inst, candidate, &prices, watcher)?;
+    let proof = proof_of_candidate(alloc, inst, candidate, &prices, watcher)?;
     let found = FoundRoutes { orders, dives };
     let plan = cheaper(alloc, inst, first, found, &proof, clock, watcher)?;
     Ok(GapOutcome { plan, proof })
@@ -65,30 +62,5 @@ fn tell_first<W: GapWatcher>(inst: &Instance, first: &Improved, watcher: &mut W)
             cost: cost_of_plan(inst, plan),
             bound: None,
         });
-    }
-}
-
-/// A proof that is accepted: the candidate, where it is one; else one from its prices and by its
-/// near sets, where it is read, and else one of few near customers from the prices that are told.
-fn proof_of<W: PriceWatcher>(
-    alloc: Global,
-    inst: &Instance,
-    candidate: Option<NearProof>,
-    prices: &[u64],
-    watcher: &mut W,
-) -> Result<NearProof, AllocError>
-    requires { length (customer_nodes inst.now) ≤ most_customers }
-    ensures { IfOk result (IsGapProof inst.now) }
-{
-    let Some(candidate) = candidate else {
-        return few_near_from(alloc, inst, prices, watcher);
-    };
-    match judge(alloc, inst, &candidate)? {
-        Judged::Accepted { proof } => Ok(proof),
-        Judged::Rejected { proof } => {
-            let NearProof { prices, sets, .. } = proof;
-            near_bound_from(alloc, inst, sets.into_vec(), prices.into_vec(), watcher)
-        }
-        Judged::Unread => few_near_from(alloc, inst, prices, watcher),
     }
 }

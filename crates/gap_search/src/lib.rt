@@ -5,6 +5,7 @@
 //! search finds is judged here, and nothing is promised of the search itself.
 #![tactic(auto)]
 
+mod candidate;
 mod choosing;
 mod closing;
 mod few_near;
@@ -14,6 +15,7 @@ mod outcome;
 mod plans;
 mod watcher;
 
+pub use candidate::proof_of_candidate;
 pub use closing::close_gap;
 pub use near_columns::{GapClock, RoundsProgress, RoundsWatcher};
 pub use near_proof::NearProof;

@@ -6,6 +6,10 @@
 #[cfg(test)]
 mod accepted;
 #[cfg(test)]
+mod candidates;
+#[cfg(test)]
+mod clocks;
+#[cfg(test)]
 mod drawn;
 #[cfg(test)]
 mod edges;
@@ -13,7 +17,6 @@ mod edges;
 mod effort;
 #[cfg(test)]
 mod files;
-#[cfg(test)]
 #[cfg(test)]
 mod judged;
 #[cfg(test)]

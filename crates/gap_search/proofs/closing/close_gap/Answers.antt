@@ -8,4 +8,4 @@ cheaper-requires g c =
 
 pub returns : goal.returns
 returns g c =
-    is_outcome c.args.inst.now (option_map (λ p. p.now.routes) c.args.start) c.in_ok-plan.plan c.in_ok-proof.proof (still_answer c.args.inst.now (option_map (λ p. p.now.routes) c.args.start) c.in_ok-first.first c.in_ok-plan.plan c.in_ok-first.ensures c.in_ok-plan.ensures) c.in_ok-proof.ensures
+    is_outcome c.args.inst.now (option_map (λ p. p.now.routes) c.args.start) c.in_ok-plan.plan c.in_ok-proof.proof (still_answer c.args.inst.now (option_map (λ p. p.now.routes) c.args.start) c.in_ok-first.first c.in_ok-plan.plan c.in_ok-first.ensures c.in_ok-plan.ensures) c.in_ok-proof.ensures.proof
