@@ -8,10 +8,13 @@
 mod choosing;
 mod closing;
 mod few_near;
+mod first;
 mod judged;
 mod offers;
 mod outcome;
+mod own;
 mod plans;
+mod recreation;
 mod watcher;
 
 pub use closing::close_gap;
@@ -19,5 +22,7 @@ pub use near_columns::{GapClock, RoundsProgress, RoundsWatcher};
 pub use near_proof::NearProof;
 pub use ng_pricing::{PriceProgress, PriceWatcher};
 pub use outcome::GapOutcome;
+pub use recreation::Recreation;
 pub use route_improve::{Improved, MoveProgress, MoveWatcher};
+pub use ruin_recreate::{RecreateProgress, RecreateWatcher};
 pub use watcher::{GapProgress, GapWatcher};

@@ -19,4 +19,6 @@ mod judged;
 #[cfg(test)]
 mod planned;
 #[cfg(test)]
+mod recreated;
+#[cfg(test)]
 mod words;
