@@ -17,7 +17,7 @@ use crate::clock::JobClock;
 use crate::planning::plan_all;
 use ev_outside::{Shelf, ShelfFault};
 use fleet_steps::{cost_of, fleet_instance, plan_of, reject};
-use gap_search::{GapClock, GapWatcher};
+use gap_search::{GapClock, GapWatcher, Recreation};
 use gap_words::PlanWords;
 use instance_reader::Instance;
 use job_frame::{Ended, Found, MOST_BYTES, ScaleWatcher, read_file, refuse_job};
@@ -203,6 +203,10 @@ fn plan_judged<C: GapClock, W: GapWatcher>(
     ensures heard { IfOk result
         (λ f. plan_heard f.answer.status f.answer.text.items f.answer.cause) }
 {
-    let planned = plan_all(alloc, inst, start, clock, watcher)?;
+    let recreation = Recreation {
+        seed: job.seed,
+        effort: job.effort,
+    };
+    let planned = plan_all(alloc, inst, start, recreation, clock, watcher)?;
     planned.found(alloc, job.plan.as_str(), job.proof.as_str())
 }

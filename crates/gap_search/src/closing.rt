@@ -7,13 +7,15 @@ ghost use Rattle.instance_reader.specs.Instance.{customer_nodes, most_customers}
 ghost use Rattle.plan_check.specs.FleetRules.{stops_of};
 
 use crate::candidate::proof_of_candidate;
+use crate::first::first_plan;
 use crate::offers::cost_of_plan;
 use crate::outcome::GapOutcome;
 use crate::plans::{FoundRoutes, cheaper};
+use crate::recreation::Recreation;
 use crate::watcher::{GapProgress, GapWatcher};
 use instance_reader::Instance;
 use near_columns::{GapClock, NearFound, search_near};
-use route_improve::{Improved, improve_watched};
+use route_improve::Improved;
 use route_plan::FleetPlan;
 use std::alloc::{AllocError, Global};
 
@@ -22,7 +24,7 @@ use std::alloc::{AllocError, Global};
 /// The plan costs no more than `start`, and without `start` no more than routes for the customers
 /// alone, where each has one; no relocation and no exchange of a customer makes it cheaper, and it
 /// may be written as text. None is held only where there is no `start` and some customer has no
-/// feasible route of his own. The proof is accepted, its text is read as it where it isn't too
+/// feasible route of his own; the first is named. The proof is accepted, its text is read as it where it isn't too
 /// long, and no plan that is held costs less than its bound. How close the two are isn't promised.
 ///
 /// The clock is asked whether the search stops. Where the search finds no proof that is accepted,
@@ -33,6 +35,7 @@ pub fn close_gap<C: GapClock, W: GapWatcher>(
     alloc: Global,
     inst: &Instance,
     start: Option<&FleetPlan>,
+    recreation: Recreation,
     clock: &mut C,
     watcher: &mut W,
 ) -> Result<GapOutcome, AllocError>
@@ -41,7 +44,7 @@ pub fn close_gap<C: GapClock, W: GapWatcher>(
     ensures { IfOk result
         (IsGapOutcome inst.now (option_map (λ plan. plan.now.routes) start.entry)) }
 {
-    let first = improve_watched(alloc, inst, start, watcher)?;
+    let first = first_plan(alloc, inst, start, recreation, clock, watcher)?;
     tell_first(inst, &first, watcher);
     let NearFound {
         proof: candidate,

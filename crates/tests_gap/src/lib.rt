@@ -22,4 +22,6 @@ mod judged;
 #[cfg(test)]
 mod planned;
 #[cfg(test)]
+mod recreated;
+#[cfg(test)]
 mod words;
