@@ -24,8 +24,9 @@ use std::alloc::{AllocError, Global};
 /// The plan costs no more than `start`, and without `start` no more than routes for the customers
 /// alone, where each has one; no relocation and no exchange of a customer makes it cheaper, and it
 /// may be written as text. None is held only where there is no `start` and some customer has no
-/// feasible route of his own; the first is named. The proof is accepted, its text is read as it where it isn't too
-/// long, and no plan that is held costs less than its bound. How close the two are isn't promised.
+/// feasible route of his own; the first is named. The proof is accepted, its text is read as it
+/// where it isn't too long, and no plan that is held costs less than its bound. How close the two
+/// are isn't promised.
 ///
 /// The clock is asked whether the search stops. Where the search finds no proof that is accepted,
 /// one from the prices and by the near sets of what it found stands in, and where that is no proof
