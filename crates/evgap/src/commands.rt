@@ -26,13 +26,28 @@ const START: CommandOption = CommandOption {
     is_required: false,
 };
 
+const SEED: CommandOption = CommandOption {
+    word: "--seed",
+    value: OptionValue::Number {
+        least: 0,
+        most: 1_000_000_000_000_000_000,
+    },
+    is_required: false,
+};
+
+const EFFORT: CommandOption = CommandOption {
+    word: "--effort",
+    value: OptionValue::Number { least: 0, most: 30 },
+    is_required: false,
+};
+
 /// The commands.
 pub(crate) const COMMANDS: &[Command] = &[
     Command {
         word: "plan",
         names: &["FILE", "PLAN", "PROOF"],
         more: 0,
-        options: &[LIMIT, SECONDS, START],
+        options: &[LIMIT, SECONDS, START, SEED, EFFORT],
     },
     Command {
         word: "check",

@@ -2,7 +2,8 @@
 
 use evgap_run::{
     Cause, CauseListener, GapProgress, GapWatcher, JobWatcher, MoveProgress, MoveWatcher,
-    PriceProgress, PriceWatcher, RoundsProgress, RoundsWatcher, ScaleWatcher,
+    PriceProgress, PriceWatcher, RecreateProgress, RecreateWatcher, RoundsProgress, RoundsWatcher,
+    ScaleWatcher,
 };
 use job_listeners::Pace;
 use std::fmt::{self, Display, Formatter};
@@ -107,6 +108,21 @@ impl<'a, R: Clock + Eprint> PriceWatcher for ToldGap<'a, R> {
                 "evgap: prices {fixed} of {customers}, bound {bound}/{denominator}{held}"
             );
         }
+    }
+}
+
+impl<'a, R: Clock + Eprint> RecreateWatcher for ToldGap<'a, R> {
+    fn goes_on(&mut self, progress: RecreateProgress) -> bool {
+        if self.is_due() {
+            let denominator = self.denominator;
+            let _ = match progress.cost {
+                Some(cost) => {
+                    eprintln!(self.rt; "evgap: ruin and recreate, cost {cost}/{denominator}")
+                }
+                None => eprintln!(self.rt; "evgap: ruin and recreate, no plan yet"),
+            };
+        }
+        true
     }
 }
 

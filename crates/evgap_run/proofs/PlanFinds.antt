@@ -35,7 +35,7 @@ use Rattle.refusal_lines.specs.RefusalText.{IsRule, refusal_text}
 use Rattle.refusal_lines.specs.declared.refusal.Refusal.{Refusal}
 use Rattle.route_plan.specs.declared.plan.FleetPlan.{FleetPlan}
 use Rattle.job_frame.proofs.Endings.{rule_of}
-use Rattle.evgap_run.proofs.Written.{are_accepted}
+use Rattle.evgap_run.proofs.Written.{are_accepted, held_fits}
 use Rattle.evgap_run.specs.PlanAnswer.{HasPlanJob, HasStart, IsNoStart, IsPlanFound, IsPlanRefused, PlanAnswers, PutsBrokenStart, PutsPlan, plan_status, plan_task, start_reads, plan_heard}
 use Rattle.evgap_run.specs.declared.cause.Cause.{Cause}
 
@@ -121,6 +121,7 @@ module _ (job : PlanGap) (bytes : List ℕ) (more : List (List ℕ)) where
         proof_bytes = proof_bytes;
         found = here;
         accepted = are_accepted job.limit bytes plan_bytes proof_bytes g (routes_of start) here.outcome here.is_network has.network here.is here.plan_is here.proof_is;
+        again = λ short. record { within = short; fits = held_fits g (routes_of start) here.outcome.plan here.is.plan; text = here.plan_is };
         written = subst (λ (name : List ℕ). map written_by f.files.items ≡ record { name = job.plan; bytes = plan_bytes } ∷ record { name = name; bytes = proof_bytes } ∷ []) proof_named
             (subst (λ (name : List ℕ). map written_by f.files.items ≡ record { name = name; bytes = plan_bytes } ∷ record { name = proof_name; bytes = proof_bytes } ∷ []) named written);
       })

@@ -4,7 +4,7 @@ use Rattle.std.specs.Prelude.{◌≡◌, ℕ, ◌≤◌, ◌⊎◌, List, [], �
 use Rattle.certificate_parts.specs.Limits as certificate
 use Rattle.ev_model.specs.Network.{IsNetwork, Network}
 use Rattle.near_steps.specs.NearFile.{HasNear}
-use Rattle.fleet_steps.specs.PlanFile.{BreaksFirst, IsValid, routes_of}
+use Rattle.fleet_steps.specs.PlanFile.{BreaksFirst, IsReadBack, IsValid, routes_of}
 use Rattle.fleet_steps.specs.FleetNetwork.{HasFleetNetwork, IsFleetRefused}
 use Rattle.gap_search.specs.Gap.{IsGapOutcome, cost_held, plan_held}
 use Rattle.gap_search.specs.declared.outcome.GapOutcome.{GapOutcome}
@@ -129,6 +129,7 @@ pub record PutsPlan (job : PlanGap) (bytes : List ℕ) (more : List (List ℕ))
   pub found : IsPlanFound network start plan_bytes proof_bytes ended text
   pub accepted : AreAccepted job.limit bytes plan_bytes proof_bytes network.denominator
       (cost_held network found.outcome.plan) found.outcome.proof.bound
+  pub again : IsReadBack plan_bytes (plan_held found.outcome.plan)
   pub written : ws
       ≡ record { name = job.plan; bytes = plan_bytes }
       ∷ record { name = job.proof; bytes = proof_bytes } ∷ []

@@ -1,12 +1,18 @@
 //! Who says when a search has had its time.
 
+ghost use Rattle.std.specs.Prelude.{Option, ℕ};
+
 use gap_search::GapClock;
 
-/// A clock that begins once the words are read. Nothing is promised of it: when it is up changes
-/// what a search finds, and nothing of what is true of that.
+/// A clock that begins once the words are read. When it is up isn't promised: that changes what a
+/// search finds, and nothing of what is true of that.
 pub trait JobClock: GapClock {
+    // It was begun last with so many seconds, or with none.
+    ghost Begun: { Self → Option ℕ → Type 0 } = { λ _ _. Unit {0} };
+
     /// From now on the search may take so many seconds, or as many as it takes.
-    fn begin(&mut self, seconds: Option<u64>);
+    fn begin(&mut self, seconds: Option<u64>)
+        ensures { Begun self.new seconds };
 }
 
 /// A clock that is never up.

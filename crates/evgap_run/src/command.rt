@@ -4,7 +4,7 @@ ghost use Rattle.std.specs.Prelude.{◌≡◌, ◌≢◌, ◌⊎◌, [], false, 
 ghost use Rattle.ev_outside.specs.Shelf.{CountsNeverFall};
 ghost use Rattle.evgap_run.specs.Run.{TellsUsage, job_named, task_of};
 ghost use Rattle.gap_words.specs.JobValue.{IsJob, job_value};
-ghost use Rattle.job_frame.specs.Performs.{NothingFailed, Performs, PutsHeard};
+ghost use Rattle.job_frame.specs.Performs.{NothingFailed, Performs, PutsHeard, SparesFiles};
 ghost use Rattle.job_frame.specs.Task.{IsAnswered};
 
 use crate::cause::Cause;
@@ -20,8 +20,8 @@ use std::alloc::{AllocError, Global};
 
 /// The program: its words after its name, the files and the output.
 ///
-/// `plan FILE PLAN PROOF [--limit N] [--seconds N] [--start PLAN0]` reads FILE as an instance, and
-/// PLAN0 as a fleet plan or none; it writes a fleet plan, or that none is held, into PLAN, and a
+/// `plan FILE PLAN PROOF [--limit N] [--seconds N] [--start PLAN0] [--seed N] [--effort N]` reads
+/// FILE as an instance, and PLAN0 as a fleet plan or none; it writes a fleet plan, or that none is held, into PLAN, and a
 /// proof of what no fleet plan costs less than into PROOF, and puts cost, bound and gap. Cost and
 /// bound are equal ([`Status::Done`]), or there is no fleet plan ([`Status::Negative`]), or a gap
 /// is left, or no plan is held beside a bound ([`Status::Stopped`]). Where PLAN0 breaks a rule, the
@@ -50,9 +50,13 @@ pub fn run<S: Shelf, K: Sink>(alloc: Global, words: &[String], shelf: &mut S, ou
     ensures falls { CountsNeverFall (S.state shelf.old) (S.state shelf.new) }
 
     // With an output that takes no memory, nothing was put where memory was refused, and none is
-    // refused where there are no words.
+    // refused where there are no words. With files that are written without memory too, want of it
+    // left every file as it was.
     ensures memory { K.takes_memory ≡ false → result ≡ Status.Memory
         → K.state out.new ≡ K.state out.old }
+    ensures spares { IfSome (job_named words.now) (λ job.
+        SparesFiles (task_of job) S.writes_take_memory K.takes_memory
+        (S.state shelf.old).files (S.state shelf.new).files result) }
     ensures no_words { K.takes_memory ≡ false → words.now ≡ []
         → (result ≡ Status.Words) ⊎ (result ≡ Status.Fault) }
 {
@@ -151,6 +155,8 @@ where
     ensures falls { CountsNeverFall (S.state shelf.old) (S.state shelf.new) }
     ensures memory { K.takes_memory ≡ false → result ≡ Status.Memory
         → K.state out.new ≡ K.state out.old }
+    ensures spares { SparesFiles (task_of (job_value job.now)) S.writes_take_memory K.takes_memory
+        (S.state shelf.old).files (S.state shelf.new).files result }
 {
     match job {
         Job::Plan(job) => finish(plan(alloc, job, shelf, clock, watcher), shelf, out, watcher),

@@ -16,7 +16,7 @@ pub use clock::{AtOnce, JobClock, Never};
 pub use command::{Evgap, run};
 pub use gap_search::{
     GapClock, GapProgress, GapWatcher, MoveProgress, MoveWatcher, PriceProgress, PriceWatcher,
-    RoundsProgress, RoundsWatcher,
+    RecreateProgress, RecreateWatcher, RoundsProgress, RoundsWatcher,
 };
 pub use job_frame::{CauseListener, ScaleWatcher, Status};
 pub use watcher::{JobWatcher, Nobody};

@@ -17,7 +17,7 @@ use crate::clock::JobClock;
 use crate::planning::plan_all;
 use ev_outside::{Shelf, ShelfFault};
 use fleet_steps::{cost_of, fleet_instance, plan_of, reject};
-use gap_search::GapWatcher;
+use gap_search::{GapClock, GapWatcher, Recreation};
 use gap_words::PlanWords;
 use instance_reader::Instance;
 use job_frame::{Ended, Found, MOST_BYTES, ScaleWatcher, read_file, refuse_job};
@@ -53,8 +53,8 @@ pub fn plan<S: Shelf, C: JobClock, W: GapWatcher + ScaleWatcher>(
     }
 }
 
-/// What `plan` finds on the instance of its file: the plan to begin with is read, where a file is
-/// named.
+/// What `plan` finds on the instance of its file, beside a clock that was begun with the seconds of
+/// the words: the plan to begin with is read, where a file is named.
 fn plan_on<S: Shelf, C: JobClock, W: GapWatcher>(
     alloc: Global,
     inst: &Instance,
@@ -65,6 +65,7 @@ fn plan_on<S: Shelf, C: JobClock, W: GapWatcher>(
 ) -> Result<Found<Cause>, ShelfFault>
     requires few { length (customer_nodes inst.now) ≤ most_customers }
     requires files { IsPlanJob job.now }
+    requires begun { C.Begun clock.now job.now.seconds }
     ensures { (bytes : List ℕ)
         → AreReadUpTo most_bytes (S.state shelf.old).files (plan_value job.now).file bytes
         → HasFleetNetwork job.now.limit bytes inst.now
@@ -78,7 +79,7 @@ fn plan_on<S: Shelf, C: JobClock, W: GapWatcher>(
 }
 
 /// What `plan` finds where the file of the plan to begin with has this name.
-fn plan_from_file<S: Shelf, C: JobClock, W: GapWatcher>(
+fn plan_from_file<S: Shelf, C: GapClock, W: GapWatcher>(
     alloc: Global,
     inst: &Instance,
     name: &str,
@@ -104,7 +105,7 @@ fn plan_from_file<S: Shelf, C: JobClock, W: GapWatcher>(
 }
 
 /// What is found where no file with a plan to begin with is named.
-fn plan_from_none<C: JobClock, W: GapWatcher>(
+fn plan_from_none<C: GapClock, W: GapWatcher>(
     alloc: Global,
     inst: &Instance,
     job: &PlanWords,
@@ -129,7 +130,7 @@ fn plan_from_none<C: JobClock, W: GapWatcher>(
 
 /// What is found for the bytes of the file of the plan to begin with: it is read, and a fleet is
 /// planned.
-fn plan_from_text<C: JobClock, W: GapWatcher>(
+fn plan_from_text<C: GapClock, W: GapWatcher>(
     alloc: Global,
     inst: &Instance,
     bytes: &[u8],
@@ -158,7 +159,7 @@ fn plan_from_text<C: JobClock, W: GapWatcher>(
 }
 
 /// What is found with a plan to begin with, or with none: it is judged, and a fleet is planned.
-fn plan_from<C: JobClock, W: GapWatcher>(
+fn plan_from<C: GapClock, W: GapWatcher>(
     alloc: Global,
     inst: &Instance,
     start: Option<&FleetPlan>,
@@ -184,7 +185,7 @@ fn plan_from<C: JobClock, W: GapWatcher>(
 }
 
 /// What is found with a fleet plan to begin with, or with none.
-fn plan_judged<C: JobClock, W: GapWatcher>(
+fn plan_judged<C: GapClock, W: GapWatcher>(
     alloc: Global,
     inst: &Instance,
     start: Option<&FleetPlan>,
@@ -202,6 +203,10 @@ fn plan_judged<C: JobClock, W: GapWatcher>(
     ensures heard { IfOk result
         (λ f. plan_heard f.answer.status f.answer.text.items f.answer.cause) }
 {
-    let planned = plan_all(alloc, inst, start, clock, watcher)?;
+    let recreation = Recreation {
+        seed: job.seed,
+        effort: job.effort,
+    };
+    let planned = plan_all(alloc, inst, start, recreation, clock, watcher)?;
     planned.found(alloc, job.plan.as_str(), job.proof.as_str())
 }

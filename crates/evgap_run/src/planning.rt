@@ -15,7 +15,7 @@ ghost use Rattle.route_improve.specs.Improved.{IsImproved};
 use crate::cause::Cause;
 use crate::report::push_found;
 use fleet_steps::{cost_of, plan_text};
-use gap_search::{GapClock, GapWatcher, Improved, NearProof, close_gap};
+use gap_search::{GapClock, GapWatcher, Improved, NearProof, Recreation, close_gap};
 use instance_reader::Instance;
 use job_frame::{Answer, Planned, Status};
 use near_text::push_near;
@@ -29,6 +29,7 @@ pub fn plan_all<C: GapClock, W: GapWatcher>(
     alloc: Global,
     inst: &Instance,
     start: Option<&FleetPlan>,
+    recreation: Recreation,
     clock: &mut C,
     watcher: &mut W,
 ) -> Result<Planned<Cause>, AllocError>
@@ -42,7 +43,7 @@ pub fn plan_all<C: GapClock, W: GapWatcher>(
 {
     // That the instance's network is one is told by its calls.
     let _nodes = inst.nodes();
-    let outcome = close_gap(alloc, inst, start, clock, watcher)?;
+    let outcome = close_gap(alloc, inst, start, recreation, clock, watcher)?;
     let cost = held_cost(alloc, inst, &outcome.plan)?;
     let answer = report(
         alloc,

@@ -3,7 +3,7 @@
 use crate::cause::Cause;
 use gap_search::{
     GapProgress, GapWatcher, MoveProgress, MoveWatcher, PriceProgress, PriceWatcher,
-    RoundsProgress, RoundsWatcher,
+    RecreateProgress, RecreateWatcher, RoundsProgress, RoundsWatcher,
 };
 use job_frame::{CauseListener, ScaleWatcher};
 
@@ -35,6 +35,12 @@ impl MoveWatcher for Nobody {
 
 impl RoundsWatcher for Nobody {
     fn watch_rounds(&mut self, _progress: RoundsProgress) {}
+}
+
+impl RecreateWatcher for Nobody {
+    fn goes_on(&mut self, _progress: RecreateProgress) -> bool {
+        true
+    }
 }
 
 impl GapWatcher for Nobody {

@@ -63,6 +63,7 @@ puts_improved {E} limit outfile bytes plan_bytes g plan was better (Ok f) has va
       cost = cost_of g 1 (stops_of better.routes);
       cost_is = refl;
       no_more = no_more;
+      again = λ short. record { within = short; fits = improved.text; text = refl };
       written = files;
       text_is = text;
     })

@@ -1,5 +1,5 @@
 -- What `make` answers.
-use Rattle.std.proofs.Common.{◌≡◌, ◌≢◌, ◌∙◌, ◌∷◌, ℕ, List, [], None, Option, inr, refl, subst, sym}
+use Rattle.std.proofs.Common.{◌≡◌, ◌≢◌, ◌∙◌, ◌∷◌, ℕ, Bool, List, [], None, Option, inr, refl, subst, sym}
 use Rattle.command_line.specs.Words.{MakeJob}
 use Rattle.ev_model.specs.Network.{Network}
 use Rattle.ev_outside.specs.Shelf.{Files, ShelfState}
@@ -7,7 +7,7 @@ use Rattle.ev_outside.specs.Sink.{Adds}
 use Rattle.evroute_causes.specs.declared.cause.Cause.{Cause}
 use Rattle.evroute_run.specs.MakeAnswer.{HasNoInstance, MakeAnswers, MakesNetwork, made_file, make_task, text_made}
 use Rattle.instance_reader.specs.Faults.{IsInstanceOf}
-use Rattle.job_frame.specs.Performs.{PutsHeard}
+use Rattle.job_frame.specs.Performs.{PutsHeard, SparesFiles}
 use Rattle.job_frame.specs.Task.{Answers}
 use Rattle.job_frame.specs.Writes.{Leaves, Written}
 use Rattle.job_frame.specs.declared.status.Status.{Status}
@@ -56,3 +56,8 @@ make_heard job s text before after old new ended heard answers leaves same put =
   is = inr ((λ is. not_refused job s text answers (sym same ∙ is)), refl);
   was_heard = tt;
 }
+
+-- want of memory leaves the made file alone behind
+pub spares_made : (job : MakeJob) {writes_take puts_take : Bool} {files left : Option Files} {ended : Status} → (HasNoInstance job → ⊥) → Leaves (made_file job ∷ []) files left
+    → SparesFiles (make_task job) writes_take puts_take files left ended
+spares_made job {writes_take} {puts_take} {files} {left} {ended} within leaves = record { memory = λ writes puts is. inr (made_file job ∷ [], (within, refl), leaves) }

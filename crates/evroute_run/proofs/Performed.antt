@@ -1,5 +1,5 @@
 -- The job that the words name is performed.
-use Rattle.std.proofs.Common.{◌≡◌, ◌≢◌, ℕ, IfOk, IfSome, List, Option, Result, Some, subst, sym}
+use Rattle.std.proofs.Common.{◌≡◌, ◌≢◌, ℕ, Bool, IfOk, IfSome, List, Option, Result, Some, subst, sym}
 use Rattle.command_line.specs.JobValue.{job_value}
 use Rattle.command_line.specs.Words.{BoundFleets, CheckBound, CheckMixed, CheckPlan, CheckRoute, ConvertFile, FixedRoute, ImprovePlan, Job, MakeInstance, PlanFleet, PlanMixed, ProveRoute}
 use Rattle.command_line.specs.declared.Job as values
@@ -21,7 +21,7 @@ use Rattle.job_ending.proofs.Finished.{hears_finished, performs_finished}
 use Rattle.job_ending.specs.Finishing.{Finishes}
 use Rattle.job_frame.specs.Lawful.{IsLawful}
 use Rattle.job_frame.specs.Finds.{Finds}
-use Rattle.job_frame.specs.Performs.{Performs, PutsHeard}
+use Rattle.job_frame.specs.Performs.{Performs, PutsHeard, SparesFiles}
 use Rattle.job_frame.specs.Task.{IsAnswered}
 use Rattle.job_frame.specs.declared.found.Found.{Found}
 use Rattle.job_frame.specs.declared.status.Status.{Status}
@@ -60,6 +60,11 @@ pub value_hears : {files left : Option Files} {old new : Option (List ℕ)} {end
     → (IsAnswered ended → PutsHeard (task_of (job_value of)) files left old new ended heard) → IsAnswered ended → PutsHeard (task_of (job_value job)) files left old new ended heard
 value_hears {files} {left} {old} {new} {ended} {heard} job of is hears =
     subst (λ (j : values.Job). IsAnswered ended → PutsHeard (task_of (job_value j)) files left old new ended heard) (sym is) hears
+
+pub value_spares : {writes_take puts_take : Bool} {files left : Option Files} {ended : Status} (job of : values.Job) → job ≡ of → SparesFiles (task_of (job_value of)) writes_take puts_take files left ended
+    → SparesFiles (task_of (job_value job)) writes_take puts_take files left ended
+value_spares {writes_take} {puts_take} {files} {left} {ended} job of is spares =
+    subst (λ (j : values.Job). SparesFiles (task_of (job_value j)) writes_take puts_take files left ended) (sym is) spares
 
 -- and its cause is heard
 pub finished_heard : {before between after : ShelfState} {old new : SinkState} {ended : Status} {heard : Option Cause} {found : Result (Found Cause) ShelfFault} (job of : values.Job)

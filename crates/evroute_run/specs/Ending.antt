@@ -10,10 +10,10 @@ use Rattle.job_ending.specs.Running.{RunsFor}
 use Rattle.job_frame.specs.declared.status.Status.{Status}
 use Rattle.command_line.specs.Usage.{usage_text}
 
--- from the shelf before to the shelf after, from the old output to the new one, putting on which
--- takes memory or none, where this cause was heard last
-abbrev pub Runs : List (String Global) → Bool → ShelfState → ShelfState → SinkState → SinkState →
-    Option Cause → Status → Type 0
-Runs words takes_memory before after old new heard ended =
-    RunsFor usage_text cause.Words task_of words (job_named words) takes_memory
+-- from the shelf before to the shelf after, writing on which takes memory or none, from the old
+-- output to the new one, putting on which takes memory or none, where this cause was heard last
+abbrev pub Runs : List (String Global) → Bool → Bool → ShelfState → ShelfState →
+    SinkState → SinkState → Option Cause → Status → Type 0
+Runs words writes_take_memory takes_memory before after old new heard ended =
+    RunsFor usage_text cause.Words task_of words (job_named words) writes_take_memory takes_memory
     before after old new heard ended

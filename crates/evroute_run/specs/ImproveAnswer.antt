@@ -14,7 +14,7 @@ use Rattle.route_improve.specs.ImprovedText.{alone_text, improved_text}
 use Rattle.route_plan.specs.PlanTexts.{fleet_plan_text}
 use Rattle.route_plan.specs.declared.plan.FleetPlan.{FleetPlan}
 use Rattle.job_frame.specs.Caps.{file_read}
-use Rattle.fleet_steps.specs.PlanFile.{BreaksFirst, HoldsPlan, IsTextRefused, IsValid, routes_of}
+use Rattle.fleet_steps.specs.PlanFile.{BreaksFirst, HoldsPlan, IsReadBack, IsTextRefused, IsValid, routes_of}
 use Rattle.job_frame.specs.LimitedNetwork.{HasNetwork}
 use Rattle.evroute_causes.specs.Heard.{HearsBrokenPlan}
 use Rattle.evroute_causes.specs.Heard.{HearsDone, HearsRefusal}
@@ -27,7 +27,7 @@ use Rattle.job_frame.specs.declared.status.Status.TheVariants as status
 
 -- The plan file holds a fleet plan, or none. A fleet plan is written that costs no more, each of
 -- whose routes is fastest for the order of its customers, and that no relocation and no exchange
--- makes cheaper; its cost and the one before are put.
+-- makes cheaper, and which is read back; its cost and the one before are put.
 pub record PutsImproved (limit : Option ℕ) (outfile bytes plan_bytes : List ℕ)
     (ws : List Written) (text : List ℕ) : Type 0 where
   pub files : HoldsPlan limit bytes plan_bytes
@@ -38,6 +38,7 @@ pub record PutsImproved (limit : Option ℕ) (outfile bytes plan_bytes : List �
   pub cost : ℕ
   pub cost_is : cost ≡ cost_of files.network 1 (stops_of better.routes)
   pub no_more : CostsNoMore files.network (routes_of files.plan) cost
+  pub again : IsReadBack (fleet_plan_text (Some better)) (Some better)
   pub written : ws ≡ record { name = outfile; bytes = fleet_plan_text (Some better) } ∷ []
   pub text_is : text ≡ improved_text files.network.denominator cost was
 

@@ -4,7 +4,7 @@ ghost use Rattle.std.specs.Prelude.{◌≡◌, ◌≢◌, ◌⊎◌, [], false, 
 ghost use Rattle.command_line.specs.JobValue.{IsJob, job_value};
 ghost use Rattle.ev_outside.specs.Shelf.{CountsNeverFall};
 ghost use Rattle.evroute_run.specs.Run.{TellsUsage, job_named, task_of};
-ghost use Rattle.job_frame.specs.Performs.{NothingFailed, Performs, PutsHeard};
+ghost use Rattle.job_frame.specs.Performs.{NothingFailed, Performs, PutsHeard, SparesFiles};
 ghost use Rattle.job_frame.specs.Task.{IsAnswered};
 
 use crate::bound::bound;
@@ -101,9 +101,13 @@ pub fn run<S: Shelf, K: Sink>(alloc: Global, words: &[String], shelf: &mut S, ou
     ensures falls { CountsNeverFall (S.state shelf.old) (S.state shelf.new) }
 
     // With an output that takes no memory, nothing was put where memory was refused, and none is
-    // refused where there are no words.
+    // refused where there are no words. With files that are written without memory too, want of it
+    // left every file as it was, but for the OUTFILE of `make`.
     ensures memory { K.takes_memory ≡ false → result ≡ Status.Memory
         → K.state out.new ≡ K.state out.old }
+    ensures spares { IfSome (job_named words.now) (λ job.
+        SparesFiles (task_of job) S.writes_take_memory K.takes_memory
+        (S.state shelf.old).files (S.state shelf.new).files result) }
     ensures no_words { K.takes_memory ≡ false → words.now ≡ []
         → (result ≡ Status.Words) ⊎ (result ≡ Status.Fault) }
 {
@@ -195,6 +199,8 @@ fn perform<S: Shelf, K: Sink, W: JobWatcher>(
     ensures falls { CountsNeverFall (S.state shelf.old) (S.state shelf.new) }
     ensures memory { K.takes_memory ≡ false → result ≡ Status.Memory
         → K.state out.new ≡ K.state out.old }
+    ensures spares { SparesFiles (task_of (job_value job.now)) S.writes_take_memory K.takes_memory
+        (S.state shelf.old).files (S.state shelf.new).files result }
 {
     match job {
         Job::Fixed(job) => finish(fixed(alloc, job, shelf), shelf, out, watcher),

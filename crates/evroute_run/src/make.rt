@@ -11,7 +11,7 @@ ghost use Rattle.ev_model.specs.Time.{time_of};
 ghost use Rattle.ev_outside.specs.Shelf.{CountsNeverFall, ShelfState};
 ghost use Rattle.evroute_run.specs.MakeAnswer.{MakeAnswers, MakesNetwork, made_file, make_task, route_of_all};
 ghost use Rattle.evroute_run.specs.Run.{task_of};
-ghost use Rattle.job_frame.specs.Performs.{NothingFailed, Performs, PutsHeard};
+ghost use Rattle.job_frame.specs.Performs.{NothingFailed, Performs, PutsHeard, SparesFiles};
 ghost use Rattle.job_frame.specs.Task.{IsAnswered};
 ghost use Rattle.job_frame.specs.Writes.{Leaves, Written};
 ghost use Rattle.plan_writer.specs.MakeText.{make_text};
@@ -29,7 +29,7 @@ use route_plan::{RoutePlan, walk};
 use std::alloc::{AllocError, Global};
 
 /// `make`: the instance is made and written, and then the route over all its customers is charged.
-/// Where memory is refused for that, the file stands.
+/// Where memory is refused for that, the file stands; where it is refused before, none changed.
 pub fn make<S: Shelf, K: Sink, L: CauseListener<Cause>>(
     alloc: Global,
     job: &MakeWords,
@@ -50,6 +50,9 @@ pub fn make<S: Shelf, K: Sink, L: CauseListener<Cause>>(
     ensures falls { CountsNeverFall (S.state shelf.old) (S.state shelf.new) }
     ensures memory { K.takes_memory ≡ false → result ≡ Status.Memory
         → K.state out.new ≡ K.state out.old }
+    ensures spares { SparesFiles (task_of (job_value (Make job.now)))
+        S.writes_take_memory K.takes_memory
+        (S.state shelf.old).files (S.state shelf.new).files result }
 {
     match made_instance(alloc, job.seed, job.customers, job.stations) {
         Ok(made) => match shelf.write(job.outfile.as_str(), made.text.as_slice()) {

@@ -19,7 +19,7 @@ pub fn run_surely(
     out: &mut SureSink,
 ) -> Status
     ensures runs { (heard : Option Cause)
-        × Runs words.now true (sure_state shelf.old) (sure_state shelf.new)
+        × Runs words.now true true (sure_state shelf.old) (sure_state shelf.new)
         (sure_output out.old) (sure_output out.new) heard result }
     ensures sure { result ≢ Status.Fault }
 {

@@ -33,6 +33,7 @@ use Rattle.schedule_texts.specs.Tables.{table_text}
 use Rattle.view_words.specs.Words.{ViewPlan, written_names}
 use Rattle.evview_run.specs.ViewAnswer.{HasRoute, PutsNoRoute, PutsRefusal, ViewAnswers, clock_of, files_of, no_route_text, route_count, shown_of, view_task, view_heard}
 use Rattle.evview_run.specs.declared.cause.Cause.{Cause}
+use Rattle.evview_run.proofs.Shown.{time_is_cost}
 use Rattle.evview_run.proofs.WrittenNames.{files_differ}
 use Rattle.job_frame.proofs.Hearing.{HearsOfFound}
 
@@ -61,6 +62,7 @@ module _ (job : ViewPlan) (bytes plan_bytes : List ℕ) where
         route = route;
         shown = shown_of g job.route plan;
         is = refl;
+        time = time_is_cost g job.route plan cost valid;
         written = files;
         text_is = text;
       })

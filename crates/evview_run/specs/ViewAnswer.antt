@@ -1,5 +1,5 @@
 -- What is written and put for the bytes of an instance and of a plan file.
-use Rattle.std.specs.Prelude.{◌≡◌, ℕ, ◌<◌, ◌≤◌, ◌⊎◌, List, [], ◌∷◌, ◌++◌, Option, None, Some, codes, decimal, length}
+use Rattle.std.specs.Prelude.{◌≡◌, ℕ, ◌<◌, ◌≤◌, ◌⊎◌, List, [], ◌∷◌, ◌++◌, Option, None, Some, codes, decimal, length, option_map}
 use Rattle.ev_model.specs.Network.{Network}
 use Rattle.fleet_steps.specs.PlanFile.{BreaksFirst, HoldsPlan, IsTextRefused, IsValid}
 use Rattle.fleet_steps.specs.Heard as fleet
@@ -71,7 +71,7 @@ files_of job shown =
 
 -- The plan is a fleet plan, or there is none, and the one route that is asked for is there. Its
 -- schedule is put as tables, behind the files that are asked for, with its pictures, and with it as
--- JSON and as CSV.
+-- JSON and as CSV; its total time is what the whole plan costs.
 pub record PutsSchedule (job : ViewPlan) (bytes plan_bytes : List ℕ)
     (ws : List Written) (text : List ℕ) : Type 0 where
   pub files : HoldsPlan job.limit bytes plan_bytes
@@ -80,6 +80,7 @@ pub record PutsSchedule (job : ViewPlan) (bytes plan_bytes : List ℕ)
   pub route : HasRoute job.route files.plan
   pub shown : Option Schedule
   pub is : shown ≡ shown_of files.network job.route files.plan
+  pub time : option_map (λ s. s.totals.time) shown ≡ cost
   pub written : ws ≡ files_of job shown
   pub text_is : text ≡ table_text job.exact (clock_of job.clock) shown
 

@@ -1,5 +1,5 @@
 -- The plan of a file beside its instance, or none where the file says so.
-use Rattle.std.specs.Prelude.{◌≡◌, ℕ, List, Option, None, Some, Err, option_map}
+use Rattle.std.specs.Prelude.{◌≡◌, ℕ, ◌≤◌, List, Option, None, Some, Err, length, option_map}
 use Rattle.ev_model.specs.Fleet.{cost_of, IsFleetPlan}
 use Rattle.ev_model.specs.Network.{Network}
 use Rattle.instance_reader.specs.Faults.{IsFirstFault}
@@ -12,6 +12,7 @@ use Rattle.plan_check.specs.declared.fault.LargeFault.TheVariants as large
 use Rattle.plan_check.specs.declared.fault.PlanFault.{PlanFault}
 use Rattle.refusal_lines.specs.declared.refusal.Refusal.{Refusal}
 use Rattle.refusal_lines.specs.declared.refusal.Refusal.TheVariants as refusal
+use Rattle.route_plan.specs.Limits as route
 use Rattle.route_plan.specs.PlanReading.{fleet_plan_in}
 use Rattle.route_plan.specs.PlanTexts.{SpellsFleetPlan}
 use Rattle.route_plan.specs.declared.plan.FleetPlan.{FleetPlan}
@@ -31,6 +32,11 @@ pub record HasPlan (limit : Option ℕ) (bytes plan_bytes : List ℕ)
     (g : Network) (plan : Option FleetPlan) : Type 0 where
   pub network : HasNetwork limit bytes g
   pub spelled : SpellsFleetPlan plan_bytes plan
+
+-- a plan file with these bytes, where they aren't too many, is read as this plan
+abbrev pub IsReadBack : List ℕ → Option FleetPlan → Type 0
+IsReadBack plan_bytes plan =
+    length plan_bytes ≤ route.most_bytes → SpellsFleetPlan plan_bytes plan
 
 -- no rule of a text is broken, whatever the number of customers: what the two files hold
 pub record HoldsPlan (limit : Option ℕ) (bytes plan_bytes : List ℕ) : Type 0 where

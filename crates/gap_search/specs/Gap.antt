@@ -1,6 +1,6 @@
 -- What a search for a close gap answers: a fleet plan that no move makes cheaper, and an accepted
 -- proof of what no fleet plan costs less than.
-use Rattle.std.specs.Prelude.{◌≡◌, ℕ, ◌≤◌, List, Option, None, Some}
+use Rattle.std.specs.Prelude.{◌≡◌, ℕ, ◌≤◌, List, [], ◌∷◌, Option, None, Some, map, sum}
 use Rattle.ev_model.specs.Fleet.{cost_of}
 use Rattle.ev_model.specs.Network.{Network}
 use Rattle.near_proof.specs.Accepted.{IsAccepted}
@@ -11,13 +11,11 @@ use Rattle.near_text.specs.NearIn.{IsKept}
 use Rattle.plan_check.specs.FleetRules.{stops_of}
 use Rattle.report_lines.specs.Lines.{IsBoundOf}
 use Rattle.route_improve.specs.Improved.{IsFirstAlone, IsImproved, own_orders}
-use Rattle.route_improve.specs.Orders.{HaveCost}
+use Rattle.route_improve.specs.Orders.{AreLeastTimes, HaveCost}
 use Rattle.route_improve.specs.declared.improving.Improved.{Improved}
 use Rattle.route_improve.specs.declared.improving.Improved.TheVariants.{Plan, Alone}
 use Rattle.route_plan.specs.declared.plan.FleetPlan.{FleetPlan}
 use Rattle.route_plan.specs.declared.plan.RoutePlan.{RoutePlan}
-use Rattle.gap_search.specs.declared.judged.Judged.{Judged}
-use Rattle.gap_search.specs.declared.judged.Judged.TheVariants.{Accepted, Rejected, Unread}
 use Rattle.gap_search.specs.declared.outcome.GapOutcome.{GapOutcome}
 
 -- a near proof that is accepted, and so is true, and whose text is read as it where it isn't too
@@ -28,17 +26,16 @@ pub record IsGapProof (g : Network) (p : NearProof) : Type 0 where
   pub accepted : IsAccepted g p
   pub shows : IsTrue g p
 
--- what is made of a candidate for a proof
-abbrev pub IsJudged : Network → Judged → Type 0
-IsJudged g (Accepted proof) = IsGapProof g proof
-IsJudged g (Rejected proof) = NearFits g proof
-IsJudged g Unread = Unit {0}
-
 -- the cost is no more than that of the plan to begin with, or, where there was none, than that of
 -- routes for the customers alone, if each has one
 abbrev pub IsNoDearer : Network → Option (List RoutePlan) → ℕ → Type 0
 IsNoDearer g None cost = (own_cost : ℕ) → HaveCost g (own_orders g) own_cost → cost ≤ own_cost
 IsNoDearer g (Some start) cost = cost ≤ cost_of g 1 (stops_of start)
+
+-- a cost is no more than that of routes for the customers at these nodes alone, if each has one
+abbrev pub IsNoMoreThanOwn : Network → List ℕ → ℕ → Type 0
+IsNoMoreThanOwn g nodes cost =
+    (times : List ℕ) → AreLeastTimes g (map (λ node. node ∷ []) nodes) times → cost ≤ sum times
 
 -- a plan that no relocation and no exchange makes cheaper, and that is no dearer than the one to
 -- begin with; or, where there was none, the first customer without a route of his own

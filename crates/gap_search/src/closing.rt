@@ -2,21 +2,20 @@
 
 ghost use Rattle.std.specs.Prelude.{◌≡◌, ◌≤◌, IfOk, IfSome, length, option_map};
 ghost use Rattle.ev_model.specs.Fleet.{IsFleetPlan};
-ghost use Rattle.gap_search.specs.Gap.{IsGapOutcome, IsGapProof};
+ghost use Rattle.gap_search.specs.Gap.{IsGapOutcome};
 ghost use Rattle.instance_reader.specs.Instance.{customer_nodes, most_customers};
 ghost use Rattle.plan_check.specs.FleetRules.{stops_of};
 
-use crate::few_near::few_near_from;
-use crate::judged::{Judged, judge};
+use crate::candidate::proof_of_candidate;
+use crate::first::first_plan;
 use crate::offers::cost_of_plan;
 use crate::outcome::GapOutcome;
 use crate::plans::{FoundRoutes, cheaper};
+use crate::recreation::Recreation;
 use crate::watcher::{GapProgress, GapWatcher};
 use instance_reader::Instance;
 use near_columns::{GapClock, NearFound, search_near};
-use near_proof::NearProof;
-use ng_pricing::{PriceWatcher, near_bound_from};
-use route_improve::{Improved, improve_watched};
+use route_improve::Improved;
 use route_plan::FleetPlan;
 use std::alloc::{AllocError, Global};
 
@@ -25,8 +24,9 @@ use std::alloc::{AllocError, Global};
 /// The plan costs no more than `start`, and without `start` no more than routes for the customers
 /// alone, where each has one; no relocation and no exchange of a customer makes it cheaper, and it
 /// may be written as text. None is held only where there is no `start` and some customer has no
-/// feasible route of his own. The proof is accepted, its text is read as it where it isn't too
-/// long, and no plan that is held costs less than its bound. How close the two are isn't promised.
+/// feasible route of his own; the first is named. The proof is accepted, its text is read as it
+/// where it isn't too long, and no plan that is held costs less than its bound. How close the two
+/// are isn't promised.
 ///
 /// The clock is asked whether the search stops. Where the search finds no proof that is accepted,
 /// one from the prices and by the near sets of what it found stands in, and where that is no proof
@@ -36,6 +36,7 @@ pub fn close_gap<C: GapClock, W: GapWatcher>(
     alloc: Global,
     inst: &Instance,
     start: Option<&FleetPlan>,
+    recreation: Recreation,
     clock: &mut C,
     watcher: &mut W,
 ) -> Result<GapOutcome, AllocError>
@@ -44,7 +45,7 @@ pub fn close_gap<C: GapClock, W: GapWatcher>(
     ensures { IfOk result
         (IsGapOutcome inst.now (option_map (λ plan. plan.now.routes) start.entry)) }
 {
-    let first = improve_watched(alloc, inst, start, watcher)?;
+    let first = first_plan(alloc, inst, start, recreation, clock, watcher)?;
     tell_first(inst, &first, watcher);
     let NearFound {
         proof: candidate,
@@ -52,7 +53,7 @@ pub fn close_gap<C: GapClock, W: GapWatcher>(
         orders,
         dives,
     } = search_near(alloc, inst, clock, watcher)?;
-    let proof = proof_of(alloc, inst, candidate, &prices, watcher)?;
+    let proof = proof_of_candidate(alloc, inst, candidate, &prices, watcher)?;
     let found = FoundRoutes { orders, dives };
     let plan = cheaper(alloc, inst, first, found, &proof, clock, watcher)?;
     Ok(GapOutcome { plan, proof })
@@ -65,30 +66,5 @@ fn tell_first<W: GapWatcher>(inst: &Instance, first: &Improved, watcher: &mut W)
             cost: cost_of_plan(inst, plan),
             bound: None,
         });
-    }
-}
-
-/// A proof that is accepted: the candidate, where it is one; else one from its prices and by its
-/// near sets, where it is read, and else one of few near customers from the prices that are told.
-fn proof_of<W: PriceWatcher>(
-    alloc: Global,
-    inst: &Instance,
-    candidate: Option<NearProof>,
-    prices: &[u64],
-    watcher: &mut W,
-) -> Result<NearProof, AllocError>
-    requires { length (customer_nodes inst.now) ≤ most_customers }
-    ensures { IfOk result (IsGapProof inst.now) }
-{
-    let Some(candidate) = candidate else {
-        return few_near_from(alloc, inst, prices, watcher);
-    };
-    match judge(alloc, inst, &candidate)? {
-        Judged::Accepted { proof } => Ok(proof),
-        Judged::Rejected { proof } => {
-            let NearProof { prices, sets, .. } = proof;
-            near_bound_from(alloc, inst, sets.into_vec(), prices.into_vec(), watcher)
-        }
-        Judged::Unread => few_near_from(alloc, inst, prices, watcher),
     }
 }

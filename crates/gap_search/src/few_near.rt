@@ -2,8 +2,10 @@
 
 ghost use Rattle.std.specs.Prelude.{◌≡◌, ◌≤◌, ◌^◌, IfOk, length};
 ghost use Rattle.std.specs.List.{All};
+ghost use Rattle.gap_search.specs.Candidate.{few_others};
 ghost use Rattle.gap_search.specs.Gap.{IsGapProof};
 ghost use Rattle.instance_reader.specs.Instance.{customer_nodes, most_customers};
+ghost use Rattle.near_proof.specs.NearSets.{AreNearSets};
 
 use instance_reader::Instance;
 use near_proof::{NearProof, near_sets};
@@ -25,7 +27,8 @@ pub(crate) fn few_near_from<W: PriceWatcher>(
     watcher: &mut W,
 ) -> Result<NearProof, AllocError>
     requires { length (customer_nodes inst.now) ≤ most_customers }
-    ensures { IfOk result (IsGapProof inst.now) }
+    ensures proof { IfOk result (IsGapProof inst.now) }
+    ensures few { IfOk result (λ p. AreNearSets inst.now few_others p.sets) }
 {
     let sets = near_sets(alloc, inst, FEW_NEAR)?;
     let start = start_prices(alloc, inst.customers().len(), prices)?;

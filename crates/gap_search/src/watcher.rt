@@ -3,6 +3,7 @@
 use near_columns::RoundsWatcher;
 use ng_pricing::PriceWatcher;
 use route_improve::MoveWatcher;
+use ruin_recreate::RecreateWatcher;
 
 /// How far apart a plan and a bound are, both scaled as times are.
 #[derive(Clone, Copy, Debug, PartialEq, Eq)]
@@ -15,7 +16,7 @@ pub struct GapProgress {
 
 /// Who is told how far a search for a close gap is. Nothing is promised of it, and neither plan nor
 /// proof depends on it.
-pub trait GapWatcher: MoveWatcher + RoundsWatcher + PriceWatcher {
+pub trait GapWatcher: MoveWatcher + RoundsWatcher + PriceWatcher + RecreateWatcher {
     /// Is told what is held, once behind each plan that was made.
     fn watch_gap(&mut self, progress: GapProgress);
 }

@@ -1,15 +1,16 @@
 -- The job that the words of `evgap` name: a function of what the command finds in them.
-use Rattle.std.specs.Prelude.{ℕ, ◌&&◌, List, [], ◌∷◌, Option, None, Some, is_none, codes, option_and_then, option_map, if◌then◌else◌}
+use Rattle.std.specs.Prelude.{ℕ, ◌&&◌, Bool, List, [], ◌∷◌, Option, None, Some, is_none, codes, option_and_then, option_map, if◌then◌else◌}
 use Rattle.std.specs.Str.{bytes_eq}
 use Rattle.clap.specs.Words.{Row, Text, fault_of, first_of, matches_of}
 use Rattle.call_words.specs.Matches.{job_unless, limit_in, rest_in}
 use Rattle.call_words.specs.Names.{are_different}
-use Rattle.call_words.specs.Numbers.{most_value, optional_number}
+use Rattle.call_words.specs.Numbers.{most_value, number_of, optional_number}
 use Rattle.gap_words.specs.Command.{evgap}
 
 -- the job of planning a fleet with a close bound: the names of its files, the limit where one is
--- given, how many seconds the search may take where they are given, and the name of the file with
--- the plan to begin with where one is
+-- given, how many seconds the search may take where they are given, the name of the file with the
+-- plan to begin with where one is, the seed of the first plan, and the effort for it where it is
+-- given
 pub record PlanGap : Type 0 where
   pub file : Text
   pub plan : Text
@@ -17,6 +18,8 @@ pub record PlanGap : Type 0 where
   pub limit : Option ℕ
   pub seconds : Option ℕ
   pub start : Option Text
+  pub seed : ℕ
+  pub effort : Option ℕ
 
 -- the job of judging such a plan and such a proof: the names of their files, and the limit where
 -- one is given
@@ -38,33 +41,61 @@ seconds_in rows = optional_number most_value (first_of (codes "seconds") rows)
 abbrev pub start_in : List Row → Option Text
 start_in rows = first_of (codes "start") rows
 
+-- the greatest effort
+abbrev pub most_effort : ℕ
+most_effort = 30
+
+-- the effort for the first plan, where it is given; none where its value is no number of at most
+-- the greatest one
+abbrev pub effort_in : List Row → Option (Option ℕ)
+effort_in rows = optional_number most_effort (first_of (codes "effort") rows)
+
+-- the number of a word, 1 where there is no word; none where the word is no number
+abbrev pub number_or_one : Option Text → Option ℕ
+number_or_one None = Some 1
+number_or_one (Some word) = number_of most_value word
+
+-- the seed of the first plan, which is 1 where none is given; none where its value is no number
+abbrev pub seed_in : List Row → Option ℕ
+seed_in rows = number_or_one (first_of (codes "seed") rows)
+
+-- whether nothing is said of how plans are sought
+abbrev pub says_no_search : List Row → Bool
+says_no_search rows =
+    is_none (first_of (codes "seconds") rows) && is_none (start_in rows)
+    && is_none (first_of (codes "seed") rows) && is_none (first_of (codes "effort") rows)
+
 -- the names of all files
 abbrev pub all_names : Option Text → List Text → List Text
 all_names None names = names
 all_names (Some start) names = start ∷ names
 
 -- the job of these words
-abbrev pub plan_job_of : Text → Text → Text → Option ℕ → Option ℕ → Option Text → PlanGap
-plan_job_of file plan proof limit seconds start = record {
+abbrev pub plan_job_of : Text → Text → Text → Option ℕ → Option ℕ → Option Text → ℕ → Option ℕ →
+    PlanGap
+plan_job_of file plan proof limit seconds start seed effort = record {
   file = file;
   plan = plan;
   proof = proof;
   limit = limit;
   seconds = seconds;
   start = start;
+  seed = seed;
+  effort = effort;
 }
 
--- `plan FILE PLAN PROOF [--limit N] [--seconds N] [--start PLAN0]`
+-- `plan FILE PLAN PROOF [--limit N] [--seconds N] [--start PLAN0] [--seed N] [--effort N]`
 abbrev pub plan_with : Text → Text → Text → Option (Option ℕ) → Option (Option ℕ) → Option Text →
-    Option Job
-plan_with file plan proof (Some limit) (Some seconds) start =
-    Some (Planning (plan_job_of file plan proof limit seconds start))
-plan_with file plan proof limit seconds start = None
+    Option ℕ → Option (Option ℕ) → Option Job
+plan_with file plan proof (Some limit) (Some seconds) start (Some seed) (Some effort) =
+    Some (Planning (plan_job_of file plan proof limit seconds start seed effort))
+plan_with file plan proof limit seconds start seed effort = None
 
 abbrev pub plan_of : List Text → List Row → Option Job
 plan_of (file ∷ plan ∷ proof ∷ []) rows =
     if are_different (all_names (start_in rows) (file ∷ plan ∷ proof ∷ []))
     then plan_with file plan proof (limit_in rows) (seconds_in rows) (start_in rows)
+        (seed_in rows) (effort_in rows)
     else None
 plan_of rest rows = None
 
@@ -80,8 +111,7 @@ check_with file plan proof limit =
 
 abbrev pub check_of : List Text → List Row → Option Job
 check_of (file ∷ plan ∷ proof ∷ []) rows =
-    if is_none (first_of (codes "seconds") rows) && is_none (start_in rows)
-    && are_different (file ∷ plan ∷ proof ∷ [])
+    if says_no_search rows && are_different (file ∷ plan ∷ proof ∷ [])
     then check_with file plan proof (limit_in rows)
     else None
 check_of rest rows = None

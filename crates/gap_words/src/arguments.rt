@@ -4,7 +4,7 @@ ghost use Rattle.std.specs.Prelude.{◌≡◌, IfOk};
 ghost use Rattle.clap.specs.Words.{app_of};
 ghost use Rattle.clap.specs.Walk.{texts};
 ghost use Rattle.call_words.specs.Matches.{IsMatched};
-ghost use Rattle.gap_words.specs.Command.{evgap, with_options};
+ghost use Rattle.gap_words.specs.Command.{evgap, with_first, with_options};
 
 use call_words::{matches_of, with_option, with_positionals, without_arguments};
 use clap::{ArgMatches, Command};
@@ -22,13 +22,22 @@ fn with_options<'a>(alloc: Global, command: Command<'a>) -> Result<Command<'a>, 
     with_option(alloc, command, "start")
 }
 
+/// The command and the options for the first plan.
+fn with_first<'a>(alloc: Global, command: Command<'a>) -> Result<Command<'a>, AllocError>
+    ensures { IfOk result (λ c. app_of c ≡ with_first (app_of command.entry)) }
+{
+    let command = with_option(alloc, command, "seed")?;
+    with_option(alloc, command, "effort")
+}
+
 /// The command.
 #[tactic(auto, unfolding(crate::specs::Command::evgap))]
 fn evgap<'a>(alloc: Global) -> Result<Command<'a>, AllocError>
     ensures { IfOk result (λ c. app_of c ≡ evgap) }
 {
     let command = with_positionals(alloc, without_arguments(alloc, PROGRAM))?;
-    with_options(alloc, command)
+    let command = with_options(alloc, command)?;
+    with_first(alloc, command)
 }
 
 /// What the command finds in the words, of which the first is the program's name; `None` where it

@@ -5,18 +5,50 @@ ghost use Rattle.clap.specs.Walk.{texts};
 ghost use Rattle.call_words.specs.Matches.{rows_in};
 ghost use Rattle.call_words.specs.Names.{are_different};
 ghost use Rattle.gap_words.specs.JobValue.{AnswersJob, IsJob};
-ghost use Rattle.gap_words.specs.Words.{all_names, check_of, job_in, job_of_command, plan_of, seconds_in};
+ghost use Rattle.gap_words.specs.Words.{all_names, check_of, effort_in, job_in, job_of_command, plan_of, says_no_search, seconds_in, seed_in};
 
 use crate::{CheckWords, Job, PlanWords};
-use call_words::{GREATEST_VALUE, are_different, first_of, limit_in, optional_number};
+use call_words::{
+    GREATEST_VALUE, are_different, first_of, limit_in, number_of, optional_number,
+};
 use clap::ArgMatches;
 use std::alloc::{AllocError, Global};
+
+/// The greatest effort for the first plan.
+const GREATEST_EFFORT: u64 = 30;
 
 /// The number of seconds, where it is given; `None` where its value is no number of them.
 fn seconds_in(matches: &ArgMatches<'_>) -> Option<Option<u64>>
     ensures { result ≡ seconds_in (rows_in matches.now) }
 {
     optional_number(first_of(matches, "seconds"), GREATEST_VALUE)
+}
+
+/// The seed, 1 where none is given; `None` where its value is no number.
+fn seed_in(matches: &ArgMatches<'_>) -> Option<u64>
+    ensures { result ≡ seed_in (rows_in matches.now) }
+{
+    match first_of(matches, "seed") {
+        Some(word) => number_of(word, GREATEST_VALUE),
+        None => Some(1),
+    }
+}
+
+/// The effort, where it is given; `None` where its value is no number of at most 30.
+fn effort_in(matches: &ArgMatches<'_>) -> Option<Option<u64>>
+    ensures { result ≡ effort_in (rows_in matches.now) }
+{
+    optional_number(first_of(matches, "effort"), GREATEST_EFFORT)
+}
+
+/// Whether nothing is said of how plans are sought.
+fn says_no_search(matches: &ArgMatches<'_>) -> bool
+    ensures { result ≡ says_no_search (rows_in matches.now) }
+{
+    first_of(matches, "seconds").is_none()
+        && first_of(matches, "start").is_none()
+        && first_of(matches, "seed").is_none()
+        && first_of(matches, "effort").is_none()
 }
 
 /// The job of what the command finds.
@@ -71,6 +103,9 @@ fn plan_job(
     let (Some(limit), Some(seconds)) = (limit_in(matches), seconds_in(matches)) else {
         return Ok(None);
     };
+    let (Some(seed), Some(effort)) = (seed_in(matches), effort_in(matches)) else {
+        return Ok(None);
+    };
     Ok(Some(Job::Plan(PlanWords {
         file: String::from_str(alloc, file)?,
         plan: String::from_str(alloc, plan)?,
@@ -78,6 +113,8 @@ fn plan_job(
         limit,
         seconds,
         start: owned(alloc, start)?,
+        seed,
+        effort,
     })))
 }
 
@@ -115,10 +152,7 @@ fn check_job(
     let [file, plan, proof] = rest else {
         return Ok(None);
     };
-    if first_of(matches, "seconds").is_some() || first_of(matches, "start").is_some() {
-        return Ok(None);
-    }
-    if !are_different(rest) {
+    if !says_no_search(matches) || !are_different(rest) {
         return Ok(None);
     }
     let Some(limit) = limit_in(matches) else {

@@ -1,5 +1,5 @@
 -- What a job found was written and put, or why it has nothing: its task is performed.
-use Rattle.std.proofs.Common.{◌≡◌, ◌≢◌, Option, Some, Result, Ok, Err, IfOk, IfSome, refl, subst, sym}
+use Rattle.std.proofs.Common.{◌≡◌, ◌≢◌, ◌∙◌, Bool, false, Option, Some, Result, Ok, Err, IfOk, IfSome, ap, inl, refl, subst, sym}
 use Rattle.ev_outside.specs.Shelf.{Files, ShelfState}
 use Rattle.ev_outside.specs.Sink.{SinkState}
 use Rattle.ev_outside.specs.declared.shelf.ShelfFault.{ShelfFault}
@@ -9,7 +9,7 @@ use Rattle.job_frame.proofs.FileReads.{ok_is_no_error}
 use Rattle.job_frame.proofs.Performed.{performs_concluded, performs_fault, performs_nothing}
 use Rattle.job_frame.specs.Finds.{Finds, outcome_of}
 use Rattle.job_frame.specs.Lawful.{IsLawful}
-use Rattle.job_frame.specs.Performs.{Performs, PutsHeard}
+use Rattle.job_frame.specs.Performs.{Performs, PutsHeard, SparesFiles}
 use Rattle.job_frame.specs.Task.{IsAnswered, Task}
 use Rattle.job_frame.specs.Writes.{Leaves}
 use Rattle.job_frame.specs.declared.found.Found.{Found}
@@ -32,6 +32,20 @@ performs_finished {C} task lawful {before} {between} {after} {old} {new} {ended}
     ends_there task Failed before between after old new ended status.Fault finishes.without finishes.without.status_is (performs_fault task lawful before between old (finds.fault refl) finds.files)
 performs_finished {C} task lawful {before} {between} {after} {old} {new} {ended} (Err Memory) finds words finishes =
     ends_there task Memory before between after old new ended status.Memory finishes.without finishes.without.status_is (performs_nothing task lawful before between old finds.files)
+
+-- ---- want of memory
+
+-- it leaves every file as it was where it leaves the shelf so
+pub spares_shelf : {C : Type 0} (task : Task C) {writes_take puts_take : Bool} {files : Option Files} {between after : ShelfState} {ended : Status} → between.files ≡ files
+    → (writes_take ≡ false → puts_take ≡ false → ended ≡ status.Memory → after ≡ between) → SparesFiles task writes_take puts_take files after.files ended
+spares_shelf {C} task {writes_take} {puts_take} {files} {between} {after} {ended} stay same = record {
+  memory = λ writes puts is. inl (ap (λ (shelf : ShelfState). shelf.files) (same writes puts is) ∙ stay);
+}
+
+-- it comes before anything is written of what was found
+pub spares_finished : {C : Type 0} (task : Task C) {of : Task C} {writes_take puts_take : Bool} {before between after : ShelfState} {ended : Status} {found : Result (Found C) ShelfFault} → Finds of before between found
+    → (writes_take ≡ false → puts_take ≡ false → ended ≡ status.Memory → after ≡ between) → SparesFiles task writes_take puts_take before.files after.files ended
+spares_finished {C} task {of} {writes_take} {puts_take} {before} {between} {after} {ended} {found} finds same = spares_shelf task finds.files same
 
 -- ---- its cause
 

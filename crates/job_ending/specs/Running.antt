@@ -4,7 +4,7 @@ use Rattle.std.specs.declared.alloc.Global.{Global}
 use Rattle.ev_outside.specs.Counts.{Rose}
 use Rattle.ev_outside.specs.Shelf.{CountsNeverFall, ShelfState}
 use Rattle.ev_outside.specs.Sink.{Adds, AddsPrefix, SinkState}
-use Rattle.job_frame.specs.Performs.{EndsUnlessHindered, NothingFailed, Performs, PutsHeard}
+use Rattle.job_frame.specs.Performs.{EndsUnlessHindered, NothingFailed, Performs, PutsHeard, SparesFiles}
 use Rattle.job_frame.specs.Task.{IsAnswered, Task}
 use Rattle.job_frame.specs.declared.status.Status.{Status}
 use Rattle.job_frame.specs.declared.status.Status.TheVariants as status
@@ -24,10 +24,11 @@ pub record TellsUsageOf (usage : List ℕ)
   pub shelf : after ≡ before
 
 -- what is owed for words that name this job, or none, where each job is a task: from the shelf
--- before to the shelf after, from the old output to the new one, putting on which takes memory or
--- none, where this cause was heard last, and this one tells that words name no job
+-- before to the shelf after, writing on which takes memory or none, from the old output to the new
+-- one, putting on which takes memory or none, where this cause was heard last, and this one tells
+-- that words name no job
 pub record RunsFor {C Job : Type 0} (usage_text : List ℕ) (no_job : C) (task_of : Job → Task C)
-    (words : List (String Global)) (named : Option Job) (takes_memory : Bool)
+    (words : List (String Global)) (named : Option Job) (writes_take_memory takes_memory : Bool)
     (before after : ShelfState) (old new : SinkState) (heard : Option C) (ended : Status)
     : Type 0 where
   -- the status that tells of words comes only where they name no job
@@ -46,6 +47,9 @@ pub record RunsFor {C Job : Type 0} (usage_text : List ℕ) (no_job : C) (task_o
   pub falls : CountsNeverFall before after
   -- on an output that takes no memory nothing was put where memory was refused
   pub memory : takes_memory ≡ false → ended ≡ status.Memory → new ≡ old
+  -- and no file was written, where writing takes none either, but before an answer is sought
+  pub spares : IfSome named (λ job. SparesFiles (task_of job) writes_take_memory takes_memory
+      before.files after.files ended)
   -- and none is refused where there are no words
   pub no_words : takes_memory ≡ false → words ≡ []
       → (ended ≡ status.Words) ⊎ (ended ≡ status.Fault)

@@ -35,6 +35,8 @@ pub fn finish<C: JobCause, S: Shelf, K: Sink, L: CauseListener<C>>(
     ensures falls { CountsNeverFall (S.state shelf.old) (S.state shelf.new) }
     ensures memory { K.takes_memory ≡ false → result ≡ Status.Memory
         → K.state out.new ≡ K.state out.old }
+    ensures spares { S.writes_take_memory ≡ false → K.takes_memory ≡ false
+        → result ≡ Status.Memory → S.state shelf.new ≡ S.state shelf.old }
 {
     match found {
         Ok(found) => {

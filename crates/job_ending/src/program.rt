@@ -9,7 +9,7 @@ ghost use Rattle.job_ending.specs.Ending.{IsToldAt, Tells, TellsIfSome};
 ghost use Rattle.job_ending.specs.Running.{RunsFor};
 ghost use Rattle.job_ending.specs.declared.message.Message.{Message};
 ghost use Rattle.job_frame.specs.Codes.{code_of};
-ghost use Rattle.job_frame.specs.Performs.{NothingFailed, Performs, PutsHeard};
+ghost use Rattle.job_frame.specs.Performs.{NothingFailed, Performs, PutsHeard, SparesFiles};
 ghost use Rattle.job_frame.specs.Task.{IsAnswered, Task};
 ghost use Rattle.job_frame.specs.declared.status.Status.{Status};
 
@@ -82,7 +82,10 @@ pub trait Program {
             (K.state out.old) (K.state out.new) }
         ensures falls { CountsNeverFall (S.state shelf.old) (S.state shelf.new) }
         ensures memory { K.takes_memory ≡ false → result ≡ Status.Memory
-            → K.state out.new ≡ K.state out.old };
+            → K.state out.new ≡ K.state out.old }
+        ensures spares { SparesFiles (task_of (value_of job.now))
+            S.writes_take_memory K.takes_memory
+            (S.state shelf.old).files (S.state shelf.new).files result };
 }
 
 /// How a program ended, and the job that its words named, where they named one.
@@ -102,9 +105,9 @@ pub fn run<P: Program, S: Shelf, K: Sink>(
     out: &mut K,
     program: &mut P,
 ) -> Status
-    ensures { RunsFor P.usage_text P.Cause.words P.task_of words.now (P.job_named words.now) K.takes_memory
-        (S.state shelf.old) (S.state shelf.new) (K.state out.old) (K.state out.new)
-        (P.heard program.new) result }
+    ensures { RunsFor P.usage_text P.Cause.words P.task_of words.now (P.job_named words.now)
+        S.writes_take_memory K.takes_memory (S.state shelf.old) (S.state shelf.new)
+        (K.state out.old) (K.state out.new) (P.heard program.new) result }
 {
     let read = program.job_of(alloc, words);
     run_read(alloc, &read, shelf, out, program)
@@ -122,9 +125,9 @@ fn run_read<P: Program, S: Shelf, K: Sink>(
     ensures { (words : List (String Global))
         → IfOk read.now (λ job. option_map P.value_of job ≡ P.job_named words)
         → (words ≡ [] → read.now ≡ Ok None)
-        → RunsFor P.usage_text P.Cause.words P.task_of words (P.job_named words) K.takes_memory
-        (S.state shelf.old) (S.state shelf.new) (K.state out.old) (K.state out.new)
-        (P.heard program.new) result }
+        → RunsFor P.usage_text P.Cause.words P.task_of words (P.job_named words)
+        S.writes_take_memory K.takes_memory (S.state shelf.old) (S.state shelf.new)
+        (K.state out.old) (K.state out.new) (P.heard program.new) result }
 {
     match read {
         Ok(Some(job)) => program.perform(alloc, job, shelf, out),
@@ -146,9 +149,9 @@ pub fn exit_code<P: Program, S: Shelf, K: Sink>(
     program: &mut P,
 ) -> u8
     ensures { (ended : Status) × (result ≡ code_of ended)
-        × RunsFor P.usage_text P.Cause.words P.task_of words.now (P.job_named words.now) K.takes_memory
-        (S.state shelf.old) (S.state shelf.new) (K.state out.old) (K.state out.new)
-        (P.heard program.new) ended }
+        × RunsFor P.usage_text P.Cause.words P.task_of words.now (P.job_named words.now)
+        S.writes_take_memory K.takes_memory (S.state shelf.old) (S.state shelf.new)
+        (K.state out.old) (K.state out.new) (P.heard program.new) ended }
 {
     run(alloc, words, shelf, out, program).code()
 }
@@ -170,9 +173,9 @@ where
     D: Diagnostics,
     ensures runs { IfOk words.now (λ words. (ended : Status)
         × (exit_status result.code ≡ code_of ended)
-        × RunsFor P.usage_text P.Cause.words P.task_of words.items (P.job_named words.items) K.takes_memory
-        (S.state shelf.old) (S.state shelf.new) (K.state out.old) (K.state out.new)
-        (P.heard program.new) ended) }
+        × RunsFor P.usage_text P.Cause.words P.task_of words.items (P.job_named words.items)
+        S.writes_take_memory K.takes_memory (S.state shelf.old) (S.state shelf.new)
+        (K.state out.old) (K.state out.new) (P.heard program.new) ended) }
     ensures job { IfOk words.now (λ words.
         IfSome result.job (λ job. P.job_named words.items ≡ Some (P.value_of job))) }
     ensures told { IfOk words.now (λ _. (message : Option Message)

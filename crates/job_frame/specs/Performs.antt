@@ -1,5 +1,5 @@
 -- What the program owes for a task.
-use Rattle.std.specs.Prelude.{◌≡◌, ◌≢◌, ℕ, ◌⊎◌, IfSome, List, Option, Some}
+use Rattle.std.specs.Prelude.{◌≡◌, ◌≢◌, ℕ, ◌⊎◌, Bool, false, IfSome, List, Option, Some}
 use Rattle.ev_outside.specs.Shelf.{CountsStay, Files, ShelfState}
 use Rattle.ev_outside.specs.Sink.{Adds, SinkState}
 use Rattle.job_frame.specs.Faults.{FailsReading, FailsToAnswer, FailsWriting, PutsPartOf, StopsToAnswer}
@@ -76,6 +76,13 @@ pub record Performs {C : Type 0} (task : Task C)
   pub complete : BreakNoRule task before.files → (HasFaultCause task before after old new → ⊥)
       → (ended ≡ status.Done) ⊎ (ended ≡ status.Negative) ⊎ (ended ≡ status.Memory)
       ⊎ ((ended ≡ status.Stopped) × task.has_budget)
+
+-- Want of memory leaves every file as it was, where neither writing files nor putting takes any: it
+-- comes before the first write, but for files that are written before an answer is sought.
+pub record SparesFiles {C : Type 0} (task : Task C) (writes_take_memory puts_take_memory : Bool)
+    (files left : Option Files) (ended : Status) : Type 0 where
+  pub memory : writes_take_memory ≡ false → puts_take_memory ≡ false → ended ≡ status.Memory
+      → (left ≡ files) ⊎ ((ws : List Written) × task.writes_first ws × Leaves ws files left)
 
 -- no count of failed calls is what it was not before
 pub record NothingFailed (before after : ShelfState) (old new : SinkState) : Type 0 where

@@ -1,6 +1,6 @@
 //! The steps behind the last read: files are written, and then the answer is put.
 
-ghost use Rattle.std.specs.Prelude.{◌≡◌, ◌≢◌, [], false, IsErrOf, OnOk, map};
+ghost use Rattle.std.specs.Prelude.{◌≡◌, ◌≢◌, [], false, true, IsErrOf, OnOk, map};
 ghost use Rattle.ev_outside.specs.Counts.{Rose};
 ghost use Rattle.ev_outside.specs.Shelf.{CountsNeverFall, CountsStay};
 ghost use Rattle.ev_outside.specs.Sink.{Adds, AddsPrefix};
@@ -32,6 +32,8 @@ pub fn conclude<C: JobCause, S: Shelf, K: Sink>(
     ensures falls { CountsNeverFall (S.state shelf.old) (S.state shelf.new) }
     ensures memory { K.takes_memory ≡ false → result ≡ Status.Memory
         → K.state out.new ≡ K.state out.old }
+    ensures never_memory { S.writes_take_memory ≡ false → K.takes_memory ≡ false
+        → result ≢ Status.Memory }
 {
     match write_all(found.files.as_slice(), shelf) {
         Ok(()) => put_answer(&found.answer, out),
@@ -49,6 +51,7 @@ fn write_all<S: Shelf>(files: &[NewFile], shelf: &mut S) -> Result<(), ShelfFaul
         (S.state shelf.old) (S.state shelf.new) }
     ensures memory { IsErrOf result ShelfFault.Memory → StopsWriting (map written_by files.now)
         (S.state shelf.old).files (S.state shelf.new).files }
+    ensures takes_memory { IsErrOf result ShelfFault.Memory → S.writes_take_memory ≡ true }
     ensures stays { (IsErrOf result ShelfFault.Failed → ⊥)
         → CountsStay (S.state shelf.old) (S.state shelf.new) }
     ensures falls { CountsNeverFall (S.state shelf.old) (S.state shelf.new) }

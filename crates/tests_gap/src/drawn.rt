@@ -2,7 +2,7 @@
 
 use crate::files::{run_with, shelf_with};
 use evgap_run::{Never, Nobody, Status};
-use gap_search::{GapOutcome, Improved, close_gap};
+use gap_search::{GapOutcome, Improved, Recreation, close_gap};
 use instance_reader::{Instance, read_instance};
 use level_table::{instance_text, least_cost};
 use plan_check::check_large;
@@ -37,7 +37,11 @@ fn compare(alloc: Global, number: u64) -> Option<Compared> {
     if inst.customers().len() > 128 {
         return None;
     }
-    let found = close_gap(alloc, &inst, None, &mut Never {}, &mut Nobody::new()).ok()?;
+    let recreation = Recreation {
+        seed: number,
+        effort: None,
+    };
+    let found = close_gap(alloc, &inst, None, recreation, &mut Never {}, &mut Nobody::new()).ok()?;
     Some(Compared {
         cost: cost_of(alloc, &inst, &found),
         bound: found.proof.bound,

@@ -2,7 +2,7 @@
 
 use crate::files::{run_with, shelf_with};
 use evgap_run::{Never, Nobody};
-use gap_search::close_gap;
+use gap_search::{Recreation, close_gap};
 use instance_reader::read_instance;
 use std::alloc::Global;
 
@@ -27,7 +27,11 @@ fn bound_on(alloc: Global, text: &str) -> Option<u128> {
     if inst.customers().len() > 128 {
         return None;
     }
-    let found = close_gap(alloc, &inst, None, &mut Never {}, &mut Nobody::new()).ok()?;
+    let recreation = Recreation {
+        seed: 1,
+        effort: None,
+    };
+    let found = close_gap(alloc, &inst, None, recreation, &mut Never {}, &mut Nobody::new()).ok()?;
     found.proof.bound
 }
 

@@ -6,6 +6,10 @@
 #[cfg(test)]
 mod accepted;
 #[cfg(test)]
+mod candidates;
+#[cfg(test)]
+mod clocks;
+#[cfg(test)]
 mod drawn;
 #[cfg(test)]
 mod edges;
@@ -14,9 +18,10 @@ mod effort;
 #[cfg(test)]
 mod files;
 #[cfg(test)]
-#[cfg(test)]
 mod judged;
 #[cfg(test)]
 mod planned;
+#[cfg(test)]
+mod recreated;
 #[cfg(test)]
 mod words;

@@ -93,7 +93,7 @@ fn plans_and_bounds_are_put_with_their_gap(rt: HostRuntime) {
             TWO_CUSTOMERS,
             NONE,
             Status::Words,
-            "evgap plan FILE PLAN PROOF [--limit N] [--seconds N] [--start PLAN0]\nevgap check FILE PLAN PROOF [--limit N]\n",
+            "evgap plan FILE PLAN PROOF [--limit N] [--seconds N] [--start PLAN0] [--seed N] [--effort N]\nevgap check FILE PLAN PROOF [--limit N]\n",
         ),
     ] {
         let mut shelf = shelf_with(alloc, instance, start, "", &[]).expect(&rt, "memory");

@@ -4,8 +4,8 @@ use crate::files::words_of;
 use gap_words::{Job, job_words, usage};
 use std::alloc::Global;
 
-/// What the words of a line name, in short: of `plan` the limit, the seconds and the plan to begin
-/// with, of `check` the limit; `None` where they name no job.
+/// What the words of a line name, in short: of `plan` the limit, the seconds, the plan to begin with,
+/// the seed and the effort, of `check` the limit; `None` where they name no job.
 fn named(alloc: Global, line: &str) -> Option<String> {
     let words = words_of(alloc, line).ok()?;
     let job = job_words(alloc, words.as_slice()).ok()??;
@@ -17,7 +17,9 @@ fn named(alloc: Global, line: &str) -> Option<String> {
             };
             let limit = words.limit.unwrap_or(0);
             let seconds = words.seconds.unwrap_or(0);
-            format!(in alloc; "plan {limit} {seconds} {start}").ok()
+            let seed = words.seed;
+            let effort = words.effort.unwrap_or(99);
+            format!(in alloc; "plan {limit} {seconds} {start} {seed} {effort}").ok()
         }
         Job::Check(words) => {
             let limit = words.limit.unwrap_or(0);
@@ -30,9 +32,11 @@ fn named(alloc: Global, line: &str) -> Option<String> {
 fn words_name_a_job_or_none(rt: HostRuntime) {
     let alloc = rt.alloc();
     for &(line, want) in &[
-        ("plan A P Q", "plan 0 0 -"),
-        ("plan A P Q --limit 5", "plan 5 0 -"),
-        ("plan --seconds=7 A P Q --start S", "plan 0 7 S"),
+        ("plan A P Q", "plan 0 0 - 1 99"),
+        ("plan A P Q --limit 5", "plan 5 0 - 1 99"),
+        ("plan --seconds=7 A P Q --start S", "plan 0 7 S 1 99"),
+        ("plan A P Q --seed 8 --effort 30", "plan 0 0 - 8 30"),
+        ("plan A P Q --effort=0", "plan 0 0 - 1 0"),
         ("check A P Q", "check 0"),
         (
             "check A P Q --limit 1000000000000000000",
@@ -40,6 +44,11 @@ fn words_name_a_job_or_none(rt: HostRuntime) {
         ),
         ("check A P Q --seconds 1", ""),
         ("check A P Q --start S", ""),
+        ("check A P Q --seed 1", ""),
+        ("check A P Q --effort 1", ""),
+        ("plan A P Q --effort 31", ""),
+        ("plan A P Q --seed 1000000000000000001", ""),
+        ("plan A P Q --seed 01", ""),
         ("check A P", ""),
         ("plan A P Q --limit 1000000000000000001", ""),
         ("plan A P Q --seconds 01", ""),

@@ -1,4 +1,7 @@
 use Rattle.evgap_run.proofs.Performed.{finished, finished_heard}
+use Rattle.evgap_run.specs.Run.{task_of}
+use Rattle.gap_words.specs.JobValue.{job_value}
+use Rattle.job_ending.proofs.Finished.{spares_finished}
 use Rattle.evgap_run.proofs.command.perform.Goals as goal
 
 pub returns-in-Plan-clause-job : goal.returns-in-Plan-clause-job
@@ -12,3 +15,9 @@ returns-in-Plan-clause-heard g c = finished_heard _ _ c.finish.ensures.finishes 
 
 pub returns-in-Check-clause-heard : goal.returns-in-Check-clause-heard
 returns-in-Check-clause-heard g c = finished_heard _ _ c.finish-in-Check.ensures.finishes c.finish-in-Check.ensures.heard c.in-Check.is c.check.ensures
+
+pub returns-in-Plan-clause-spares : goal.returns-in-Plan-clause-spares
+returns-in-Plan-clause-spares g c = spares_finished (task_of (job_value c.args.job.now)) c.plan.ensures c.finish.ensures.spares
+
+pub returns-in-Check-clause-spares : goal.returns-in-Check-clause-spares
+returns-in-Check-clause-spares g c = spares_finished (task_of (job_value c.args.job.now)) c.check.ensures c.finish-in-Check.ensures.spares

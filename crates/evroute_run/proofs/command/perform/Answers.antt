@@ -1,4 +1,7 @@
-use Rattle.evroute_run.proofs.Performed.{finished, finished_heard, value_hears, value_performs}
+use Rattle.command_line.specs.JobValue.{job_value}
+use Rattle.evroute_run.proofs.Performed.{finished, finished_heard, value_hears, value_performs, value_spares}
+use Rattle.evroute_run.specs.Run.{task_of}
+use Rattle.job_ending.proofs.Finished.{spares_finished}
 use Rattle.evroute_run.proofs.command.perform.Goals as goal
 
 pub returns-in-Fixed-clause-job : goal.returns-in-Fixed-clause-job
@@ -72,3 +75,39 @@ returns-in-CheckMixed-clause-heard g c = finished_heard _ _ c.finish-in-CheckMix
 
 pub returns-in-Make-clause-heard : goal.returns-in-Make-clause-heard
 returns-in-Make-clause-heard g c = value_hears _ _ c.in-Make.is c.make.ensures.heard
+
+pub returns-in-Fixed-clause-spares : goal.returns-in-Fixed-clause-spares
+returns-in-Fixed-clause-spares g c = spares_finished (task_of (job_value c.args.job.now)) c.fixed.ensures c.finish.ensures.spares
+
+pub returns-in-Fleet-clause-spares : goal.returns-in-Fleet-clause-spares
+returns-in-Fleet-clause-spares g c = spares_finished (task_of (job_value c.args.job.now)) c.fleet.ensures c.finish-in-Fleet.ensures.spares
+
+pub returns-in-Check-clause-spares : goal.returns-in-Check-clause-spares
+returns-in-Check-clause-spares g c = spares_finished (task_of (job_value c.args.job.now)) c.check.ensures c.finish-in-Check.ensures.spares
+
+pub returns-in-Convert-clause-spares : goal.returns-in-Convert-clause-spares
+returns-in-Convert-clause-spares g c = spares_finished (task_of (job_value c.args.job.now)) c.convert.ensures c.finish-in-Convert.ensures.spares
+
+pub returns-in-Bound-clause-spares : goal.returns-in-Bound-clause-spares
+returns-in-Bound-clause-spares g c = spares_finished (task_of (job_value c.args.job.now)) c.bound.ensures c.finish-in-Bound.ensures.spares
+
+pub returns-in-CheckBound-clause-spares : goal.returns-in-CheckBound-clause-spares
+returns-in-CheckBound-clause-spares g c = spares_finished (task_of (job_value c.args.job.now)) c.check_bound.ensures c.finish-in-CheckBound.ensures.spares
+
+pub returns-in-Prove-clause-spares : goal.returns-in-Prove-clause-spares
+returns-in-Prove-clause-spares g c = spares_finished (task_of (job_value c.args.job.now)) c.prove.ensures c.finish-in-Prove.ensures.spares
+
+pub returns-in-CheckRoute-clause-spares : goal.returns-in-CheckRoute-clause-spares
+returns-in-CheckRoute-clause-spares g c = spares_finished (task_of (job_value c.args.job.now)) c.check_route.ensures c.finish-in-CheckRoute.ensures.spares
+
+pub returns-in-Improve-clause-spares : goal.returns-in-Improve-clause-spares
+returns-in-Improve-clause-spares g c = spares_finished (task_of (job_value c.args.job.now)) c.improve.ensures c.finish-in-Improve.ensures.spares
+
+pub returns-in-Mixed-clause-spares : goal.returns-in-Mixed-clause-spares
+returns-in-Mixed-clause-spares g c = spares_finished (task_of (job_value c.args.job.now)) c.mixed.ensures c.finish-in-Mixed.ensures.spares
+
+pub returns-in-CheckMixed-clause-spares : goal.returns-in-CheckMixed-clause-spares
+returns-in-CheckMixed-clause-spares g c = spares_finished (task_of (job_value c.args.job.now)) c.check_mixed_files.ensures c.finish-in-CheckMixed.ensures.spares
+
+pub returns-in-Make-clause-spares : goal.returns-in-Make-clause-spares
+returns-in-Make-clause-spares g c = value_spares _ _ c.in-Make.is c.make.ensures.spares

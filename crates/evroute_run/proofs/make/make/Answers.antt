@@ -2,10 +2,10 @@ use Rattle.std.proofs.Common.{◌∙◌, [], ◌∷◌, refl, rules, arith}
 use Rattle.std.proofs.lemmas.Grind.{common_steps}
 use Rattle.std.specs.Prelude.{string_bytes}
 use Rattle.command_line.specs.Words.{MakeJob, make_job_of}
-use Rattle.evroute_run.proofs.MakeFinds.{make_refused, makes_network}
+use Rattle.evroute_run.proofs.MakeFinds.{make_refused, makes_network, spares_made}
 use Rattle.evroute_run.proofs.MakeLaw.{make_lawful}
 use Rattle.evroute_run.specs.MakeAnswer.{HasNoInstance, made_file, make_task}
-use Rattle.job_ending.proofs.Finished.{hears_finished, performs_finished}
+use Rattle.job_ending.proofs.Finished.{hears_finished, performs_finished, spares_shelf}
 use Rattle.job_frame.proofs.FileReads.{finds_alone, nothing_fails, nothing_falls, ok_is_no_error}
 use Rattle.evroute_causes.proofs.Hearing.{refused_job_is_heard}
 use Rattle.job_frame.proofs.Performed.{performs_unwritten}
@@ -93,3 +93,20 @@ returns-clause-job = grind (arith, common_steps)
 
 pub returns-in-Ok-clause-falls : goal.returns-in-Ok-clause-falls
 returns-in-Ok-clause-falls = grind (arith, common_steps)
+
+pub returns-in-Ok-write-clause-spares : goal.returns-in-Ok-write-clause-spares
+returns-in-Ok-write-clause-spares g c =
+    let w = c.args.job.now in
+    let job : MakeJob = make_job_of w.seed w.customers w.stations (string_bytes w.outfile) in
+    let before = g.S.Shelf.state c.args.shelf.now in
+    let after = g.S.Shelf.state c.write.new.self in
+    let within : HasNoInstance job → ⊥ = λ none. ok_is_no_error ((c.in-Ok.ensures.range).1 none) in
+    spares_made job within
+    (leaves_one (made_file job) before after
+    (is_written (made_file job) before after c.as_str.result.now c.as_slice.result.now c.as_str.ensures.value (c.as_slice.ensures.value ∙ c.in-Ok.ensures.text)
+    c.in-Ok-write.ensures.bytes c.in-Ok-write.ensures.others (c.in-Ok-write.ensures.stays (λ failed. ok_is_no_error failed))))
+
+pub returns-in-Err-Range-clause-spares : goal.returns-in-Err-Range-clause-spares
+returns-in-Err-Range-clause-spares g c =
+    let w = c.args.job.now in
+    spares_shelf (make_task (make_job_of w.seed w.customers w.stations (string_bytes w.outfile))) refl c.finish.ensures.spares

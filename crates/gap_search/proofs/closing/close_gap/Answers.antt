@@ -1,5 +1,5 @@
 use Rattle.std.specs.Option.{option_map}
-use Rattle.gap_search.proofs.Outcomes.{is_improved, is_outcome, still_answer}
+use Rattle.gap_search.proofs.Outcomes.{is_improved, is_outcome, still_held}
 use Rattle.gap_search.proofs.closing.close_gap.Goals as goal
 
 pub cheaper-requires : goal.cheaper-requires
@@ -8,4 +8,4 @@ cheaper-requires g c =
 
 pub returns : goal.returns
 returns g c =
-    is_outcome c.args.inst.now (option_map (λ p. p.now.routes) c.args.start) c.in_ok-plan.plan c.in_ok-proof.proof (still_answer c.args.inst.now (option_map (λ p. p.now.routes) c.args.start) c.in_ok-first.first c.in_ok-plan.plan c.in_ok-first.ensures c.in_ok-plan.ensures) c.in_ok-proof.ensures
+    is_outcome c.args.inst.now (option_map (λ p. p.now.routes) c.args.start) c.in_ok-plan.plan c.in_ok-proof.proof (still_held c.args.inst.now (option_map (λ p. p.now.routes) c.args.start) c.in_ok-first.first c.in_ok-plan.plan c.in_ok-first.ensures c.in_ok-plan.ensures) c.in_ok-proof.ensures.proof

@@ -1,0 +1,176 @@
+//! The first plan: by ruin and recreate, and then by moves of single customers.
+
+ghost use Rattle.std.specs.Prelude.{◌≡◌, ◌≤◌, IfOk, IfSome, IsTrue, None, Some, option_map};
+ghost use Rattle.ev_model.specs.Fleet.{IsFleetPlan, cost_of};
+ghost use Rattle.gap_search.specs.Gap as gap;
+ghost use Rattle.gap_search.specs.Gap.{IsHeld};
+ghost use Rattle.plan_check.specs.FleetRules.{stops_of};
+ghost use Rattle.route_improve.specs.Improved.{IsOrderly};
+ghost use Rattle.ruin_recreate.specs.Recreated.{IsNoDearer};
+
+use crate::own::is_no_more_than_own;
+use crate::plans::cost_of;
+use crate::recreation::{Recreation, Work};
+use crate::watcher::GapWatcher;
+use instance_reader::Instance;
+use near_columns::GapClock;
+use route_improve::{Improved, improve_watched, improve_within};
+use route_plan::FleetPlan;
+use ruin_recreate::{Effort, Recreated, recreate};
+use std::alloc::{AllocError, Global};
+
+/// More customers a route than so many make routes long.
+const LONG_ROUTE: usize = 20;
+
+/// The first plan, or why none is held: where work is done for it, by ruin and recreate first, and
+/// then by moves of single customers until none helps.
+#[tactic(auto, using(crate::proofs::Outcomes::held))]
+pub(crate) fn first_plan<C: GapClock, W: GapWatcher>(
+    alloc: Global,
+    inst: &Instance,
+    start: Option<&FleetPlan>,
+    recreation: Recreation,
+    clock: &mut C,
+    watcher: &mut W,
+) -> Result<Improved, AllocError>
+    requires { IfSome start (λ plan. IsFleetPlan inst.now 1 (stops_of plan.now.routes)) }
+    ensures { IfOk result (IsHeld inst.now (option_map (λ plan. plan.now.routes) start.entry)) }
+{
+    let Some(work) = recreation.work(inst.customers().len()) else {
+        return improve_watched(alloc, inst, start, watcher);
+    };
+    match start {
+        Some(plan) => from_plan(alloc, inst, plan, work, recreation.seed, clock, watcher),
+        None => from_none(alloc, inst, work, recreation.seed, clock, watcher),
+    }
+}
+
+/// A plan that is made of this one, and no dearer.
+#[tactic(auto, using(crate::proofs::Outcomes::held_behind))]
+fn from_plan<C: GapClock, W: GapWatcher>(
+    alloc: Global,
+    inst: &Instance,
+    plan: &FleetPlan,
+    work: Work,
+    seed: u64,
+    clock: &mut C,
+    watcher: &mut W,
+) -> Result<Improved, AllocError>
+    requires { IsFleetPlan inst.now 1 (stops_of plan.now.routes) }
+    ensures { IfOk result (IsHeld inst.now (Some plan.now.routes)) }
+{
+    let better = recreated(alloc, inst, plan, work.first, seed, watcher)?;
+    let better = more_work(alloc, inst, better, work.then, seed, clock, watcher)?;
+    improve_watched(alloc, inst, Some(&better), watcher)
+}
+
+/// A plan, or the first customer without a route of his own.
+fn from_none<C: GapClock, W: GapWatcher>(
+    alloc: Global,
+    inst: &Instance,
+    work: Work,
+    seed: u64,
+    clock: &mut C,
+    watcher: &mut W,
+) -> Result<Improved, AllocError>
+    ensures { IfOk result (IsHeld inst.now None) }
+{
+    let found = recreate(alloc, inst, None, work.first, seed, watcher)?;
+    let Recreated {
+        outcome,
+        seen: _seen,
+    } = found;
+    match outcome {
+        Improved::Plan(plan) => {
+            let plan = more_work(alloc, inst, plan, work.then, seed, clock, watcher)?;
+            settled(alloc, inst, &plan, watcher)
+        }
+        Improved::Alone(node) => Ok(Improved::Alone(node)),
+    }
+}
+
+/// A plan that is made of this one by ruin and recreate.
+fn recreated<W: GapWatcher>(
+    alloc: Global,
+    inst: &Instance,
+    plan: &FleetPlan,
+    effort: Effort,
+    seed: u64,
+    watcher: &mut W,
+) -> Result<FleetPlan, AllocError>
+    requires { IsFleetPlan inst.now 1 (stops_of plan.now.routes) }
+    ensures { IfOk result (IsNoDearer inst.now plan.now.routes) }
+{
+    let found = recreate(alloc, inst, Some(plan), effort, seed, watcher)?;
+    let Recreated {
+        outcome,
+        seen: _seen,
+    } = found;
+    match outcome {
+        Improved::Plan(better) => Ok(better),
+        // It comes only where there is no plan to begin with.
+        Improved::Alone(_) => improve_within(alloc, inst, plan, 0),
+    }
+}
+
+/// The plan once more work was done, where there is some, the clock isn't up and no routes are
+/// long.
+fn more_work<C: GapClock, W: GapWatcher>(
+    alloc: Global,
+    inst: &Instance,
+    plan: FleetPlan,
+    effort: Option<Effort>,
+    seed: u64,
+    clock: &mut C,
+    watcher: &mut W,
+) -> Result<FleetPlan, AllocError>
+    requires { IsOrderly inst.now plan.routes }
+    ensures { IfOk result (IsNoDearer inst.now plan.routes) }
+{
+    let Some(effort) = effort else {
+        return Ok(plan);
+    };
+    if clock.is_up() || are_long(inst, &plan) {
+        return Ok(plan);
+    }
+    recreated(alloc, inst, &plan, effort, seed, watcher)
+}
+
+/// Whether routes serve more than twenty customers in the mean: these take long to charge.
+fn are_long(inst: &Instance, plan: &FleetPlan) -> bool {
+    inst.customers().len() > plan.routes.len().saturating_mul(LONG_ROUTE)
+}
+
+/// The plan, made cheaper by moves; or one of routes for the customers alone, where the plan is
+/// dearer than these.
+fn settled<W: GapWatcher>(
+    alloc: Global,
+    inst: &Instance,
+    plan: &FleetPlan,
+    watcher: &mut W,
+) -> Result<Improved, AllocError>
+    requires { IsFleetPlan inst.now 1 (stops_of plan.now.routes) }
+    ensures { IfOk result (IsHeld inst.now None) }
+{
+    if let Improved::Plan(better) = improve_watched(alloc, inst, Some(plan), watcher)? {
+        if is_no_dearer_than_own(alloc, inst, &better)? {
+            return Ok(Improved::Plan(better));
+        }
+    }
+    improve_watched(alloc, inst, None, watcher)
+}
+
+/// Whether a plan costs no more than routes for the customers alone, where each has one.
+fn is_no_dearer_than_own(
+    alloc: Global,
+    inst: &Instance,
+    plan: &FleetPlan,
+) -> Result<bool, AllocError>
+    ensures { IfOk result (λ is. IsTrue is
+        → gap.IsNoDearer inst.now None (cost_of inst.now 1 (stops_of plan.now.routes))) }
+{
+    match cost_of(alloc, inst, plan)? {
+        Some(cost) => is_no_more_than_own(alloc, inst, cost),
+        None => Ok(false),
+    }
+}
