@@ -64,6 +64,16 @@ impl Column {
         self.cost.saturating_sub(self.sum_of(prices))
     }
 
+    /// What it costs beyond the prices of its services, where that is below 0 and it may be taken,
+    /// else 0.
+    pub(crate) fn cost_below(&self, prices: &[i64]) -> i64 {
+        if self.is_active() {
+            self.reduced_cost(prices).min(0)
+        } else {
+            0
+        }
+    }
+
     /// Whether it may be taken.
     pub(crate) fn is_active(&self) -> bool {
         self.standing == Standing::Active

@@ -21,8 +21,8 @@ pub(crate) fn lower(
 ) -> Result<(), AllocError> {
     let mut earning = Vec::new(alloc);
     for (place, column) in columns.iter().enumerate() {
-        let reduced = column.reduced_cost(prices);
-        if column.is_active() && reduced < 0 {
+        let reduced = column.cost_below(prices);
+        if reduced < 0 {
             earning.push((reduced, place))?;
         }
     }

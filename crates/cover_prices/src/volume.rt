@@ -204,11 +204,9 @@ fn value(columns: &[Column], rows: &[Row], prices: &[i64], earns: &mut [bool]) -
         sum = sum.saturating_add(product(*price, row.wanted()));
     }
     for (column, earns) in columns.iter().zip(earns.iter_mut()) {
-        let reduced = column.reduced_cost(prices);
-        *earns = column.is_active() && reduced < 0;
-        if *earns {
-            sum = sum.saturating_add(i128::from(reduced));
-        }
+        let reduced = column.cost_below(prices);
+        *earns = reduced < 0;
+        sum = sum.saturating_add(i128::from(reduced));
     }
     narrow(sum)
 }
