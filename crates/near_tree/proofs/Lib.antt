@@ -11,3 +11,4 @@ pub mod Leaves
 pub mod Test
 pub mod OneLeaf
 pub mod Rules
+pub mod Preorder

@@ -11,3 +11,5 @@ pub mod Bounds
 pub mod Examples
 pub mod OneLeaf
 pub mod Rules
+pub mod Preorder
+pub mod Ranges

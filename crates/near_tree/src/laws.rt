@@ -1,6 +1,6 @@
 //! Laws of trees over near sections. Each is the contract of an empty function.
 
-ghost use Rattle.std.specs.Prelude.{◌*◌, ◌≤◌, List, ℕ, Option, None, Some};
+ghost use Rattle.std.specs.Prelude.{◌≡◌, ◌*◌, ◌≤◌, List, ℕ, Option, None, Some};
 ghost use Rattle.ev_model.specs.Fleet.{cost_of, IsFleetPlan};
 ghost use Rattle.ev_model.specs.Network.{IsNetwork, Network};
 ghost use Rattle.ev_model.specs.declared.Stop.{Stop};
@@ -13,9 +13,11 @@ ghost use Rattle.near_tree.specs.Closed.{AreClosedAt};
 ghost use Rattle.near_tree.specs.Covered.{AreWithinFullAt};
 ghost use Rattle.near_tree.specs.Follows.{MayFollow, StandsFor};
 ghost use Rattle.near_tree.specs.OneLeaf.{CountsNothing, one_leaf};
+ghost use Rattle.near_tree.specs.Preorder.{IsTreeOf};
 ghost use Rattle.near_tree.specs.Rules.{IsBroken, Place};
 ghost use Rattle.near_tree.specs.Sections.{after, anybody, Last, NearSection};
 ghost use Rattle.near_tree.specs.Trees.{AtSomeLeaf, IsSectionAt, IsTreeAt, NearTree};
+ghost use Rattle.near_tree.specs.declared.proof.TreeNode.{TreeNode};
 ghost use Rattle.near_proof.specs.Truth.{IsTrueNearBound};
 
 /// Where the labels of a leaf are closed, none of whose levels is above full, every near route that
@@ -78,4 +80,10 @@ pub fn a_near_proof_is_a_tree_of_one_leaf()
 pub fn an_accepted_tree_breaks_no_rule()
     ensures { (g : Network) (bound : Option ℕ) (t : NearTree) (at : Place) →
         IsAccepted g bound t → IsBroken g bound t at → ⊥ }
+{}
+
+/// Nodes in preorder are those of one tree at most.
+pub fn a_list_of_nodes_is_one_tree()
+    ensures { (nodes : List TreeNode) (t u : NearTree) → IsTreeOf nodes t → IsTreeOf nodes u →
+        t ≡ u }
 {}
