@@ -1,0 +1,11 @@
+pub mod AskedLaws
+pub mod TestedLaws
+pub mod LabelReading
+pub mod NodeReading
+pub mod TreeReading
+pub mod SetLaws
+pub mod Counts
+pub mod Forests
+pub mod Nodes
+pub mod WrittenTrees
+pub mod TreeLaws
