@@ -9,3 +9,12 @@ pub mod Forests
 pub mod Nodes
 pub mod WrittenTrees
 pub mod TreeLaws
+pub mod AskedLoops
+pub mod SetLoops
+pub mod Lasts
+pub mod SectionReading
+pub mod OpenWays
+pub mod NodeLoops
+pub mod LeafFits
+pub mod RangeLoops
+pub mod WholeReading

@@ -5,3 +5,4 @@ pub mod Reading
 pub mod WrittenRanges
 pub mod TreeIn
 pub mod Standing
+pub mod Ways

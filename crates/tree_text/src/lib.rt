@@ -4,8 +4,11 @@
 
 mod customers;
 mod laws;
+mod reading;
+mod ways;
 mod writing;
 
 pub use certificate_parts::CertText;
 pub use laws::{texts_spell_trees, tree_faults_are_first, written_trees_are_read};
+pub use reading::read_tree;
 pub use writing::push_tree;
