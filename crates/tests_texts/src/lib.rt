@@ -12,4 +12,6 @@ mod proofs;
 #[cfg(test)]
 mod reports;
 #[cfg(test)]
+mod trees;
+#[cfg(test)]
 mod units;

@@ -1,0 +1,6 @@
+use Rattle.std.proofs.Common.{arith}
+use Rattle.std.proofs.lemmas.Grind.{common_steps}
+use Rattle.tree_text.proofs.writing.labels.write_head.Goals as goal
+
+pub returns : goal.returns
+returns = grind (arith, common_steps)

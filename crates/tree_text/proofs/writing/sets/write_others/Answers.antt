@@ -1,0 +1,9 @@
+use Rattle.std.proofs.Common.{arith}
+use Rattle.std.proofs.lemmas.Grind.{common_steps}
+use Rattle.tree_text.proofs.writing.sets.write_others.Goals as goal
+
+pub returns : goal.returns
+returns = grind (arith, common_steps)
+
+pub loop-node-preserved : goal.loop-node-preserved
+loop-node-preserved = grind (arith, common_steps)

@@ -1,0 +1,14 @@
+//! The text of trees over near sections, which are proofs of lower bounds, both ways, and of a
+//! verdict on one.
+#![tactic(auto)]
+
+mod customers;
+mod laws;
+mod reading;
+mod ways;
+mod writing;
+
+pub use certificate_parts::CertText;
+pub use laws::{texts_spell_trees, tree_faults_are_first, written_trees_are_read};
+pub use reading::read_tree;
+pub use writing::push_tree;
