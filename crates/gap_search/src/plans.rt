@@ -208,7 +208,11 @@ fn cheaper_of(
 }
 
 /// What a fleet plan costs; `None` says nothing.
-pub(crate) fn cost_of(alloc: Global, inst: &Instance, plan: &FleetPlan) -> Result<Option<u128>, AllocError>
+pub(crate) fn cost_of(
+    alloc: Global,
+    inst: &Instance,
+    plan: &FleetPlan,
+) -> Result<Option<u128>, AllocError>
     ensures { IfOk result (λ cost. IfSome cost
         (λ scaled. scaled ≡ cost_of inst.now 1 (stops_of plan.now.routes))) }
 {

@@ -95,7 +95,7 @@ abbrev pub plan_of : List Text → List Row → Option Job
 plan_of (file ∷ plan ∷ proof ∷ []) rows =
     if are_different (all_names (start_in rows) (file ∷ plan ∷ proof ∷ []))
     then plan_with file plan proof (limit_in rows) (seconds_in rows) (start_in rows)
-        (seed_in rows) (effort_in rows)
+    (seed_in rows) (effort_in rows)
     else None
 plan_of rest rows = None
 

@@ -8,9 +8,7 @@ ghost use Rattle.gap_words.specs.JobValue.{AnswersJob, IsJob};
 ghost use Rattle.gap_words.specs.Words.{all_names, check_of, effort_in, job_in, job_of_command, plan_of, says_no_search, seconds_in, seed_in};
 
 use crate::{CheckWords, Job, PlanWords};
-use call_words::{
-    GREATEST_VALUE, are_different, first_of, limit_in, number_of, optional_number,
-};
+use call_words::{GREATEST_VALUE, are_different, first_of, limit_in, number_of, optional_number};
 use clap::ArgMatches;
 use std::alloc::{AllocError, Global};
 

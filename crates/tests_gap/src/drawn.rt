@@ -41,7 +41,15 @@ fn compare(alloc: Global, number: u64) -> Option<Compared> {
         seed: number,
         effort: None,
     };
-    let found = close_gap(alloc, &inst, None, recreation, &mut Never {}, &mut Nobody::new()).ok()?;
+    let found = close_gap(
+        alloc,
+        &inst,
+        None,
+        recreation,
+        &mut Never {},
+        &mut Nobody::new(),
+    )
+    .ok()?;
     Some(Compared {
         cost: cost_of(alloc, &inst, &found),
         bound: found.proof.bound,

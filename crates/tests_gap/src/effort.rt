@@ -31,7 +31,15 @@ fn bound_on(alloc: Global, text: &str) -> Option<u128> {
         seed: 1,
         effort: None,
     };
-    let found = close_gap(alloc, &inst, None, recreation, &mut Never {}, &mut Nobody::new()).ok()?;
+    let found = close_gap(
+        alloc,
+        &inst,
+        None,
+        recreation,
+        &mut Never {},
+        &mut Nobody::new(),
+    )
+    .ok()?;
     found.proof.bound
 }
 
