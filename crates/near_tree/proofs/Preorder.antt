@@ -1,6 +1,6 @@
 -- Nodes in preorder are those of one tree at most.
-use Rattle.std.proofs.Common.{◌≡◌, ◌∙◌, ℕ, List, [], ◌∷◌, ◌++◌, map, sym, ap, append_assoc}
-use Rattle.near_tree.specs.Preorder.{at_entries, at_leaf, at_split, IsTreeOf, Node, node_of, nodes_of}
+use Rattle.std.proofs.Common.{◌≡◌, ◌∙◌, List, [], ◌++◌, sym, ap, append_assoc}
+use Rattle.near_tree.specs.Preorder.{IsTreeOf, Node, nodes_of}
 use Rattle.near_tree.specs.Trees.{entries, leaf, NearTree, split}
 use Rattle.near_tree.specs.declared.proof.TreeNode.{TreeNode}
 

@@ -13,3 +13,14 @@ pub mod OneLeaf
 pub mod Rules
 pub mod Preorder
 pub mod Ranges
+pub mod Paths
+pub mod Counting
+pub mod Sites
+pub mod Lasts
+pub mod LeafBounds
+pub mod Links
+pub mod Targets
+pub mod Judging
+pub mod AskedInside
+pub mod Verdicts
+pub mod Walks

@@ -2,13 +2,27 @@
 //! are forgotten, branched on who follows whom and on how often routes enter a set of customers.
 //!
 //! The definitions stand in `specs/`. What stands here are laws that say that they prove what they
-//! should, and worked examples, computed from the definitions.
+//! should, worked examples, computed from the definitions, the value of a tree, and its judge.
 #![tactic(auto)]
 
+mod bound;
+mod check;
+mod counted;
+mod coverage;
+mod ends;
 mod examples;
+mod faults;
+mod judge;
 mod laws;
+mod links;
+mod paid;
+mod path;
 mod proof;
+mod site;
+mod steps;
+mod verdict;
 
+pub use check::check_tree;
 pub use examples::{
     a_leaf_of_weight_0_shows_that_no_plan_goes_there, an_entry_price_may_be_below_0,
     anybody_stands_in_at_a_station, the_depot_may_be_a_station,
@@ -19,3 +33,4 @@ pub use laws::{
     a_near_route_pays_at_a_leaf, an_accepted_tree_breaks_no_rule, who_stands_for_whom,
 };
 pub use proof::{LastServed, LeafSection, SectionLabel, TreeNode, TreeProof};
+pub use verdict::TreeVerdict;

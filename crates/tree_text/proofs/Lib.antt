@@ -8,6 +8,7 @@ pub mod Counts
 pub mod Forests
 pub mod Nodes
 pub mod WrittenTrees
+pub mod OneTree
 pub mod TreeLaws
 pub mod AskedLoops
 pub mod SetLoops

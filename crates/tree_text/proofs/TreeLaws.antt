@@ -1,10 +1,12 @@
 -- What a tree is read from, and what its first fault tells.
 use Rattle.std.proofs.Common.{◌≡◌, ◌∙◌, ◌↔◌, ◌⊎◌, ℕ, ◌^◌, ◌<◌, ◌≤◌, List, [], ◌∷◌, ◌++◌, codes, decimal, length, take, Ok, Err, refl, sym, ap, arith}
+use Rattle.std.specs.List.{All}
 use Rattle.std.proofs.lemmas.Fmt.{decimal_digit}
 use Rattle.ev_model.specs.Network.{IsNetwork, Network}
 use Rattle.ev_text.specs.Readers.{whole_with}
 use Rattle.ev_text.specs.Texts.{IsLonger, StandsUnlessLonger}
 use Rattle.ev_text.proofs.ReadingLaws.{Reads}
+use Rattle.ev_text.proofs.Results.{Ok-injective}
 use Rattle.ev_text.proofs.WholeReads.{ranged-spells}
 use Rattle.ev_text.proofs.Numbers.{Anything}
 use Rattle.instance_reader.proofs.InstanceLemmas.{customers_are_nodes}
@@ -13,13 +15,14 @@ use Rattle.certificate_parts.specs.Ranges.{customer_count}
 use Rattle.certificate_parts.specs.Versions.{version_line}
 use Rattle.certificate_parts.specs.declared.cert_text.CertText.TheVariants.{Range, Text, TooLong, Version}
 use Rattle.certificate_parts.proofs.TextLaws as parts
-use Rattle.tree_text.specs.TreeIn.{BeginsLoosely, BeginsOtherVersion, SpellsWritten, tree_in, tree_word}
+use Rattle.tree_text.specs.TreeIn.{BeginsLoosely, BeginsOtherVersion, IsKeptNode, IsSpelledBy, SpellsWritten, tree_in, tree_word}
 use Rattle.tree_text.specs.TreeTexts.{tree_body_text, tree_text}
 use Rattle.tree_text.specs.Reading.{tree_at}
 use Rattle.near_tree.specs.Ranges.{TreeFits}
 use Rattle.near_tree.specs.declared.proof.TreeProof.{TreeProof}
 use Rattle.tree_text.specs.Written.{WrittenTree, written_tree}
 use Rattle.tree_text.specs.WrittenRanges.{TreeIs, TreeLoose}
+use Rattle.tree_text.proofs.OneTree.{one_written}
 use Rattle.tree_text.proofs.TreeReading.{reads-tree}
 use Rattle.tree_text.proofs.WrittenTrees.{tree_is}
 
@@ -59,3 +62,16 @@ module _ (g : Network) (network : IsNetwork g) where
 
   pub text_is_read : (p : TreeProof) → TreeFits g p → length (tree_text (written_tree g p)) ≤ most_bytes → tree_in g (tree_text (written_tree g p)) ≡ Ok (written_tree g p)
   text_is_read p fits within = (tree_is_spelled (tree_text (written_tree g p)) (written_tree g p)).1 (record { within = within; ranges = tree_is g network p fits; text = refl })
+
+  pub spelled_where_read : (bytes : List ℕ) (p : TreeProof) → tree_in g bytes ≡ Ok (written_tree g p) → TreeFits g p → All IsKeptNode p.nodes → IsSpelledBy g bytes p
+  spelled_where_read bytes p is fits kept = record { fits = fits; kept = kept; text = ((tree_is_spelled bytes (written_tree g p)).0 is).text }
+
+  -- the text of a tree is read as what is written of it
+  text_tells : (bytes : List ℕ) (p : TreeProof) → IsSpelledBy g bytes p → whole_with (tree_at g) bytes ≡ Ok (written_tree g p)
+  text_tells bytes p is =
+      (ranged-spells StandsUnlessLonger (tree_at g) tree_text (TreeIs g) (TreeLoose g) Anything reads (λ w fits. tt) bytes (written_tree g p)).1
+      (tree_is g network p is.fits, is.text)
+
+  pub one_tree : (bytes : List ℕ) (p q : TreeProof) → IsSpelledBy g bytes p → IsSpelledBy g bytes q → p ≡ q
+  one_tree bytes p q is was =
+      one_written g p q is.fits was.fits is.kept was.kept (Ok-injective (written_tree g p) (written_tree g q) (sym (text_tells bytes p is) ∙ text_tells bytes q was))

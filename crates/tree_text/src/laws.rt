@@ -5,7 +5,7 @@ ghost use Rattle.ev_model.specs.Network.{IsNetwork, Network};
 ghost use Rattle.ev_text.specs.Texts.{IsLonger};
 ghost use Rattle.certificate_parts.specs.Limits.{most_bytes};
 ghost use Rattle.certificate_parts.specs.declared.cert_text.CertText.TheVariants.{Range, Text, TooLong, Version};
-ghost use Rattle.tree_text.specs.TreeIn.{BeginsLoosely, BeginsOtherVersion, SpellsWritten, tree_in};
+ghost use Rattle.tree_text.specs.TreeIn.{BeginsLoosely, BeginsOtherVersion, IsSpelledBy, SpellsWritten, tree_in};
 ghost use Rattle.tree_text.specs.TreeTexts.{tree_text};
 ghost use Rattle.near_tree.specs.Ranges.{TreeFits};
 ghost use Rattle.near_tree.specs.declared.proof.TreeProof.{TreeProof};
@@ -24,6 +24,12 @@ pub fn written_trees_are_read()
     ensures { (g : Network) → IsNetwork g → (p : TreeProof) → TreeFits g p →
         length (tree_text (written_tree g p)) ≤ most_bytes →
         tree_in g (tree_text (written_tree g p)) ≡ Ok (written_tree g p) }
+{}
+
+/// A text means one tree: bytes are the text of no two that are in their ranges.
+pub fn texts_mean_one_tree()
+    ensures { (g : Network) → IsNetwork g → (bytes : List ℕ) (p q : TreeProof) →
+        IsSpelledBy g bytes p → IsSpelledBy g bytes q → p ≡ q }
 {}
 
 /// What the first fault of a text tells. What stands before its place begins a text in which each

@@ -9,6 +9,8 @@ mod ways;
 mod writing;
 
 pub use certificate_parts::CertText;
-pub use laws::{texts_spell_trees, tree_faults_are_first, written_trees_are_read};
+pub use laws::{
+    texts_mean_one_tree, texts_spell_trees, tree_faults_are_first, written_trees_are_read,
+};
 pub use reading::read_tree;
 pub use writing::push_tree;

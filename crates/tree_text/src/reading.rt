@@ -6,8 +6,9 @@ ghost use Rattle.certificate_parts.specs.Refusals.{or_refused};
 ghost use Rattle.certificate_parts.specs.declared.cert_text.CertText.TheVariants.{Memory};
 ghost use Rattle.near_tree.specs.Ranges.{IsFitTree, NodeFits, TreeFits};
 ghost use Rattle.near_tree.specs.Trees.{NearTree};
+ghost use Rattle.near_tree.specs.declared.proof.TreeProof.{TreeProof};
 ghost use Rattle.tree_text.specs.Reading.{nodes_at, tree_at};
-ghost use Rattle.tree_text.specs.TreeIn.{IsKeptNode, has_other_version, tree_in};
+ghost use Rattle.tree_text.specs.TreeIn.{IsKeptNode, IsSpelledBy, has_other_version, tree_in};
 ghost use Rattle.tree_text.specs.Written.{written_node, written_tree};
 
 mod labels;
@@ -26,8 +27,9 @@ use near_tree::{TreeNode, TreeProof};
 use nodes::take_node;
 use std::alloc::Global;
 
-/// The tree of a text. What is read is in the ranges of the instance, and its text is `bytes`.
-/// Whether the tree is accepted is not judged here.
+/// The tree of a text. What is read is in the ranges of the instance, and its text is `bytes`; each
+/// such tree has one text, which `push_tree` writes, and no other has this text. Whether the tree
+/// is accepted is not judged here.
 ///
 /// A text of more than 2^28 bytes is `TooLong`. `Version`: the first line is `evroute near tree `,
 /// a number in its one spelling with at most 38 digits that isn't 1, and a line feed. Else the
@@ -41,10 +43,13 @@ use std::alloc::Global;
 pub fn read_tree(alloc: Global, inst: &Instance, bytes: &[u8]) -> Result<TreeProof, CertText>
     ensures ok { IfOk result (λ p. tree_in inst.now bytes.now ≡ Ok (written_tree inst.now p)) }
     ensures fits { IfOk result (TreeFits inst.now) }
-    ensures kept { IfOk result (λ p. All IsKeptNode p.nodes) }
+    ensures spelled { IfOk result (IsSpelledBy inst.now bytes.now) }
+    ensures one { IfOk result (λ p. (q : TreeProof) → IsSpelledBy inst.now bytes.now q → p ≡ q) }
     ensures fault { IfErr result (λ fault. fault ≢ CertText.Memory →
         tree_in inst.now bytes.now ≡ Err fault) }
 {
+    // That the instance's network is one is told by its calls.
+    let _nodes = inst.nodes();
     let len = bytes.len();
     if len > MOST_BYTES {
         return Err(CertText::TooLong { len });
