@@ -9,6 +9,8 @@ mod covers;
 #[cfg(test)]
 mod found;
 #[cfg(test)]
+mod near_search;
+#[cfg(test)]
 mod told;
 #[cfg(test)]
 mod worked;
