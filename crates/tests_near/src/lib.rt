@@ -13,4 +13,6 @@ mod near_search;
 #[cfg(test)]
 mod told;
 #[cfg(test)]
+mod trees;
+#[cfg(test)]
 mod worked;
