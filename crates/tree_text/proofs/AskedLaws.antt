@@ -1,5 +1,5 @@
 -- What a reader of items that ask for others owes.
-use Rattle.std.proofs.Common.{◌≡◌, ◌∙◌, inl, inr, ℕ, zero, suc, ◌<◌, ◌≤◌, List, [], ◌∷◌, ◌++◌, length, length-append, length-drop, Result, Ok, Err, refl, sym, ap, subst, append_assoc, append-nil, arith}
+use Rattle.std.proofs.Common.{◌≡◌, ◌∙◌, inl, inr, ℕ, zero, suc, ◌<◌, ◌≤◌, List, [], ◌∷◌, ◌++◌, length, length-append, length-drop, Result, Ok, Err, refl, sym, ap, subst, append_assoc, arith}
 use Rattle.ev_text.specs.Readers.{Reader}
 use Rattle.ev_text.specs.Scans.{and_then, rest_of}
 use Rattle.ev_text.specs.Texts.{Begins, IsTextOf, joined_texts}

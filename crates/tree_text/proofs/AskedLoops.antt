@@ -1,5 +1,5 @@
 -- Reading items that ask for others, one after another: those so far, in front of those that are read from here on, are all.
-use Rattle.std.proofs.Common.{◌≡◌, ◌∙◌, ℕ, zero, suc, ◌<◌, ◌≤◌, List, [], ◌∷◌, ◌++◌, length, length-drop, Result, Ok, Err, refl, sym, ap, append-nil, arith}
+use Rattle.std.proofs.Common.{◌≡◌, ◌∙◌, ℕ, zero, suc, ◌<◌, List, [], ◌∷◌, ◌++◌, length, length-drop, Result, Ok, Err, refl, sym, ap, append-nil, arith}
 use Rattle.ev_text.specs.Readers.{Reader}
 use Rattle.ev_text.specs.Scans.{and_then, rest_of}
 use Rattle.ev_text.specs.declared.TextFault.{TextFault}

@@ -1,5 +1,5 @@
 -- Counted sets as they are written: each by the nodes of its customers.
-use Rattle.std.proofs.Common.{◌≡◌, ◌∙◌, arith, ℕ, suc, ◌+◌, ◌<◌, ◌≤◌, Bool, true, false, ◌||◌, ◌&&◌, not, List, [], ◌∷◌, ◌++◌, Option, None, Some, decimal, length, map, nat_le, nat_lt, ap, refl, sym, if◌then◌else◌}
+use Rattle.std.proofs.Common.{◌≡◌, ◌∙◌, arith, ℕ, suc, ◌+◌, Bool, true, false, ◌||◌, ◌&&◌, not, List, [], ◌∷◌, Option, None, Some, decimal, length, nat_le, nat_lt, ap, refl, if◌then◌else◌}
 use Rattle.std.specs.List.{All}
 use Rattle.std.proofs.lemmas.List.{length-map}
 use Rattle.std.proofs.lemmas.List.Elements.{All-cons, All-head, All-nil, All-tail}
@@ -8,7 +8,6 @@ use Rattle.near_text.specs.Written.{written_set}
 use Rattle.near_tree.specs.Branches.{Counted, count_of, counted_anew, is_same}
 use Rattle.near_tree.specs.Ranges.{most_counted}
 use Rattle.tree_text.specs.Reading.{broken_count, is_between, is_counted}
-use Rattle.tree_text.specs.Written.{narrowed}
 use Rattle.tree_text.specs.Standing.{IsGoodCount, IsGoodSet, all_written, written_counted}
 use Rattle.tree_text.proofs.SetLaws.{length_written, same_written, set_few}
 

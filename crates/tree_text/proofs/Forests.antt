@@ -1,9 +1,9 @@
 -- A list of nodes that stand as the way down asks is that of one tree, and that of a tree stands so.
-use Rattle.std.proofs.Common.{◌≡◌, ◌∙◌, ℕ, ◌≤◌, List, [], ◌∷◌, ◌++◌, length, map, refl, sym, ap, subst, append_assoc, append-nil}
+use Rattle.std.proofs.Common.{◌≡◌, ◌∙◌, ℕ, List, [], ◌∷◌, ◌++◌, refl, sym, ap, subst, append_assoc, append-nil}
 use Rattle.ev_model.specs.Network.{Network}
 use Rattle.near_tree.specs.Branches.{Branch, Counted, apart_at, at_least, at_most, together_at, whole}
 use Rattle.near_tree.specs.Preorder.{Node, at_entries, at_leaf, at_split, nodes_of}
-use Rattle.near_tree.specs.Ranges.{CountsFew, most_counted}
+use Rattle.near_tree.specs.Ranges.{CountsFew}
 use Rattle.near_tree.specs.Sections.{NearSection}
 use Rattle.near_tree.specs.Trees.{AtEachLeaf, IsCount, IsSectionAt, IsTreeAt, NearTree, entries, leaf, split}
 use Rattle.tree_text.specs.Asked.{AllAsked}

@@ -1,5 +1,5 @@
 -- The readers of the labels and of the entry prices of a section read exactly their texts.
-use Rattle.std.proofs.Common.{◌≡◌, ℕ, ◌^◌, ◌<◌, ◌≤◌, ℤ, pos, Bool, true, false, inl, inr, List, [], ◌∷◌, ◌++◌, codes, decimal, length, nat_lt, refl, sym, subst, append_assoc, arith}
+use Rattle.std.proofs.Common.{◌≡◌, ℕ, ◌^◌, ◌<◌, ◌≤◌, ℤ, Bool, true, false, inl, inr, List, [], ◌∷◌, ◌++◌, codes, decimal, length, nat_lt, refl, sym, subst, append_assoc, arith}
 use Rattle.std.specs.Fmt.{signed_decimal}
 use Rattle.std.specs.List.{All}
 use Rattle.std.specs.Prelude.{unsigned_abs}
@@ -18,14 +18,14 @@ use Rattle.ev_text.proofs.Numbers.{Anything, number_is_no_mark, ranged}
 use Rattle.ev_text.proofs.Records.{parts-behind, parts-last, parts-none, parts-then, reads-record}
 use Rattle.route_plan.specs.Limits.{greatest_number}
 use Rattle.certificate_parts.specs.Limits.{greatest_bound, greatest_price}
-use Rattle.certificate_parts.specs.Ranges.{IsPrice, customer_count}
+use Rattle.certificate_parts.specs.Ranges.{IsPrice}
 use Rattle.certificate_parts.specs.Reading.{is_place}
 use Rattle.certificate_parts.specs.Texts.{point_text, set_text}
 use Rattle.certificate_parts.specs.WrittenRanges.{PointsLoose}
 use Rattle.certificate_parts.proofs.LabelParts.{reads-points, reads-set}
 use Rattle.tree_text.specs.Reading.{entry_at, last_at, named_behind, section_label_at}
 use Rattle.tree_text.specs.TreeTexts.{entry_line, last_text, section_label_text}
-use Rattle.tree_text.specs.Written.{WrittenLast, WrittenSectionLabel, is_station, named, star, unwritten}
+use Rattle.tree_text.specs.Written.{WrittenLast, is_station, named, star, unwritten}
 use Rattle.tree_text.specs.WrittenRanges.{LastIs, LastLoose, SectionLabelIs, SectionLabelLoose}
 
 -- a price, of entries or of a customer; and what is earned

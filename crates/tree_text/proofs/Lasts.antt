@@ -1,5 +1,5 @@
 -- Whom a label names as its last fits its node.
-use Rattle.std.proofs.Common.{◌≡◌, ◌∙◌, ℕ, zero, suc, ◌+◌, ◌-◌, ◌<◌, ◌≤◌, Bool, true, false, ◌&&◌, not, Option, None, Some, List, Ok, is_none, length, nat_eq, refl, sym, ap, arith, if◌then◌else◌}
+use Rattle.std.proofs.Common.{◌≡◌, ◌∙◌, ℕ, suc, ◌+◌, ◌<◌, Bool, true, false, ◌&&◌, not, Option, None, Some, List, is_none, length, nat_eq, refl, sym, ap, arith, if◌then◌else◌}
 use Rattle.std.proofs.lemmas.Bool.{false≢true}
 use Rattle.ev_model.specs.Network.{Network, curve_at, is_customer}
 use Rattle.fleet_model.specs.Places.{customer_number}
@@ -13,7 +13,7 @@ use Rattle.near_tree.specs.Preorder.{last_of}
 use Rattle.near_tree.specs.Ranges.{IsLastAmong, LastFits}
 use Rattle.near_tree.specs.Sections.{after}
 use Rattle.near_tree.specs.declared.proof.LastServed.{LastServed}
-use Rattle.near_tree.specs.declared.proof.LastServed.TheVariants.{Anybody, Customer, Nobody}
+use Rattle.near_tree.specs.declared.proof.LastServed.TheVariants.{Customer, Nobody}
 use Rattle.tree_text.specs.Written.{is_station, named, named_last}
 
 pub own-customer : (g : Network) (node number : ℕ) → IsCustomerNumber g node (Some number) → number < length (customer_nodes g) → LastFits g node (Customer number)

@@ -1,6 +1,5 @@
 -- Reading a leaf: its section is as it should be where so much is counted.
-use Rattle.std.proofs.Common.{◌≡◌, ◌≢◌, ◌∙◌, ℕ, ◌<◌, ◌≤◌, ℤ, List, None, Some, false, Ok, Err, [], ◌∷◌, ◌++◌, codes, length, map, nat_lt, refl, sym, ap, subst, arith}
-use Rattle.std.specs.List.{All}
+use Rattle.std.proofs.Common.{◌≡◌, ◌≢◌, ◌∙◌, ℕ, ◌<◌, ◌≤◌, ℤ, List, None, Some, false, Ok, Err, [], ◌∷◌, ◌++◌, codes, length, map, nat_lt, refl, sym, ap, arith}
 use Rattle.std.proofs.lemmas.Bool.{ltb-true}
 use Rattle.std.proofs.lemmas.List.{length-map}
 use Rattle.std.proofs.lemmas.List.Elements.{All-contains}
@@ -23,7 +22,6 @@ use Rattle.near_proof.specs.declared.proof.NearLabel.{NearLabel}
 use Rattle.near_tree.specs.Preorder.{at_leaf, leaf_label, section_of}
 use Rattle.near_tree.specs.Ranges.{LeafSectionFits, SectionLabelFits}
 use Rattle.near_tree.specs.Sections.{LeafLabel}
-use Rattle.near_tree.specs.Branches.{Counted}
 use Rattle.near_tree.specs.declared.proof.LeafSection.{LeafSection}
 use Rattle.near_tree.specs.declared.proof.SectionLabel.{SectionLabel}
 use Rattle.tree_text.specs.Reading.{last_at, leaf_at, section_at, section_label_at}

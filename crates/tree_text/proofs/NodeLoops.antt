@@ -1,8 +1,8 @@
 -- Reading the nodes of a tree, one after another.
-use Rattle.std.proofs.Common.{◌≡◌, ◌≢◌, ◌∙◌, inl, inr, ℕ, ◌+◌, ◌^◌, ◌<◌, ◌≤◌, Bool, true, false, List, [], ◌∷◌, ◌++◌, Ok, Err, length, length-append, map, refl, reverse, sym, ap, ap₂, subst, append_assoc, append-nil, arith}
+use Rattle.std.proofs.Common.{◌≡◌, ◌≢◌, ◌∙◌, inl, inr, ℕ, ◌^◌, ◌<◌, Bool, true, List, [], ◌∷◌, ◌++◌, Ok, Err, length, length-append, map, refl, reverse, sym, ap, ap₂, subst, append_assoc, append-nil, arith}
 use Rattle.std.specs.List.{All}
 use Rattle.std.proofs.lemmas.List.Elements.{All-cons, All-head, All-nil, All-tail}
-use Rattle.ev_model.specs.Network.{IsNetwork, Network, scaled_limit}
+use Rattle.ev_model.specs.Network.{IsNetwork, Network}
 use Rattle.ev_text.specs.Scans.{rest_of}
 use Rattle.instance_reader.proofs.InstanceLemmas.{customers_are_nodes}
 use Rattle.certificate_parts.specs.Ranges.{customer_count}

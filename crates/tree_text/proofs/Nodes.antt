@@ -1,11 +1,10 @@
 -- Reading a node: what is asked of it as it is written is what is asked of it by numbers.
-use Rattle.std.proofs.Common.{◌≡◌, ◌≢◌, ◌∙◌, inl, inr, ℕ, suc, ◌+◌, ◌-◌, ◌<◌, ◌≤◌, Bool, true, false, ◌||◌, ◌&&◌, not, List, [], ◌∷◌, ◌++◌, None, Some, Ok, Err, decimal, length, map, nat_eq, nat_le, nat_lt, ap, ap₂, arith, refl, sym, subst, if◌then◌else◌}
+use Rattle.std.proofs.Common.{◌≡◌, ◌≢◌, ◌∙◌, ℕ, suc, ◌+◌, ◌-◌, ◌<◌, ◌≤◌, Bool, true, false, ◌||◌, ◌&&◌, List, [], ◌∷◌, None, Some, Ok, Err, decimal, length, map, nat_eq, nat_le, nat_lt, ap, ap₂, arith, refl, sym, subst, if◌then◌else◌}
 use Rattle.std.specs.List.{All}
 use Rattle.std.proofs.lemmas.Bool.{eq-eqb, eqb-true, false≢true, leb-true, ltb-true}
 use Rattle.std.proofs.lemmas.List.Elements.{All-cons, All-head, All-nil, All-tail}
 use Rattle.customer_sets.specs.CustSet.{has}
 use Rattle.ev_model.specs.Network.{Network}
-use Rattle.ev_text.specs.declared.TextFault.{TextFault}
 use Rattle.ev_text.specs.declared.TextFault.TheVariants.{TooLarge}
 use Rattle.fleet_model.specs.Places as places
 use Rattle.fleet_model.proofs.Numbers.{counted}
@@ -17,13 +16,13 @@ use Rattle.certificate_parts.specs.declared.reading.nodes.Place.{Place}
 use Rattle.near_proof.specs.Ranges.{AreAmong}
 use Rattle.near_text.specs.Written.{written_set}
 use Rattle.near_tree.specs.Branches.{Counted, count_of}
-use Rattle.near_tree.specs.Preorder.{Node, at_entries, at_leaf, at_split, node_of}
+use Rattle.near_tree.specs.Preorder.{at_entries, at_split, node_of}
 use Rattle.near_tree.specs.Ranges.{most_counted}
 use Rattle.near_tree.specs.Trees.{IsSplit}
 use Rattle.near_tree.specs.declared.proof.TreeNode.{TreeNode}
 use Rattle.near_tree.specs.declared.proof.TreeNode.TheVariants as node
 use Rattle.tree_text.specs.Reading.{broken_count, count_at, entries_at, is_between, is_counted}
-use Rattle.tree_text.specs.Standing.{IsGoodCount, IsGoodSet, IsWay, StandsAt, all_written, below_node, written_counted}
+use Rattle.tree_text.specs.Standing.{IsGoodSet, IsWay, StandsAt, all_written, below_node}
 use Rattle.tree_text.specs.TreeIn.{IsKeptNode, IsKeptSet}
 use Rattle.tree_text.specs.Written.{counted_below, narrowed, written_entries, written_node}
 use Rattle.tree_text.proofs.Counts.{anew_written, broken_written, count_written, good_anew, good_count, length_anew, told_count}

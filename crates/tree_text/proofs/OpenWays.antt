@@ -1,13 +1,12 @@
 -- What is to be read below a node, in front of what was.
-use Rattle.std.proofs.Common.{◌≡◌, ◌∙◌, ◌⊎◌, inl, inr, Bool, true, false, ℕ, List, [], ◌∷◌, ◌++◌, refl, reverse, sym, ap, ap₂, subst, if◌then◌else◌}
+use Rattle.std.proofs.Common.{◌≡◌, ◌∙◌, ◌⊎◌, inl, inr, Bool, true, false, List, [], ◌∷◌, ◌++◌, refl, reverse, ap, ap₂, if◌then◌else◌}
 use Rattle.std.proofs.lemmas.List.{reverse-append}
-use Rattle.near_tree.specs.Branches.{Counted, count_of}
+use Rattle.near_tree.specs.Branches.{Counted}
 use Rattle.near_tree.specs.Preorder.{node_of}
 use Rattle.near_tree.specs.declared.proof.TreeNode.{TreeNode}
 use Rattle.near_tree.specs.declared.proof.TreeNode.TheVariants as node
 use Rattle.tree_text.specs.Standing.{below_node}
 use Rattle.tree_text.specs.Ways.{AreOpen, GoesBelow, counted_in, left_of, opened}
-use Rattle.tree_text.specs.Written.{narrowed}
 use Rattle.tree_text.specs.declared.ways.CountedSet.{CountedSet}
 
 pub turned : {A : Type 0} (xs : List A) (x : A) → reverse (xs ++ x ∷ []) ≡ x ∷ reverse xs

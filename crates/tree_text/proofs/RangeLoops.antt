@@ -1,6 +1,6 @@
 -- Looking for the range of a set among those that are counted.
 use Rattle.std.proofs.Common.{◌≡◌, ◌∙◌, ℕ, zero, suc, ◌<◌, Bool, true, List, [], ◌∷◌, drop, get_or, length, refl, sym, ap, arith, if◌then◌else◌}
-use Rattle.near_tree.specs.Branches.{Counted, count_of, is_same}
+use Rattle.near_tree.specs.Branches.{count_of, is_same}
 use Rattle.tree_text.specs.Ways.{as_counted, counted_in}
 use Rattle.tree_text.specs.declared.ways.CountedSet.{CountedSet}
 

@@ -1,5 +1,5 @@
 -- What a reader owes whose value is tested once it is whole, and one in whose place a byte may not stand.
-use Rattle.std.proofs.Common.{◌≡◌, ◌≢◌, ◌∙◌, inl, inr, ℕ, ◌+◌, ◌<◌, Bool, true, false, List, [], ◌∷◌, ◌++◌, Option, None, Some, length, length-append, length-take, take, drop, Result, Ok, Err, refl, sym, ap, subst, append_assoc, arith, if◌then◌else◌}
+use Rattle.std.proofs.Common.{◌≡◌, ◌∙◌, inl, inr, ℕ, ◌+◌, ◌<◌, Bool, true, false, List, [], ◌∷◌, ◌++◌, Option, None, Some, length, length-append, length-take, take, drop, Result, Ok, Err, refl, sym, ap, subst, append_assoc, arith, if◌then◌else◌}
 use Rattle.std.proofs.lemmas.Bool.{false≢true}
 use Rattle.std.proofs.lemmas.List.{take-append-drop}
 use Rattle.ev_text.specs.Readers.{Reader, optional_at}
@@ -8,7 +8,7 @@ use Rattle.ev_text.specs.Texts.{IsNoEnd, IsTextOf, fault_place}
 use Rattle.ev_text.specs.declared.TextFault.{TextFault}
 use Rattle.ev_text.specs.declared.TextFault.TheVariants.{TooLarge}
 use Rattle.ev_text.proofs.ChoiceLaws.{BeginsOtherwise, keeps-optional, optional_is_left, optional_left, optional_never_fails, optional_stands, optional_taken}
-use Rattle.ev_text.proofs.Grown.{Keeps, Stays, Within, grown, rest_of-grown, stays-of_keeps, stays-then}
+use Rattle.ev_text.proofs.Grown.{Stays, Within, grown, rest_of-grown, stays-of_keeps, stays-then}
 use Rattle.ev_text.proofs.Mended.{IsMended, mended-here}
 use Rattle.ev_text.proofs.Numbers.{Anything}
 use Rattle.ev_text.proofs.ReadingLaws.{Reads, Takes}

@@ -1,7 +1,7 @@
 -- The reader of a tree reads exactly its text.
-use Rattle.std.proofs.Common.{◌^◌, ◌<◌, ◌++◌, ◌∷◌, [], List, ℕ, codes, refl, ap, append_assoc}
+use Rattle.std.proofs.Common.{◌^◌, ◌<◌, ◌++◌, ◌∷◌, [], codes, refl}
 use Rattle.ev_model.specs.Network.{Network, scaled_limit}
-use Rattle.ev_text.specs.Texts.{StandsUnlessLonger, joined_texts}
+use Rattle.ev_text.specs.Texts.{StandsUnlessLonger}
 use Rattle.ev_text.proofs.Numbers.{Anything}
 use Rattle.ev_text.proofs.ReadingLaws.{Reads}
 use Rattle.ev_text.proofs.Records.{parts-behind, parts-last, parts-then, reads-record}

@@ -1,20 +1,17 @@
 -- What is written of a tree that fits is in its ranges.
-use Rattle.std.proofs.Common.{◌≡◌, ◌≢◌, ◌∙◌, inl, inr, ℕ, suc, ◌+◌, ◌-◌, ◌<◌, ◌≤◌, Bool, true, false, ◌||◌, ◌&&◌, not, List, [], ◌∷◌, ◌++◌, None, Some, slice_get, get_or, decimal, length, map, nat_eq, nat_lt, refl, sym, ap, ap₂, subst, append-nil, arith, if◌then◌else◌}
+use Rattle.std.proofs.Common.{◌≡◌, ◌≢◌, ◌∙◌, inl, inr, ℕ, suc, ◌+◌, ◌-◌, ◌<◌, ◌≤◌, Bool, true, false, ◌||◌, ◌&&◌, List, [], ◌∷◌, ◌++◌, Some, slice_get, get_or, decimal, length, map, nat_eq, nat_lt, refl, sym, ap, ap₂, subst, append-nil, arith, if◌then◌else◌}
 use Rattle.std.specs.List.{All}
 use Rattle.std.proofs.lemmas.Bool.{cases_eq, eq-eqb, false≢true, le-leb, lt-ltb, ne_eqb}
 use Rattle.std.proofs.lemmas.List.{length-map}
 use Rattle.std.proofs.lemmas.List.Elements.{All-cons, All-head, All-nil, All-tail}
 use Rattle.customer_sets.specs.CustSet.{has}
 use Rattle.ev_model.specs.Network.{IsNetwork, Network}
-use Rattle.ev_text.specs.Numbers.{Keeping}
 use Rattle.ev_text.specs.Texts.{AllFrom}
 use Rattle.ev_text.proofs.Results.{no_bytes}
-use Rattle.fleet_model.specs.Places as places
 use Rattle.fleet_model.proofs.Numbers.{counted}
 use Rattle.instance_reader.specs.Instance.{customer_nodes}
-use Rattle.route_plan.specs.Limits.{greatest_number}
 use Rattle.certificate_parts.specs.Ranges.{customer_count}
-use Rattle.certificate_parts.specs.Reading.{is_customer_node, is_place}
+use Rattle.certificate_parts.specs.Reading.{is_customer_node}
 use Rattle.certificate_parts.specs.Written.{customer_node, nodes_in}
 use Rattle.certificate_parts.proofs.PlaceOrder.{same_by_node}
 use Rattle.certificate_parts.proofs.WrittenBasis.{bound_is}
@@ -25,7 +22,7 @@ use Rattle.near_text.specs.Written.{written_set}
 use Rattle.near_text.specs.WrittenRanges.{NearSetIs, next_number}
 use Rattle.near_tree.specs.Branches.{Counted, count_of, whole}
 use Rattle.near_tree.specs.Preorder.{Node, at_entries, at_leaf, at_split, last_of, node_of, nodes_of}
-use Rattle.near_tree.specs.Ranges.{IsFitTree, IsLastAmong, LastFits, LeafSectionFits, NodeFits, SectionLabelFits, TreeFits, most_counted}
+use Rattle.near_tree.specs.Ranges.{IsLastAmong, LastFits, LeafSectionFits, NodeFits, SectionLabelFits, TreeFits, most_counted}
 use Rattle.near_tree.specs.Trees.{IsCount, IsSplit}
 use Rattle.near_tree.specs.declared.proof.LastServed.{LastServed}
 use Rattle.near_tree.specs.declared.proof.LastServed.TheVariants.{Anybody, Customer, Nobody}
@@ -35,8 +32,8 @@ use Rattle.near_tree.specs.declared.proof.TreeNode.{TreeNode}
 use Rattle.near_tree.specs.declared.proof.TreeNode.TheVariants as node
 use Rattle.near_tree.specs.declared.proof.TreeProof.{TreeProof}
 use Rattle.tree_text.specs.Asked.{AllAsked}
-use Rattle.tree_text.specs.Reading.{broken_count, is_between, is_counted}
-use Rattle.tree_text.specs.Standing.{IsGoodCount, IsGoodSet, IsWay, StandsAt, all_written, below_node, counting, written_counted}
+use Rattle.tree_text.specs.Reading.{is_between, is_counted}
+use Rattle.tree_text.specs.Standing.{IsGoodCount, IsGoodSet, IsWay, all_written, below_node, counting, written_counted}
 use Rattle.tree_text.specs.Written.{counted_below, is_station, named_last, narrowed, unwritten, written_last, written_node, written_section, written_section_label, written_tree}
 use Rattle.tree_text.specs.WrittenRanges.{LastIs, NodeIs, SectionIs, SectionLabelIs, SomeSetIs, TreeIs}
 use Rattle.tree_text.proofs.Counts.{broken_written, good_count, length_anew, told_count}

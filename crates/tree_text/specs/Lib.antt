@@ -6,3 +6,4 @@ pub mod WrittenRanges
 pub mod TreeIn
 pub mod Standing
 pub mod Ways
+pub mod VerdictText

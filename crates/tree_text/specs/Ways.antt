@@ -1,5 +1,5 @@
 -- What is counted on the way to each tree that is still to be read.
-use Rattle.std.specs.Prelude.{◌≡◌, ℕ, ◌+◌, ◌≤◌, Bool, true, false, List, [], ◌∷◌, ◌++◌, map, if◌then◌else◌}
+use Rattle.std.specs.Prelude.{◌≡◌, ◌+◌, ◌≤◌, Bool, true, false, List, [], ◌∷◌, ◌++◌, map, if◌then◌else◌}
 use Rattle.near_tree.specs.Branches.{Counted, count_of}
 use Rattle.near_tree.specs.declared.proof.TreeNode.{TreeNode}
 use Rattle.near_tree.specs.declared.proof.TreeNode.TheVariants as node

@@ -1,6 +1,6 @@
 -- Which trees, as they are written, have a text on a network. And the wider language of what may
 -- begin such a text: each number is in its range by itself, without the rules over several numbers.
-use Rattle.std.specs.Prelude.{◌≡◌, ℕ, ◌≤◌, ℤ, Bool, true, false, ◌&&◌, not, List, [], ◌∷◌, None, length, nat_eq, nat_lt, unsigned_abs}
+use Rattle.std.specs.Prelude.{◌≡◌, ℕ, ◌≤◌, Bool, true, false, ◌&&◌, not, List, [], ◌∷◌, None, length, nat_eq, nat_lt, unsigned_abs}
 use Rattle.std.specs.List.{All}
 use Rattle.ev_model.specs.Network.{Network, node_count}
 use Rattle.ev_text.specs.Texts.{AreLooseRun, AreRun, ConsLoose}

@@ -5,6 +5,7 @@
 mod customers;
 mod laws;
 mod reading;
+mod verdict;
 mod ways;
 mod writing;
 
@@ -13,4 +14,5 @@ pub use laws::{
     texts_mean_one_tree, texts_spell_trees, tree_faults_are_first, written_trees_are_read,
 };
 pub use reading::read_tree;
+pub use verdict::push_tree_verdict;
 pub use writing::push_tree;

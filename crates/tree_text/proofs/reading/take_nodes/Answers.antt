@@ -1,9 +1,8 @@
 use Rattle.std.proofs.Common.{rules, ◌≡◌, ◌≢◌, ◌∙◌, ◌++◌, ◌∷◌, [], Err, List, ap, subst, sym, true}
 use Rattle.certificate_parts.specs.Refusals.{or_refused}
 use Rattle.certificate_parts.specs.declared.cert_text.CertText.TheVariants.{Memory}
-use Rattle.near_tree.specs.Preorder.{node_of}
-use Rattle.tree_text.specs.Reading.{node_at, nodes_at}
-use Rattle.tree_text.specs.Standing.{IsWay, StandsAt, all_written, below_node}
+use Rattle.tree_text.specs.Reading.{nodes_at}
+use Rattle.tree_text.specs.Standing.{IsWay}
 use Rattle.tree_text.specs.Ways.{counted_in}
 use Rattle.tree_text.specs.declared.ways.CountedSet.{CountedSet}
 use Rattle.tree_text.proofs.NodeLoops.{go_on_with, nodes-begin, nodes-break_with, nodes-end, nodes-top, nodes-tree, shorter_with, small_count, top_is_some, top_is_way}

@@ -1,14 +1,10 @@
 use Rattle.std.proofs.Common.{FitsSigned, rules, ◌≡◌, ◌≢◌, Err, arith, of_z, subst, sym, to_z, unsigned_abs, ◌≤◌}
 use Rattle.std.specs.Int.{w128}
-use Rattle.std.specs.List.{All}
 use Rattle.std.proofs.lemmas.Int.{ints}
-use Rattle.charge_curve.specs.Points.{ArePoints}
 use Rattle.certificate_parts.specs.Limits.{greatest_bound}
 use Rattle.certificate_parts.specs.Refusals.{or_refused}
 use Rattle.certificate_parts.specs.declared.cert_text.CertText.TheVariants.{Memory}
 use Rattle.tree_text.specs.Reading.{section_label_at}
-use Rattle.tree_text.specs.Written.{written_last}
-use Rattle.near_text.specs.Written.{written_set}
 use Rattle.tree_text.proofs.LeafFits.{no_points, node_known}
 use Rattle.tree_text.proofs.SectionReading.{earned_small}
 use Rattle.std.proofs.lemmas.Grind.{common_steps}

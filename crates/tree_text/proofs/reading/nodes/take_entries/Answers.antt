@@ -1,6 +1,5 @@
-use Rattle.std.proofs.Common.{rules, ◌≡◌, ◌≢◌, ◌∙◌, ◌||◌, true, false, [], Err, ap, length, nat_lt, sym}
+use Rattle.std.proofs.Common.{rules, ◌≡◌, ◌∙◌, ◌||◌, true, false, Err, ap, length, nat_lt, sym}
 use Rattle.ev_text.specs.declared.TextFault.TheVariants.{TooLarge}
-use Rattle.near_text.specs.Written.{written_set}
 use Rattle.near_tree.specs.Ranges.{most_counted}
 use Rattle.tree_text.specs.Reading.{is_between, is_counted}
 use Rattle.tree_text.specs.Ways.{counted_in}
