@@ -9,7 +9,7 @@ mod covers;
 #[cfg(test)]
 mod found;
 #[cfg(test)]
-mod near_search;
+mod searched;
 #[cfg(test)]
 mod told;
 #[cfg(test)]
