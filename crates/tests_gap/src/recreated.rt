@@ -65,7 +65,11 @@ impl JobWatcher for Looks {}
 
 /// How often ruin and recreate tells how far it is where the words are those of a line, and what it
 /// tells, as a hash.
-fn looks(alloc: Global, line: &str, shelf: &mut MemoryShelf) -> Result<(u64, u64), AllocError> {
+fn looks_made(
+    alloc: Global,
+    line: &str,
+    shelf: &mut MemoryShelf,
+) -> Result<(u64, u64), AllocError> {
     let words = words_of(alloc, line)?;
     let mut out = MemorySink::new(alloc, Vec::new(alloc));
     let mut program = Evgap {
@@ -98,10 +102,10 @@ fn the_effort_of_the_words_is_made(rt: HostRuntime) {
     let alloc = rt.alloc();
     let text = instance_text(alloc, 3, 6, 1).expect(&rt, "memory");
     let mut shelf = shelf_with(alloc, text.as_str(), "", "", &[]).expect(&rt, "memory");
-    let (none, _) = looks(alloc, "plan A O C --effort 0", &mut shelf).expect(&rt, "memory");
-    let (least, _) = looks(alloc, "plan A O C --effort 1", &mut shelf).expect(&rt, "memory");
-    let (more, _) = looks(alloc, "plan A O C --effort 2", &mut shelf).expect(&rt, "memory");
-    let (not_said, _) = looks(alloc, "plan A O C", &mut shelf).expect(&rt, "memory");
+    let (none, _) = looks_made(alloc, "plan A O C --effort 0", &mut shelf).expect(&rt, "memory");
+    let (least, _) = looks_made(alloc, "plan A O C --effort 1", &mut shelf).expect(&rt, "memory");
+    let (more, _) = looks_made(alloc, "plan A O C --effort 2", &mut shelf).expect(&rt, "memory");
+    let (not_said, _) = looks_made(alloc, "plan A O C", &mut shelf).expect(&rt, "memory");
     assert_eq!(rt; none, 0u64);
     assert!(rt; least > 0 && more > least, "{least} {more}");
     assert!(rt; not_said > 0);
@@ -118,11 +122,11 @@ fn the_seed_of_the_words_is_drawn_by(rt: HostRuntime) {
         let text = instance_text(alloc, number, 12, 1).expect(&rt, "memory");
         let mut shelf = shelf_with(alloc, text.as_str(), "", "", &[]).expect(&rt, "memory");
         let line = "plan A O C --effort 1 --seed 1";
-        let first = looks(alloc, line, &mut shelf).expect(&rt, "memory");
-        let same = looks(alloc, "plan A O C --effort 1", &mut shelf).expect(&rt, "memory");
+        let first = looks_made(alloc, line, &mut shelf).expect(&rt, "memory");
+        let same = looks_made(alloc, "plan A O C --effort 1", &mut shelf).expect(&rt, "memory");
         assert!(rt; first.0 == same.0 && first.1 == same.1, "instance {number}");
         let line = "plan A O C --effort 1 --seed 2";
-        let other = looks(alloc, line, &mut shelf).expect(&rt, "memory");
+        let other = looks_made(alloc, line, &mut shelf).expect(&rt, "memory");
         others = others.saturating_add(u64::from(first.0 != other.0 || first.1 != other.1));
     }
     assert!(rt; others > 0, "another seed draws the same");
