@@ -13,6 +13,4 @@ mod searched;
 #[cfg(test)]
 mod told;
 #[cfg(test)]
-mod trees;
-#[cfg(test)]
 mod worked;
