@@ -47,7 +47,7 @@ fn plans_and_bounds_are_put_with_their_gap(rt: HostRuntime) {
             "cost 14/1\nbound 14/1\ngap 0/1\ngap 0.00 %\n",
         ),
         (
-            "plan A O C --limit 10",
+            "plan A O C --limit 10 --effort 0",
             BEHIND,
             NONE,
             Status::Stopped,
