@@ -11,8 +11,8 @@ pub struct Recreation {
     /// The numbers by chance come from it.
     pub seed: u64,
     /// How much work is done: with 0 none, the moves of single customers alone; with 1 so much a
-    /// customer, and twice as much with each step behind it. `None`: by the number of customers, and
-    /// with long routes that of 1.
+    /// customer, and twice as much with each step behind it. `None`: by the number of customers,
+    /// and with long routes that of 1.
     pub effort: Option<u64>,
 }
 

@@ -51,9 +51,9 @@ pub enum Job {
 }
 
 /// The job of the words, which stand behind the program's name, read by one `clap` command: `plan
-/// FILE PLAN PROOF [--limit N] [--seconds N] [--start PLAN0] [--seed N] [--effort N]` or `check FILE
-/// PLAN PROOF [--limit N]`. `None` comes exactly where the words are no such job. Without `--seed`
-/// the seed is 1.
+/// FILE PLAN PROOF [--limit N] [--seconds N] [--start PLAN0] [--seed N] [--effort N]` or `check
+/// FILE PLAN PROOF [--limit N]`. `None` comes exactly where the words are no such job. Without
+/// `--seed` the seed is 1.
 ///
 /// Options stand anywhere before a word `--`, each at most once; the value is the next word or
 /// follows a `=`. A name that begins with `-` and has more behind it is given after `--`. Numbers

@@ -1,5 +1,5 @@
-//! What is alike in all jobs, whichever program does them: files are read in their order, an answer is found,
-//! files are written, and a text is put.
+//! What is alike in all jobs, whichever program does them: files are read in their order, an answer
+//! is found, files are written, and a text is put.
 //!
 //! A job is seen as a task (`specs/Task.antt`): which files it reads, what it answers to their
 //! bytes, and when it comes to the next of them. What is owed for a task is stated once
@@ -9,9 +9,9 @@
 //!
 //! Beside that the steps that many jobs begin and end with: how much of a file is read
 //! (`caps.rt`), an instance with the limit of the words (`instance.rt`), the line of a refusal
-//! (`answer.rt`), why an answer isn't the one that was asked for, as a value of the program, and who
-//! hears it (`cause.rt`), the two files of a search (`planned.rt`), and who is told by what a job's times
-//! are scaled (`scale.rt`).
+//! (`answer.rt`), why an answer isn't the one that was asked for, as a value of the program, and
+//! who hears it (`cause.rt`), the two files of a search (`planned.rt`), and who is told by what a
+//! job's times are scaled (`scale.rt`).
 #![tactic(auto)]
 
 mod answer;

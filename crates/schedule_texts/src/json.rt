@@ -12,8 +12,8 @@ use report_lines::{push_numbered, push_word};
 use std::alloc::{AllocError, Global};
 
 /// The schedule as one JSON text, as `docs/schedule.md` has it: times are scaled, whole numbers
-/// over the denominator; with a clock those of arriving and of leaving are told as times of day too.
-/// Without a plan its routes are `null`. The only refusal is want of memory.
+/// over the denominator; with a clock those of arriving and of leaving are told as times of day
+/// too. Without a plan its routes are `null`. The only refusal is want of memory.
 pub fn schedule_json(
     alloc: Global,
     schedule: Option<&Schedule>,

@@ -14,8 +14,8 @@ pub fn no_cell_is_a_formula()
         All (All IsNoFormula) (csv_cells clock schedule) }
 {}
 
-/// What a reader of CSV (the kit's `csv`, as it is set up by itself) finds in the CSV is exactly its
-/// cells, record by record, and nothing behind them.
+/// What a reader of CSV (the kit's `csv`, as it is set up by itself) finds in the CSV is exactly
+/// its cells, record by record, and nothing behind them.
 pub fn cells_are_read_back()
     ensures { (clock : Option Clock) (schedule : Option Schedule) (most : ℕ) →
         length (csv_cells clock schedule) ≤ most →

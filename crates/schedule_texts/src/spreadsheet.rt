@@ -30,9 +30,9 @@ const COLUMN_NAMES: &[&[u8]] = &[
     b"leaving",
 ];
 
-/// The schedule as CSV: a record with the names of the columns, and one a stop. Without a plan it is
-/// the names alone. Times are decimals; with a clock all but the one to plug in are times of day.
-/// The only refusal is want of memory.
+/// The schedule as CSV: a record with the names of the columns, and one a stop. Without a plan it
+/// is the names alone. Times are decimals; with a clock all but the one to plug in are times of
+/// day. The only refusal is want of memory.
 pub fn schedule_csv(
     alloc: Global,
     schedule: Option<&Schedule>,

@@ -27,8 +27,8 @@ struct Columns {
 /// The schedule as a table: for each route a line a stop, and the sums; below them those of the
 /// plan. Without a plan it is the line `no plan`.
 ///
-/// Times are `X/D` where they are to be exact, and else decimals; with a clock those of arriving and
-/// of leaving are times of day. The only refusal is want of memory.
+/// Times are `X/D` where they are to be exact, and else decimals; with a clock those of arriving
+/// and of leaving are times of day. The only refusal is want of memory.
 pub fn schedule_table(
     alloc: Global,
     schedule: Option<&Schedule>,

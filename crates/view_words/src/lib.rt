@@ -42,7 +42,8 @@ pub struct Job {
 /// follows a `=`. A name that begins with `-` and has more behind it is given after `--`. Numbers
 /// are written without leading zeros, and are at most 10^18. HH:MM is a time of day from 00:00 to
 /// 23:59; U is `s`, `min` or `h`, or with `/N` behind it one of N parts of that, N from 1 to 10^9;
-/// both are given or neither. The names of files are different texts. No words at all are no job, and take no memory.
+/// both are given or neither. The names of files are different texts. No words at all are no job,
+/// and take no memory.
 pub fn job_words(alloc: Global, words: &[String]) -> Result<Option<Job>, AllocError>
     ensures job { IfOk result
         (λ job. option_map job_value job ≡ job_of (map string_bytes words.now)) }
