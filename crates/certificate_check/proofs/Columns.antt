@@ -13,8 +13,8 @@ use Rattle.bound_certificate.specs.Meaning.{basis_columns, entry_column, route_c
 use Rattle.bound_certificate.specs.Ranges.{EntryFits}
 use Rattle.certificate_parts.specs.declared.entry.BasisEntry.{BasisEntry}
 use Rattle.certificate_parts.specs.declared.entry.BasisEntry.TheVariants.{Column, Helper}
-use Rattle.master_simplex.specs.Listed.{listed_columns, route_columns as listed_routes}
-use Rattle.master_simplex.specs.declared.listed.ListedRoute.{ListedRoute}
+use Rattle.master_table.specs.Listed.{listed_columns, route_columns as listed_routes}
+use Rattle.master_table.specs.declared.listed.ListedRoute.{ListedRoute}
 use Rattle.certificate_check.specs.Columns.{AreAlike, AreListed, entry_number, StandFor, TellsColumns, TellsTooWide, TellsWide}
 use Rattle.certificate_check.specs.Routes.{IsListedRoute}
 use Rattle.certificate_check.proofs.Zips.{zip_left}

@@ -19,7 +19,7 @@ use Rattle.fleet_model.proofs.Weighed.{AreBelow}
 use Rattle.fleet_model.proofs.Numbers.{numbered}
 use Rattle.instance_reader.specs.Instance.{IsCustomerNumber}
 use Rattle.plan_check.proofs.Strays.{customers_of-inserted, customers_of-served, customers_of-stray, inserted, kind_of, served, stray}
-use Rattle.master_simplex.specs.declared.listed.ListedRoute.{ListedRoute}
+use Rattle.master_table.specs.declared.listed.ListedRoute.{ListedRoute}
 use Rattle.certificate_check.specs.Routes.{IsRouteAmong, IsServedBy, served_once}
 
 -- the customer whom a stop serves

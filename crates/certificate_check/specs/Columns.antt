@@ -7,8 +7,8 @@ use Rattle.fleet_model.specs.Wide.{IsTooWide}
 use Rattle.route_plan.specs.declared.plan.RoutePlan.{RoutePlan}
 use Rattle.certificate_parts.specs.declared.entry.BasisEntry.{BasisEntry}
 use Rattle.certificate_parts.specs.declared.entry.BasisEntry.TheVariants.{Column, Helper}
-use Rattle.master_simplex.specs.Listed.{column_of}
-use Rattle.master_simplex.specs.declared.listed.ListedRoute.{ListedRoute}
+use Rattle.master_table.specs.Listed.{column_of}
+use Rattle.master_table.specs.declared.listed.ListedRoute.{ListedRoute}
 use Rattle.certificate_check.specs.Accepted.{IsWideRoot}
 use Rattle.certificate_check.specs.Routes.{IsListedRoute}
 use Rattle.certificate_check.specs.Rules.{HasFaultyColumn, IsWideBroken}

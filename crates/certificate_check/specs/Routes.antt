@@ -6,7 +6,7 @@ use Rattle.ev_model.specs.Time.{time_of}
 use Rattle.ev_model.specs.declared.Stop.{Stop}
 use Rattle.fleet_model.specs.Cover.{IsFleetRoute}
 use Rattle.fleet_model.specs.Places.{customer_number, numbers_of}
-use Rattle.master_simplex.specs.declared.listed.ListedRoute.{ListedRoute}
+use Rattle.master_table.specs.declared.listed.ListedRoute.{ListedRoute}
 use Rattle.plan_check.specs.FirstFaults.{serves}
 
 -- the number of the customer whom a stop serves, none exactly where it serves none

@@ -8,7 +8,7 @@ ghost use Rattle.certificate_check.specs.Columns.{StandFor, TellsTooWide, entry_
 ghost use Rattle.fleet_model.specs.Equations.{Column};
 
 use certificate_parts::BasisEntry;
-use master_simplex::{ListedRoute, is_too_wide};
+use master_table::{ListedRoute, is_too_wide};
 use std::alloc::{AllocError, Global};
 
 /// Whether the basis over listed routes is too wide, whatever columns stand for the routes. `Err`

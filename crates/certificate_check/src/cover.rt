@@ -9,7 +9,7 @@ ghost use Rattle.certificate_check.specs.Shares.{TellsCost, TellsCover, TellsEve
 
 use crate::bound::price_total;
 use crate::product::is_same_product;
-use master_simplex::ListedRoute;
+use master_table::ListedRoute;
 
 /// A listed route with its share.
 #[derive(Clone, Copy, Debug, PartialEq, Eq)]

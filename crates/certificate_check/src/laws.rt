@@ -32,7 +32,7 @@ pub fn exact_roots_are_least_covers()
 {}
 
 /// A certificate that fits is accepted exactly where it breaks no rule, if it is settled whether
-/// the basis of a wide root is too wide, as it is by a call of [`master_simplex::is_too_wide`].
+/// the basis of a wide root is too wide, as it is by a call of [`master_table::is_too_wide`].
 pub fn accepted_where_no_rule_is_broken()
     ensures { (g : Network) (c : Certificate) → Fits g c → IsSettled g c.root →
         IsAccepted g c ↔ ((fault : CertificateFault) → IsBroken g c fault → ⊥) }

@@ -27,7 +27,7 @@ pub use labels::check_labels;
 pub use laws::{
     accepted_bounds_are_true, accepted_where_no_rule_is_broken, exact_roots_are_least_covers,
 };
-pub use master_simplex::ListedRoute;
+pub use master_table::ListedRoute;
 pub use rounding::{rounded_up, unsigned_total};
 pub use routes::fleet_route;
 pub use verdict::Verdict;

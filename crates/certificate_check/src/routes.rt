@@ -10,7 +10,7 @@ ghost use Rattle.plan_check.specs.Tallies.{AreKnown};
 
 use customer_sets::CustSet;
 use instance_reader::Instance;
-use master_simplex::ListedRoute;
+use master_table::ListedRoute;
 use plan_check::stray_stop;
 use route_plan::{Stop, walk};
 

@@ -9,7 +9,7 @@ use crate::basis::is_wide_basis;
 use crate::routes::fleet_route;
 use bound_certificate::BasisEntry;
 use instance_reader::Instance;
-use master_simplex::ListedRoute;
+use master_table::ListedRoute;
 use route_plan::RoutePlan;
 use std::alloc::{AllocError, Global};
 

@@ -11,7 +11,7 @@ use crate::by_loop::bound_by_loop;
 use crate::decided::bound_of_decided;
 use customer_sets::Pairs;
 use instance_reader::Instance;
-use master_simplex::CERTIFICATE_CAPS;
+use master_table::CERTIFICATE_CAPS;
 use route_pool::ColumnPool;
 use std::alloc::{AllocError, Global};
 

@@ -6,7 +6,7 @@ use Rattle.fleet_model.specs.Equations.{column_at, entry}
 use Rattle.master_table.specs.Tableau.{IsTableau, Tableau, basis_columns, multipliers, row_at, size}
 use Rattle.master_simplex.specs.Answer.{AreApart}
 use Rattle.master_simplex.specs.Sharing.{given, share_at}
-use Rattle.master_simplex.proofs.HelperStarts.{basis_column}
+use Rattle.master_table.proofs.Bases.{basis_column}
 use Rattle.master_simplex.proofs.Sums.{Each, each_at, each_given}
 
 -- each share of a list is of another column than those behind it

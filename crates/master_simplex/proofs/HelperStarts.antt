@@ -2,20 +2,19 @@
 use Rattle.std.proofs.Common.{◌≡◌, ◌≢◌, ◌∙◌, ℕ, zero, suc, ◌+◌, ◌<◌, ◌≤◌, arith, refl, sym, ap, ap₂, subst, ℤ, pos, negsuc, neg_ℤ, ◌-ℤ◌, ◌*ℤ◌, ◌<ℤ◌, ◌≤ℤ◌, Bool, true, false, cond, List, [], ◌∷◌, map, length, length-set, get_or, get_or-set_same, get_or-set_other, Result, Ok, Err, OnOk, ◌⊎◌, inl, inr}
 use Rattle.std.proofs.lemmas.Int.{ints}
 use Rattle.std.proofs.lemmas.Bool.{cases_lt}
-use Rattle.std.proofs.lemmas.List.{get_or-map}
-use Rattle.fleet_model.specs.Equations.{Column, column_at, entry, help_of, route, total}
+use Rattle.fleet_model.specs.Equations.{Column, column_at, entry, help_of, total}
 use Rattle.fleet_model.proofs.Ring.{*ℤ_pos}
 use Rattle.fleet_model.proofs.Signs.{factor_pos, same_or_not, zero_times}
 use Rattle.master_table.specs.Tableau.{Equation, IsTableau, Tableau, basis_columns, entry_at, multipliers, row_at, size}
 use Rattle.master_table.specs.Pivoting.{IsCombinationOf, IsPivotOf, is_below, turned_row}
 use Rattle.master_table.proofs.PastCaps.{table_basis}
 use Rattle.master_table.proofs.Combinations.{spelled_length}
-use Rattle.master_simplex.specs.Cover.{expansion}
+use Rattle.master_table.specs.Expansion.{expansion}
 use Rattle.master_simplex.specs.Falling.{IsLexPositive}
 use Rattle.master_simplex.specs.Phase.{AreHelpersIdle, IsDriven, IsFeasible, IsIdle, IsPhase, key}
-use Rattle.master_simplex.proofs.Factors.{common_above, cofactors, factor_above, gathered, gathered_at, length_factors, length_gathered, product_of, spreads}
+use Rattle.master_table.proofs.Factors.{common_above, cofactors, factor_above, gathered, gathered_at, length_factors, length_gathered, product_of, spreads}
 use Rattle.master_simplex.proofs.Lex.{by_sign}
-use Rattle.master_simplex.proofs.Tables.{body_at, excess_body}
+use Rattle.master_table.proofs.Bases.{basis_column, basis_entry, excess_body}
 
 -- what follows where a call succeeds
 pub on_ok : {A E : Type 0} (r : Result A E) (P Q : Type 0) → OnOk r P → (P → Q) → OnOk r Q
@@ -30,12 +29,6 @@ own_positive F (j ∷ js) (suc i) lt above none =
     inr (none 0 (omega arith) (λ e. absurd (omega arith)), own_positive F js i (omega arith) above (λ k l apart. none (suc k) (omega arith) (λ e. apart (omega arith))))
 
 module _ (t : Tableau) (h : IsTableau t) where
-  pub basis_column : (k : ℕ) → k < size t → column_at (basis_columns t) k ≡ column_at t.columns (get_or t.basis k 0)
-  basis_column k lt = get_or-map (column_at t.columns) t.basis k 0 (route [] 0) lt
-
-  pub basis_entry : (i k : ℕ) → i < size t → k < size t → entry_at t i (get_or t.basis k 0) ≡ entry (multipliers (size t) (row_at t i)) (column_at (basis_columns t) k)
-  basis_entry i k li lk = body_at t h i (get_or t.basis k 0) li (h.placed k lk) ∙ ap (entry (multipliers (size t) (row_at t i))) (sym (basis_column k lk))
-
   pub start : IsFeasible t → IsPhase t.basis t
   start feasible = record {
     count = refl;
@@ -50,8 +43,8 @@ module _ (t : Tableau) (h : IsTableau t) where
       by_cases i lt (inr (inl nothing)) =
           inr (
             nothing,
-            own_positive (λ j. entry_at t i j) t.basis i lt (subst (λ z. pos 0 <ℤ z) (sym (basis_entry i i lt lt)) (h.bodies i lt).own)
-                (λ k lk apart. basis_entry i k lt lk ∙ (h.bodies i lt).others k lk apart),
+            own_positive (λ j. entry_at t i j) t.basis i lt (subst (λ z. pos 0 <ℤ z) (sym (basis_entry t h i i lt lt)) (h.bodies i lt).own)
+                (λ k lk apart. basis_entry t h i k lt lk ∙ (h.bodies i lt).others k lk apart),
           )
 
 -- positive rows have no right side below 0

@@ -11,16 +11,18 @@ use Rattle.master_table.proofs.Combinations.{spelled_length}
 use Rattle.master_table.proofs.PastCaps.{table_basis}
 use Rattle.master_table.proofs.CombinedRows.{total_neg}
 use Rattle.master_simplex.specs.Answer.{ArePrices, IsAdded, IsCover, IsOptimum, cost_of_shares, covered}
-use Rattle.master_simplex.specs.Cover.{expansion}
+use Rattle.master_table.specs.Expansion.{expansion}
 use Rattle.master_simplex.specs.Phase.{AreHelpersIdle, HasNoGain, IsFeasible}
-use Rattle.master_simplex.specs.Sharing.{IsRowsWeight, given, numbers, own_at, right_at, share_at}
+use Rattle.master_table.specs.ShareWeight.{IsRowsWeight, own_at, right_at}
+use Rattle.master_simplex.specs.Sharing.{given, numbers, share_at}
 use Rattle.master_simplex.specs.declared.phase.Goal.{Goal}
 use Rattle.master_simplex.specs.declared.phase.Goal.TheVariants.{Helpers, Cost}
-use Rattle.master_simplex.proofs.Factors.{cofactors, common_above, entry_is, factor_at, gathered, gathered_at, length_factors, length_gathered, product_of, spreads}
-use Rattle.master_simplex.proofs.Returns.{one_at}
-use Rattle.master_simplex.proofs.BasisShares.{own_is}
-use Rattle.master_simplex.proofs.HelperStarts.{basis_column}
-use Rattle.master_simplex.proofs.Sums.{each_at, each_given, expansion_sum, one_at_most, some_member, sum_from, sum_same, sum_times, term, total_unit, unit, worth, worth_cost, worth_given, worth_unit}
+use Rattle.master_table.proofs.Factors.{cofactors, common_above, factor_at, gathered, gathered_at, length_factors, length_gathered, product_of, spreads}
+use Rattle.master_simplex.proofs.SomeEntry.{entry_is}
+use Rattle.master_table.proofs.Units.{one_at, total_unit, unit}
+use Rattle.master_table.proofs.BasisShares.{own_is}
+use Rattle.master_table.proofs.Bases.{basis_column}
+use Rattle.master_simplex.proofs.Sums.{each_at, each_given, expansion_sum, one_at_most, some_member, sum_from, sum_same, sum_times, term, worth, worth_cost, worth_given, worth_unit}
 
 -- x shares of a column, by its own coefficient, in place of k factors of its row
 exchanged : (c k o x e w r : ℤ) → k *ℤ o ≡ c → x *ℤ o ≡ w *ℤ r → c *ℤ (x *ℤ e) ≡ w *ℤ ((k *ℤ e) *ℤ r)
@@ -212,13 +214,6 @@ module _ (t : Tableau) (h : IsTableau t) (w : IsWithinCaps t) where
       let cap : weight_cap t.caps (size t) (size t) ≡ t.caps.body = ap (λ b. cond b t.caps.cost t.caps.body) (le-ltb (size t) (size t) (omega arith)) in
       let at : unsigned_abs (row_at t (size t)).weight ≡ m = sym (ap unsigned_abs is) in
       omega arith
-
-  pub body_some : 1 ≤ t.caps.body
-  body_some =
-      let some = h.price_list.list.some in
-      let small = (w (size t) (omega arith)).weight in
-      let cap : weight_cap t.caps (size t) (size t) ≡ t.caps.body = ap (λ b. cond b t.caps.cost t.caps.body) (le-ltb (size t) (size t) (omega arith)) in
-      omega (arith, ints)
 
   long_row : (i : ℕ) → i < size t + 2 → length (multipliers (size t) (row_at t i)) ≡ size t
   long_row i lt =

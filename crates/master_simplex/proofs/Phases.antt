@@ -17,7 +17,8 @@ use Rattle.master_simplex.specs.declared.phase.Goal.TheVariants.{Helpers, Cost}
 use Rattle.master_simplex.proofs.Choice.{least_choice}
 use Rattle.master_simplex.proofs.Gains.{falls}
 use Rattle.master_simplex.proofs.Lex.{stays_positive}
-use Rattle.master_simplex.proofs.Tables.{body_at, combined_values, excess_body, excess_helper, gains_within, key_combined, key_within, entry_within, length_gains, length_key, times_values, turned_same, weight_above, weight_within}
+use Rattle.master_table.proofs.Bases.{body_at, excess_body}
+use Rattle.master_simplex.proofs.Tables.{combined_values, excess_helper, gains_within, key_combined, key_within, entry_within, length_gains, length_key, times_values, turned_same, weight_above, weight_within}
 
 -- ---- two rows of a table are not one multiple of another
 module _ (t : Tableau) (h : IsTableau t) (places : List ℕ) (phase : IsPhase places t) (i r : ℕ) (lt : i < size t) (below : r < size t) (apart : i ≢ r) (f g : ℤ) (above : pos 0 <ℤ f) where

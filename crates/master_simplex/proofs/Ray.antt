@@ -7,7 +7,7 @@ use Rattle.master_simplex.specs.Answer.{IsRay}
 use Rattle.master_simplex.specs.Phase.{HasNoGain}
 use Rattle.master_simplex.specs.Sharing.{numbers}
 use Rattle.master_simplex.specs.declared.phase.Goal.TheVariants.{Helpers}
-use Rattle.master_simplex.proofs.Factors.{entry_is}
+use Rattle.master_simplex.proofs.SomeEntry.{entry_is}
 
 pub ray_is : (t : Tableau) → IsTableau t → HasNoGain Helpers t → pos 0 <ℤ (row_at t (size t + 1)).right → IsRay t 0 (numbers Helpers t) 0 []
 ray_is t h none above = record {

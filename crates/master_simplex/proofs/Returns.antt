@@ -1,5 +1,5 @@
 -- Helpers that come back.
-use Rattle.std.proofs.Common.{◌≡◌, ◌≢◌, ◌∙◌, ℕ, suc, ◌+◌, ◌<◌, ◌≤◌, arith, refl, sym, ap, subst, ℤ, pos, ◌*ℤ◌, ◌≤ℤ◌, Bool, true, false, cond, nat_eq, eq-eqb, ne_eqb, List, [], ◌∷◌, length, length-set, get_or, get_or-set_same, get_or-set_other, ◌⊎◌, inl, inr}
+use Rattle.std.proofs.Common.{◌≡◌, ◌≢◌, ◌∙◌, ℕ, suc, ◌+◌, ◌<◌, ◌≤◌, arith, refl, sym, ap, subst, ℤ, pos, ◌*ℤ◌, ◌≤ℤ◌, Bool, true, false, cond, List, [], ◌∷◌, length, length-set, get_or, get_or-set_same, get_or-set_other, ◌⊎◌, inl, inr}
 use Rattle.std.proofs.lemmas.Int.{ints}
 use Rattle.std.proofs.lemmas.Bool.{cases_lt}
 use Rattle.fleet_model.specs.Equations.{Column, column_at, entry, helper, serves, total, total_from}
@@ -8,11 +8,11 @@ use Rattle.fleet_model.proofs.Totals.{total_one}
 use Rattle.master_table.specs.Tableau.{IsTableau, Tableau, basis_columns, entry_at, multipliers, row_at, size}
 use Rattle.master_table.specs.Pivoting.{IsPivotOf}
 use Rattle.master_table.proofs.PastCaps.{table_basis}
-use Rattle.master_simplex.specs.Cover.{expansion}
+use Rattle.master_table.specs.Expansion.{expansion}
 use Rattle.master_simplex.specs.Phase.{AreBasic, IsFeasible}
-use Rattle.master_simplex.proofs.Factors.{cofactors, common_above, gathered, gathered_at, length_gathered, product_of, spreads}
-use Rattle.master_simplex.proofs.HelperStarts.{basis_column}
-use Rattle.master_simplex.proofs.Tables.{body_at}
+use Rattle.master_table.proofs.Factors.{cofactors, common_above, gathered, gathered_at, length_gathered, product_of, spreads}
+use Rattle.master_table.proofs.Bases.{basis_column, body_at}
+use Rattle.master_table.proofs.Units.{none_there, one_at, one_there}
 
 expansion_zero : (ms : List ℤ) (basis : List Column) (ks : List ℤ) (rows : List (List ℤ)) (s : ℕ → Bool)
     → ((j : ℕ) → j < length rows → (entry ms (column_at basis j) ≡ pos 0) ⊎ (total s (get_or rows j []) ≡ pos 0)) → expansion ms basis ks rows s ≡ pos 0
@@ -27,17 +27,6 @@ expansion_zero ms (b ∷ bs) (k ∷ ks) (row ∷ rows) s h =
     vanishes : (k e z : ℤ) → (e ≡ pos 0) ⊎ (z ≡ pos 0) → (k *ℤ e) *ℤ z ≡ pos 0
     vanishes k e z (inl none) = ap (λ x. (k *ℤ x) *ℤ z) none ∙ (let a : k *ℤ pos 0 ≡ pos 0 = omega (arith, ints) in ap (λ x. x *ℤ z) a ∙ omega (arith, ints))
     vanishes k e z (inr none) = ap (λ x. (k *ℤ e) *ℤ x) none ∙ omega (arith, ints)
-
-pub one_at : ℕ → ℕ → ℤ
-one_at c x = cond (nat_eq x c) (pos 1) (pos 0)
-
-pub one_there : (c : ℕ) → one_at c c ≡ pos 1
-unfolding one_at
-one_there c = ap (λ b. cond b (pos 1) (pos 0)) (eq-eqb c c refl)
-
-pub none_there : (c x : ℕ) → x ≢ c → one_at c x ≡ pos 0
-unfolding one_at
-none_there c x apart = ap (λ b. cond b (pos 1) (pos 0)) (ne_eqb x c apart)
 
 unit_at : (n c x : ℕ) → x < n → get_or (gathered (one_at c) 0 n) x (pos 0) ≡ one_at c x
 unit_at n c x lt = let e : 0 + x ≡ x = omega arith in gathered_at (one_at c) 0 n x (pos 0) lt ∙ ap (one_at c) e

@@ -5,11 +5,10 @@ use Rattle.std.proofs.lemmas.Bool.{cases_Bool, cases_eq, cases_lt}
 use Rattle.fleet_model.specs.Equations.{Column, column_at, cost_of, entry, serves, total, total_from}
 use Rattle.fleet_model.proofs.Ring.{*ℤ-+ℤ}
 use Rattle.master_table.specs.Tableau.{Tableau}
-use Rattle.master_simplex.specs.Cover.{expansion}
+use Rattle.master_table.specs.Expansion.{expansion}
 use Rattle.master_simplex.specs.Answer.{cost_of_shares, covered}
 use Rattle.master_simplex.specs.Sharing.{given, share_at}
-use Rattle.master_simplex.proofs.Factors.{gathered}
-use Rattle.master_simplex.proofs.Returns.{none_there, one_at, one_there}
+use Rattle.master_table.proofs.Units.{total_unit, unit}
 
 -- ---- sums
 -- f c + f (c + 1) + .., m of them
@@ -134,48 +133,7 @@ worth_cost ms columns w (x ∷ shares) h =
     let split : w * (x.1 * c + cost_of_shares columns shares) ≡ w * (x.1 * c) + w * cost_of_shares columns shares = omega arith in
     omega (arith, ints)
 
--- ---- the unit of a customer
-unit_none : (s : ℕ → Bool) (c d m : ℕ) → c < d → total_from s d (gathered (one_at c) d m) ≡ pos 0
-unfolding gathered
-unit_none s c d zero lt = refl
-unit_none s c d (suc m) lt =
-    let none = none_there c d (λ e. omega (arith, e, lt)) in
-    let rest = unit_none s c (suc d) m (omega arith) in
-    let here : cond (s d) (one_at c d) (pos 0) ≡ pos 0 = ap (λ z. cond (s d) z (pos 0)) none ∙ same (s d) in
-    omega (arith, ints)
-  where
-    same : (b : Bool) → cond b (pos 0) (pos 0) ≡ pos 0
-    same true = refl
-    same false = refl
-
-unit_total : (s : ℕ → Bool) (c d m : ℕ) → d ≤ c → c < d + m → total_from s d (gathered (one_at c) d m) ≡ cond (s c) (pos 1) (pos 0)
-unfolding gathered
-unit_total s c d zero le lt = absurd (omega arith)
-unit_total s c d (suc m) le lt = by_cases (cases_eq d c) (λ apart. unit_total s c (suc d) m (omega (arith, apart, le)) (omega arith))
-  where
-    same : (b : Bool) → cond b (pos 0) (pos 0) ≡ pos 0
-    same true = refl
-    same false = refl
-
-    by_cases : (d ≡ c) ⊎ (d ≢ c) → (d ≢ c → total_from s (suc d) (gathered (one_at c) (suc d) m) ≡ cond (s c) (pos 1) (pos 0))
-        → cond (s d) (one_at c d) (pos 0) +ℤ total_from s (suc d) (gathered (one_at c) (suc d) m) ≡ cond (s c) (pos 1) (pos 0)
-    by_cases (inl e) later =
-        let rest = unit_none s c (suc d) m (omega arith) in
-        let here : cond (s d) (one_at c d) (pos 0) ≡ cond (s c) (pos 1) (pos 0) = ap (λ x. cond (s x) (one_at c x) (pos 0)) e ∙ ap (λ z. cond (s c) z (pos 0)) (one_there c) in
-        omega (arith, ints)
-    by_cases (inr apart) later =
-        let rest = later apart in
-        let here : cond (s d) (one_at c d) (pos 0) ≡ pos 0 = ap (λ z. cond (s d) z (pos 0)) (none_there c d apart) ∙ same (s d) in
-        omega (arith, ints)
-
--- 1 for customer c, 0 for each other of n
-abbrev pub unit : ℕ → ℕ → List ℤ
-unit n c = gathered (one_at c) 0 n
-
-pub total_unit : (s : ℕ → Bool) (n c : ℕ) → c < n → total s (unit n c) ≡ cond (s c) (pos 1) (pos 0)
-total_unit s n c lt = unit_total s c 0 n (omega arith) (omega arith)
-
--- the shares of a customer
+-- ---- the shares of a customer
 pub worth_unit : (n c : ℕ) (columns : List Column) (shares : List (ℕ × ℕ)) → c < n → worth (unit n c) columns shares ≡ pos (covered columns shares c)
 worth_unit n c columns [] lt = refl
 worth_unit n c columns (x ∷ shares) lt =

@@ -1,17 +1,17 @@
 -- Rows of a table within its caps: what they have of a column, sizes, keys.
-use Rattle.std.proofs.Common.{◌≡◌, ◌∙◌, ℕ, zero, suc, ◌+◌, ◌<◌, ◌≤◌, ◌^◌, arith, refl, sym, ap, subst, ℤ, pos, negsuc, neg_ℤ, ◌+ℤ◌, ◌-ℤ◌, ◌*ℤ◌, ◌<ℤ◌, unsigned_abs, le_trans, Bool, true, false, cond, nat_lt, lt-ltb, le-ltb, List, [], ◌∷◌, map, length, length-set, get_or, get_or-set_other, set, ◌⊎◌, inl, inr}
+use Rattle.std.proofs.Common.{◌≡◌, ◌∙◌, ℕ, zero, suc, ◌+◌, ◌<◌, ◌≤◌, ◌^◌, arith, refl, sym, ap, subst, ℤ, pos, negsuc, neg_ℤ, ◌-ℤ◌, ◌*ℤ◌, ◌<ℤ◌, unsigned_abs, le_trans, Bool, true, false, cond, nat_lt, lt-ltb, le-ltb, List, [], ◌∷◌, map, length, length-set, get_or, get_or-set_other, set, ◌⊎◌, inl, inr}
 use Rattle.std.proofs.lemmas.Int.{ints}
 use Rattle.std.proofs.lemmas.Bool.{cases_lt}
-use Rattle.std.proofs.lemmas.List.{get_or-map}
-use Rattle.fleet_model.specs.Equations.{column_at, combined, entry, route}
-use Rattle.fleet_model.specs.Wide.{IsPast}
+use Rattle.fleet_model.specs.Equations.{column_at, combined, entry}
+use Rattle.fleet_model.specs.Wide.{IsPast, IsShareWeightPast}
 use Rattle.master_table.specs.Solutions.{HaveSameSolutions}
-use Rattle.master_table.specs.Tableau.{Equation, IsBasisPast, IsTableau, IsWithinCaps, Tableau, charge, entry_at, entry_cap, multipliers, row_at, size, weight_cap}
+use Rattle.master_table.specs.Tableau.{Equation, IsBasisPast, IsTableau, IsWithinCaps, Tableau, entry_at, entry_cap, basis_columns, row_at, size, weight_cap}
 use Rattle.master_table.specs.Pivoting.{IsCombinationOf, IsPivotOf, excess, is_below, pivoted, turned_row}
 use Rattle.master_simplex.specs.Falling.{AreWithin}
 use Rattle.master_simplex.specs.Phase.{IsReached, IsRefused, bound, gain, gain_key, gain_row, key}
 use Rattle.master_simplex.specs.declared.phase.Goal.{Goal}
 use Rattle.master_simplex.specs.declared.phase.Goal.TheVariants.{Helpers, Cost}
+use Rattle.master_table.proofs.PastCaps.{basis_of}
 
 -- ---- lists
 past_the_end : (xs : List ℤ) (j : ℕ) → length xs ≤ j → get_or xs j (pos 0) ≡ pos 0
@@ -58,26 +58,12 @@ turned_same col row above = ap (λ b. cond b (record { weight = row.weight; righ
     not_below (pos n) h = refl
     not_below (negsuc n) h = absurd (omega (arith, ints))
 
--- what a row has of the column
-pub excess_body : (n col i : ℕ) (row : Equation) → i ≤ n → excess n col i row ≡ get_or row.entries col (pos 0)
-excess_body n col i row le =
-    ap (λ b. get_or row.entries col (pos 0) -ℤ cond b (cond (nat_lt col n) row.weight (pos 0)) (pos 0)) (le-ltb n i le) ∙ omega (arith, ints)
-
+-- what the helper row has of the column
 pub excess_helper : (n col : ℕ) (row : Equation) → excess n col (n + 1) row ≡ get_or row.entries col (pos 0) -ℤ cond (nat_lt col n) row.weight (pos 0)
 excess_helper n col row = ap (λ b. get_or row.entries col (pos 0) -ℤ cond b (cond (nat_lt col n) row.weight (pos 0)) (pos 0)) (lt-ltb n (n + 1) (omega arith))
 
 -- ---- a table
 module _ (t : Tableau) (h : IsTableau t) where
-  -- a body equation's entry at a column
-  pub body_at : (i j : ℕ) → i < size t → j < length t.columns → entry_at t i j ≡ entry (multipliers (size t) (row_at t i)) (column_at t.columns j)
-  body_at i j lt inside =
-      let s = h.spelled i (omega arith) in
-      let w = (row_at t i).weight in
-      let e : entry_at t i j ≡ w *ℤ charge (size t) i (column_at t.columns j) +ℤ entry (multipliers (size t) (row_at t i)) (column_at t.columns j) =
-      ap (λ xs. get_or xs j (pos 0)) s.entries ∙ get_or-map (λ b. w *ℤ charge (size t) i b +ℤ entry (multipliers (size t) (row_at t i)) b) t.columns j (route [] 0) (pos 0) inside in
-      let none : w *ℤ charge (size t) i (column_at t.columns j) ≡ pos 0 = ap (λ z. z *ℤ charge (size t) i (column_at t.columns j)) (h.weightless i lt) ∙ omega (arith, ints) in
-      omega (arith, ints)
-
   pub weight_above : (goal : Goal) → pos 0 <ℤ (gain_row goal t).weight
   weight_above Helpers = h.helper_list.list.some
   weight_above Cost = h.price_list.list.some
@@ -156,6 +142,15 @@ refused_is t row col basis lt is past = subst (λ b. IsRefused b t) (sym is) (re
   count = length-set t.basis row col;
   beside = λ i apart. get_or-set_other t.basis row i col 0 apart;
   past = subst (λ n. IsPast t.caps.body t.caps.cost n t.columns (map (column_at t.columns) (set t.basis row col))) (length-set t.basis row col) past;
+})
+
+-- a basis whose share weight is past the cap
+pub refused_here : (t : Tableau) → IsTableau t → (basis : List ℕ) → basis ≡ t.basis → IsShareWeightPast t.caps.body (size t) (basis_columns t) → IsRefused basis t
+refused_here t h basis is past = subst (λ b. IsRefused b t) (sym is) (record {
+  row = 0;
+  count = refl;
+  beside = λ i apart. refl;
+  past = record { is_basis = basis_of t h; past = inr (inr (inr past)) };
 })
 
 -- ---- a customer's row

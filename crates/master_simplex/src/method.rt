@@ -9,12 +9,11 @@ ghost use Rattle.master_simplex.specs.Phase.{AreHelpersIdle, HasNoGain, IsDriven
 use crate::basis::basis_of;
 use crate::fault::LpFault;
 use crate::helpers::drive_out;
-use crate::over::share_weight;
 use crate::phase::{Goal, run};
 use crate::prices::{Lp, numbers};
 use crate::restore::restore;
 use crate::shares::shares;
-use master_table::Table;
+use master_table::{Table, share_weight};
 use std::alloc::{AllocError, Global};
 
 /// Brings the shares of the helpers down as far as they go.

@@ -4,8 +4,7 @@ ghost use Rattle.std.specs.Prelude.{◌≡◌, ◌<◌, ◌≤◌, ℕ, IfOk};
 ghost use Rattle.master_table.specs.Tableau.{size};
 ghost use Rattle.master_simplex.specs.Sharing.{given, share_at};
 
-use crate::over::{own, right};
-use master_table::Table;
+use master_table::{Table, own_size, right_size};
 use std::alloc::{AllocError, Global};
 
 /// The share of the row's basis column, times `over`.
@@ -14,7 +13,7 @@ fn share(t: &Table, over: u64, row: usize) -> u64
     requires small { share_at t.now over row ≤ over }
     ensures { result ≡ share_at t.now over row }
 {
-    let share = u128::from(over) * right(t, row) / own(t, row);
+    let share = u128::from(over) * right_size(t, row) / own_size(t, row);
     share as u64
 }
 

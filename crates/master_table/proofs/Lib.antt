@@ -14,3 +14,17 @@ pub mod Independence
 pub mod PastCaps
 pub mod Combinations
 pub mod SameSolutions
+pub mod Bases
+pub mod Expansion
+pub mod Factors
+pub mod Units
+pub mod BasisShares
+mod Dependence
+mod Exchange
+mod FollowingHelpers
+mod HelperTables
+mod Moves
+mod Reached
+mod ShareWeights
+mod StartSteps
+mod Within

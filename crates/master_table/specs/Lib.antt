@@ -6,3 +6,8 @@ pub mod Adding
 pub mod RowView
 pub mod TableView
 pub mod Solutions
+pub mod ShareWeight
+pub mod Expansion
+pub mod Listed
+pub mod Starts
+pub mod Leaving

@@ -13,7 +13,7 @@ use Rattle.fleet_model.specs.Cover.{IsFleetRoute, shares_of}
 use Rattle.fleet_model.specs.Places.{customer_count, customer_number}
 use Rattle.fleet_model.proofs.Numbers.{counted}
 use Rattle.instance_reader.specs.Instance.{customer_nodes, most_customers}
-use Rattle.master_simplex.specs.declared.listed.ListedRoute.{ListedRoute}
+use Rattle.master_table.specs.declared.listed.ListedRoute.{ListedRoute}
 use Rattle.certificate_check.specs.Columns.{StandFor}
 use Rattle.certificate_check.specs.Routes.{IsListedRoute, IsRouteAmong}
 use Rattle.certificate_check.specs.Shares.{listed_cost, shares_at}

@@ -10,7 +10,7 @@ use Rattle.fleet_model.specs.Places.{customer_count, customer_number}
 use Rattle.fleet_model.proofs.Counts.{number_less}
 use Rattle.bound_certificate.specs.Meaning.{entry_column}
 use Rattle.certificate_parts.specs.declared.entry.BasisEntry.{BasisEntry}
-use Rattle.master_simplex.specs.declared.listed.ListedRoute.{ListedRoute}
+use Rattle.master_table.specs.declared.listed.ListedRoute.{ListedRoute}
 use Rattle.certificate_check.specs.Bounds.{IsBoundOf}
 use Rattle.certificate_check.specs.Columns.{StandFor, TellsTooWide}
 use Rattle.certificate_check.specs.Shares.{AreUneven, listed_cost, shares_at, TellsCover}

@@ -9,7 +9,7 @@ use Rattle.certificate_check.specs.declared.cover.SharedRoute.{SharedRoute}
 use Rattle.certificate_parts.specs.declared.entry.BasisEntry.{BasisEntry}
 use Rattle.closed_lists.specs.declared.fault.ClosedFault.{ClosedFault}
 use Rattle.closed_lists.specs.declared.fault.ClosedFault.TheVariants as fault
-use Rattle.master_simplex.specs.declared.listed.ListedRoute.{ListedRoute}
+use Rattle.master_table.specs.declared.listed.ListedRoute.{ListedRoute}
 use Rattle.mixed_model.specs.Accepted.{AreClosed, IsWideRoot, RootHolds}
 use Rattle.mixed_model.specs.Covers.{IsExactCover, IsKindRoute}
 use Rattle.mixed_model.specs.Kinds.{first_of, network_of}

@@ -4,8 +4,8 @@
 use crate::sets::set_of;
 use bound_certificate::entries_of;
 use certificate_parts::BasisEntry;
-use master_simplex::{ListedRoute, Lp, is_too_wide, solve};
-use master_table::{Caps, Table};
+use master_simplex::{Lp, solve};
+use master_table::{Caps, ListedRoute, Table, is_too_wide};
 use std::alloc::Global;
 use std::process::Abort;
 

@@ -4,7 +4,7 @@ use Rattle.fleet_model.proofs.Numbers.{counted}
 use Rattle.instance_reader.specs.Instance.{customer_nodes}
 use Rattle.route_plan.specs.declared.plan.RoutePlan.{RoutePlan}
 use Rattle.bound_certificate.specs.Ranges.{BasisFits}
-use Rattle.master_simplex.specs.declared.listed.ListedRoute.{ListedRoute}
+use Rattle.master_table.specs.declared.listed.ListedRoute.{ListedRoute}
 use Rattle.certificate_check.specs.Columns.{AreListed}
 use Rattle.certificate_check.specs.Routes.{IsListedRoute}
 use Rattle.certificate_check.proofs.Columns.{columns_listed, told_wide}

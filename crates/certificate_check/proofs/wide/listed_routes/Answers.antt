@@ -1,7 +1,7 @@
 use Rattle.std.proofs.Common.{◌+◌, subst, sym, take, arith}
 use Rattle.std.proofs.lemmas.Grind.{common_steps, elements}
 use Rattle.route_plan.specs.declared.plan.RoutePlan.{RoutePlan}
-use Rattle.master_simplex.specs.declared.listed.ListedRoute.{ListedRoute}
+use Rattle.master_table.specs.declared.listed.ListedRoute.{ListedRoute}
 use Rattle.certificate_check.specs.Columns.{AreListed}
 use Rattle.certificate_check.specs.Routes.{IsListedRoute}
 use Rattle.certificate_check.proofs.Zips.{zip_more}

@@ -6,7 +6,7 @@ use Rattle.master_simplex.specs.Sharing.{given, numbers}
 use Rattle.master_simplex.specs.declared.phase.Goal.TheVariants.{Cost}
 use Rattle.master_simplex.proofs.Apart.{given_apart}
 use Rattle.master_simplex.proofs.Optimum.{numbers_small, optimum, share_small, shares_within, weight_small}
-use Rattle.master_simplex.proofs.BasisShares.{weight_is}
+use Rattle.master_table.proofs.BasisShares.{weight_is}
 use Rattle.master_simplex.proofs.method.optimum.Goals as goal
 
 pub shares-requires : goal.shares-requires

@@ -3,7 +3,7 @@ use Rattle.std.proofs.lemmas.Grind.{common_steps}
 use Rattle.master_table.specs.Tableau.{size}
 use Rattle.master_table.specs.Pivoting.{IsPivotOf}
 use Rattle.master_simplex.specs.Phase.{IsGaining, IsLeast}
-use Rattle.master_simplex.proofs.Factors.{leaves_some}
+use Rattle.master_simplex.proofs.SomeEntry.{leaves_some}
 use Rattle.master_simplex.proofs.Phases.{height_after, idle_after, phase_after}
 use Rattle.master_simplex.proofs.phase.step.Goals as goal
 

@@ -1,9 +1,0 @@
-use Rattle.std.specs.Prelude.{◌≤◌}
-use Rattle.master_simplex.specs.Sharing.{IsRowsWeight}
-use Rattle.master_simplex.proofs.over.share_weight.Given as goal
-
-abbrev pub invariant-loop-row : goal.invariant-loop-row
-invariant-loop-row l = record {
-  weight : IsRowsWeight l.t l.row l.over;
-  within : l.over ≤ l.t.caps.body;
-}
