@@ -2,7 +2,7 @@
 use Rattle.std.proofs.Common.{◌≡◌, ◌∙◌, ℕ, zero, suc, ◌+◌, ◌<◌, ◌≤◌, ◌^◌, arith, refl, sym, ap, subst, ℤ, pos, negsuc, neg_ℤ, ◌-ℤ◌, ◌*ℤ◌, ◌<ℤ◌, unsigned_abs, le_trans, Bool, true, false, cond, nat_lt, lt-ltb, le-ltb, List, [], ◌∷◌, map, length, length-set, get_or, get_or-set_other, set, ◌⊎◌, inl, inr}
 use Rattle.std.proofs.lemmas.Int.{ints}
 use Rattle.std.proofs.lemmas.Bool.{cases_lt}
-use Rattle.fleet_model.specs.Equations.{column_at, combined, entry}
+use Rattle.fleet_model.specs.Equations.{column_at, combined}
 use Rattle.fleet_model.specs.Wide.{IsPast, IsShareWeightPast}
 use Rattle.master_table.specs.Solutions.{HaveSameSolutions}
 use Rattle.master_table.specs.Tableau.{Equation, IsBasisPast, IsTableau, IsWithinCaps, Tableau, entry_at, entry_cap, basis_columns, row_at, size, weight_cap}

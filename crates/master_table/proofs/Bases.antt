@@ -1,5 +1,5 @@
 -- What the rows of a table have of its columns, and of those of its basis.
-use Rattle.std.proofs.Common.{◌≡◌, ◌∙◌, ℕ, ◌+◌, ◌<◌, ◌≤◌, arith, sym, ap, ℤ, pos, ◌+ℤ◌, ◌-ℤ◌, ◌*ℤ◌, cond, nat_lt, le-ltb, [], get_or, length}
+use Rattle.std.proofs.Common.{◌≡◌, ◌∙◌, ℕ, ◌<◌, ◌≤◌, arith, sym, ap, pos, ◌+ℤ◌, ◌-ℤ◌, ◌*ℤ◌, cond, nat_lt, le-ltb, [], get_or, length}
 use Rattle.std.proofs.lemmas.Int.{ints}
 use Rattle.std.proofs.lemmas.List.{get_or-map}
 use Rattle.fleet_model.specs.Equations.{column_at, entry, route}
