@@ -1,21 +1,22 @@
 //! Whether the states of a target are covered by labels.
 
-ghost use Rattle.std.specs.Prelude.{◌≡◌, ◌≤◌, IfNone, IfSome, false, true};
-ghost use Rattle.charge_curve.specs.Points.{ArePoints, last_level};
+ghost use Rattle.std.specs.Prelude.{◌≡◌, ◌≤◌, IfNone, IfSome};
 ghost use Rattle.dominance.specs.LevelTimes.{IsLevel, time_at};
-ghost use Rattle.label_steps.specs.Covering.{IsCoveredAll, IsCoveredTo, IsMissed};
+ghost use Rattle.label_steps.specs.Covering.{IsCoveredTo};
 ghost use Rattle.piece_fn.specs.PieceFn.{level_times};
 ghost use Rattle.near_proof.specs.Links.{AreEntries};
 ghost use Rattle.near_proof.specs.Targets.{covers, covers_by};
 
 use crate::NearLabel;
-use crate::looks::{Looks, Sought};
+use crate::asking::OneByOne;
+use crate::looks::{Brief, Compared, Looks, Sought};
 use crate::margins::margin;
 use customer_sets::CustSet;
 use dominance::LabelValue;
 use label_index::{Entry, first, is_in_time};
 use label_steps::Covering;
 use piece_fn::PieceFn;
+use std::alloc::{AllocError, Global};
 use std::marker::Model;
 
 /// What the states of a value have in common.
@@ -97,76 +98,64 @@ impl Covering for Asked<'_> {
     }
 }
 
-impl Asked<'_> {
-    /// Whether each state of the value is covered: those with its levels, at its times there.
-    pub(crate) fn covers_value(&self, looks: &mut Looks, value: &PieceFn) -> bool
-        ensures covered { result ≡ true →
-            IsCoveredAll (covers self.now) (level_times value.now) }
-        ensures missed { result ≡ false → IsMissed (covers self.now) (level_times value.now) }
-    {
-        let last = last_level(value);
-        let (mut level, _) = value.least();
-        while let Some(to) = self.reach_soon(looks, value, level) {
-            if to >= last {
-                return true;
-            }
-            level = to + 1;
-        }
-        false
+impl OneByOne<Served> for Asked<'_> {
+    fn node(&self) -> usize {
+        self.target.node
     }
 
-    /// A level up to which each state of the value is covered from a level on; `None` where the
-    /// state at that level is not covered.
-    fn reach_soon(&self, looks: &mut Looks, value: &PieceFn, level: u64) -> Option<u64>
-        requires level { IsLevel (level_times value.now) level }
-        ensures some { IfSome result
-            (IsCoveredTo (covers self.now) (level_times value.now) level) }
-        ensures none { IfNone result
-            (covers self.now level (time_at (level_times value.now) level) → ⊥) }
-    {
-        match self.reach_first(looks, value, level) {
-            Some(to) => Some(to),
-            None => self.reach(value, level),
-        }
-    }
-
-    /// The same by labels as they are looked at; `None` says nothing.
-    fn reach_first(&self, looks: &mut Looks, value: &PieceFn, level: u64) -> Option<u64>
-        requires level { IsLevel (level_times value.now) level }
-        ensures some { IfSome result
-            (IsCoveredTo (covers self.now) (level_times value.now) level) }
-    {
-        let Some(time) = value.at(level) else {
-            return None;
+    fn sought(&self, level: u64, time: u64) -> Sought<Served> {
+        let target = &self.target;
+        let served = Served {
+            memory: target.memory,
+            count: target.count,
         };
-        let node = self.target.node;
-        let sought = Sought::new(self.weight, &self.target, level, time);
-        for place in 0..looks.count(node) {
-            let brief = looks.at(node, place)?;
-            if !brief.may_cover(&sought) {
-                continue;
-            }
-            if let Some(to) = self.reach_of(brief.number, value, level, time) {
-                looks.raise(node, place);
-                return Some(to);
-            }
-        }
-        None
+        Sought::new(self.weight, level, time, signed(target.earned), served)
     }
 
-    /// The same by the label with a number; `None` says nothing.
-    fn reach_of(&self, number: usize, value: &PieceFn, level: u64, time: u64) -> Option<u64>
-        requires level { IsLevel (level_times value.now) level }
-        requires time { time ≡ time_at (level_times value.now) level }
-        ensures { IfSome result
-            (IsCoveredTo (covers self.now) (level_times value.now) level) }
-    {
+    fn reach_of(&self, number: usize, value: &PieceFn, level: u64, time: u64) -> Option<u64> {
         if number >= self.labels.len() {
             return None;
         }
         let label = &self.labels[number];
         reach_by(label, self.weight, &self.target, value, level, time)
     }
+}
+
+/// Whom a vehicle remembers, and how many services there were.
+#[derive(Clone, Copy)]
+pub(crate) struct Served {
+    memory: CustSet,
+    count: usize,
+}
+
+impl Compared for Served {
+    fn may_cover(&self, other: &Served) -> bool {
+        self.count <= other.count && self.memory.is_subset(other.memory)
+    }
+}
+
+/// The labels at each of so many nodes, as they are looked at.
+pub(crate) fn looks_of(
+    alloc: Global,
+    weight: u64,
+    nodes: usize,
+    labels: &[NearLabel],
+) -> Result<Looks<Served>, AllocError> {
+    let mut briefs = Vec::with_capacity(alloc, labels.len())?;
+    for (number, label) in labels.iter().enumerate() {
+        let served = Served {
+            memory: label.memory,
+            count: label.count,
+        };
+        let earned = signed(label.earned);
+        briefs.push(Brief::new(weight, number, label.node, &label.value, earned, served))?;
+    }
+    Looks::new(alloc, nodes, briefs)
+}
+
+/// What was earned, as far as it fits.
+fn signed(earned: u128) -> i128 {
+    i128::try_from(earned).unwrap_or(i128::MAX)
 }
 
 /// How far the label covers the states of the value, from a level on; `None` exactly where it does
@@ -197,13 +186,4 @@ fn reach_by(
         Some(extra) => label.value.reach(value, extra, level),
         None => None,
     }
-}
-
-/// The highest level of a value.
-pub(crate) fn last_level(value: &PieceFn) -> u64
-    ensures value { result ≡ last_level value.now }
-    ensures valid { ArePoints value.now }
-{
-    let points = value.points();
-    points[points.len() - 1].0
 }

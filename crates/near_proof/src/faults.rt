@@ -8,6 +8,7 @@ ghost use Rattle.near_proof.specs.Faults.{TellsFault, terms_in};
 ghost use Rattle.near_proof.specs.Judging.{IsJudge, TellsBadEnd, TellsBadStep, judged};
 
 use crate::NearLabel;
+use crate::coverage::{Served, looks_of};
 use crate::ends::earns_at_home;
 use crate::judge::Judge;
 use crate::links::ByNode;
@@ -74,7 +75,7 @@ pub fn first_fault(
     if !judge.covers_start(alloc) {
         return Ok(Some(NearLabelFault::Start));
     }
-    let mut looks = Looks::new(alloc, terms.weight, inst.nodes(), labels)?;
+    let mut looks = looks_of(alloc, terms.weight, inst.nodes(), labels)?;
     if let Some((label, node)) = judge.bad_step(alloc, &mut looks)? {
         return Ok(Some(NearLabelFault::Step { label, node }));
     }
@@ -90,7 +91,7 @@ impl Judge<'_> {
     fn bad_step(
         &self,
         alloc: Global,
-        looks: &mut Looks,
+        looks: &mut Looks<Served>,
     ) -> Result<Option<(usize, usize)>, AllocError>
         requires { IsJudge self.now }
         ensures { IfOk result (TellsBadStep self.now.inst.now (judged self.now)) }

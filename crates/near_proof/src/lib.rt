@@ -4,6 +4,7 @@
 //! files that it stands on), which knows nothing of a search; the near sets of an instance.
 #![tactic(auto)]
 
+mod asking;
 mod bound;
 mod check;
 mod coverage;
@@ -23,6 +24,7 @@ mod steps;
 mod tight;
 mod verdict;
 
+pub use asking::{OneByOne, covers_value};
 pub use check::check_near;
 pub use earnings::{earned_by, price_total};
 pub use ends::earns_at_home;
@@ -31,6 +33,7 @@ pub use laws::{
     a_near_route_pays_its_prices, accepted_bounds_are_true, accepted_prices_cannot_be_raised,
     accepted_proofs_break_no_rule,
 };
+pub use looks::{Brief, Compared, Looks, Sought};
 pub use margins::margin;
 pub use memory::remembered;
 pub use nearby::near_sets;

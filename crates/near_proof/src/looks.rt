@@ -2,117 +2,114 @@
 //! of the others those of least time for what they earned. What is answered never rests on this
 //! choice, so nothing is said of it.
 
-use crate::NearLabel;
-use crate::coverage::{Target, last_level};
-use customer_sets::CustSet;
+use crate::asking::last_level;
 use dominance::LabelValue;
+use piece_fn::PieceFn;
 use std::alloc::{AllocError, Global};
 
-/// No more than this is earned, as far as a label's standing tells what it earned.
-const MOST_EARNED: u128 = 1 << 120;
+/// What else decides whether a label may cover a state: whom both remember, say.
+pub trait Compared: Copy + Drop {
+    /// Whether a label of which this is known may cover a state of which that is known.
+    fn may_cover(&self, other: &Self) -> bool;
+}
 
 /// What is known of a label before it is looked at itself.
 #[derive(Clone, Copy)]
-pub(crate) struct Brief {
+pub struct Brief<C: Compared> {
+    /// The node where the vehicle is.
+    node: usize,
+    /// The label's number.
+    number: usize,
     /// The least of its times.
     time: u64,
     /// Its standing at that time.
-    standing: u128,
+    standing: i128,
     /// Its highest level.
     top: u64,
-    /// The customers that it remembers.
-    memory: CustSet,
-    /// How many services there were.
-    count: usize,
-    /// Its number.
-    pub(crate) number: usize,
+    /// What else is compared.
+    compared: C,
 }
 
-/// A state, of which a label is known by its brief not to cover it, or may.
-#[derive(Clone, Copy)]
-pub(crate) struct Sought {
-    time: u64,
-    standing: u128,
-    level: u64,
-    memory: CustSet,
-    count: usize,
-}
-
-impl Sought {
-    /// The state of a target with a level at a time.
-    pub(crate) fn new(weight: u64, target: &Target, level: u64, time: u64) -> Sought {
-        Sought {
-            time,
-            standing: standing(weight, time, target.earned),
-            level,
-            memory: target.memory,
-            count: target.count,
-        }
-    }
-}
-
-impl Brief {
-    /// What is known of a label with a number.
-    fn new(weight: u64, number: usize, label: &NearLabel) -> Brief {
-        let (_, time) = label.value.least();
+impl<C: Compared> Brief<C> {
+    /// What is known of the label with a number, a node and a value, that earned this under a
+    /// weight of time. It takes no memory.
+    pub fn new(
+        weight: u64,
+        number: usize,
+        node: usize,
+        value: &PieceFn,
+        earned: i128,
+        compared: C,
+    ) -> Brief<C> {
+        let (_, time) = value.least();
         Brief {
-            time,
-            standing: standing(weight, time, label.earned),
-            top: last_level(&label.value),
-            memory: label.memory,
-            count: label.count,
+            node,
             number,
+            time,
+            standing: standing(weight, time, earned),
+            top: last_level(value),
+            compared,
         }
     }
 
     /// Whether the label may cover a state at its node.
-    pub(crate) fn may_cover(&self, sought: &Sought) -> bool {
+    fn may_cover(&self, sought: &Sought<C>) -> bool {
         let is_late = (self.time > sought.time) | (self.standing > sought.standing);
-        let is_short = (self.top < sought.level) | (self.count > sought.count);
-        !(is_late | is_short) && self.memory.is_subset(sought.memory)
+        !(is_late | (self.top < sought.level)) && self.compared.may_cover(&sought.compared)
+    }
+}
+
+/// A state, of which a label is known by its brief not to cover it, or may.
+#[derive(Clone, Copy)]
+pub struct Sought<C: Compared> {
+    time: u64,
+    standing: i128,
+    level: u64,
+    compared: C,
+}
+
+impl<C: Compared> Sought<C> {
+    /// The state with a level at a time, after what was earned under a weight of time. It takes no
+    /// memory.
+    pub fn new(weight: u64, level: u64, time: u64, earned: i128, compared: C) -> Sought<C> {
+        Sought {
+            time,
+            standing: standing(weight, time, earned),
+            level,
+            compared,
+        }
     }
 }
 
 /// The labels at each node, in the order in which they are looked at.
 #[derive(Drop)]
-pub(crate) struct Looks {
-    nodes: Vec<Vec<Brief>>,
+pub struct Looks<C: Compared> {
+    nodes: Vec<Vec<Brief<C>>>,
 }
 
-impl Looks {
-    /// The labels at each of so many nodes, by rising standing.
-    pub(crate) fn new(
-        alloc: Global,
-        weight: u64,
-        nodes: usize,
-        labels: &[NearLabel],
-    ) -> Result<Looks, AllocError> {
+impl<C: Compared> Looks<C> {
+    /// The labels at each of so many nodes, by rising standing. The only `Err` is want of memory.
+    pub fn new(alloc: Global, nodes: usize, briefs: Vec<Brief<C>>) -> Result<Looks<C>, AllocError> {
         let mut looks = Looks {
             nodes: Vec::with_capacity(alloc, nodes)?,
         };
         for _ in 0..nodes {
             looks.nodes.push(Vec::new(alloc))?;
         }
-        for brief in &by_standing(alloc, weight, labels)? {
-            looks.add(labels, *brief)?;
+        let mut briefs = briefs;
+        briefs.sort_by_key(|brief| brief.standing)?;
+        for brief in &briefs {
+            looks.add(*brief)?;
         }
         Ok(looks)
     }
 
     /// Puts a label behind the others at its node.
-    fn add(&mut self, labels: &[NearLabel], brief: Brief) -> Result<(), AllocError> {
-        let Some(label) = labels.get(brief.number) else {
-            return Ok(());
-        };
-        if let Some(briefs) = self.nodes.get_mut(label.node) {
+    fn add(&mut self, brief: Brief<C>) -> Result<(), AllocError> {
+        if let Some(briefs) = self.nodes.get_mut(brief.node) {
             briefs.push(brief)?;
         }
         Ok(())
-    }
-
-    /// The label at a place of a node, if there is one.
-    pub(crate) fn at(&self, node: usize, place: usize) -> Option<Brief> {
-        self.nodes.get(node)?.get(place).copied()
     }
 
     /// How many labels there are at a node.
@@ -121,6 +118,23 @@ impl Looks {
             Some(briefs) => briefs.len(),
             None => 0,
         }
+    }
+
+    /// The first label at a node, from a place on, that may cover a state: its place and its
+    /// number.
+    pub(crate) fn next(
+        &self,
+        node: usize,
+        from: usize,
+        sought: &Sought<C>,
+    ) -> Option<(usize, usize)> {
+        let briefs = self.nodes.get(node)?.get(from..)?;
+        for (at, brief) in briefs.iter().enumerate() {
+            if brief.may_cover(sought) {
+                return Some((from.wrapping_add(at), brief.number));
+            }
+        }
+        None
     }
 
     /// Lets the label at a place of a node be looked at sooner.
@@ -133,21 +147,9 @@ impl Looks {
     }
 }
 
-/// What is known of the labels, by rising standing.
-fn by_standing(alloc: Global, weight: u64, labels: &[NearLabel]) -> Result<Vec<Brief>, AllocError> {
-    let mut briefs = Vec::with_capacity(alloc, labels.len())?;
-    for (number, label) in labels.iter().enumerate() {
-        briefs.push(Brief::new(weight, number, label))?;
-    }
-    briefs.sort_by_key(|brief| brief.standing)?;
-    Ok(briefs)
-}
-
-/// The less, the less time is taken for what is earned: the time, times the weight, and how much
-/// less was earned than the most.
-fn standing(weight: u64, time: u64, earned: u128) -> u128 {
-    let taken = if weight == 0 { 0 } else { time };
-    MOST_EARNED
-        .saturating_sub(earned)
-        .saturating_add(u128::from(taken))
+/// The less, the less time is taken for what is earned: the time, times the weight, less what was
+/// earned.
+fn standing(weight: u64, time: u64, earned: i128) -> i128 {
+    let taken = i128::from(weight).saturating_mul(i128::from(time));
+    taken.saturating_sub(earned)
 }

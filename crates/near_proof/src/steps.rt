@@ -9,7 +9,8 @@ ghost use Rattle.near_proof.specs.Members.{AreMembers};
 ghost use Rattle.near_proof.specs.Targets.{TellsEach};
 
 use crate::NearLabel;
-use crate::coverage::{Asked, Target};
+use crate::asking::covers_value;
+use crate::coverage::{Asked, Served, Target};
 use crate::judge::Judge;
 use crate::looks::Looks;
 use crate::memory::{members_of, remembered_among};
@@ -45,7 +46,7 @@ impl Judge<'_> {
     /// Whether each step to a customer leads to a covered state.
     fn customer_is_covered(
         &self,
-        looks: &mut Looks,
+        looks: &mut Looks<Served>,
         label: &NearLabel,
         members: &[usize],
         node: usize,
@@ -71,7 +72,7 @@ impl Judge<'_> {
             return Ok(true);
         };
         let target = self.after_service(label, members, node, customer);
-        Ok(self.asked(target).covers_value(looks, &value))
+        Ok(covers_value(&self.asked(target), looks, &value))
     }
 
     /// Whether each step to a station, with any charge there, leads to a covered state. The time to
@@ -79,7 +80,7 @@ impl Judge<'_> {
     fn station_is_covered(
         &self,
         alloc: Global,
-        looks: &mut Looks,
+        looks: &mut Looks<Served>,
         label: &NearLabel,
         node: usize,
     ) -> Result<bool, AllocError>
@@ -108,7 +109,7 @@ impl Judge<'_> {
     fn step_is_covered(
         &self,
         alloc: Global,
-        looks: &mut Looks,
+        looks: &mut Looks<Served>,
         label: &NearLabel,
         members: &[usize],
         node: usize,
@@ -135,7 +136,7 @@ impl Judge<'_> {
     pub(crate) fn uncovered_node(
         &self,
         alloc: Global,
-        looks: &mut Looks,
+        looks: &mut Looks<Served>,
         label: &NearLabel,
     ) -> Result<Option<usize>, AllocError>
         requires judge { IsJudge self.now }
@@ -153,11 +154,11 @@ impl Judge<'_> {
 }
 
 /// Whether each state of each of the values is covered.
-fn covers_each(asked: &Asked<'_>, looks: &mut Looks, values: &[PieceFn]) -> bool
+fn covers_each(asked: &Asked<'_>, looks: &mut Looks<Served>, values: &[PieceFn]) -> bool
     ensures { TellsEach asked.now values.now result }
 {
     for value in values {
-        if !asked.covers_value(looks, value) {
+        if !covers_value(asked, looks, value) {
             return false;
         }
     }

@@ -29,3 +29,4 @@ pub mod Shown
 pub mod SiteFits
 pub mod Standing
 pub mod Judged
+pub mod Alike

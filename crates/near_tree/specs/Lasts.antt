@@ -1,8 +1,10 @@
 -- Lasts told by places, and rows of whom they stand for and who may come next.
-use Rattle.std.specs.Prelude.{◌≡◌, ◌↔◌, ℕ, ◌+◌, ◌<◌, ◌≤◌, Bool, true, not, ◌&&◌, ◌||◌, nat_eq, nat_lt, List, [], length, slice_index_or, ◌≤ℤ◌, if◌then◌else◌}
+use Rattle.std.specs.Prelude.{◌≡◌, ◌↔◌, ℕ, ◌+◌, ◌<◌, ◌≤◌, Bool, true, false, not, ◌&&◌, ◌||◌, nat_eq, nat_lt, List, [], ◌∷◌, length, slice_index_or, ◌≤ℤ◌, if◌then◌else◌}
 use Rattle.certificate_parts.specs.Ranges.{customer_count}
 use Rattle.customer_sets.specs.CustSet.{has}
 use Rattle.ev_model.specs.Network.{Network}
+use Rattle.near_tree.specs.Branches.{Counted}
+use Rattle.near_tree.specs.Entries.{is_in}
 use Rattle.near_tree.specs.Follows.{entries_earned, MayFollow, StandsFor}
 use Rattle.near_tree.specs.Paths.{permits_all}
 use Rattle.near_tree.specs.Rules.{Leaf}
@@ -30,6 +32,16 @@ IsServedAt customers f last other next =
     MayFollow f.branch (last_at customers last) next
     × (entries_earned f.branch.counted f.section.entry_prices (last_at customers other) next
     ≤ℤ entries_earned f.branch.counted f.section.entry_prices (last_at customers last) next)
+
+-- a set has both places or neither
+abbrev pub has_alike : List ℕ → ℕ → ℕ → Bool
+has_alike set one other = if is_in set one then is_in set other else not (is_in set other)
+
+-- each counted set has both places or neither
+abbrev pub are_counted_alike : List Counted → ℕ → ℕ → Bool
+are_counted_alike [] one other = true
+are_counted_alike (c ∷ cs) one other =
+    if has_alike c.set one other then are_counted_alike cs one other else false
 
 -- the lasts for which one stands
 abbrev pub IsStandRow : Network → Leaf → ℕ → List ℕ → Type 0

@@ -39,8 +39,9 @@ use std::alloc::{AllocError, Global};
 ///
 /// The way to a leaf is gone through again at each leaf: once for each pair of places, and once for
 /// the counted sets. A leaf n nodes down a tree takes time for n times the square of the number of
-/// customers, beside its labels; and its table of lasts takes time for the cube of the number of
-/// customers times the number of counted sets.
+/// customers, beside its labels. Its table of lasts takes time for the square of the number of
+/// customers times the number of counted sets, and for each two lasts of which a set has one alone
+/// up to the number of customers times as long.
 pub fn check_tree(
     alloc: Global,
     inst: &Instance,

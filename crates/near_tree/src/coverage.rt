@@ -12,12 +12,14 @@ ghost use Rattle.near_tree.specs.Targets.{covers_by};
 
 use crate::SectionLabel;
 use crate::judge::Judge;
+use crate::looking::Known;
 use crate::paid::margin;
 use crate::site::last_place;
 use customer_sets::LargeSet;
 use dominance::LabelValue;
 use label_index::{first, is_in_time};
 use label_steps::Covering;
+use near_proof::{OneByOne, Sought};
 use piece_fn::PieceFn;
 use std::marker::Model;
 
@@ -134,5 +136,27 @@ impl Covering for Asked<'_> {
             }
         }
         None
+    }
+}
+
+impl OneByOne<Known> for Asked<'_> {
+    fn node(&self) -> usize {
+        self.target.node
+    }
+
+    fn sought(&self, level: u64, time: u64) -> Sought<Known> {
+        let target = &self.target;
+        let known = Known::of_state(target.memory, target.last);
+        let weight = self.judge.site.section.weight;
+        Sought::new(weight, level, time, target.earned, known)
+    }
+
+    fn reach_of(&self, number: usize, value: &PieceFn, level: u64, time: u64) -> Option<u64> {
+        let labels = self.judge.site.section.labels.as_slice();
+        if number >= labels.len() {
+            return None;
+        }
+        let label = &labels[number];
+        self.judge.reach_by(label, &self.target, value, level, time)
     }
 }

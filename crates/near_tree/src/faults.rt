@@ -6,8 +6,10 @@ ghost use Rattle.near_tree.specs.Sites.{IsSite, leaf_of};
 
 use crate::judge::Judge;
 use crate::links::ByNode;
+use crate::looking::Known;
 use crate::site::Site;
 use label_index::entries;
+use near_proof::Looks;
 use std::alloc::{AllocError, Global};
 
 /// Where the labels of a leaf are not closed. Labels are counted from 0.
@@ -47,7 +49,8 @@ impl Judge<'_> {
         if !self.covers_start(alloc) {
             return Ok(Some(LeafFault::Start));
         }
-        if let Some((label, node)) = self.bad_step(alloc)? {
+        let mut looks = self.looks(alloc)?;
+        if let Some((label, node)) = self.bad_step(alloc, &mut looks)? {
             return Ok(Some(LeafFault::Step { label, node }));
         }
         match self.bad_home()? {
@@ -58,13 +61,17 @@ impl Judge<'_> {
 
     /// The first step to a customer or a station that leads to a state that is not covered, by its
     /// label's number and the node.
-    fn bad_step(&self, alloc: Global) -> Result<Option<(usize, usize)>, AllocError>
+    fn bad_step(
+        &self,
+        alloc: Global,
+        looks: &mut Looks<Known>,
+    ) -> Result<Option<(usize, usize)>, AllocError>
         requires { IsJudge self.now }
         ensures { IfOk result (TellsBadStep self.now.site.inst.now (leaf_of self.now.site)) }
     {
         let labels = self.site.section.labels.as_slice();
         for (number, label) in labels.iter().enumerate() {
-            if let Some(node) = self.uncovered_node(alloc, label)? {
+            if let Some(node) = self.uncovered_node(alloc, looks, label)? {
                 return Ok(Some((number, node)));
             }
         }

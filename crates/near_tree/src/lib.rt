@@ -15,6 +15,7 @@ mod faults;
 mod judge;
 mod laws;
 mod links;
+mod looking;
 mod paid;
 mod path;
 mod proof;

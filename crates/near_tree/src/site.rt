@@ -1,12 +1,12 @@
 //! A leaf with the way to it, and who may come next there.
 
-ghost use Rattle.std.specs.Prelude.{◌≡◌, ◌↔◌, ◌+◌, ◌^◌, ◌<◌, ◌≤◌, ◌≤ℤ◌, IfOk, IsTrue, length, map, unsigned_abs};
+ghost use Rattle.std.specs.Prelude.{◌≡◌, ◌↔◌, ◌+◌, ◌^◌, ◌<◌, ◌≤◌, ◌≤ℤ◌, ℕ, IfOk, IsTrue, length, map, true, unsigned_abs};
 ghost use Rattle.std.specs.List.{All};
 ghost use Rattle.certificate_parts.specs.Ranges.{IsPrice, customer_count};
 ghost use Rattle.near_tree.specs.Counting.{counted_as};
 ghost use Rattle.near_tree.specs.Entries.{is_in};
 ghost use Rattle.near_tree.specs.Follows.{StandsFor, entries_earned, entry_earned};
-ghost use Rattle.near_tree.specs.Lasts.{AreRows, IsMayRow, IsServedAt, IsStandRow, last_at, may_by};
+ghost use Rattle.near_tree.specs.Lasts.{AreRows, IsMayRow, IsServedAt, IsStandRow, are_counted_alike, has_alike, last_at, may_by};
 ghost use Rattle.near_tree.specs.Preorder.{last_of};
 ghost use Rattle.near_tree.specs.Ranges.{IsLastAmong};
 ghost use Rattle.near_tree.specs.Sites.{IsSite, leaf_of};
@@ -119,6 +119,44 @@ impl Site<'_> {
         no_less(earned, least)
     }
 
+    /// Whether it is plain that coming next after either last earns the same: neither is anybody,
+    /// and each counted set has both or neither.
+    fn earns_alike(&self, last: usize, other: usize) -> bool
+        requires site { IsSite self.now }
+        requires last { last < customer_count self.now.inst.now + 2 }
+        requires other { other < customer_count self.now.inst.now + 2 }
+        ensures { result ≡ true → (next : ℕ) → entries_earned (leaf_of self.now).branch.counted
+            (leaf_of self.now).section.entry_prices
+            (last_at (customer_count self.now.inst.now) other) next
+            ≡ entries_earned (leaf_of self.now).branch.counted
+            (leaf_of self.now).section.entry_prices
+            (last_at (customer_count self.now.inst.now) last) next }
+    {
+        let customers = self.customers();
+        if last > customers || other > customers {
+            return false;
+        }
+        are_counted_alike(self.counted, last, other)
+    }
+
+    /// Whether it is plain that one last stands for another: whoever may come next after that may
+    /// do so after this, and earns the same.
+    fn plainly_stands(&self, may: &[LargeSet], last: usize, other: usize) -> bool
+        requires site { IsSite self.now }
+        requires may { AreRows (IsMayRow (customer_count self.now.inst.now) self.now.path.now)
+            (customer_count self.now.inst.now + 2) may.now }
+        requires last { last < customer_count self.now.inst.now + 2 }
+        requires other { other < customer_count self.now.inst.now + 2 }
+        ensures { result ≡ true → StandsFor self.now.inst.now (leaf_of self.now).branch
+            (leaf_of self.now).section (last_at (customer_count self.now.inst.now) last)
+            (last_at (customer_count self.now.inst.now) other) }
+    {
+        if !may[other].is_subset(may[last]) {
+            return false;
+        }
+        self.earns_alike(last, other)
+    }
+
     /// Whether one last stands for another.
     fn stands_for(&self, may: &[LargeSet], last: usize, other: usize) -> bool
         requires site { IsSite self.now }
@@ -130,6 +168,9 @@ impl Site<'_> {
             (leaf_of self.now).section (last_at (customer_count self.now.inst.now) last)
             (last_at (customer_count self.now.inst.now) other) }
     {
+        if self.plainly_stands(may, last, other) {
+            return true;
+        }
         for next in 0..self.customers() + 1 {
             if !self.is_served(may, last, other, next) {
                 return false;
@@ -186,6 +227,33 @@ pub(crate) fn last_place(last: LastServed, customers: usize) -> usize
         LastServed::Nobody => 0,
         LastServed::Customer(number) => number + 1,
         LastServed::Anybody => customers + 1,
+    }
+}
+
+/// Whether each counted set has both places or neither.
+fn are_counted_alike(counted: &[CountedSet], one: usize, other: usize) -> bool
+    requires one { one ≤ 448 }
+    requires other { other ≤ 448 }
+    ensures { result ≡ are_counted_alike (map counted_as counted.now) one other }
+{
+    for each in counted {
+        if !has_alike(each.set, one, other) {
+            return false;
+        }
+    }
+    true
+}
+
+/// Whether a set has both places or neither.
+fn has_alike(set: LargeSet, one: usize, other: usize) -> bool
+    requires one { one ≤ 448 }
+    requires other { other ≤ 448 }
+    ensures { result ≡ has_alike set one other }
+{
+    if is_in(set, one) {
+        is_in(set, other)
+    } else {
+        !is_in(set, other)
     }
 }
 

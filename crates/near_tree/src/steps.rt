@@ -13,9 +13,11 @@ ghost use Rattle.near_tree.specs.Targets.{TellsEach, covers};
 use crate::SectionLabel;
 use crate::coverage::{Asked, Target};
 use crate::judge::Judge;
+use crate::looking::Known;
 use crate::paid::sum_of;
 use crate::site::last_place;
-use label_steps::{arrival, covers_all, departures};
+use label_steps::{arrival, departures};
+use near_proof::{Looks, covers_value};
 use piece_fn::PieceFn;
 use std::alloc::{AllocError, Global};
 
@@ -45,6 +47,7 @@ impl Judge<'_> {
     /// Whether each step to a customer leads to a covered state.
     fn customer_is_covered(
         &self,
+        looks: &mut Looks<Known>,
         label: &SectionLabel,
         node: usize,
         customer: usize,
@@ -71,7 +74,7 @@ impl Judge<'_> {
             return Ok(true);
         };
         let target = self.after_service(label, node, customer);
-        Ok(covers_all(&self.asked(target), &value))
+        Ok(covers_value(&self.asked(target), looks, &value))
     }
 
     /// Whether each step to a station, with any charge there, leads to a covered state. The time to
@@ -79,6 +82,7 @@ impl Judge<'_> {
     fn station_is_covered(
         &self,
         alloc: Global,
+        looks: &mut Looks<Known>,
         label: &SectionLabel,
         node: usize,
     ) -> Result<bool, AllocError>
@@ -102,13 +106,14 @@ impl Judge<'_> {
             memory: label.memory,
             earned: label.earned,
         };
-        Ok(covers_each(&self.asked(target), &values))
+        Ok(covers_each(&self.asked(target), looks, &values))
     }
 
     /// Whether each step to the node leads to a covered state.
     fn step_is_covered(
         &self,
         alloc: Global,
+        looks: &mut Looks<Known>,
         label: &SectionLabel,
         node: usize,
     ) -> Result<bool, AllocError>
@@ -122,10 +127,10 @@ impl Judge<'_> {
             return Ok(true);
         }
         if self.site.inst.curve_at(node).is_some() {
-            return self.station_is_covered(alloc, label, node);
+            return self.station_is_covered(alloc, looks, label, node);
         }
         match self.site.inst.customer_number(node) {
-            Some(customer) => self.customer_is_covered(label, node, customer),
+            Some(customer) => self.customer_is_covered(looks, label, node, customer),
             None => Ok(true),
         }
     }
@@ -134,6 +139,7 @@ impl Judge<'_> {
     pub(crate) fn uncovered_node(
         &self,
         alloc: Global,
+        looks: &mut Looks<Known>,
         label: &SectionLabel,
     ) -> Result<Option<usize>, AllocError>
         requires judge { IsJudge self.now }
@@ -142,7 +148,7 @@ impl Judge<'_> {
             (leaf_label label.now)) }
     {
         for node in 0..self.site.inst.nodes() {
-            if !self.step_is_covered(alloc, label, node)? {
+            if !self.step_is_covered(alloc, looks, label, node)? {
                 return Ok(Some(node));
             }
         }
@@ -151,11 +157,11 @@ impl Judge<'_> {
 }
 
 /// Whether each state of each of the values is covered.
-fn covers_each(asked: &Asked<'_>, values: &[PieceFn]) -> bool
+fn covers_each(asked: &Asked<'_>, looks: &mut Looks<Known>, values: &[PieceFn]) -> bool
     ensures { TellsEach (covers asked.now) values.now result }
 {
     for value in values {
-        if !covers_all(asked, value) {
+        if !covers_value(asked, looks, value) {
             return false;
         }
     }

@@ -55,6 +55,6 @@ returns c =
     (subst (λ n. c.last_place-last.result < n + 2) c.customers.ensures.value c.last_place-last.ensures.within) (omega (arith, c.requires.listed))
     (subst (λ n. last_at n c.last_place-last.result ≡ last_of c.args.label.now.last) c.customers.ensures.value c.last_place-last.ensures.value)
     c.index-self-last.result (sym c.has-2.ensures.value ∙ c.if-not-has.false) in
-    tells g f (leaf_label l) x c.covers_all.result
-    (λ is. customer_covered g f l x n t w c.requires.known c.requires.customer.0 number c.after_service-target.ensures.served arrival (subst (λ (a : Asking). IsCoveredAll (covers a) (level_times c.in-Some.value)) c.asked.ensures (c.covers_all.ensures.covered is)))
-    (λ isnt. customer_missed g f l x n t w c.requires.known c.requires.customer.0 number c.after_service-target.ensures.served arrival c.requires.moves (sym c.has.ensures.value ∙ c.if-has.false) next (subst (λ (a : Asking). IsMissed (covers a) (level_times c.in-Some.value)) c.asked.ensures (c.covers_all.ensures.missed isnt)))
+    tells g f (leaf_label l) x c.covers_value.result
+    (λ is. customer_covered g f l x n t w c.requires.known c.requires.customer.0 number c.after_service-target.ensures.served arrival (subst (λ (a : Asking). IsCoveredAll (covers a) (level_times c.in-Some.value)) c.asked.ensures (c.covers_value.ensures.covered is)))
+    (λ isnt. customer_missed g f l x n t w c.requires.known c.requires.customer.0 number c.after_service-target.ensures.served arrival c.requires.moves (sym c.has.ensures.value ∙ c.if-has.false) next (subst (λ (a : Asking). IsMissed (covers a) (level_times c.in-Some.value)) c.asked.ensures (c.covers_value.ensures.missed isnt)))

@@ -18,8 +18,8 @@ returns-in-Some-2 c =
     let steps = subst (TellsBadStep c.args.self.now.site.inst.now (leaf_of c.args.self.now.site)) c.in_default.is c.in_ok-label.ensures in
     end_first c.args.self.now.site.inst.now (leaf_of c.args.self.now.site) begins steps c.in-Some-2.label (subst (TellsBadHome c.args.self.now.site.inst.now (leaf_of c.args.self.now.site)) c.in-Some-2.is c.in_ok-label-2.ensures)
 
-pub returns-in-None : goal.returns-in-None
-returns-in-None c =
+pub returns : goal.returns
+returns c =
     let begins = c.covers_start.ensures.covered c.if-not-covers_start.false in
     let steps = subst (TellsBadStep c.args.self.now.site.inst.now (leaf_of c.args.self.now.site)) c.in_default.is c.in_ok-label.ensures in
     closed c.args.self.now.site.inst.now (leaf_of c.args.self.now.site) begins steps (subst (TellsBadHome c.args.self.now.site.inst.now (leaf_of c.args.self.now.site)) c.in-None.is c.in_ok-label-2.ensures)

@@ -4,6 +4,9 @@ use Rattle.near_tree.specs.Sites.{leaf_of}
 use Rattle.near_tree.proofs.Standing.{stands_all, stands_nowhere}
 use Rattle.near_tree.proofs.site.Site.stands_for.Goals as goal
 
+pub returns-then-plainly_stands : goal.returns-then-plainly_stands
+returns-then-plainly_stands c = (λ is. c.plainly_stands.ensures c.if-plainly_stands.true, λ stands. refl)
+
 pub returns-then-not-is_served : goal.returns-then-not-is_served
 returns-then-not-is_served c = (
   λ is. absurd (false≢true is),

@@ -1,6 +1,6 @@
 use Rattle.dominance.proofs.Pieces.{last_level-get_or}
 use Rattle.piece_fn.proofs.Walks.{some_point}
-use Rattle.near_proof.proofs.coverage.last_level.Goals as goal
+use Rattle.near_proof.proofs.asking.last_level.Goals as goal
 
 pub returns-clause-value : goal.returns-clause-value
 returns-clause-value c =

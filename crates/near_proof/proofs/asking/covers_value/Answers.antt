@@ -1,10 +1,10 @@
 use Rattle.std.proofs.Common.{◌+◌, arith, inl, inr}
 use Rattle.std.proofs.lemmas.Bool.{cases_lt}
 use Rattle.piece_fn.proofs.Levels.{first_is_least, first-level_times, is_level, level_is}
-use Rattle.near_proof.proofs.coverage.Asked.covers_value.Goals as goal
+use Rattle.near_proof.proofs.asking.covers_value.Goals as goal
 
 pub loop-to-init : goal.loop-to-init
-loop-to-init c =
+loop-to-init g c =
     let value = c.args.value.now in
     let are = c.last_level-last.ensures.valid in
     let begin = first-level_times value in
@@ -15,7 +15,7 @@ loop-to-init c =
     }
 
 pub returns-then-to-last-clause-covered : goal.returns-then-to-last-clause-covered
-returns-then-to-last-clause-covered c _ y is =
+returns-then-to-last-clause-covered g c _ y is =
     let value = c.args.value.now in
     let are = c.last_level-last.ensures.valid in
     let inside = level_is value y are is in
@@ -25,7 +25,7 @@ returns-then-to-last-clause-covered c _ y is =
     ]
 
 pub loop-to-preserved : goal.loop-to-preserved
-loop-to-preserved c =
+loop-to-preserved g c =
     let value = c.args.value.now in
     let are = c.last_level-last.ensures.valid in
     let last = c.last_level-last.ensures.value in

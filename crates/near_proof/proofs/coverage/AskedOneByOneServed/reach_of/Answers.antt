@@ -6,7 +6,7 @@ use Rattle.label_steps.specs.Covering.{IsCoveredTo}
 use Rattle.label_index.proofs.Options.{some_map}
 use Rattle.near_proof.specs.Targets.{Asking, covers, covers_by}
 use Rattle.near_proof.proofs.CoveredStates.{covered_by_one}
-use Rattle.near_proof.proofs.coverage.Asked.reach_of.Goals as goal
+use Rattle.near_proof.proofs.coverage.AskedOneByOneServed.reach_of.Goals as goal
 
 pub returns : goal.returns
 returns c =

@@ -1,14 +1,13 @@
 use Rattle.std.proofs.Common.{ℕ, ◌-◌, ◌<◌}
 use Rattle.dominance.specs.LevelTimes.{IsLevel, time_at}
 use Rattle.piece_fn.specs.PieceFn.{level_times}
-use Rattle.near_proof.specs.Targets.{covers}
-use Rattle.near_proof.proofs.coverage.Asked.covers_value.Given as goal
+use Rattle.near_proof.proofs.asking.covers_value.Given as goal
 
 abbrev pub invariant-loop-to : goal.invariant-loop-to
-invariant-loop-to l = record {
+invariant-loop-to g l = record {
   level : IsLevel (level_times l.value) l.level;
-  covered : (y : ℕ) → IsLevel (level_times l.value) y → y < l.level → covers l.self y (time_at (level_times l.value) y);
+  covered : (y : ℕ) → IsLevel (level_times l.value) y → y < l.level → g.A.Covering.covers l.asked y (time_at (level_times l.value) y);
 }
 
 abbrev pub decreases-loop-to : goal.decreases-loop-to
-decreases-loop-to l = l.last - l.level
+decreases-loop-to g l = l.last - l.level
