@@ -19,3 +19,4 @@ pub mod NodeLoops
 pub mod LeafFits
 pub mod RangeLoops
 pub mod WholeReading
+pub mod BoundLaws

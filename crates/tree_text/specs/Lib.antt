@@ -7,3 +7,6 @@ pub mod TreeIn
 pub mod Standing
 pub mod Ways
 pub mod VerdictText
+pub mod BoundProofs
+pub mod BoundTexts
+pub mod BoundVerdicts
