@@ -7,7 +7,7 @@ pub struct ListPlan {
     pub layers: usize,
     /// So many labels are too many, those included that turn out to be needless.
     pub most_labels: usize,
-    /// Whether labels are made stronger, by which lists get about half as long.
+    /// Whether labels are made stronger, by which lists get a third to a half as long.
     pub strengthens: bool,
 }
 
@@ -21,7 +21,7 @@ impl ListPlan {
         }
     }
 
-    /// A longer list, in little time.
+    /// A list two to three times as long, in about half the time. Judging it takes longer.
     pub fn quick() -> ListPlan {
         ListPlan {
             layers: 60,
