@@ -1,0 +1,150 @@
+//! How much more a label may have earned so that its steps stay covered. No clause rests on this.
+
+use crate::home::home_room;
+use crate::lister::Lister;
+use crate::sizes::{MOST_ROOM, room_in, sum, weighted};
+use crate::values::time_from;
+use crate::wanted::Wanted;
+use near_search::{Entry, NearLabel, NearState};
+use std::alloc::{AllocError, Global};
+
+impl Lister<'_, '_> {
+    /// How much more a vehicle may have earned so that labels cover all that its steps lead to, and
+    /// no way home earns; `None` where they don't as it is.
+    pub(crate) fn room(
+        &mut self,
+        alloc: Global,
+        state: &NearState,
+    ) -> Result<Option<i64>, AllocError> {
+        let Some(mut room) = home_room(self.query, state) else {
+            return Ok(None);
+        };
+        for to in 0..self.query.ground().depot() {
+            match self.room_at(alloc, state, to, room)? {
+                Some(less) => room = room.min(less),
+                None => return Ok(None),
+            }
+        }
+        Ok(Some(room))
+    }
+
+    /// The same of a vehicle whose steps are covered, 0 where that isn't found.
+    pub(crate) fn rise(&mut self, alloc: Global, state: &NearState) -> Result<i64, AllocError> {
+        let mut room = home_room(self.query, state).unwrap_or(0);
+        for to in 0..self.query.ground().depot() {
+            if room == 0 {
+                break;
+            }
+            let less = self.room_at(alloc, state, to, room)?;
+            room = room.min(less.unwrap_or(0));
+        }
+        Ok(room)
+    }
+
+    /// The same for the steps to a place, where no more than `most` is of use.
+    pub(crate) fn room_at(
+        &mut self,
+        alloc: Global,
+        state: &NearState,
+        to: usize,
+        most: i64,
+    ) -> Result<Option<i64>, AllocError> {
+        let mut room = most;
+        let mut states = self.query.steps(alloc, state, to)?;
+        for _ in 0..states.len() {
+            let Some(behind) = states.pop() else {
+                break;
+            };
+            match self.room_of(&behind, room)? {
+                Some(less) => room = room.min(less),
+                None => return Ok(None),
+            }
+        }
+        Ok(Some(room))
+    }
+
+    /// How much more a vehicle may have earned so that labels cover it; `None` where none do.
+    fn room_of(&mut self, state: &NearState, most: i64) -> Result<Option<i64>, AllocError> {
+        if most > 0 {
+            let best = self.best_single(state, most);
+            if best >= 0 {
+                return Ok(Some(best));
+            }
+        }
+        if self.covers(state)? {
+            Ok(Some(0))
+        } else {
+            Ok(None)
+        }
+    }
+
+    /// The most by which a vehicle may have earned more so that a single label covers it, where
+    /// `most` is enough; below 0 where none does.
+    fn best_single(&self, state: &NearState, most: i64) -> i64 {
+        let mut best = -1;
+        let Some(wanted) = Wanted::of(&self.labels, self.query.terms(), state) else {
+            return best;
+        };
+        let groups = self.labels.groups(state.place);
+        for group in groups.iter().take(wanted.group.saturating_add(1)).rev() {
+            best = best_in(self.labels.all(), &wanted, group, best, most);
+            if best >= most {
+                break;
+            }
+        }
+        best
+    }
+}
+
+/// The same of the labels of a group, where one is known.
+fn best_in(all: &[NearLabel], wanted: &Wanted<'_>, group: &[Entry], known: i64, most: i64) -> i64 {
+    let mut best = known;
+    for entry in group {
+        if sum(i128::from(entry.cost), i128::from(best.max(0))) > wanted.cost || best >= most {
+            break;
+        }
+        if wanted.admits(entry, wanted.top) {
+            if let Some(label) = wanted.fitting(all, entry) {
+                best = best.max(single_room(label, wanted));
+            }
+        }
+    }
+    best
+}
+
+/// By how much a vehicle may have earned more so that a label covers it; below 0 where it doesn't.
+fn single_room(label: &NearLabel, wanted: &Wanted<'_>) -> i64 {
+    let own = least_room(label, wanted, label.state.value.points());
+    if own < 0 {
+        return own;
+    }
+    own.min(least_room(label, wanted, wanted.state.value.points()))
+}
+
+/// The same at the levels of points alone.
+fn least_room(label: &NearLabel, wanted: &Wanted<'_>, points: &[(u64, u64)]) -> i64 {
+    let mut room = MOST_ROOM;
+    for (level, _) in points {
+        if *level >= wanted.first && *level <= wanted.top {
+            room = room.min(room_there(label, wanted, *level));
+        }
+    }
+    room
+}
+
+/// The same at a level alone.
+fn room_there(label: &NearLabel, wanted: &Wanted<'_>, level: u64) -> i64 {
+    let own = time_from(&label.state.value, level);
+    let its = time_from(&wanted.state.value, level);
+    let (Some(own), Some(its)) = (own, its) else {
+        return -1;
+    };
+    let Some(earlier) = its.checked_sub(own) else {
+        return -1;
+    };
+    let Ok(earlier) = i64::try_from(earlier) else {
+        return -1;
+    };
+    let paid = i128::from(label.state.earned) - i128::from(wanted.state.earned);
+    room_in(sum(weighted(wanted.weight(), earlier), paid))
+}

@@ -1,0 +1,154 @@
+//! Labels that stand for all vehicles of a layer from which no way home earns. No clause rests on
+//! this.
+
+use crate::sizes::{owing, weighted, with_rest};
+use crate::values::line_from;
+use customer_sets::LargeSet;
+use near_completion::{Last, Rest, WayTable};
+use near_search::{NearQuery, NearState, fold};
+use std::alloc::{AllocError, Global};
+
+/// How many numbers a set takes.
+const MOST: usize = 448;
+
+/// A vehicle from which no way home may earn, by a table.
+#[derive(Clone, Copy)]
+struct Hopeless<'s> {
+    query: &'s NearQuery<'s>,
+    table: &'s WayTable,
+    state: &'s NearState,
+    lateness: i64,
+    layer: usize,
+    never_loses: bool,
+}
+
+/// What a label has that stands for all of its layer.
+#[derive(Clone, Copy)]
+struct Common {
+    class: usize,
+    memory: LargeSet,
+    earned: i64,
+    early: u64,
+}
+
+/// The label that stands for all vehicles at a place in a layer from which no way home earns, where
+/// a vehicle is one of them: at a station after anybody, if it may be.
+pub(crate) fn tabled(
+    alloc: Global,
+    query: &NearQuery<'_>,
+    never_loses: bool,
+    state: &NearState,
+) -> Result<Option<NearState>, AllocError> {
+    let Some(hopeless) = hopeless_of(query, never_loses, state) else {
+        return Ok(None);
+    };
+    let Some(common) = hopeless.common() else {
+        return Ok(None);
+    };
+    let Some(value) = line_from(alloc, query.ground(), common.early)? else {
+        return Ok(None);
+    };
+    Ok(Some(NearState {
+        place: state.place,
+        class: common.class,
+        memory: common.memory,
+        folded: fold(common.memory, query.terms().customers()),
+        earned: common.earned,
+        value,
+    }))
+}
+
+/// What is asked of a vehicle; `None` where there is no whole table, or it is past its horizon.
+fn hopeless_of<'s>(
+    query: &'s NearQuery<'s>,
+    never_loses: bool,
+    state: &'s NearState,
+) -> Option<Hopeless<'s>> {
+    let table = query.table()?;
+    if !table.is_whole() {
+        return None;
+    }
+    let lateness = query.lateness(&state.value)?;
+    let layer = table.layer(lateness)?;
+    Some(Hopeless {
+        query,
+        table,
+        state,
+        lateness,
+        layer,
+        never_loses,
+    })
+}
+
+impl Hopeless<'_> {
+    /// What the label has that stands for the vehicle's layer, if no way home earns.
+    fn common(&self) -> Option<Common> {
+        if !self.query.ground().is_customer(self.state.place) {
+            let anybody = self.query.terms().class_of(Last::Anybody);
+            if let Some(common) = self.common_after(anybody) {
+                return Some(common);
+            }
+        }
+        self.common_after(self.state.class)
+    }
+
+    /// The same, after a class.
+    fn common_after(&self, class: usize) -> Option<Common> {
+        let rest = self.rest(class, self.state.memory)?;
+        let weight = self.query.terms().weight();
+        let owed = owing(weighted(weight, self.lateness), self.state.earned);
+        if with_rest(owed, rest.least) < 0 {
+            return None;
+        }
+        let early = self.early(rest.least)?;
+        let paid = weighted(weight, i64::try_from(early).ok()?);
+        let earned = i64::try_from(with_rest(paid, rest.least)).ok()?;
+        Some(Common {
+            class,
+            memory: self.memory(class, rest)?,
+            earned,
+            early,
+        })
+    }
+
+    /// What is known of the ways home after a class that leave out those in a memory.
+    fn rest(&self, class: usize, memory: LargeSet) -> Option<Rest> {
+        self.table.rest(self.state.place, class, self.layer, memory)
+    }
+
+    /// The least lateness of the layer; where nobody has earned less than nothing, that from which
+    /// no way home earns even so, if that is later.
+    fn early(&self, rest: i64) -> Option<u64> {
+        let least = self.table.latest(self.layer)?;
+        if !self.never_loses || rest >= 0 {
+            return Some(least);
+        }
+        let weight = u64::from(self.query.terms().weight());
+        if weight == 0 {
+            return None;
+        }
+        Some(least.max(rest.unsigned_abs().div_ceil(weight)))
+    }
+
+    /// Whom the label remembers: nobody whom the least of ways doesn't pass by.
+    fn memory(&self, class: usize, rest: Rest) -> Option<LargeSet> {
+        let mut memory = LargeSet::empty();
+        if self.query.ground().is_customer(self.state.place) {
+            memory = with(memory, self.state.place);
+        }
+        let of_all = self.rest(class, LargeSet::empty())?;
+        match rest.known {
+            Some(known) if of_all.least != rest.least => Some(with(memory, known)),
+            _ => Some(memory),
+        }
+    }
+}
+
+/// A set with a customer, if sets take his number.
+fn with(set: LargeSet, customer: usize) -> LargeSet {
+    if customer < MOST {
+        set.with(customer)
+    } else {
+        set
+    }
+}
