@@ -30,3 +30,4 @@ pub mod SiteFits
 pub mod Standing
 pub mod Judged
 pub mod Alike
+pub mod ZeroTrees

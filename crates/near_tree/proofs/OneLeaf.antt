@@ -68,7 +68,7 @@ total_is (price ∷ prices) =
     omega (arith, ints, rest, more)
 
 -- the lasts of labels
-last_of_customer : (g : Network) (x : ℕ) → is_customer g x ≡ true → last_at g x ≡ after (place_of g x)
+pub last_of_customer : (g : Network) (x : ℕ) → is_customer g x ≡ true → last_at g x ≡ after (place_of g x)
 last_of_customer g x is = rw is refl
 
 none_here : (c : Option (List (ℕ × ℕ))) → IsSome c → is_none c ≡ false
@@ -80,10 +80,10 @@ no_customer g x some =
     let none = none_here (curve_at g x) some in
     grind (arith, none)
 
-last_of_station : (g : Network) (x : ℕ) → IsSome (curve_at g x) → last_at g x ≡ anybody
+pub last_of_station : (g : Network) (x : ℕ) → IsSome (curve_at g x) → last_at g x ≡ anybody
 last_of_station g x some = rw (no_customer g x some, none_here (curve_at g x) some) refl
 
-stands_at_depot : (g : Network) (s : NearSection) → StandsFor g whole s (last_at g 0) (after 0)
+pub stands_at_depot : (g : Network) (s : NearSection) → StandsFor g whole s (last_at g 0) (after 0)
 stands_at_depot g s = elim (cases_Bool (is_none (curve_at g 0))) [
   | inl none ↦
       let is : last_at g 0 ≡ after 0 = rw none refl in

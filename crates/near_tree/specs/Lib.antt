@@ -24,3 +24,4 @@ pub mod Judging
 pub mod AskedInside
 pub mod Verdicts
 pub mod Walks
+pub mod Zero

@@ -22,6 +22,7 @@ mod proof;
 mod site;
 mod steps;
 mod verdict;
+mod zero;
 
 pub use check::check_tree;
 pub use examples::{
@@ -35,3 +36,4 @@ pub use laws::{
 };
 pub use proof::{LastServed, LeafSection, SectionLabel, TreeNode, TreeProof};
 pub use verdict::TreeVerdict;
+pub use zero::zero_tree;
