@@ -7,11 +7,12 @@ It draws small instances, lets PROGRAM (a built evroute) write plans,
 certificates and proofs of them, changes these files and the instances in many
 ways, and asks PROGRAM and evjudge.py about each. Status and printed text have
 to be the same; of words that are no job, only the status, since each has a
-usage text of its own. There are N cases of each of five kinds, or of one:
-check, check-bound, check-route, check-mixed and gap-check. The last is asked
+usage text of its own. There are N cases of each of six kinds, or of one:
+check, check-bound, check-route, check-mixed, gap-check, and gap-check-tree,
+which is gap-check of a tree that tree_maker.py draws. The last two are asked
 of a built evgap: the one that --gap names, or else crates/evgap/out/evgap
 where PROGRAM is crates/evroute/out/evroute, or evgap beside PROGRAM; where it
-isn't there, this kind is left out. The same seed draws the same cases, unless
+isn't there, they are left out. The same seed draws the same cases, unless
 a program takes too long to write a file: then another instance is drawn.
 
 It prints how often each answer came, and the files of each difference are
@@ -33,6 +34,7 @@ from collections import Counter
 from typing import Callable, NamedTuple, Optional
 
 import evjudge
+import tree_maker
 
 # How long PROGRAM may take to judge, and to write.
 JUDGE_SECONDS = 300
@@ -344,6 +346,17 @@ def draw_gap(draw: Random, program: Program) -> Case:
     return Case(["gap-check", "file", "plan", "cert"], files)
 
 
+def draw_tree(draw: Random, program: Program) -> Case:
+    """A plan, and a tree in place of a near proof."""
+    files = {"file": text_of(draw_instance(draw, most_customers=5))}
+    words = ["plan", "file", "plan", "cert", "--seconds", "0"]
+    files = program.written(words, files).files
+    instance = evjudge.read_instance(files["file"])
+    files["cert"] = tree_maker.tree_text(draw, instance).encode()
+    files.setdefault("plan", b"evroute plan 1\nnone\n")
+    return Case(["gap-check", "file", "plan", "cert"], files)
+
+
 Drawing = Callable[[Random, Program], Case]
 KINDS: dict[str, Drawing] = {
     "check": draw_fleet,
@@ -351,6 +364,7 @@ KINDS: dict[str, Drawing] = {
     "check-route": draw_route,
     "check-mixed": draw_mixed,
     "gap-check": draw_gap,
+    "gap-check-tree": draw_tree,
 }
 
 
@@ -600,6 +614,101 @@ def change_routes(draw: Random, text: bytes) -> Optional[bytes]:
     return b"".join(lines)
 
 
+# The lines of a leaf of a tree.
+LEAF = re.compile(rb"(?m)^leaf\n(?:(?:section|prices|near|entry|label)\b.*\n)*")
+BRANCH = re.compile(rb"(?m)^(?:split|entries) .*\n")
+
+
+def draw_branch_line(draw: Random) -> bytes:
+    """The line of a branch of a tree, whose customers are near the least."""
+    nodes = [draw.randint(1, 6) for _ in range(3)]
+    if draw.random() < 0.5:
+        return b"split %d %d\n" % (nodes[0], nodes[1])
+    members = b",".join(b"%d" % node for node in sorted(set(nodes)))
+    return b"entries %d %s\n" % (draw.randint(0, 3), members)
+
+
+def change_branch(draw: Random, text: bytes) -> Optional[bytes]:
+    """Another branch of a tree, or its two customers exchanged."""
+    places = list(BRANCH.finditer(text))
+    if not places:
+        return None
+    found = draw.choice(places)
+    words = found.group().split()
+    line = draw_branch_line(draw)
+    if words[0] == b"split" and draw.random() < 0.5:
+        line = b"split %s %s\n" % (words[2], words[1])
+    return text[: found.start()] + line + text[found.end() :]
+
+
+def branch_leaf(draw: Random, text: bytes) -> Optional[bytes]:
+    """A leaf of a tree becomes a branch with two leaves of the same lines,
+    with an entry price more where a set is counted there."""
+    leaves = list(LEAF.finditer(text))
+    if not leaves:
+        return None
+    found = draw.choice(leaves)
+    line, leaf = draw_branch_line(draw), found.group()
+    if line.startswith(b"entries") and draw.random() < 0.8:
+        place = leaf.find(b"label ")
+        price = b"entry %d\n" % draw.choice([0, 0, 1, -1])
+        leaf = leaf[:place] + price + leaf[place:]
+    return text[: found.start()] + line + leaf + leaf + text[found.end() :]
+
+
+def exchange_leaves(draw: Random, text: bytes) -> Optional[bytes]:
+    leaves = list(LEAF.finditer(text))
+    if len(leaves) < 2:
+        return None
+    one, other = sorted(draw.sample(range(len(leaves)), 2))
+    first, second = leaves[one], leaves[other]
+    return (
+        text[: first.start()]
+        + second.group()
+        + text[first.end() : second.start()]
+        + first.group()
+        + text[second.end() :]
+    )
+
+
+def change_last(draw: Random, text: bytes) -> Optional[bytes]:
+    """A label's last is another one, there is one more, or one less."""
+    lines = lines_of(text)
+    labels = [i for i, x in enumerate(lines) if x.startswith(b"label ")]
+    if not labels:
+        return None
+    lasts = [i for i in labels if len(lines[i].split()) > 5] or labels
+    place = draw.choice(draw.choice([labels, lasts]))
+    words = lines[place].split()
+    last = draw.choice([b"*", b"*", b"0", b"1", b"2", b"3", b"-"])
+    kind = draw.randrange(4)
+    words[2 : 2 if kind == 0 else 3] = [] if kind == 1 else [last]
+    lines[place] = b" ".join(words) + b"\n"
+    return b"".join(lines)
+
+
+def change_set(draw: Random, text: bytes) -> Optional[bytes]:
+    """A customer more or less in a set of a line."""
+    places = list(re.finditer(rb"(?<= )(?:-|[0-9]+(?:,[0-9]+)*)(?=[ \n])", text))
+    if not places:
+        return None
+    found = draw.choice(places)
+    own = {int(node) for node in found.group().split(b",") if node != b"-"}
+    own ^= {draw.randint(1, 6)}
+    members = b",".join(b"%d" % node for node in sorted(own)) or b"-"
+    return text[: found.start()] + members + text[found.end() :]
+
+
+def change_sign(draw: Random, text: bytes) -> Optional[bytes]:
+    """A number below 0 that was above it, or the other way round."""
+    places = list(re.finditer(rb"(?<= )-?[0-9]+(?=[ \n])", text))
+    if not places:
+        return None
+    found = draw.choice(places)
+    number = b"%d" % -int(found.group())
+    return text[: found.start()] + number + text[found.end() :]
+
+
 def respell_number(draw: Random, text: bytes) -> Optional[bytes]:
     """A number in a spelling that isn't read, or out of every range."""
     places = list(NUMBER.finditer(text))
@@ -751,6 +860,10 @@ MEANING_CHANGES: list[Change] = [
     drop_label, exchange_labels, change_number, change_label, scale_section,
     raise_price, forget_bound, forbid_pair, split_leaf, change_stop,
 ]  # fmt: skip
+TREE_CHANGES: list[Change] = [
+    *MEANING_CHANGES[:6], change_branch, branch_leaf, exchange_leaves,
+    change_last, change_last, change_set, change_sign, forget_bound,
+]  # fmt: skip
 PLAN_CHANGES: list[Change] = [
     change_stop, change_stop, change_stop, change_routes, change_routes,
     change_number,
@@ -783,10 +896,18 @@ def changed_texts(draw: Random, case: Case) -> Case:
     is_text = draw.random() < 0.4
     for _ in range(draw.choice([1, 1, 1, 2])):
         name = draw.choice(names)
-        changes = PLAN_CHANGES if name == "plan" else MEANING_CHANGES
+        changes = changes_of(name, case.files[name])
         change = draw.choice(TEXT_CHANGES if is_text else changes)
         case = changed_file(draw, case, name, change)
     return case
+
+
+def changes_of(name: str, text: bytes) -> list[Change]:
+    """The changes that leave a plan or a proof a text, more often than not."""
+    if name == "plan":
+        return PLAN_CHANGES
+    is_tree = text.startswith(evjudge.TREE_HEAD)
+    return TREE_CHANGES if is_tree else MEANING_CHANGES
 
 
 def changed_instance(draw: Random, case: Case) -> Case:
@@ -884,9 +1005,9 @@ def name_of(answer: tuple[int, str]) -> str:
     return f"{status} {' '.join(shown)}"
 
 
-def keep(case: Case, number: int, kept: str) -> str:
+def keep(case: Case, kind: str, number: int, kept: str) -> str:
     """Leaves the files of a case in a folder of its own."""
-    folder = os.path.join(kept, f"{case.words[0]}-{number}")
+    folder = os.path.join(kept, f"{kind}-{number}")
     os.makedirs(folder)
     for name, text in case.files.items():
         with open(os.path.join(folder, name), "wb") as file:
@@ -922,7 +1043,7 @@ def compare_kind(
         answers[name_of(said)] += 1
         if not are_same(said, own):
             differences += 1
-            folder = keep(case, number, kept)
+            folder = keep(case, kind, number, kept)
             print(f"{folder}: {case.words}\n  program {said}\n  judge {own}")
     print(f"{kind}: {cases} cases, {differences} differences")
     for answer, count in sorted(answers.items()):
@@ -953,7 +1074,7 @@ def main() -> int:
     with tempfile.TemporaryDirectory() as folder:
         for kind in [words.kind] if words.kind else KINDS:
             path = words.program
-            if kind == "gap-check":
+            if kind.startswith("gap-check"):
                 path = words.gap or gap_program(path)
                 if not os.path.exists(path):
                     print(f"{kind}: left out, since there is no {path}")

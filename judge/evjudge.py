@@ -2548,28 +2548,24 @@ def agree(one: Instance, other: Instance) -> bool:
 TREE_HEAD = b"evroute near tree "
 
 
-def is_tree(name: str) -> bool:
-    """Whether a file that can be read begins as a tree over near routes."""
-    try:
-        return first_bytes(name, len(TREE_HEAD)).startswith(TREE_HEAD)
-    except OSError:
-        return False
+def bound_proof_in(
+    name: str, instance: Instance
+) -> Union[NearTree, NearProof]:
+    """The tree over near routes of a file that begins as one, and else the
+    near proof, of an instance without too many customers."""
+    text = first_bytes(name, MOST_CERTIFICATE_BYTES)
+    if text.startswith(TREE_HEAD):
+        return read_proof(text, [instance], near_tree_in)
+    refuse_many_customers(instance)
+    return read_proof(text, [instance], near_proof_in)
 
 
 def gap_check(names: list[str], options: Options) -> list[str]:
-    """What `evgap check` says; and of trees over near routes besides, which
-    may have more customers."""
+    """What `evgap check` says of a plan and of a proof of either kind."""
     file, plan, proof = names
     instance = instance_in(file, options.limit)
-    has_tree = is_tree(proof)
-    if not has_tree:
-        refuse_many_customers(instance)
     routes = read_plan(first_bytes(plan, MOST_PLAN_BYTES))
-    shown: Union[NearTree, NearProof]
-    if has_tree:
-        shown = proof_in(proof, [instance], near_tree_in)
-    else:
-        shown = proof_in(proof, [instance], near_proof_in)
+    shown = bound_proof_in(proof, instance)
     cost = None if routes is None else judge_plan([instance], routes)
     if isinstance(shown, NearTree):
         judge_tree(instance, shown)

@@ -83,6 +83,56 @@ label 1 1 1 43 5:22 6:23 8:35
 tight 0 v2+1 1 0
 """
 
+# Three customers, of whom two on one route take 11 and one alone 8; within 11.
+COUNTED_TREE = """\
+evroute near tree 1
+bound 19
+entries 1 1,2,3
+leaf
+section 0 10
+prices 1 1 1
+near 1
+near 2
+near 3
+entry -2
+label 0 - 0 10:0
+label 1 1 -1 9:4
+label 2 2 -1 9:4
+label 3 3 -1 9:4
+label 1 1 0 8:7
+label 2 2 0 8:7
+label 3 3 0 8:7
+label 1 1 1 7:10
+label 2 2 1 7:10
+label 3 3 1 7:10
+leaf
+section 1 4
+prices 3 3 3
+near 1
+near 2
+near 3
+entry 5
+label 0 - 0 10:0
+label 1 1 8 9:4
+label 2 2 8 9:4
+label 3 3 8 9:4
+"""
+
+# The least route of the instance with one station, with a label for each last at the station.
+STATION_TREE = """\
+evroute near tree 1
+bound 43
+leaf
+section 1 5
+prices 43
+near 1
+label 2 * 1 43 2:26 8:32 10:44
+label 1 1 43 5:22 6:23 8:35
+label 1 1 43 4:20
+label 2 * - 0 7:16 8:17 10:29
+label 0 - 0 10:0
+"""
+
 # For two kinds, of which the second is nearer to the first customer; within 12.
 TWO_KINDS_PROOF = """\
 evroute mixed 1
@@ -164,6 +214,34 @@ NEAR_PROOF = [
     ("near 1\nlabel", "near -\nlabel", "2 at 51"),
     ("section 1 5", "section 2 5", "2 at 32"),
     ("tight 0", "tigh 0", "1 at 183"),
+]
+
+# The same of trees, for three customers and for one and a station.
+TREE_TEXT = [
+    ("tree 1", "tree 2", "3"),
+    ("tree 1", "tree one", "1 at 0"),
+    ("bound 19", "bound 019", "1 at 26"),
+    ("entries 1 1,2,3", "entries 0 1,2,3", "2 at 37"),
+    ("entries 1 1,2,3", "entries 3 1,2,3", "2 at 37"),
+    ("entries 1 1,2,3", "entries 4 1,2,3", "2 at 37"),
+    ("entries 1 1,2,3", "entries 1 -", "2 at 39"),
+    ("entries 1 1,2,3", "entries 1 1,3,2", "2 at 43"),
+    ("entries 1 1,2,3", "split 1 1", "2 at 37"),
+    ("entries 1 1,2,3", "split 1 4", "2 at 37"),
+    ("leaf", "leaf 0", "1 at 45"),
+    ("section 0 10", "section 0 9", "1 at 255"),
+    ("prices 1 1 1", "prices 1 -0 1", "2 at 72"),
+    ("near 1", "near 2", "2 at 81"),
+    ("entry -2\n", "", "1 at 97"),
+    ("label 1 1 -1 9:4", "label 1 1 1 -1 9:4", "1 at 135"),
+    ("9:4", "11:4", "2 at 136"),
+]
+STATION_TREE_TEXT = [
+    ("2 * 1", "2 1 1", "accepted"),
+    ("2 * 1", "2 2 1", "refused certificate 2 at 71"),
+    ("2 * 1", "2 1", "refused certificate 2 at 73"),
+    ("1 1 43 5", "1 * 1 43 5", "refused certificate 1 at 102"),
+    ("1 1 43 5", "1 1 44 5", "rejected tree 3 leaf 0 label 1"),
 ]
 
 # The same of a proof for two kinds.
@@ -496,6 +574,19 @@ NEAR_SHOWN = [
     ("label 1 1 1 43 4:20", "label 1 1 1 43 3:20", "rejected near 2 label 0 node 1"),
     ("label 1 1 1 43 5:22", "label 1 1 1 44 5:22", "rejected near 3 label 4"),
     ("v2+1", "v2+2", "rejected near 5 customer 1"),
+]
+
+# What a tree shows, or the first rule that it breaks.
+TREE_SHOWN = [
+    ("bound 19", "bound 19", "accepted\ncost 19/1\nbound 19/1\ngap 0/1\ngap 0.00 %"),
+    ("bound 19", "bound 18", "accepted\ncost 19/1\nbound 18/1\ngap 1/1\ngap 5.56 %"),
+    ("bound 19", "bound 20", "rejected tree 4 leaf 1"),
+    ("bound 19", "bound none", "rejected tree 4 leaf 1"),
+    ("entries 1", "entries 2", "rejected tree 4 leaf 0"),
+    ("0 - 0 10:0", "0 - 0 9:0", "rejected tree 1 leaf 0"),
+    ("label 2 2 8 9:4", "label 2 2 8 8:4", "rejected tree 2 leaf 1 label 0 node 2"),
+    ("label 3 3 8 9:4", "label 3 3 9 9:4", "rejected tree 2 leaf 1 label 3 node 1"),
+    ("prices 3 3 3", "prices 3 3 2", "rejected tree 4 leaf 1"),
 ]
 
 # For two kinds within 12: each customer is served by the kind that is nearer.

@@ -5,6 +5,7 @@ mod commands;
 mod deadline;
 mod meaning;
 mod progress;
+mod trees;
 
 use deadline::Deadline;
 use ev_outside::{FileShelf, OutSink};

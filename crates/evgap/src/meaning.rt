@@ -1,6 +1,7 @@
 //! What people are told that a cause means, and the files that a job reads and writes, by name.
 
 use crate::commands::COMMANDS;
+use crate::trees::rejected_tree;
 use evgap_run::Cause;
 use gap_words::Job;
 pub(crate) use plain_words::Failed;
@@ -11,6 +12,7 @@ use plain_words::{
 use proof_words::{rejected_near, told_reach};
 use std::alloc::{AllocError, Global};
 use std::rt::Files;
+use tree_text::BoundVerdict;
 
 /// What people are told behind a job that put a text: which word is wrong, what its cause means,
 /// which customer is out of reach, or that the proof is too long to be read again. `words` stand
@@ -70,11 +72,19 @@ fn meaning_of(cause: Cause) -> Option<Sentence> {
         Cause::Words | Cause::NoFleet => None,
         Cause::Refused(refusal) => refused(refusal),
         Cause::Plan(fault) => Some(rejected_plan(fault)),
-        Cause::Near(verdict) => rejected_near(verdict),
+        Cause::Proof(verdict) => rejected_proof(verdict),
         Cause::Alone(node) => Some(Sentence::one(
             "{FILE}: no route of its own serves customer {1} within the limit",
             node,
         )),
+    }
+}
+
+/// What the broken rule of a proof of a bound means.
+fn rejected_proof(verdict: BoundVerdict) -> Option<Sentence> {
+    match verdict {
+        BoundVerdict::Near(verdict) => rejected_near(verdict),
+        BoundVerdict::Tree(verdict) => rejected_tree(verdict),
     }
 }
 

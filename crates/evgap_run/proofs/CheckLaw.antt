@@ -1,38 +1,41 @@
 -- The causes of the statuses of `check` exclude each other.
-use Rattle.std.proofs.Common.{◌≡◌, ◌∙◌, ◌⊎◌, ℕ, List, [], ◌∷◌, Option, Err, inl, inr, subst, sym}
+use Rattle.std.proofs.Common.{◌≡◌, ◌∙◌, ◌⊎◌, ℕ, List, [], ◌∷◌, Option, inl, inr, subst, sym}
+use Rattle.std.proofs.lemmas.Bool.{false≢true}
 use Rattle.ev_model.specs.Network.{Network}
-use Rattle.ev_text.proofs.Results.{Err-ne-Ok}
-use Rattle.fleet_steps.proofs.Instances.{fleet_refused_not, same_fleet}
-use Rattle.near_steps.proofs.Nears.{accepted_keeps, one_near}
-use Rattle.fleet_steps.proofs.Plans.{same_plan, valid_breaks_none}
-use Rattle.near_steps.specs.NearFile.{HasNear}
-use Rattle.fleet_steps.specs.PlanFile.{BreaksFirst}
+use Rattle.fleet_steps.proofs.PlanFiles as plans
+use Rattle.fleet_steps.proofs.Plans.{valid_breaks_none}
+use Rattle.fleet_steps.specs.PlanFile.{BreaksFirst, HasPlan, HoldsPlan}
 use Rattle.gap_words.specs.Words.{CheckGap}
 use Rattle.job_frame.proofs.OneStatus.{ExcludeEachOther, IsPlain, lawful, nothing_excludes}
 use Rattle.job_frame.specs.Lawful.{IsLawful}
 use Rattle.job_frame.specs.Task.{Outcome}
 use Rattle.job_frame.specs.declared.status.Status.{Status}
 use Rattle.job_frame.specs.declared.status.Status.TheVariants as status
-use Rattle.near_proof.specs.Verdicts.{IsVerdict}
-use Rattle.near_proof.specs.declared.proof.NearProof.{NearProof}
-use Rattle.near_text.specs.NearIn.{near_in}
-use Rattle.near_text.specs.Written.{written_near}
 use Rattle.refusal_lines.specs.RefusalText.{IsRule}
 use Rattle.refusal_lines.specs.declared.refusal.Refusal.{Refusal}
 use Rattle.refusal_lines.specs.declared.refusal.Refusal.TheVariants as refusal
-use Rattle.route_plan.proofs.PlanLaws.{fleet_plan_is_spelled}
 use Rattle.route_plan.specs.declared.plan.FleetPlan.{FleetPlan}
-use Rattle.evgap_run.specs.CheckAnswer.{CheckAnswers, Holds, IsCheckRefused, PutsAccepted, PutsBrokenPlan, PutsBrokenProof, check_answers, check_task}
+use Rattle.tree_text.proofs.BoundLaws.{accepted_keeps, no_fault, one_proof}
+use Rattle.tree_text.specs.BoundTexts.{HasProof, IsUnread}
+use Rattle.tree_text.specs.BoundVerdicts.{IsBoundVerdict}
+use Rattle.tree_text.specs.declared.bounds.proof.BoundProof.{BoundProof}
+use Rattle.tree_text.specs.declared.bounds.reading.BoundText.{BoundText}
+use Rattle.tree_text.specs.declared.bounds.reading.BoundText.TheVariants.{Customers, Text}
+use Rattle.evgap_run.specs.CheckAnswer.{CheckAnswers, Holds, IsCheckRefused, IsNoProof, PutsAccepted, PutsBrokenPlan, PutsBrokenProof, check_answers, check_task}
 
 module _ (limit : Option ℕ) (bytes plan_bytes proof_bytes : List ℕ) where
+  -- what the first two files hold
+  abbrev plan_held : Holds limit bytes plan_bytes proof_bytes → HoldsPlan limit bytes plan_bytes
+  plan_held h = record { network = h.network; plan = h.plan; has = h.fleet }
+
   same_network : (h k : Holds limit bytes plan_bytes proof_bytes) → k.network ≡ h.network
-  same_network h k = same_fleet limit bytes k.network h.network k.fleet.network h.fleet.network
+  same_network h k = plans.same_network limit bytes plan_bytes (plan_held h) (plan_held k)
 
   -- what is accepted has no broken plan
   accepted_plan : (text told : List ℕ) → PutsAccepted limit bytes plan_bytes proof_bytes text → PutsBrokenPlan limit bytes plan_bytes proof_bytes told → ⊥
   accepted_plan text told p q =
       let there = subst (λ (g : Network). BreaksFirst g q.files.plan q.fault) (same_network p.files q.files) q.broken in
-      let plan : q.files.plan ≡ p.files.plan = same_plan plan_bytes q.files.plan p.files.plan q.files.fleet.spelled p.files.fleet.spelled in
+      let plan : q.files.plan ≡ p.files.plan = plans.same_held limit bytes plan_bytes (plan_held p.files) (plan_held q.files) in
       let here = subst (λ (x : Option FleetPlan). BreaksFirst p.files.network x q.fault) plan there in
       valid_breaks_none p.files.network p.files.plan p.cost q.fault p.valid here
 
@@ -40,11 +43,11 @@ module _ (limit : Option ℕ) (bytes plan_bytes proof_bytes : List ℕ) where
   accepted_proof : (text told : List ℕ) → PutsAccepted limit bytes plan_bytes proof_bytes text → PutsBrokenProof limit bytes plan_bytes proof_bytes told → ⊥
   accepted_proof text told p q =
       let network = same_network p.files q.files in
-      let has = subst (λ (g : Network). HasNear g proof_bytes q.files.proof) network q.files.has in
-      let proof : q.files.proof ≡ p.files.proof = one_near p.files.network proof_bytes q.files.proof p.files.proof has p.files.has in
-      let there = subst (λ (g : Network). IsVerdict g q.files.proof q.found) network q.rejected in
-      let here = subst (λ (x : NearProof). IsVerdict p.files.network x q.found) proof there in
-      accepted_keeps p.files.network p.files.proof q.found p.accepted q.broken here
+      let has = subst (λ (g : Network). HasProof g proof_bytes q.files.proof) network q.files.has in
+      let proof : q.files.proof ≡ p.files.proof = one_proof p.files.network proof_bytes q.files.proof p.files.proof has p.files.has in
+      let there = subst (λ (g : Network). IsBoundVerdict g q.files.proof q.found) network q.rejected in
+      let here = subst (λ (x : BoundProof). IsBoundVerdict p.files.network x q.found) proof there in
+      false≢true (sym q.broken ∙ accepted_keeps p.files.network p.files.proof q.found p.accepted here)
 
   accepted_is_unbroken : (text told : List ℕ) → PutsAccepted limit bytes plan_bytes proof_bytes text
       → PutsBrokenPlan limit bytes plan_bytes proof_bytes told ⊎ PutsBrokenProof limit bytes plan_bytes proof_bytes told → ⊥
@@ -55,17 +58,19 @@ module _ (limit : Option ℕ) (bytes plan_bytes proof_bytes : List ℕ) where
   rejected_holds text (inl plan) = plan.files
   rejected_holds text (inr proof) = proof.files
 
+  -- a proof that they hold has no fault
+  read_has_no_fault : (h : Holds limit bytes plan_bytes proof_bytes) (fault : BoundText) → IsNoProof limit bytes plan_bytes proof_bytes fault → ⊥
+  read_has_no_fault h fault (g, plan, has, unread) =
+      let same = plans.same_network limit bytes plan_bytes (plan_held h) (record { network = g; plan = plan; has = has }) in
+      no_fault h.network proof_bytes h.proof fault h.has (subst (λ (x : Network). IsUnread x proof_bytes fault) same unread)
+
   -- what the files hold breaks no rule of a text
   refused_holds_not : (h : Holds limit bytes plan_bytes proof_bytes) (r : Refusal) → IsRule r → IsCheckRefused limit bytes plan_bytes proof_bytes r → ⊥
-  refused_holds_not h (refusal.Plan e) rule (g, other, fault) =
-      Err-ne-Ok e h.plan (sym fault ∙ (fleet_plan_is_spelled plan_bytes h.plan).1 h.fleet.spelled)
-  refused_holds_not h (refusal.Certificate e) rule (g, plan, fleet, fault) =
-      let same : g ≡ h.network = same_fleet limit bytes g h.network fleet.network h.fleet.network in
-      let none : near_in h.network proof_bytes ≡ Err e = subst (λ (x : Network). near_in x proof_bytes ≡ Err e) same fault in
-      Err-ne-Ok e (written_near h.network h.proof) (sym none ∙ h.has.read)
-  refused_holds_not h (refusal.Instance e) rule is = fleet_refused_not limit bytes h.network (refusal.Instance e) h.fleet.network rule is
-  refused_holds_not h (refusal.Limit given) rule is = fleet_refused_not limit bytes h.network (refusal.Limit given) h.fleet.network rule is
-  refused_holds_not h (refusal.Customers count) rule is = fleet_refused_not limit bytes h.network (refusal.Customers count) h.fleet.network rule is
+  refused_holds_not h (refusal.Customers count) rule is = read_has_no_fault h (Customers count) is
+  refused_holds_not h (refusal.Certificate e) rule is = read_has_no_fault h (Text e) is
+  refused_holds_not h (refusal.Instance e) rule is = plans.refused_holds_not limit bytes plan_bytes (plan_held h) (refusal.Instance e) rule is
+  refused_holds_not h (refusal.Limit given) rule is = plans.refused_holds_not limit bytes plan_bytes (plan_held h) (refusal.Limit given) rule is
+  refused_holds_not h (refusal.Plan e) rule is = plans.refused_holds_not limit bytes plan_bytes (plan_held h) (refusal.Plan e) rule is
   refused_holds_not h (refusal.Charge level) rule is = absurd is
   refused_holds_not h (refusal.Route e) rule is = absurd is
   refused_holds_not h (refusal.Literal e) rule is = absurd is

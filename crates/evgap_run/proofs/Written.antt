@@ -16,6 +16,9 @@ use Rattle.route_improve.specs.declared.improving.Improved.{Improved}
 use Rattle.route_improve.specs.declared.improving.Improved.TheVariants.{Alone, Plan}
 use Rattle.route_plan.specs.PlanTexts.{FitsFile, fleet_plan_text}
 use Rattle.route_plan.specs.declared.plan.RoutePlan.{RoutePlan}
+use Rattle.tree_text.proofs.BoundLaws.{proof_is_read}
+use Rattle.tree_text.specs.BoundTexts.{HasProof}
+use Rattle.tree_text.specs.declared.bounds.proof.BoundProof.TheVariants.{Near}
 use Rattle.evgap_run.specs.PlanAnswer.{AreAccepted}
 
 pub held_fits : (g : Network) (start : Option (List RoutePlan)) (held : Improved) → IsHeld g start held → FitsFile (plan_held held)
@@ -37,6 +40,13 @@ near_again g bytes p network limit file fleet proof is within =
       spelled = record { fits = proof.fits; kept = proof.kept; text = is };
     }
 
+-- also as a proof of either kind
+proof_again : (g : Network) (bytes : List ℕ) (p : NearProof) → IsNetwork g → (limit : Option ℕ) (file : List ℕ) → HasFleetNetwork limit file g → IsGapProof g p
+    → bytes ≡ near_text (written_near g p) → length bytes ≤ certificate.most_bytes → HasProof g bytes (Near p)
+proof_again g bytes p network limit file fleet proof is within =
+    let short = subst (λ (bs : List ℕ). length bs ≤ certificate.most_bytes) is within in
+    subst (λ (bs : List ℕ). HasProof g bs (Near p)) (sym is) (proof_is_read g network (Near p) (fleet.few, proof.fits) proof.kept short)
+
 pub are_accepted : (limit : Option ℕ) (file plan_bytes proof_bytes : List ℕ) (g : Network) (start : Option (List RoutePlan)) (o : GapOutcome) → IsNetwork g → HasFleetNetwork limit file g → IsGapOutcome g start o
     → plan_bytes ≡ fleet_plan_text (plan_held o.plan) → proof_bytes ≡ near_text (written_near g o.proof)
     → AreAccepted limit file plan_bytes proof_bytes g.denominator (cost_held g o.plan) o.proof.bound
@@ -46,11 +56,11 @@ are_accepted limit file plan_bytes proof_bytes g start o network fleet is plan_i
       network = g;
       plan = plan_held o.plan;
       fleet = record {
-        network = fleet;
+        network = fleet.network;
         spelled = record { within = short; fits = held_fits g start o.plan is.plan; text = plan_is };
       };
-      proof = o.proof;
-      has = near_again g proof_bytes o.proof network limit file fleet is.proof proof_is within;
+      proof = Near o.proof;
+      has = proof_again g proof_bytes o.proof network limit file fleet is.proof proof_is within;
     };
     cost = cost_held g o.plan;
     valid = held_valid g start o.plan is.plan;

@@ -1,63 +1,65 @@
 -- What `check` answers to the bytes of its instance, of its plan file and of its proof.
-use Rattle.std.specs.Prelude.{◌≡◌, ◌≢◌, ℕ, ◌⊎◌, List, [], ◌∷◌, Option, Err}
+use Rattle.std.specs.Prelude.{◌≡◌, ℕ, ◌⊎◌, false, List, [], ◌∷◌, Option}
 use Rattle.ev_model.specs.Network.{Network}
-use Rattle.fleet_steps.specs.PlanFile.{BreaksFirst, HasFleet, IsValid}
-use Rattle.near_steps.specs.NearFile.{HasNear}
-use Rattle.fleet_steps.specs.FleetNetwork.{HasFleetNetwork, IsFleetRefused}
+use Rattle.fleet_steps.specs.PlanFile.{BreaksFirst, HasPlan, IsTextRefused, IsValid}
 use Rattle.gap_words.specs.Words.{CheckGap}
 use Rattle.evgap_run.specs.Judged.{HearsJudgement}
 use Rattle.evgap_run.specs.Heard.{HearsRefusal}
+use Rattle.job_frame.specs.LimitedNetwork.{HasNetwork}
 use Rattle.job_frame.specs.Task.{Outcome, Task}
 use Rattle.evgap_run.specs.declared.cause.Cause.{Cause}
 use Rattle.job_frame.specs.declared.status.Status.{Status}
 use Rattle.job_frame.specs.declared.status.Status.TheVariants as status
 use Rattle.job_frame.specs.Caps.{certificate_read, file_read}
-use Rattle.near_proof.specs.Accepted.{IsAccepted}
-use Rattle.near_proof.specs.Truth.{IsTrue}
-use Rattle.near_proof.specs.Verdicts.{IsVerdict}
-use Rattle.near_proof.specs.declared.proof.NearProof.{NearProof}
-use Rattle.near_proof.specs.declared.verdict.NearVerdict.{NearVerdict}
-use Rattle.near_proof.specs.declared.verdict.NearVerdict.TheVariants as verdict
-use Rattle.near_text.specs.NearIn.{near_in}
-use Rattle.near_text.specs.VerdictText.{near_verdict_text}
 use Rattle.plan_check.specs.declared.fault.PlanFault.{PlanFault}
 use Rattle.refusal_lines.specs.RejectedText.{rejected_text}
 use Rattle.refusal_lines.specs.RefusalText.{IsRule, refusal_text}
 use Rattle.refusal_lines.specs.declared.refusal.Refusal.{Refusal}
 use Rattle.refusal_lines.specs.declared.refusal.Refusal.TheVariants as refusal
-use Rattle.route_plan.specs.PlanReading.{fleet_plan_in}
 use Rattle.route_plan.specs.declared.plan.FleetPlan.{FleetPlan}
+use Rattle.tree_text.specs.BoundProofs.{IsAcceptedProof, IsTrueProof, bound_of}
+use Rattle.tree_text.specs.BoundTexts.{HasProof, IsUnread}
+use Rattle.tree_text.specs.BoundVerdicts.{IsBoundVerdict, bound_verdict_text, is_accepted}
+use Rattle.tree_text.specs.declared.bounds.judging.BoundVerdict.{BoundVerdict}
+use Rattle.tree_text.specs.declared.bounds.proof.BoundProof.{BoundProof}
+use Rattle.tree_text.specs.declared.bounds.reading.BoundText.{BoundText}
+use Rattle.tree_text.specs.declared.bounds.reading.BoundText.TheVariants as text
 use Rattle.evgap_run.specs.Report.{accepted_text}
 
 -- no rule of a text is broken: what the three files hold
 pub record Holds (limit : Option ℕ) (bytes plan_bytes proof_bytes : List ℕ) : Type 0 where
   pub network : Network
   pub plan : Option FleetPlan
-  pub fleet : HasFleet limit bytes plan_bytes network plan
-  pub proof : NearProof
-  pub has : HasNear network proof_bytes proof
+  pub fleet : HasPlan limit bytes plan_bytes network plan
+  pub proof : BoundProof
+  pub has : HasProof network proof_bytes proof
 
--- the first broken rule: of the instance, the limit, the count of customers, then of the plan's
--- text, then of the proof's
+-- the instance and the plan's text are some, and the proof's is none, by this fault
+abbrev pub IsNoProof : Option ℕ → List ℕ → List ℕ → List ℕ → BoundText → Type 0
+IsNoProof limit bytes plan_bytes proof_bytes fault =
+    (g : Network) × (plan : Option FleetPlan) × HasPlan limit bytes plan_bytes g plan
+    × IsUnread g proof_bytes fault
+
+-- the first broken rule: of the instance, the limit, then of the plan's text, then of the proof's:
+-- whether there are too many customers for a near proof, and the text itself
 abbrev pub IsCheckRefused : Option ℕ → List ℕ → List ℕ → List ℕ → Refusal → Type 0
-IsCheckRefused limit bytes plan_bytes proof_bytes (refusal.Plan fault) =
-    (g : Network) × HasFleetNetwork limit bytes g × (fleet_plan_in plan_bytes ≡ Err fault)
+IsCheckRefused limit bytes plan_bytes proof_bytes (refusal.Customers count) =
+    IsNoProof limit bytes plan_bytes proof_bytes (text.Customers count)
 IsCheckRefused limit bytes plan_bytes proof_bytes (refusal.Certificate fault) =
-    (g : Network) × (plan : Option FleetPlan) × HasFleet limit bytes plan_bytes g plan
-    × (near_in g proof_bytes ≡ Err fault)
-IsCheckRefused limit bytes plan_bytes proof_bytes other = IsFleetRefused limit bytes other
+    IsNoProof limit bytes plan_bytes proof_bytes (text.Text fault)
+IsCheckRefused limit bytes plan_bytes proof_bytes other = IsTextRefused limit bytes plan_bytes other
 
--- The plan is a fleet plan, or there is none, and the proof is accepted; cost, bound and gap are
--- put. The proof is true, whoever wrote it: no fleet plan costs less than its bound, in any
--- fraction of a unit, and where it has none there is no fleet plan.
+-- The plan is a fleet plan, or there is none, and the proof, of either kind, is accepted; cost,
+-- bound and gap are put. The proof is true, whoever wrote it: no fleet plan costs less than its
+-- bound, in any fraction of a unit, and where it has none there is no fleet plan.
 pub record PutsAccepted (limit : Option ℕ)
     (bytes plan_bytes proof_bytes text : List ℕ) : Type 0 where
   pub files : Holds limit bytes plan_bytes proof_bytes
   pub cost : Option ℕ
   pub valid : IsValid files.network files.plan cost
-  pub accepted : IsAccepted files.network files.proof
-  pub shows : IsTrue files.network files.proof
-  pub text_is : text ≡ accepted_text files.network.denominator cost files.proof.bound
+  pub accepted : IsAcceptedProof files.network files.proof
+  pub shows : IsTrueProof files.network files.proof
+  pub text_is : text ≡ accepted_text files.network.denominator cost (bound_of files.proof)
 
 -- the first rule that the plan breaks is put
 pub record PutsBrokenPlan (limit : Option ℕ)
@@ -73,10 +75,10 @@ pub record PutsBrokenProof (limit : Option ℕ)
   pub files : Holds limit bytes plan_bytes proof_bytes
   pub cost : Option ℕ
   pub valid : IsValid files.network files.plan cost
-  pub found : NearVerdict
-  pub broken : found ≢ verdict.Accepted
-  pub rejected : IsVerdict files.network files.proof found
-  pub text_is : text ≡ near_verdict_text files.network.denominator files.proof.bound found
+  pub found : BoundVerdict
+  pub broken : is_accepted found ≡ false
+  pub rejected : IsBoundVerdict files.network files.proof found
+  pub text_is : text ≡ bound_verdict_text files.network.denominator (bound_of files.proof) found
 
 -- the first broken rule of the instance, the words, the plan's text or the proof's is put
 pub record PutsCheckRefusal (limit : Option ℕ)
@@ -112,9 +114,9 @@ check_answers job other o = ⊥
 -- plan's text is either
 abbrev pub check_goes_on : CheckGap → List (List ℕ) → Type 0
 check_goes_on job [] = Unit {0}
-check_goes_on job (bytes ∷ []) = (g : Network) × HasFleetNetwork job.limit bytes g
+check_goes_on job (bytes ∷ []) = (g : Network) × HasNetwork job.limit bytes g
 check_goes_on job (bytes ∷ plan_bytes ∷ []) =
-    (g : Network) × ((plan : Option FleetPlan) × HasFleet job.limit bytes plan_bytes g plan)
+    (g : Network) × ((plan : Option FleetPlan) × HasPlan job.limit bytes plan_bytes g plan)
 check_goes_on job other = ⊥
 
 abbrev pub check_task : CheckGap → Task Cause

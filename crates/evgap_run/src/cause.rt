@@ -4,9 +4,9 @@ ghost use Rattle.evgap_run.specs.declared.cause.Cause.TheVariants as cause;
 
 use fleet_steps::PlanCause;
 use job_frame::JobCause;
-use near_proof::NearVerdict;
 use plan_check::PlanFault;
 use refusal_lines::Refusal;
+use tree_text::BoundVerdict;
 
 /// What the first line of an answer tells, where it isn't the one that was asked for.
 #[derive(Clone, Copy, Debug, Drop, PartialEq, Eq)]
@@ -17,8 +17,8 @@ pub enum Cause {
     Refused(Refusal),
     /// The plan of a fleet breaks a rule.
     Plan(PlanFault),
-    /// The proof of a bound by near routes breaks a rule.
-    Near(NearVerdict),
+    /// The proof of a bound, by near routes or by a tree, breaks a rule.
+    Proof(BoundVerdict),
     /// No route of its own serves the customer at this node.
     Alone(usize),
     /// There is no plan of the fleet.

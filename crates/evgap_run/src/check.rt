@@ -1,12 +1,11 @@
 //! What `check` finds: a plan file and a proof are judged on an instance.
 
-ghost use Rattle.std.specs.Prelude.{◌≤◌, List, Option, length, option_map, ℕ};
+ghost use Rattle.std.specs.Prelude.{List, Option, option_map, ℕ};
 ghost use Rattle.evgap_run.specs.CheckAnswer.{check_task};
-ghost use Rattle.fleet_steps.specs.PlanFile.{HasFleet};
-ghost use Rattle.fleet_steps.specs.FleetNetwork.{HasFleetNetwork};
+ghost use Rattle.fleet_steps.specs.PlanFile.{HasPlan};
 ghost use Rattle.gap_words.specs.JobValue.{check_value};
-ghost use Rattle.instance_reader.specs.Instance.{customer_nodes, most_customers};
 ghost use Rattle.job_frame.specs.Finds.{Finds};
+ghost use Rattle.job_frame.specs.LimitedNetwork.{HasNetwork};
 ghost use Rattle.job_frame.specs.Task.{AreReadUpTo};
 ghost use Rattle.job_frame.specs.Caps.{most_bytes};
 ghost use Rattle.route_plan.specs.PlanTexts.{FitsFile};
@@ -14,10 +13,12 @@ ghost use Rattle.route_plan.specs.PlanTexts.{FitsFile};
 use crate::cause::Cause;
 use crate::judging::judge_text;
 use ev_outside::{Shelf, ShelfFault};
-use fleet_steps::{fleet_instance, plan_of};
+use fleet_steps::plan_of;
 use gap_words::CheckWords;
 use instance_reader::Instance;
-use job_frame::{Ended, Found, MOST_BYTES, MOST_CERTIFICATE_BYTES, read_file, refuse_job};
+use job_frame::{
+    Ended, Found, MOST_BYTES, MOST_CERTIFICATE_BYTES, limited_instance, read_file, refuse_job,
+};
 use route_plan::FleetPlan;
 use std::alloc::{AllocError, Global};
 
@@ -35,7 +36,7 @@ pub fn check<S: Shelf>(
         Ok(bytes) => bytes,
         Err(fault) => return Err(fault),
     };
-    match fleet_instance(alloc, bytes.as_slice(), job.limit) {
+    match limited_instance(alloc, bytes.as_slice(), job.limit) {
         Ok(inst) => check_on(alloc, &inst, job, shelf),
         Err(Ended::Refused(refusal)) => refuse_job(alloc, refusal),
         Err(Ended::Memory) => Err(ShelfFault::Memory),
@@ -49,10 +50,9 @@ fn check_on<S: Shelf>(
     job: &CheckWords,
     shelf: &mut S,
 ) -> Result<Found<Cause>, ShelfFault>
-    requires { length (customer_nodes inst.now) ≤ most_customers }
     ensures { (bytes : List ℕ)
         → AreReadUpTo most_bytes (S.state shelf.old).files (check_value job.now).file bytes
-        → HasFleetNetwork job.now.limit bytes inst.now
+        → HasNetwork job.now.limit bytes inst.now
         → Finds (check_task (check_value job.now))
         (S.state shelf.old) (S.state shelf.new) result }
 {
@@ -76,12 +76,11 @@ fn check_plan<S: Shelf>(
     job: &CheckWords,
     shelf: &mut S,
 ) -> Result<Found<Cause>, ShelfFault>
-    requires few { length (customer_nodes inst.now) ≤ most_customers }
-    requires text { FitsFile (option_map (λ p. p.now) plan) }
+    requires { FitsFile (option_map (λ p. p.now) plan) }
     ensures { (bytes plan_bytes : List ℕ)
         → AreReadUpTo most_bytes (S.state shelf.old).files (check_value job.now).file bytes
         → AreReadUpTo most_bytes (S.state shelf.old).files (check_value job.now).plan plan_bytes
-        → HasFleet job.now.limit bytes plan_bytes inst.now (option_map (λ p. p.now) plan.entry)
+        → HasPlan job.now.limit bytes plan_bytes inst.now (option_map (λ p. p.now) plan.entry)
         → Finds (check_task (check_value job.now))
         (S.state shelf.old) (S.state shelf.new) result }
 {

@@ -1,27 +1,29 @@
 //! The judgement of `check` on a plan and on the bytes of a proof.
 
-ghost use Rattle.std.specs.Prelude.{◌≡◌, ◌≤◌, IfOk, List, Option, length, option_map, ℕ};
+ghost use Rattle.std.specs.Prelude.{◌≡◌, IfErr, IfOk, List, Option, option_map, ℕ};
 ghost use Rattle.evgap_run.specs.CheckAnswer.{CheckAnswers, check_heard};
 ghost use Rattle.evgap_run.specs.Judged.{HasLines, IsJudgementOf, judged_cause, judged_status, judgement_text};
-ghost use Rattle.fleet_steps.specs.PlanFile.{HasFleet};
-ghost use Rattle.near_steps.specs.NearFile.{HasNear};
-ghost use Rattle.instance_reader.specs.Instance.{customer_nodes, most_customers};
+ghost use Rattle.evgap_run.specs.ProofFile.{IsProofEnded};
+ghost use Rattle.fleet_steps.specs.PlanFile.{HasPlan};
+ghost use Rattle.job_frame.specs.Ended.{IsRuleOrMemory};
 ghost use Rattle.job_frame.specs.Task.{IsAnswered};
-ghost use Rattle.near_proof.specs.Ranges.{NearFits};
 ghost use Rattle.route_plan.specs.PlanTexts.{FitsFile};
+ghost use Rattle.tree_text.specs.BoundProofs.{BoundFits, bound_of};
+ghost use Rattle.tree_text.specs.BoundTexts.{HasProof};
 
 use crate::cause::Cause;
 use crate::report::push_accepted;
 use fleet_steps::cost_of;
 use instance_reader::Instance;
 use job_frame::{Answer, Ended, Status, refuse};
-use near_proof::{NearProof, NearVerdict, check_near};
-use near_steps::proof_of;
-use near_text::push_near_verdict;
 use plan_check::{LargeFault, PlanFault};
-use refusal_lines::push_rejected_plan;
+use refusal_lines::{Refusal, push_rejected_plan};
 use route_plan::FleetPlan;
 use std::alloc::{AllocError, Global};
+use tree_text::{
+    BoundProof, BoundText, BoundVerdict, CertText, check_bound_proof, push_bound_verdict,
+    read_bound_proof,
+};
 
 /// What the judges of a plan and of a proof say.
 #[derive(Clone, Copy, Drop)]
@@ -35,22 +37,21 @@ pub enum Judgement {
     /// The plan breaks a rule.
     Plan(PlanFault),
     /// The proof breaks a rule.
-    Proof(NearVerdict),
+    Proof(BoundVerdict),
 }
 
-/// The answer to the bytes of a proof, on an instance without too many customers and a plan, or
-/// none: first they are read, then the plan is judged, and then the proof.
+/// The answer to the bytes of a proof, of either kind, on an instance and a plan, or none: first
+/// they are read, then the plan is judged, and then the proof.
 pub fn judge_text(
     alloc: Global,
     inst: &Instance,
     plan: Option<&FleetPlan>,
     bytes: &[u8],
 ) -> Result<Answer<Cause>, AllocError>
-    requires few { length (customer_nodes inst.now) ≤ most_customers }
-    requires text { FitsFile (option_map (λ p. p.now) plan) }
+    requires { FitsFile (option_map (λ p. p.now) plan) }
     ensures answered { IfOk result (λ a. IsAnswered a.status) }
     ensures answers { (limit : Option ℕ) (file plan_bytes : List ℕ)
-        → HasFleet limit file plan_bytes inst.now (option_map (λ p. p.now) plan.entry)
+        → HasPlan limit file plan_bytes inst.now (option_map (λ p. p.now) plan.entry)
         → IfOk result (λ a.
         CheckAnswers limit file plan_bytes bytes.now a.status a.text.items) }
     ensures heard { IfOk result (λ a. check_heard a.status a.text.items a.cause) }
@@ -62,20 +63,34 @@ pub fn judge_text(
     }
 }
 
+/// The proof of a file, of either kind.
+fn proof_of(alloc: Global, inst: &Instance, bytes: &[u8]) -> Result<BoundProof, Ended>
+    ensures has { IfOk result (HasProof inst.now bytes.now) }
+    ensures fits { IfOk result (BoundFits inst.now) }
+    ensures rule { IfErr result IsRuleOrMemory }
+    ensures ended { IfErr result (IsProofEnded inst.now bytes.now) }
+{
+    match read_bound_proof(alloc, inst, bytes) {
+        Ok(proof) => Ok(proof),
+        Err(BoundText::Text(CertText::Memory)) => Err(Ended::Memory),
+        Err(BoundText::Text(fault)) => Err(Ended::Refused(Refusal::Certificate(fault))),
+        Err(BoundText::Customers(count)) => Err(Ended::Refused(Refusal::Customers(count))),
+    }
+}
+
 /// The report on a fleet plan, or on none, and a proof.
 fn report_on(
     alloc: Global,
     inst: &Instance,
     plan: Option<&FleetPlan>,
-    proof: &NearProof,
+    proof: &BoundProof,
 ) -> Result<Answer<Cause>, AllocError>
-    requires few { length (customer_nodes inst.now) ≤ most_customers }
     requires text { FitsFile (option_map (λ p. p.now) plan) }
-    requires fits { NearFits inst.now proof.now }
+    requires fits { BoundFits inst.now proof.now }
     ensures answered { IfOk result (λ a. IsAnswered a.status) }
     ensures answers { (limit : Option ℕ) (file plan_bytes bytes : List ℕ)
-        → HasFleet limit file plan_bytes inst.now (option_map (λ p. p.now) plan.entry)
-        → HasNear inst.now bytes proof.now
+        → HasPlan limit file plan_bytes inst.now (option_map (λ p. p.now) plan.entry)
+        → HasProof inst.now bytes proof.now
         → IfOk result (λ a. CheckAnswers limit file plan_bytes bytes a.status a.text.items) }
     ensures heard { IfOk result (λ a. check_heard a.status a.text.items a.cause) }
 {
@@ -88,41 +103,40 @@ fn judge(
     alloc: Global,
     inst: &Instance,
     plan: Option<&FleetPlan>,
-    proof: &NearProof,
+    proof: &BoundProof,
 ) -> Result<Judgement, AllocError>
-    requires few { length (customer_nodes inst.now) ≤ most_customers }
     requires text { FitsFile (option_map (λ p. p.now) plan) }
-    requires fits { NearFits inst.now proof.now }
+    requires fits { BoundFits inst.now proof.now }
     ensures found { IfOk result
         (IsJudgementOf inst.now (option_map (λ p. p.now) plan.entry) proof.now) }
-    ensures lines { IfOk result HasLines }
+    ensures lines { IfOk result (HasLines proof.now) }
 {
     let cost = match cost_of(alloc, inst, plan) {
         Ok(cost) => cost,
         Err(LargeFault::Plan { fault }) => return Ok(Judgement::Plan(fault)),
         Err(LargeFault::Memory) => return Err(AllocError),
     };
-    let verdict = check_near(alloc, inst, proof)?;
-    match verdict {
-        NearVerdict::Accepted => Ok(Judgement::Accepted {
-            cost,
-            bound: proof.bound,
-        }),
-        _ => Ok(Judgement::Proof(verdict)),
+    let verdict = check_bound_proof(alloc, inst, proof)?;
+    if !verdict.is_accepted() {
+        return Ok(Judgement::Proof(verdict));
     }
+    Ok(Judgement::Accepted {
+        cost,
+        bound: proof.bound(),
+    })
 }
 
 /// The lines of what is found, and the status that goes with them.
 fn report(
     alloc: Global,
     inst: &Instance,
-    proof: &NearProof,
+    proof: &BoundProof,
     judgement: &Judgement,
 ) -> Result<Answer<Cause>, AllocError>
-    requires { HasLines judgement.now }
+    requires { HasLines proof.now judgement.now }
     ensures status { IfOk result (λ a. a.status ≡ judged_status judgement.now) }
     ensures text { IfOk result (λ a. a.text.items
-        ≡ judgement_text inst.now.denominator proof.now.bound judgement.now) }
+        ≡ judgement_text inst.now.denominator (bound_of proof.now) judgement.now) }
     ensures cause { IfOk result (λ a. a.cause ≡ judged_cause judgement.now) }
 {
     let mut text = Vec::new(alloc);
@@ -136,7 +150,7 @@ fn report(
             Status::Negative
         }
         Judgement::Proof(verdict) => {
-            push_near_verdict(alloc, &mut text, inst, proof, verdict)?;
+            push_bound_verdict(alloc, &mut text, inst, proof, verdict)?;
             Status::Negative
         }
     };
@@ -154,6 +168,6 @@ fn cause_of(judgement: &Judgement) -> Option<Cause>
     match judgement {
         Judgement::Accepted { .. } => None,
         Judgement::Plan(fault) => Some(Cause::Plan(*fault)),
-        Judgement::Proof(verdict) => Some(Cause::Near(*verdict)),
+        Judgement::Proof(verdict) => Some(Cause::Proof(*verdict)),
     }
 }

@@ -4,7 +4,7 @@ use crate::files::{assert_run, shelf_with};
 use evgap_run::Status;
 use std::alloc::Global;
 use std::process::Abort;
-use worked_instances::{NO_STATION, TWO_CUSTOMERS};
+use worked_instances::{NO_STATION, ONE_STATION, TWO_CUSTOMERS};
 
 /// A plan of the one customer without a station.
 const OUT: &str = "evroute plan 1\nroutes 1\nroute 0 1 0\n";
@@ -19,6 +19,11 @@ const EIGHT: &str =
 /// A proof that two customers can't be served within a limit of 7.
 const NOWHERE: &str =
     "evroute near 1\nbound none\nsection 0 3\nprices 1 0\nnear 1,2\nnear 1,2\nlabel 0 - 0 0 10:0\nlabel 1 1 1 1 9:4\nlabel 2 2 1 0 9:4\n";
+
+/// A tree of one leaf that shows that no fleet plan of the one customer with a station costs less
+/// than 43 halves.
+const TREE: &str =
+    "evroute near tree 1\nbound 43\nleaf\nsection 1 5\nprices 43\nnear 1\nlabel 0 - 0 10:0\nlabel 1 1 43 4:20\nlabel 2 * - 0 7:16 8:17 10:29\nlabel 2 * 1 43 2:26 8:32 10:44\nlabel 1 1 43 5:22 6:23 8:35\n";
 
 /// The judge ends and puts so on this plan and this proof, of which a piece is another one, or the
 /// test fails.
@@ -91,6 +96,34 @@ fn plans_and_proofs_are_judged(rt: HostRuntime) {
             ("", ""),
             Status::Negative,
             "rejected plan 3 customer 2\n",
+        ),
+        (
+            "check A P Q",
+            (ONE_STATION, NONE, TREE),
+            ("", ""),
+            Status::Done,
+            "accepted\ncost none\nbound 43/2\ngap none\n",
+        ),
+        (
+            "check A P Q",
+            (ONE_STATION, NONE, TREE),
+            ("10:0", "9:0"),
+            Status::Negative,
+            "rejected tree 1 leaf 0\n",
+        ),
+        (
+            "check A P Q",
+            (ONE_STATION, NONE, TREE),
+            ("bound 43", "bound 44"),
+            Status::Negative,
+            "rejected tree 4 leaf 0\n",
+        ),
+        (
+            "check A P Q",
+            (ONE_STATION, OUT, TREE),
+            ("tree 1", "tree 2"),
+            Status::Refused,
+            "refused certificate 3\n",
         ),
         (
             "check A P Q",

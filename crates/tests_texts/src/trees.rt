@@ -1,10 +1,14 @@
 //! A tree over near sections is read, written and judged; one with a fault is refused or rejected.
+//! It and a near proof are judged as proofs of either kind.
 
 use crate::asserting::assert_text;
 use instance_reader::{Instance, read_instance};
 use near_tree::{TreeVerdict, check_tree};
 use std::alloc::Global;
-use tree_text::{CertText, push_tree, read_tree};
+use tree_text::{
+    CertText, check_bound_proof, push_bound_proof, push_bound_verdict, push_tree, read_bound_proof,
+    read_tree,
+};
 use worked_instances::ONE_STATION;
 
 /// A tree of one leaf, which shows that no fleet plan on the instance with one station costs less
@@ -31,6 +35,10 @@ const TOO_DEAR: &str =
 const TOO_HIGH: &str =
     "evroute near tree 1\nbound 44\nleaf\nsection 1 5\nprices 43\nnear 1\nlabel 0 - 0 10:0\nlabel 1 1 43 4:20\nlabel 2 * - 0 7:16 8:17 10:29\nlabel 2 * 1 43 2:26 8:32 10:44\nlabel 1 1 43 5:22 6:23 8:35\n";
 
+/// A near proof of the same bound.
+const NEAR: &str =
+    "evroute near 1\nbound 43\nsection 1 5\nprices 43\nnear 1\nlabel 0 - 0 0 10:0\nlabel 1 1 1 43 4:20\nlabel 2 - 0 0 7:16 8:17 10:29\nlabel 2 1 1 43 2:26 8:32 10:44\nlabel 1 1 1 43 5:22 6:23 8:35\ntight 0 v2+1 1 0\n";
+
 /// What is read of the tree, as a text.
 fn tree_again(alloc: Global, inst: &Instance) -> Option<Vec<u8>> {
     let proof = read_tree(alloc, inst, TREE.as_bytes()).ok()?;
@@ -44,6 +52,33 @@ fn refusal(alloc: Global, inst: &Instance, text: &str) -> Option<CertText> {
     match read_tree(alloc, inst, text.as_bytes()) {
         Ok(_) => None,
         Err(fault) => Some(fault),
+    }
+}
+
+/// The text of the proof of a bound that is read of a text, and the lines of its verdict.
+fn judged(alloc: Global, inst: &Instance, text: &str) -> Option<Vec<u8>> {
+    let Ok(proof) = read_bound_proof(alloc, inst, text.as_bytes()) else {
+        return None;
+    };
+    let Ok(verdict) = check_bound_proof(alloc, inst, &proof) else {
+        return None;
+    };
+    let mut out = Vec::new(alloc);
+    push_bound_proof(alloc, &mut out, inst, &proof).ok()?;
+    push_bound_verdict(alloc, &mut out, inst, &proof, &verdict).ok()?;
+    Some(out)
+}
+
+#[test]
+fn a_proof_of_a_bound_is_read_written_and_judged(rt: HostRuntime) {
+    let alloc = rt.alloc();
+    let inst = read_instance(alloc, ONE_STATION.as_bytes()).expect(&rt, "an instance");
+    for text in &[TREE, NEAR] {
+        let mut want = Vec::from_slice(alloc, text.as_bytes()).expect(&rt, "memory");
+        want.extend_from_slice(b"accepted\nbound 43/2\n")
+            .expect(&rt, "memory");
+        let found = judged(alloc, &inst, text).expect(&rt, "a proof");
+        assert_eq!(rt; found.as_slice(), want.as_slice());
     }
 }
 

@@ -1,6 +1,7 @@
 use Rattle.std.specs.Option.{option_map}
 use Rattle.evgap_run.proofs.CheckFinds.{report_answers}
 use Rattle.evgap_run.proofs.Hearing.{judgement_is_heard}
+use Rattle.tree_text.specs.BoundProofs.{bound_of}
 use Rattle.evgap_run.proofs.judging.report_on.Goals as goal
 
 pub returns-clause-answers : goal.returns-clause-answers
@@ -10,4 +11,4 @@ returns-clause-answers c = λ limit file plan_bytes bytes fleet has.
 
 pub returns-clause-heard : goal.returns-clause-heard
 returns-clause-heard c =
-    judgement_is_heard c.args.inst.now.denominator c.args.proof.now.bound c.in_ok-judgement.judgement c.report.result c.report.ensures.status c.report.ensures.text c.report.ensures.cause
+    judgement_is_heard c.args.inst.now.denominator (bound_of c.args.proof.now) c.in_ok-judgement.judgement c.report.result c.report.ensures.status c.report.ensures.text c.report.ensures.cause
