@@ -12,6 +12,8 @@ mod found;
 #[cfg(test)]
 mod listed;
 #[cfg(test)]
+mod priced;
+#[cfg(test)]
 mod searched;
 #[cfg(test)]
 mod told;

@@ -1,0 +1,100 @@
+//! Prices that are lowered in proportion until no near route earns by them.
+
+use crate::budget::{Budget, aim_of};
+use crate::kept::Ratio;
+use crate::rounds::worst_of;
+use crate::search::PriceSearch;
+use near_search::{Care, SearchEnd};
+use std::alloc::{AllocError, Global};
+
+/// So often prices are lowered at the most at one level of comparing labels.
+const MOST_TIMES: usize = 60;
+
+/// So often prices that are raised are tested at the most.
+const MOST_TESTS: usize = 60;
+
+/// So many routes that earn are enough.
+const ENOUGH: usize = 300;
+
+/// So much of prices is left where it isn't known whether a route earns.
+const LESS: Ratio = Ratio { time: 7, earned: 8 };
+
+/// No search makes fewer labels at the most.
+const LEAST_LABELS: usize = 20_000;
+
+impl PriceSearch<'_> {
+    /// Raises prices by which no route earns, as far as known routes let them, until no other route
+    /// earns by those either; where the budget doesn't reach, they are lowered again in proportion.
+    /// Prices stay that can't be made better so.
+    pub(crate) fn raise(
+        &mut self,
+        alloc: Global,
+        best: &mut Vec<i64>,
+        budget: Budget,
+    ) -> Result<(), AllocError> {
+        let (mut most, mut rest) = budget.parted();
+        let is_closed = self.settle(alloc, best, MOST_TESTS, &mut most)?;
+        let mut other = self.pricing.prices.clone()?;
+        let is_closed = is_closed || self.scale(alloc, &mut other, &mut rest)?;
+        if is_closed && self.bound_of(&other) > self.bound_of(best) {
+            *best = other;
+        }
+        Ok(())
+    }
+
+    /// Lowers prices in proportion until no near route earns by them, at one level of comparing
+    /// labels after the other. Whether none does; else the budget didn't reach.
+    pub(crate) fn scale(
+        &mut self,
+        alloc: Global,
+        prices: &mut [i64],
+        budget: &mut Budget,
+    ) -> Result<bool, AllocError> {
+        self.worst_known(prices).scale(prices);
+        for care in [Care::TimesAlone, Care::LevelsAlone, Care::Exact] {
+            if !self.scale_at(alloc, prices, care, budget)? {
+                return Ok(false);
+            }
+        }
+        Ok(true)
+    }
+
+    /// What the dearest known route takes of what it earns.
+    fn worst_known(&self, prices: &[i64]) -> Ratio {
+        let mut worst = Ratio::whole();
+        for route in &self.pool.routes {
+            let reduced = route.reduced_cost(prices);
+            if route.is_open() && reduced < 0 {
+                worst = worst.least(Ratio::of(route.time, reduced));
+            }
+        }
+        worst
+    }
+
+    /// The same at one level.
+    fn scale_at(
+        &mut self,
+        alloc: Global,
+        prices: &mut [i64],
+        care: Care,
+        budget: &mut Budget,
+    ) -> Result<bool, AllocError> {
+        for _ in 0..MOST_TIMES {
+            if budget.is_spent() {
+                return Ok(false);
+            }
+            budget.spend(self.pricing.set_prices(alloc, prices)?);
+            let labels = (budget.left() / 2).max(LEAST_LABELS);
+            let found = self.look(alloc, aim_of(care, ENOUGH, labels), budget)?;
+            if !found.routes.is_empty() {
+                worst_of(&found).scale(prices);
+                self.learn(alloc, &found)?;
+            } else if found.end == SearchEnd::Whole {
+                return Ok(true);
+            } else {
+                LESS.scale(prices);
+            }
+        }
+        Ok(false)
+    }
+}
