@@ -40,6 +40,12 @@ const UNIT: CommandOption = CommandOption {
     is_required: false,
 };
 
+const PLACES: CommandOption = CommandOption {
+    word: "--places",
+    value: OptionValue::Name,
+    is_required: false,
+};
+
 const SVG: CommandOption = CommandOption {
     word: "--svg",
     value: OptionValue::Name,
@@ -58,10 +64,18 @@ const CSV: CommandOption = CommandOption {
     is_required: false,
 };
 
+const MAP: CommandOption = CommandOption {
+    word: "--map",
+    value: OptionValue::Name,
+    is_required: false,
+};
+
 /// It has no commands but one without a word.
 pub(crate) const COMMANDS: &[Command] = &[Command {
     word: "",
     names: &["FILE", "PLAN"],
     more: 0,
-    options: &[LIMIT, ROUTE, EXACT, BEGIN, UNIT, SVG, JSON, CSV],
+    options: &[
+        LIMIT, ROUTE, EXACT, BEGIN, UNIT, PLACES, SVG, JSON, CSV, MAP,
+    ],
 }];

@@ -2,6 +2,7 @@
 
 use crate::commands::COMMANDS;
 use evview_run::Cause;
+use place_names::{EntryFault, PlacesFault};
 pub(crate) use plain_words::Failed;
 use plain_words::{
     Instances, JobNames, Sentence, left_in, rejected_plan, told_refusal, wrong_word,
@@ -30,10 +31,43 @@ pub(crate) fn told_behind<R: Files>(
             "{PLAN}: there is no route {1}, counted from 0",
             number,
         ),
+        Some(Cause::Places(fault)) => refused_places(fault),
         Some(Cause::Plan(fault)) => rejected_plan(fault),
         Some(Cause::Words) | None => return Ok(None),
     };
     Ok(Some(sentence.told(alloc, &names)?))
+}
+
+/// What the broken rule of a file of places means.
+fn refused_places(fault: PlacesFault) -> Sentence {
+    match fault {
+        PlacesFault::TooLong => Sentence::plain("{CERT}: the file is longer than 2^26 bytes"),
+        PlacesFault::NotJson => Sentence::plain("{CERT}: the bytes are no JSON text"),
+        PlacesFault::NoList => Sentence::plain(
+            "{CERT}: the top value is no object with an array under places",
+        ),
+        PlacesFault::Entry(index, wrong) => Sentence::one(
+            "{CERT}: entry {1} of places, counted from 0, {word}",
+            index,
+        ).saying(words_of_entry(wrong)),
+        PlacesFault::Count(count) => Sentence::one(
+            "{CERT}: it has {1} places, and {FILE} another number of nodes",
+            count,
+        ),
+    }
+}
+
+/// What is wrong with an entry of a file of places.
+fn words_of_entry(wrong: EntryFault) -> &'static str {
+    match wrong {
+        EntryFault::NoObject => "is no object",
+        EntryFault::Name => "has no text under name",
+        EntryFault::Character => {
+            "has a name with a control character, the end of a line, or U+FFFE or U+FFFF"
+        }
+        EntryFault::X => "has no whole number of 64 bits under x",
+        EntryFault::Y => "has no whole number of 64 bits under y",
+    }
 }
 
 /// What is wrong with words that name no job: what was found, or else their clock, where they have
@@ -43,14 +77,25 @@ fn wrong_or_clock(
     wrong: Option<String>,
     words: &[String],
 ) -> Result<Option<String>, AllocError> {
-    if wrong.is_some() || !words.iter().any(|word| is_of_clock(word.as_str())) {
+    if wrong.is_some() {
         return Ok(wrong);
+    }
+    if !words.iter().any(|word| is_of_clock(word.as_str())) {
+        return map_alone(alloc, words);
     }
     Ok(Some(String::from_str(
         alloc,
         "--begin is a time of day from 00:00 to 23:59, --unit is s, min or h, or one of them \
 with /N behind it, N from 1 to 1000000000, and both are given or neither",
     )?))
+}
+
+/// What is wrong with words of a map.
+fn map_alone(alloc: Global, words: &[String]) -> Result<Option<String>, AllocError> {
+    if !words.iter().any(|word| word.starts_with("--map")) {
+        return Ok(None);
+    }
+    Ok(Some(String::from_str(alloc, "--map asks for --places FILE, the places by node")?))
 }
 
 /// Whether a word is an option of the clock.
@@ -74,11 +119,12 @@ pub(crate) fn told_left(
 }
 
 /// The files that a job writes, in order.
-fn written_by(job: &Job) -> [Option<&str>; 3] {
+fn written_by(job: &Job) -> [Option<&str>; 4] {
     [
         job.svg.as_ref().map(|name| name.as_str()),
         job.json.as_ref().map(|name| name.as_str()),
         job.csv.as_ref().map(|name| name.as_str()),
+        job.map.as_ref().map(|name| name.as_str()),
     ]
 }
 
@@ -89,8 +135,9 @@ fn names_of(job: &Job) -> JobNames<'_> {
         limit: job.limit,
         route: None,
         plan: Some(job.plan.as_str()),
-        proof: None,
-        proof_is: "a certificate",
+        // The sentences of a file of places name it so.
+        proof: job.places.as_ref().map(|name| name.as_str()),
+        proof_is: "places",
         // More than two may be written: `written_by` has them all.
         writes: [None, None],
         has_search: false,

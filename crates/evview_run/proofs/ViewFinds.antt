@@ -7,13 +7,13 @@ use Rattle.ev_model.specs.Fleet.{IsFleetPlan}
 use Rattle.ev_model.specs.Network.{Network}
 use Rattle.ev_outside.specs.Shelf.{Files, ShelfState}
 use Rattle.fleet_steps.proofs.PlanFiles.{early_rule, plan_rule}
-use Rattle.fleet_steps.specs.PlanFile.{BreaksFirst, HasPlan, IsPlanEnded, IsTextRefused, IsValid}
+use Rattle.fleet_steps.specs.PlanFile.{BreaksFirst, HasPlan, HoldsPlan, IsPlanEnded, IsTextRefused, IsValid}
 use Rattle.job_frame.proofs.Endings.{rule_of}
 use Rattle.job_frame.proofs.BehindReads.{IsFoundFor, no_write}
 use Rattle.job_frame.proofs.FileReads.{some_read}
 use Rattle.job_frame.specs.Faults.{FailsReading, HasFailedRead}
 use Rattle.job_frame.specs.Finds.{written_by}
-use Rattle.job_frame.specs.Task.{Answers, AreReadUpTo, IsAnswered}
+use Rattle.job_frame.specs.Task.{Answers, AreRead, AreReadUpTo, IsAnswered}
 use Rattle.job_frame.specs.Writes.{AreDifferent, Written}
 use Rattle.job_frame.specs.declared.found.Found.{Found}
 use Rattle.job_frame.specs.declared.status.Status.{Status}
@@ -23,6 +23,8 @@ use Rattle.job_frame.specs.Ended.{IsNetworkEnded, IsRuleOrMemory}
 use Rattle.job_frame.specs.LimitedNetwork.{HasNetwork, IsNetworkRefused}
 use Rattle.job_frame.specs.declared.answer.Ended.{Ended}
 use Rattle.job_frame.specs.declared.answer.Ended.TheVariants.{Refused}
+use Rattle.place_names.specs.declared.faults.PlacesFault.{PlacesFault}
+use Rattle.place_names.specs.declared.place.Place.{Place}
 use Rattle.plan_check.specs.FleetRules.{stops_of}
 use Rattle.plan_check.specs.declared.fault.PlanFault.{PlanFault}
 use Rattle.refusal_lines.specs.RejectedText.{rejected_text}
@@ -31,7 +33,7 @@ use Rattle.refusal_lines.specs.declared.refusal.Refusal.{Refusal}
 use Rattle.route_plan.specs.declared.plan.FleetPlan.{FleetPlan}
 use Rattle.schedule_texts.specs.Tables.{table_text}
 use Rattle.view_words.specs.Words.{ViewPlan, written_names}
-use Rattle.evview_run.specs.ViewAnswer.{HasRoute, PutsNoRoute, PutsRefusal, ViewAnswers, clock_of, files_of, no_route_text, route_count, shown_of, view_task, view_heard}
+use Rattle.evview_run.specs.ViewAnswer.{BreaksPlaces, HasPlaces, HasRoute, PutsNoPlaces, PutsNoRoute, PutsRefusal, ViewAnswers, clock_of, files_of, needs_points, no_route_text, places_read, places_text, route_count, shown_of, view_task, view_heard}
 use Rattle.evview_run.specs.declared.cause.Cause.{Cause}
 use Rattle.evview_run.proofs.Shown.{time_is_cost}
 use Rattle.evview_run.proofs.WrittenNames.{files_differ}
@@ -42,21 +44,23 @@ pub plan_is_fleet : (g : Network) (plan : Option (Bor FleetPlan)) (cost : Option
 plan_is_fleet g None cost valid = tt
 plan_is_fleet g (Some p) cost valid = valid.0
 
-module _ (job : ViewPlan) (bytes plan_bytes : List ℕ) where
-  by_status : (f : Found Cause) (s : Status) → f.answer.status ≡ s → ViewAnswers job bytes plan_bytes s (map written_by f.files.items) f.answer.text.items
-      → ViewAnswers job bytes plan_bytes f.answer.status (map written_by f.files.items) f.answer.text.items
-  by_status f s is answers = subst (λ (x : Status). ViewAnswers job bytes plan_bytes x (map written_by f.files.items) f.answer.text.items) (sym is) answers
+module _ (job : ViewPlan) (bytes plan_bytes : List ℕ) (more : List (List ℕ)) where
+  by_status : (f : Found Cause) (s : Status) → f.answer.status ≡ s → ViewAnswers job bytes plan_bytes more s (map written_by f.files.items) f.answer.text.items
+      → ViewAnswers job bytes plan_bytes more f.answer.status (map written_by f.files.items) f.answer.text.items
+  by_status f s is answers = subst (λ (x : Status). ViewAnswers job bytes plan_bytes more x (map written_by f.files.items) f.answer.text.items) (sym is) answers
 
   -- a schedule, with the files that are asked for
-  pub puts_schedule : {E : Type 0} (g : Network) (plan : Option FleetPlan) (cost : Option ℕ) (made : Result (Found Cause) E) → HasPlan job.limit bytes plan_bytes g plan → IsValid g plan cost → HasRoute job.route plan
+  pub puts_schedule : {E : Type 0} (g : Network) (plan : Option FleetPlan) (places : List Place) (cost : Option ℕ) (made : Result (Found Cause) E) → HasPlan job.limit bytes plan_bytes g plan → HasPlaces (needs_points job) g more places → IsValid g plan cost → HasRoute job.route plan
       → IfOk made (λ f. f.answer.status ≡ status.Done)
-      → IfOk made (λ f. map written_by f.files.items ≡ files_of job (shown_of g job.route plan))
-      → IfOk made (λ f. f.answer.text.items ≡ table_text job.exact (clock_of job.clock) (shown_of g job.route plan))
-      → IfOk made (λ f. ViewAnswers job bytes plan_bytes f.answer.status (map written_by f.files.items) f.answer.text.items)
-  puts_schedule {E} g plan cost (Err e) has valid route answered files text = tt
-  puts_schedule {E} g plan cost (Ok f) has valid route answered files text =
+      → IfOk made (λ f. map written_by f.files.items ≡ files_of job places (shown_of g job.route plan))
+      → IfOk made (λ f. f.answer.text.items ≡ table_text job.exact (clock_of job.clock) places (shown_of g job.route plan))
+      → IfOk made (λ f. ViewAnswers job bytes plan_bytes more f.answer.status (map written_by f.files.items) f.answer.text.items)
+  puts_schedule {E} g plan places cost (Err e) has named valid route answered files text = tt
+  puts_schedule {E} g plan places cost (Ok f) has named valid route answered files text =
       by_status f status.Done answered (record {
         files = record { network = g; plan = plan; has = has };
+        places = places;
+        named = named;
         cost = cost;
         valid = valid;
         route = route;
@@ -68,89 +72,103 @@ module _ (job : ViewPlan) (bytes plan_bytes : List ℕ) where
       })
 
   -- the first rule that the plan breaks
-  pub puts_broken : {E : Type 0} (g : Network) (plan : Option FleetPlan) (fault : PlanFault) (made : Result (Found Cause) E) → HasPlan job.limit bytes plan_bytes g plan → HasRoute job.route plan → BreaksFirst g plan fault
+  pub puts_broken : {E : Type 0} (g : Network) (plan : Option FleetPlan) (places : List Place) (fault : PlanFault) (made : Result (Found Cause) E) → HasPlan job.limit bytes plan_bytes g plan → HasPlaces (needs_points job) g more places → HasRoute job.route plan → BreaksFirst g plan fault
       → IfOk made (λ f. f.answer.status ≡ status.Negative) → IfOk made (λ f. map written_by f.files.items ≡ [])
       → IfOk made (λ f. f.answer.text.items ≡ rejected_text fault)
-      → IfOk made (λ f. ViewAnswers job bytes plan_bytes f.answer.status (map written_by f.files.items) f.answer.text.items)
-  puts_broken {E} g plan fault (Err e) has route broken answered files text = tt
-  puts_broken {E} g plan fault (Ok f) has route broken answered files text =
+      → IfOk made (λ f. ViewAnswers job bytes plan_bytes more f.answer.status (map written_by f.files.items) f.answer.text.items)
+  puts_broken {E} g plan places fault (Err e) has named route broken answered files text = tt
+  puts_broken {E} g plan places fault (Ok f) has named route broken answered files text =
       by_status f status.Negative answered
-      (record { files = record { network = g; plan = plan; has = has }; route = route; fault = fault; broken = broken; none = files; text_is = text })
+      (record { files = record { network = g; plan = plan; has = has }; places = places; named = named; route = route; fault = fault; broken = broken; none = files; text_is = text })
 
   -- the line of a route that isn't there
-  pub puts_no_route : {E : Type 0} (g : Network) (plan : Option FleetPlan) (number : ℕ) (made : Result (Found Cause) E) → HasPlan job.limit bytes plan_bytes g plan → job.route ≡ Some number → route_count plan ≤ number
+  pub puts_no_route : {E : Type 0} (g : Network) (plan : Option FleetPlan) (places : List Place) (number : ℕ) (made : Result (Found Cause) E) → HasPlan job.limit bytes plan_bytes g plan → HasPlaces (needs_points job) g more places → job.route ≡ Some number → route_count plan ≤ number
       → IfOk made (λ f. f.answer.status ≡ status.Refused) → IfOk made (λ f. map written_by f.files.items ≡ [])
       → IfOk made (λ f. f.answer.text.items ≡ no_route_text number)
-      → IfOk made (λ f. ViewAnswers job bytes plan_bytes f.answer.status (map written_by f.files.items) f.answer.text.items)
-  puts_no_route {E} g plan number (Err e) has asked past answered files text = tt
-  puts_no_route {E} g plan number (Ok f) has asked past answered files text =
+      → IfOk made (λ f. ViewAnswers job bytes plan_bytes more f.answer.status (map written_by f.files.items) f.answer.text.items)
+  puts_no_route {E} g plan places number (Err e) has named asked past answered files text = tt
+  puts_no_route {E} g plan places number (Ok f) has named asked past answered files text =
       by_status f status.Refused answered
-      (inr (record { files = record { network = g; plan = plan; has = has }; number = number; asked = asked; past = past; none = files; text_is = text }))
+      (inr (inr (record { files = record { network = g; plan = plan; has = has }; places = places; named = named; number = number; asked = asked; past = past; none = files; text_is = text })))
 
-  -- the line of a refusal
-  refused_so : {E : Type 0} (r : Refusal) (made : Result (Found Cause) E) → IsRule r → IsTextRefused job.limit bytes plan_bytes r → IfOk made (λ f. f.answer.status ≡ status.Refused)
-      → IfOk made (λ f. f.files.items ≡ []) → IfOk made (λ f. f.answer.text.items ≡ refusal_text r)
-      → IfOk made (λ f. ViewAnswers job bytes plan_bytes f.answer.status (map written_by f.files.items) f.answer.text.items)
-  refused_so {E} r (Err e) rule refused answered files text = tt
-  refused_so {E} r (Ok f) rule refused answered files text =
-      by_status f status.Refused answered (inl (record { refusal = r; rule = rule; refused = refused; none = ap (λ fs. map written_by fs) files; text_is = text }))
+  -- the line of the rule that the file of places breaks
+  pub puts_no_places : {E : Type 0} (g : Network) (plan : Option FleetPlan) (fault : PlacesFault) (made : Result (Found Cause) E) → HasPlan job.limit bytes plan_bytes g plan → BreaksPlaces (needs_points job) g more fault
+      → IfOk made (λ f. f.answer.status ≡ status.Refused) → IfOk made (λ f. map written_by f.files.items ≡ [])
+      → IfOk made (λ f. f.answer.text.items ≡ places_text fault)
+      → IfOk made (λ f. ViewAnswers job bytes plan_bytes more f.answer.status (map written_by f.files.items) f.answer.text.items)
+  puts_no_places {E} g plan fault (Err e) has breaks answered files text = tt
+  puts_no_places {E} g plan fault (Ok f) has breaks answered files text =
+      by_status f status.Refused answered
+      (inr (inl (record { files = record { network = g; plan = plan; has = has }; fault = fault; broken = breaks; none = files; text_is = text })))
 
--- the first broken rule of the plan's text
-pub puts_refusal : {E : Type 0} (job : ViewPlan) (bytes plan_bytes : List ℕ) (g : Network) (ended : Ended) (r : Refusal) (made : Result (Found Cause) E) → HasNetwork job.limit bytes g → ended ≡ Refused r
-    → IsRuleOrMemory ended → IsPlanEnded plan_bytes ended
-    → IfOk made (λ f. f.answer.status ≡ status.Refused) → IfOk made (λ f. f.files.items ≡ []) → IfOk made (λ f. f.answer.text.items ≡ refusal_text r)
-    → IfOk made (λ f. ViewAnswers job bytes plan_bytes f.answer.status (map written_by f.files.items) f.answer.text.items)
-puts_refusal {E} job bytes plan_bytes g ended r made network is rule refused answered files text =
-    let first = subst (λ (e : Ended). IsPlanEnded plan_bytes e) is refused in
-    refused_so job bytes plan_bytes r made (rule_of ended r is rule) (plan_rule job.limit bytes plan_bytes g r network first) answered files text
+-- ---- what the bytes of the files answer
 
--- ---- what the bytes of both files answer
+refused_writes : (job : ViewPlan) (bytes plan_bytes : List ℕ) (more : List (List ℕ)) (ws : List Written) (text : List ℕ)
+    → PutsRefusal job bytes plan_bytes ws text ⊎ PutsNoPlaces job bytes plan_bytes more ws text ⊎ PutsNoRoute job bytes plan_bytes more ws text → AreDifferent ws
+refused_writes job bytes plan_bytes more ws text (inl p) = no_write ws p.none
+refused_writes job bytes plan_bytes more ws text (inr (inl p)) = no_write ws p.none
+refused_writes job bytes plan_bytes more ws text (inr (inr p)) = no_write ws p.none
 
-refused_writes : (job : ViewPlan) (bytes plan_bytes : List ℕ) (ws : List Written) (text : List ℕ)
-    → PutsRefusal job bytes plan_bytes ws text ⊎ PutsNoRoute job bytes plan_bytes ws text → AreDifferent ws
-refused_writes job bytes plan_bytes ws text (inl p) = no_write ws p.none
-refused_writes job bytes plan_bytes ws text (inr p) = no_write ws p.none
+answer_is_plain : (job : ViewPlan) (bytes plan_bytes : List ℕ) (more : List (List ℕ)) (s : Status) (ws : List Written) (text : List ℕ) → are_different (written_names job) ≡ true → ViewAnswers job bytes plan_bytes more s ws text → IsAnswered s × AreDifferent ws
+answer_is_plain job bytes plan_bytes more status.Done ws text differ p = (tt, files_differ job p.places p.shown ws differ p.written)
+answer_is_plain job bytes plan_bytes more status.Negative ws text differ p = (tt, no_write ws p.none)
+answer_is_plain job bytes plan_bytes more status.Refused ws text differ p = (tt, refused_writes job bytes plan_bytes more ws text p)
+answer_is_plain job bytes plan_bytes more status.Words ws text differ p = absurd p
+answer_is_plain job bytes plan_bytes more status.Fault ws text differ p = absurd p
+answer_is_plain job bytes plan_bytes more status.Memory ws text differ p = absurd p
+answer_is_plain job bytes plan_bytes more status.Stopped ws text differ p = absurd p
 
-answer_is_plain : (job : ViewPlan) (bytes plan_bytes : List ℕ) (s : Status) (ws : List Written) (text : List ℕ) → are_different (written_names job) ≡ true → ViewAnswers job bytes plan_bytes s ws text → IsAnswered s × AreDifferent ws
-answer_is_plain job bytes plan_bytes status.Done ws text differ p = (tt, files_differ job p.shown ws differ p.written)
-answer_is_plain job bytes plan_bytes status.Negative ws text differ p = (tt, no_write ws p.none)
-answer_is_plain job bytes plan_bytes status.Refused ws text differ p = (tt, refused_writes job bytes plan_bytes ws text p)
-answer_is_plain job bytes plan_bytes status.Words ws text differ p = absurd p
-answer_is_plain job bytes plan_bytes status.Fault ws text differ p = absurd p
-answer_is_plain job bytes plan_bytes status.Memory ws text differ p = absurd p
-answer_is_plain job bytes plan_bytes status.Stopped ws text differ p = absurd p
-
-pub view_found : {E : Type 0} (job : ViewPlan) (files : Option Files) (bytes plan_bytes given : List ℕ) (made : Result (Found Cause) E) → are_different (written_names job) ≡ true
-    → AreReadUpTo most_bytes files job.file bytes → AreReadUpTo most_bytes files job.plan plan_bytes → given ≡ plan_bytes
-    → IfOk made (λ f. ViewAnswers job bytes given f.answer.status (map written_by f.files.items) f.answer.text.items) → IfOk made (HearsOfFound view_heard)
+pub view_found : {E : Type 0} (job : ViewPlan) (files : Option Files) (bytes plan_bytes : List ℕ) (given more : List (List ℕ)) (made : Result (Found Cause) E) → are_different (written_names job) ≡ true
+    → AreReadUpTo most_bytes files job.file bytes → AreReadUpTo most_bytes files job.plan plan_bytes → AreRead files (places_read job.places) more → given ≡ more
+    → IfOk made (λ f. ViewAnswers job bytes plan_bytes given f.answer.status (map written_by f.files.items) f.answer.text.items) → IfOk made (HearsOfFound view_heard)
     → IfOk made (λ f. IsFoundFor (view_task job) files f)
-view_found {E} job files bytes plan_bytes given (Err e) differ read read_plan same answers heard = tt
-view_found {E} job files bytes plan_bytes given (Ok f) differ read read_plan same answers heard =
+view_found {E} job files bytes plan_bytes given more (Err e) differ read read_plan read_more same answers heard = tt
+view_found {E} job files bytes plan_bytes given more (Ok f) differ read read_plan read_more same answers heard =
     let ws = map written_by f.files.items in
-    let plain = answer_is_plain job bytes given f.answer.status ws f.answer.text.items differ answers in
+    let plain = answer_is_plain job bytes plan_bytes given f.answer.status ws f.answer.text.items differ answers in
     record {
       answered = plain.0;
       answers = record {
-        bytes = bytes ∷ plan_bytes ∷ [];
-        read = (read, (read_plan, tt));
-        answer = subst (λ (bs : List ℕ). ViewAnswers job bytes bs f.answer.status ws f.answer.text.items) same answers;
+        bytes = bytes ∷ plan_bytes ∷ more;
+        read = (read, (read_plan, read_more));
+        answer = subst (λ (bs : List (List ℕ)). ViewAnswers job bytes plan_bytes bs f.answer.status ws f.answer.text.items) same answers;
       };
       heard = heard;
       different = plain.1;
     }
 
--- a refusal before the plan is read is the answer whatever the plan holds
+-- ---- refusals that hold whatever the files hold that aren't read then
+
+some_more : (files : Option Files) (places : Option (List ℕ)) → (more : List (List ℕ)) × AreRead files (places_read places) more
+some_more files None = ([], tt)
+some_more files (Some name) = let one = some_read most_bytes files name in (one.0 ∷ [], (one.1, tt))
+
+refused_text : (job : ViewPlan) (files : Option Files) (bytes plan_bytes : List ℕ) (r : Refusal) → AreReadUpTo most_bytes files job.file bytes → AreReadUpTo most_bytes files job.plan plan_bytes → IsRule r
+    → IsTextRefused job.limit bytes plan_bytes r → Answers (view_task job) files (record { status = status.Refused; writes = []; text = refusal_text r })
+refused_text job files bytes plan_bytes r read read_plan rule refused =
+    let more = some_more files job.places in
+    record {
+      bytes = bytes ∷ plan_bytes ∷ more.0;
+      read = (read, (read_plan, more.1));
+      answer = inl (record { refusal = r; rule = rule; refused = refused; none = refl; text_is = refl });
+    }
+
+-- of the instance, before the plan is read
 pub refused_early : (job : ViewPlan) (files : Option Files) (bytes given : List ℕ) (ended : Ended) (r : Refusal) → AreReadUpTo most_bytes files job.file bytes → given ≡ bytes → ended ≡ Refused r
     → IsNetworkEnded job.limit given ended → Answers (view_task job) files (record { status = status.Refused; writes = []; text = refusal_text r })
 refused_early job files bytes given ended r read same is refused =
     let plan = some_read most_bytes files job.plan in
     let here = subst (λ (bs : List ℕ). IsNetworkEnded job.limit bs ended) same refused in
     let first : IsRule r × IsNetworkRefused job.limit bytes r = subst (λ (e : Ended). IsNetworkEnded job.limit bytes e) is here in
-    record {
-      bytes = bytes ∷ plan.0 ∷ [];
-      read = (read, (plan.1, tt));
-      answer = inl (record { refusal = r; rule = first.0; refused = early_rule job.limit bytes plan.0 r first.1; none = refl; text_is = refl });
-    }
+    refused_text job files bytes plan.0 r read plan.1 first.0 (early_rule job.limit bytes plan.0 r first.1)
+
+-- of the plan's text, before places are read
+pub refused_plan : (job : ViewPlan) (files : Option Files) (bytes plan_bytes given : List ℕ) (g : Network) (ended : Ended) (r : Refusal) → AreReadUpTo most_bytes files job.file bytes → AreReadUpTo most_bytes files job.plan plan_bytes → given ≡ plan_bytes
+    → HasNetwork job.limit bytes g → ended ≡ Refused r → IsRuleOrMemory ended → IsPlanEnded given ended → Answers (view_task job) files (record { status = status.Refused; writes = []; text = refusal_text r })
+refused_plan job files bytes plan_bytes given g ended r read read_plan same network is rule refused =
+    let here = subst (λ (bs : List ℕ). IsPlanEnded bs ended) same refused in
+    let first = subst (λ (e : Ended). IsPlanEnded plan_bytes e) is here in
+    refused_text job files bytes plan_bytes r read read_plan (rule_of ended r is rule) (plan_rule job.limit bytes plan_bytes g r network first)
 
 -- ---- a read that failed
 
@@ -159,10 +177,30 @@ pub plan_fails : (job : ViewPlan) (before after : ShelfState) (bytes : List ℕ)
 plan_fails job before after bytes g read network failed = record {
   first = file_read job.file ∷ [];
   read = file_read job.plan;
-  rest = [];
+  rest = places_read job.places;
   are = refl;
   bytes = bytes ∷ [];
   are_read = (read, tt);
   goes_on = (g, network);
   failed = failed;
 }
+
+pub places_fail : (job : ViewPlan) (before after : ShelfState) (bytes plan_bytes name : List ℕ) → HoldsPlan job.limit bytes plan_bytes → AreReadUpTo most_bytes before.files job.file bytes → AreReadUpTo most_bytes before.files job.plan plan_bytes
+    → job.places ≡ Some name → HasFailedRead before after name → FailsReading (view_task job) before after
+places_fail job before after bytes plan_bytes name held read read_plan is failed = record {
+  first = file_read job.file ∷ file_read job.plan ∷ [];
+  read = file_read name;
+  rest = [];
+  are = ap (λ (places : Option (List ℕ)). file_read job.file ∷ file_read job.plan ∷ places_read places) is;
+  bytes = bytes ∷ plan_bytes ∷ [];
+  are_read = (read, (read_plan, tt));
+  goes_on = held;
+  failed = failed;
+}
+
+-- the bytes of the one more file
+pub one_more : (job : ViewPlan) (files : Option Files) (bytes name : List ℕ) → job.places ≡ Some name → AreReadUpTo most_bytes files name bytes → AreRead files (places_read job.places) (bytes ∷ [])
+one_more job files bytes name is read = subst (λ (places : Option (List ℕ)). AreRead files (places_read places) (bytes ∷ [])) (sym is) (read, tt)
+
+pub none_more : (job : ViewPlan) (files : Option Files) → job.places ≡ None → AreRead files (places_read job.places) []
+none_more job files is = subst (λ (places : Option (List ℕ)). AreRead files (places_read places) []) (sym is) tt

@@ -1,6 +1,6 @@
 -- The causes of the statuses exclude each other.
-use Rattle.std.proofs.Common.{◌≡◌, ◌⊎◌, ℕ, ◌<◌, ◌≤◌, List, [], ◌∷◌, Option, Some, inl, inr, arith, subst}
-use Rattle.ev_model.specs.Network.{Network}
+use Rattle.std.proofs.Common.{◌≡◌, ◌⊎◌, ℕ, ◌<◌, ◌≤◌, List, [], ◌∷◌, Bool, Option, Some, inl, inr, arith, subst}
+use Rattle.ev_model.specs.Network.{Network, node_count}
 use Rattle.fleet_steps.proofs.PlanFiles.{refused_holds_not, same_held, same_network}
 use Rattle.fleet_steps.proofs.Plans.{valid_breaks_none}
 use Rattle.fleet_steps.specs.PlanFile.{BreaksFirst, HoldsPlan}
@@ -10,9 +10,12 @@ use Rattle.job_frame.specs.Task.{Outcome}
 use Rattle.job_frame.specs.Writes.{Written}
 use Rattle.job_frame.specs.declared.status.Status.{Status}
 use Rattle.job_frame.specs.declared.status.Status.TheVariants as status
+use Rattle.place_names.proofs.Unbroken.{good_breaks_none}
+use Rattle.place_names.specs.declared.faults.PlacesFault.{PlacesFault}
+use Rattle.place_names.specs.declared.place.Place.{Place}
 use Rattle.route_plan.specs.declared.plan.FleetPlan.{FleetPlan}
 use Rattle.view_words.specs.Words.{ViewPlan}
-use Rattle.evview_run.specs.ViewAnswer.{HasRoute, PutsBrokenPlan, PutsNoRoute, PutsRefusal, PutsSchedule, ViewAnswers, route_count, view_answers, view_task}
+use Rattle.evview_run.specs.ViewAnswer.{BreaksPlaces, HasPlaces, HasRoute, PutsBrokenPlan, PutsNoPlaces, PutsNoRoute, PutsRefusal, PutsSchedule, ViewAnswers, needs_points, route_count, view_answers, view_task}
 
 -- a route that is there isn't past the last one
 there_or_past : (route : Option ℕ) (number : ℕ) (plan : Option FleetPlan) → HasRoute route plan → route ≡ Some number → route_count plan ≤ number → ⊥
@@ -20,9 +23,14 @@ there_or_past route number plan there asked past =
     let here : number < route_count plan = subst (λ (r : Option ℕ). HasRoute r plan) asked there in
     omega (arith, here, past)
 
-module _ (job : ViewPlan) (bytes plan_bytes : List ℕ) where
+-- places that are there break no rule
+places_or_fault : (needed : Bool) (g : Network) (more : List (List ℕ)) (places : List Place) (fault : PlacesFault) → HasPlaces needed g more places → BreaksPlaces needed g more fault → ⊥
+places_or_fault needed g more places fault named breaks =
+    good_breaks_none needed (node_count g) breaks.0 places fault (subst (λ (m : List (List ℕ)). HasPlaces needed g m places) breaks.1 named) breaks.2
+
+module _ (job : ViewPlan) (bytes plan_bytes : List ℕ) (more : List (List ℕ)) where
   -- a plan whose schedule is shown breaks no rule
-  shown_is_unbroken : (ws vs : List Written) (text other : List ℕ) → PutsSchedule job bytes plan_bytes ws text → PutsBrokenPlan job bytes plan_bytes vs other → ⊥
+  shown_is_unbroken : (ws vs : List Written) (text other : List ℕ) → PutsSchedule job bytes plan_bytes more ws text → PutsBrokenPlan job bytes plan_bytes more vs other → ⊥
   shown_is_unbroken ws vs text other p q =
       let there : BreaksFirst p.files.network q.files.plan q.fault =
       subst (λ (g : Network). BreaksFirst g q.files.plan q.fault) (same_network job.limit bytes plan_bytes p.files q.files) q.broken in
@@ -31,53 +39,54 @@ module _ (job : ViewPlan) (bytes plan_bytes : List ℕ) where
       valid_breaks_none p.files.network p.files.plan p.cost q.fault p.valid here
 
   -- what the files hold, with the route that is asked for, is refused by no rule
-  held_is_not_refused : (h : HoldsPlan job.limit bytes plan_bytes) (ws : List Written) (text : List ℕ) → HasRoute job.route h.plan
-      → PutsRefusal job bytes plan_bytes ws text ⊎ PutsNoRoute job bytes plan_bytes ws text → ⊥
-  held_is_not_refused h ws text route (inl p) = refused_holds_not job.limit bytes plan_bytes h p.refusal p.rule p.refused
-  held_is_not_refused h ws text route (inr p) =
+  held_is_not_refused : (h : HoldsPlan job.limit bytes plan_bytes) (places : List Place) (ws : List Written) (text : List ℕ) → HasPlaces (needs_points job) h.network more places → HasRoute job.route h.plan
+      → PutsRefusal job bytes plan_bytes ws text ⊎ PutsNoPlaces job bytes plan_bytes more ws text ⊎ PutsNoRoute job bytes plan_bytes more ws text → ⊥
+  held_is_not_refused h places ws text named route (inl p) = refused_holds_not job.limit bytes plan_bytes h p.refusal p.rule p.refused
+  held_is_not_refused h places ws text named route (inr (inl p)) =
+      let broken : BreaksPlaces (needs_points job) h.network more p.fault = subst (λ (g : Network). BreaksPlaces (needs_points job) g more p.fault) (same_network job.limit bytes plan_bytes h p.files) p.broken in
+      places_or_fault (needs_points job) h.network more places p.fault named broken
+  held_is_not_refused h places ws text named route (inr (inr p)) =
       let past : route_count h.plan ≤ p.number = subst (λ (plan : Option FleetPlan). route_count plan ≤ p.number) (same_held job.limit bytes plan_bytes h p.files) p.past in
       there_or_past job.route p.number h.plan route p.asked past
 
 -- ---- the causes
 
-ViewCause : ViewPlan → List ℕ → List ℕ → Status → Type 0
-ViewCause job bytes plan_bytes s = (ws : List Written) × ((text : List ℕ) × ViewAnswers job bytes plan_bytes s ws text)
+ViewCause : ViewPlan → List ℕ → List ℕ → List (List ℕ) → Status → Type 0
+ViewCause job bytes plan_bytes more s = (ws : List Written) × ((text : List ℕ) × ViewAnswers job bytes plan_bytes more s ws text)
 
-answered : (job : ViewPlan) (bytes plan_bytes : List ℕ) (s : Status) → ViewCause job bytes plan_bytes s → IsPlain s
+answered : (job : ViewPlan) (bytes plan_bytes : List ℕ) (more : List (List ℕ)) (s : Status) → ViewCause job bytes plan_bytes more s → IsPlain s
 unfolding ViewCause
-answered job bytes plan_bytes status.Done p = tt
-answered job bytes plan_bytes status.Negative p = tt
-answered job bytes plan_bytes status.Refused p = tt
-answered job bytes plan_bytes status.Words p = absurd p.1.1
-answered job bytes plan_bytes status.Fault p = absurd p.1.1
-answered job bytes plan_bytes status.Memory p = absurd p.1.1
-answered job bytes plan_bytes status.Stopped p = absurd p.1.1
+answered job bytes plan_bytes more status.Done p = tt
+answered job bytes plan_bytes more status.Negative p = tt
+answered job bytes plan_bytes more status.Refused p = tt
+answered job bytes plan_bytes more status.Words p = absurd p.1.1
+answered job bytes plan_bytes more status.Fault p = absurd p.1.1
+answered job bytes plan_bytes more status.Memory p = absurd p.1.1
+answered job bytes plan_bytes more status.Stopped p = absurd p.1.1
 
-exclude : (job : ViewPlan) (bytes plan_bytes : List ℕ) → ExcludeEachOther (ViewCause job bytes plan_bytes)
+exclude : (job : ViewPlan) (bytes plan_bytes : List ℕ) (more : List (List ℕ)) → ExcludeEachOther (ViewCause job bytes plan_bytes more)
 unfolding ViewCause
-exclude job bytes plan_bytes = record {
-  answered = answered job bytes plan_bytes;
-  done_negative = λ p q. shown_is_unbroken job bytes plan_bytes p.0 q.0 p.1.0 q.1.0 p.1.1 q.1.1;
-  done_refused = λ p q. held_is_not_refused job bytes plan_bytes p.1.1.files q.0 q.1.0 p.1.1.route q.1.1;
-  negative_refused = λ p q. held_is_not_refused job bytes plan_bytes p.1.1.files q.0 q.1.0 p.1.1.route q.1.1;
+exclude job bytes plan_bytes more = record {
+  answered = answered job bytes plan_bytes more;
+  done_negative = λ p q. shown_is_unbroken job bytes plan_bytes more p.0 q.0 p.1.0 q.1.0 p.1.1 q.1.1;
+  done_refused = λ p q. held_is_not_refused job bytes plan_bytes more p.1.1.files p.1.1.places q.0 q.1.0 p.1.1.named p.1.1.route q.1.1;
+  negative_refused = λ p q. held_is_not_refused job bytes plan_bytes more p.1.1.files p.1.1.places q.0 q.1.0 p.1.1.named p.1.1.route q.1.1;
 }
 
 abbrev cause : ViewPlan → List (List ℕ) → Status → Type 0
-cause job (bytes ∷ plan_bytes ∷ []) s = ViewCause job bytes plan_bytes s
+cause job (bytes ∷ plan_bytes ∷ more) s = ViewCause job bytes plan_bytes more s
 cause job other s = ⊥
 
 has : (job : ViewPlan) (bytes : List (List ℕ)) (o : Outcome) → view_answers job bytes o → cause job bytes o.status
 unfolding ViewCause
-has job (bytes ∷ plan_bytes ∷ []) o is = (o.writes, (o.text, is))
+has job (bytes ∷ plan_bytes ∷ more) o is = (o.writes, (o.text, is))
 has job [] o is = absurd is
 has job (bytes ∷ []) o is = absurd is
-has job (bytes ∷ plan_bytes ∷ more ∷ others) o is = absurd is
 
 each : (job : ViewPlan) (bytes : List (List ℕ)) → ExcludeEachOther (cause job bytes)
-each job (bytes ∷ plan_bytes ∷ []) = exclude job bytes plan_bytes
+each job (bytes ∷ plan_bytes ∷ more) = exclude job bytes plan_bytes more
 each job [] = nothing_excludes
 each job (bytes ∷ []) = nothing_excludes
-each job (bytes ∷ plan_bytes ∷ more ∷ others) = nothing_excludes
 
 pub view_lawful : (job : ViewPlan) → IsLawful (view_task job)
 view_lawful job = lawful (view_task job) (cause job) (has job) (each job)

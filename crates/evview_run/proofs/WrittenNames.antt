@@ -8,8 +8,10 @@ use Rattle.std.proofs.lemmas.Slice.Eq.{bytes_eq-Decides}
 use Rattle.call_words.specs.Names.{are_different, is_listed}
 use Rattle.job_frame.specs.Writes.{AreDifferent, IsNoneOf, Written}
 use Rattle.view_words.specs.Words.{ViewPlan, given_names, written_names}
+use Rattle.place_names.specs.declared.place.Place.{Place}
 use Rattle.plan_schedule.specs.declared.schedule.Schedule.{Schedule}
 use Rattle.schedule_texts.specs.JsonTexts.{json_text}
+use Rattle.schedule_texts.specs.Maps.{map_text}
 use Rattle.schedule_texts.specs.Pictures.{picture_text}
 use Rattle.schedule_texts.specs.Spreadsheets.{csv_text}
 use Rattle.evview_run.specs.ViewAnswer.{clock_of, file_of, files_of}
@@ -34,14 +36,19 @@ given_first : (name : Option (List ℕ)) (bytes : List ℕ) (ws : List Written) 
 given_first None bytes ws names are = are
 given_first (Some name) bytes ws names are = ap (λ (ns : List (List ℕ)). name ∷ ns) are
 
-pub files_differ : (job : ViewPlan) (shown : Option Schedule) (ws : List Written) → are_different (written_names job) ≡ true → ws ≡ files_of job shown → AreDifferent ws
-files_differ job shown ws differ is =
+pub files_differ : (job : ViewPlan) (places : List Place) (shown : Option Schedule) (ws : List Written) → are_different (written_names job) ≡ true → ws ≡ files_of job places shown → AreDifferent ws
+files_differ job places shown ws differ is =
     let clock = clock_of job.clock in
-    let rows = csv_text clock shown in
-    let schedule = json_text clock shown in
-    let alone : map (λ w. w.name) (file_of job.csv rows ++ []) ≡ given_names (job.csv ∷ []) = given_first job.csv rows [] [] refl in
-    let last : map (λ w. w.name) (file_of job.csv rows) ≡ given_names (job.csv ∷ []) =
-    subst (λ (fs : List Written). map (λ w. w.name) fs ≡ given_names (job.csv ∷ [])) (append-nil (file_of job.csv rows)) alone in
-    let more = given_first job.json schedule (file_of job.csv rows) (job.csv ∷ []) last in
-    let all = given_first job.svg (picture_text clock shown) (file_of job.json schedule ++ file_of job.csv rows) (job.json ∷ job.csv ∷ []) more in
-    are_apart ws (subst (λ (names : List (List ℕ)). are_different names ≡ true) (sym (ap (λ (fs : List Written). map (λ w. w.name) fs) (is ∙ append_assoc (file_of job.svg (picture_text clock shown)) (file_of job.json schedule) (file_of job.csv rows)) ∙ all)) differ)
+    let drawn = file_of job.map (map_text places shown) in
+    let rows = file_of job.csv (csv_text clock places shown) in
+    let schedule = file_of job.json (json_text clock places shown) in
+    let pictures = file_of job.svg (picture_text clock places shown) in
+    let alone : map (λ w. w.name) (drawn ++ []) ≡ given_names (job.map ∷ []) = given_first job.map (map_text places shown) [] [] refl in
+    let last : map (λ w. w.name) drawn ≡ given_names (job.map ∷ []) =
+    subst (λ (fs : List Written). map (λ w. w.name) fs ≡ given_names (job.map ∷ [])) (append-nil drawn) alone in
+    let both = given_first job.csv (csv_text clock places shown) drawn (job.map ∷ []) last in
+    let more = given_first job.json (json_text clock places shown) (rows ++ drawn) (job.csv ∷ job.map ∷ []) both in
+    let all = given_first job.svg (picture_text clock places shown) (schedule ++ (rows ++ drawn)) (job.json ∷ job.csv ∷ job.map ∷ []) more in
+    let apart : ws ≡ pictures ++ (schedule ++ (rows ++ drawn)) =
+    is ∙ append_assoc (pictures ++ schedule) rows drawn ∙ append_assoc pictures schedule (rows ++ drawn) in
+    are_apart ws (subst (λ (names : List (List ℕ)). are_different names ≡ true) (sym (ap (λ (fs : List Written). map (λ w. w.name) fs) apart ∙ all)) differ)

@@ -1,15 +1,23 @@
--- What is written and put for the bytes of an instance and of a plan file.
-use Rattle.std.specs.Prelude.{◌≡◌, ℕ, ◌<◌, ◌≤◌, ◌⊎◌, List, [], ◌∷◌, ◌++◌, Option, None, Some, codes, decimal, length, option_map}
-use Rattle.ev_model.specs.Network.{Network}
+-- What is written and put for the bytes of an instance, of a plan file, and of a file with places.
+use Rattle.std.specs.Prelude.{◌≡◌, ℕ, ◌<◌, ◌≤◌, ◌⊎◌, List, [], ◌∷◌, ◌++◌, Option, None, Some, Bool, codes, decimal, is_some, length, option_map}
+use Rattle.ev_model.specs.Network.{Network, node_count}
 use Rattle.fleet_steps.specs.PlanFile.{BreaksFirst, HoldsPlan, IsTextRefused, IsValid}
 use Rattle.fleet_steps.specs.Heard as fleet
 use Rattle.job_frame.specs.Heard.{HearsDone, HearsRefusal}
-use Rattle.job_frame.specs.Task.{Outcome, Task}
+use Rattle.job_frame.specs.Task.{Outcome, Read, Task}
 use Rattle.job_frame.specs.Writes.{Written}
 use Rattle.job_frame.specs.declared.status.Status.{Status}
 use Rattle.job_frame.specs.declared.status.Status.TheVariants as status
 use Rattle.job_frame.specs.Caps.{file_read}
 use Rattle.job_frame.specs.LimitedNetwork.{HasNetwork}
+use Rattle.place_names.specs.Reading.{ArePlacesOf, IsFirstFault}
+use Rattle.place_names.specs.declared.faults.EntryFault.{EntryFault}
+use Rattle.place_names.specs.declared.faults.EntryFault.TheVariants as entry
+use Rattle.place_names.specs.declared.faults.PlacesEnded.{PlacesEnded}
+use Rattle.place_names.specs.declared.faults.PlacesEnded.TheVariants as ended
+use Rattle.place_names.specs.declared.faults.PlacesFault.{PlacesFault}
+use Rattle.place_names.specs.declared.faults.PlacesFault.TheVariants as places_fault
+use Rattle.place_names.specs.declared.place.Place.{Place}
 use Rattle.plan_check.specs.FleetRules.{stops_of}
 use Rattle.plan_check.specs.declared.fault.PlanFault.{PlanFault}
 use Rattle.plan_schedule.specs.Schedules.{only, schedule_of}
@@ -17,8 +25,10 @@ use Rattle.plan_schedule.specs.declared.schedule.Schedule.{Schedule}
 use Rattle.refusal_lines.specs.RejectedText.{rejected_text}
 use Rattle.refusal_lines.specs.RefusalText.{IsRule, refusal_text}
 use Rattle.refusal_lines.specs.declared.refusal.Refusal.{Refusal}
+use Rattle.report_lines.specs.Lines.{number_line}
 use Rattle.route_plan.specs.declared.plan.FleetPlan.{FleetPlan}
 use Rattle.schedule_texts.specs.JsonTexts.{json_text}
+use Rattle.schedule_texts.specs.Maps.{map_text}
 use Rattle.schedule_texts.specs.Pictures.{picture_text}
 use Rattle.schedule_texts.specs.Spreadsheets.{csv_text}
 use Rattle.schedule_texts.specs.Tables.{table_text}
@@ -42,6 +52,48 @@ HasRoute (Some number) plan = number < route_count plan
 abbrev pub no_route_text : ℕ → List ℕ
 no_route_text number = codes "refused number " ++ decimal number ++ 10 ∷ []
 
+-- what is wrong with an entry of a file of places
+abbrev pub entry_words : EntryFault → List ℕ
+entry_words entry.NoObject = codes "refused places entry "
+entry_words entry.Name = codes "refused places name "
+entry_words entry.Character = codes "refused places character "
+entry_words entry.X = codes "refused places x "
+entry_words entry.Y = codes "refused places y "
+
+-- the line of the first broken rule of a file of places
+unfoldable pub places_text : PlacesFault → List ℕ
+places_text places_fault.TooLong = codes "refused places long\n"
+places_text places_fault.NotJson = codes "refused places json\n"
+places_text places_fault.NoList = codes "refused places list\n"
+places_text (places_fault.Entry index wrong) = number_line (entry_words wrong) index
+places_text (places_fault.Count count) = number_line (codes "refused places ") count
+
+-- the places by node that the files behind the plan file mean: none without such a file
+-- all of them say where they are, if that is needed
+abbrev pub HasPlaces : Bool → Network → List (List ℕ) → List Place → Type 0
+HasPlaces needed g [] places = places ≡ []
+HasPlaces needed g (bytes ∷ []) places = ArePlacesOf needed (node_count g) bytes places
+HasPlaces needed g other places = ⊥
+
+-- a map needs points
+abbrev pub needs_points : ViewPlan → Bool
+needs_points job = is_some job.map
+
+-- one file stands behind the plan file, and this is the first rule that it breaks as one of places
+abbrev pub BreaksPlaces : Bool → Network → List (List ℕ) → PlacesFault → Type 0
+BreaksPlaces needed g more fault =
+    (bytes : List ℕ) × (more ≡ bytes ∷ []) × IsFirstFault needed (node_count g) bytes fault
+
+-- why there are no places: the first broken rule, or want of memory
+abbrev pub EndsPlaces : Bool → Network → List (List ℕ) → PlacesEnded → Type 0
+EndsPlaces needed g more (ended.Refused fault) = BreaksPlaces needed g more fault
+EndsPlaces needed g more ended.Memory = Unit {0}
+
+-- the bytes of the file of places, where it is given
+abbrev pub listed : Option (List ℕ) → List (List ℕ)
+listed None = []
+listed (Some bytes) = bytes ∷ []
+
 -- a file that is written, where it has a name
 abbrev pub file_of : Option (List ℕ) → List ℕ → List Written
 file_of None bytes = []
@@ -63,31 +115,37 @@ clock_of None = None
 clock_of (Some c) = Some (record { begin = c.begin; seconds = c.seconds; parts = c.parts })
 
 -- the files that are asked for
-abbrev pub files_of : ViewPlan → Option Schedule → List Written
-files_of job shown =
-    file_of job.svg (picture_text (clock_of job.clock) shown)
-    ++ file_of job.json (json_text (clock_of job.clock) shown)
-    ++ file_of job.csv (csv_text (clock_of job.clock) shown)
+abbrev pub files_of : ViewPlan → List Place → Option Schedule → List Written
+files_of job places shown =
+    file_of job.svg (picture_text (clock_of job.clock) places shown)
+    ++ file_of job.json (json_text (clock_of job.clock) places shown)
+    ++ file_of job.csv (csv_text (clock_of job.clock) places shown)
+    ++ file_of job.map (map_text places shown)
 
 -- The plan is a fleet plan, or there is none, and the one route that is asked for is there. Its
 -- schedule is put as tables, behind the files that are asked for, with its pictures, and with it as
--- JSON and as CSV; its total time is what the whole plan costs.
-pub record PutsSchedule (job : ViewPlan) (bytes plan_bytes : List ℕ)
+-- JSON and as CSV, and with its map, with the names of places where they are given; its total time is what the whole
+-- plan costs.
+pub record PutsSchedule (job : ViewPlan) (bytes plan_bytes : List ℕ) (more : List (List ℕ))
     (ws : List Written) (text : List ℕ) : Type 0 where
   pub files : HoldsPlan job.limit bytes plan_bytes
+  pub places : List Place
+  pub named : HasPlaces (needs_points job) files.network more places
   pub cost : Option ℕ
   pub valid : IsValid files.network files.plan cost
   pub route : HasRoute job.route files.plan
   pub shown : Option Schedule
   pub is : shown ≡ shown_of files.network job.route files.plan
   pub time : option_map (λ s. s.totals.time) shown ≡ cost
-  pub written : ws ≡ files_of job shown
-  pub text_is : text ≡ table_text job.exact (clock_of job.clock) shown
+  pub written : ws ≡ files_of job places shown
+  pub text_is : text ≡ table_text job.exact (clock_of job.clock) places shown
 
 -- the first rule that the plan breaks is put, and nothing is written
-pub record PutsBrokenPlan (job : ViewPlan) (bytes plan_bytes : List ℕ)
+pub record PutsBrokenPlan (job : ViewPlan) (bytes plan_bytes : List ℕ) (more : List (List ℕ))
     (ws : List Written) (text : List ℕ) : Type 0 where
   pub files : HoldsPlan job.limit bytes plan_bytes
+  pub places : List Place
+  pub named : HasPlaces (needs_points job) files.network more places
   pub route : HasRoute job.route files.plan
   pub fault : PlanFault
   pub broken : BreaksFirst files.network files.plan fault
@@ -104,11 +162,23 @@ pub record PutsRefusal (job : ViewPlan) (bytes plan_bytes : List ℕ)
   pub none : ws ≡ []
   pub text_is : text ≡ refusal_text refusal
 
--- no rule of a text is broken, and the route that is asked for isn't there; that is put, and
+-- no rule of these texts is broken, and the first broken rule of the file of places is put, and
 -- nothing is written
-pub record PutsNoRoute (job : ViewPlan) (bytes plan_bytes : List ℕ)
+pub record PutsNoPlaces (job : ViewPlan) (bytes plan_bytes : List ℕ) (more : List (List ℕ))
     (ws : List Written) (text : List ℕ) : Type 0 where
   pub files : HoldsPlan job.limit bytes plan_bytes
+  pub fault : PlacesFault
+  pub broken : BreaksPlaces (needs_points job) files.network more fault
+  pub none : ws ≡ []
+  pub text_is : text ≡ places_text fault
+
+-- no rule of a text is broken, and the route that is asked for isn't there; that is put, and
+-- nothing is written
+pub record PutsNoRoute (job : ViewPlan) (bytes plan_bytes : List ℕ) (more : List (List ℕ))
+    (ws : List Written) (text : List ℕ) : Type 0 where
+  pub files : HoldsPlan job.limit bytes plan_bytes
+  pub places : List Place
+  pub named : HasPlaces (needs_points job) files.network more places
   pub number : ℕ
   pub asked : job.route ≡ Some number
   pub past : route_count files.plan ≤ number
@@ -116,16 +186,28 @@ pub record PutsNoRoute (job : ViewPlan) (bytes plan_bytes : List ℕ)
   pub text_is : text ≡ no_route_text number
 
 -- the files and the text that belong to a status
-abbrev pub ViewAnswers : ViewPlan → List ℕ → List ℕ → Status → List Written → List ℕ → Type 0
-ViewAnswers job bytes plan_bytes status.Done ws text = PutsSchedule job bytes plan_bytes ws text
-ViewAnswers job bytes plan_bytes status.Negative ws text = PutsBrokenPlan job bytes plan_bytes ws text
-ViewAnswers job bytes plan_bytes status.Refused ws text =
-    PutsRefusal job bytes plan_bytes ws text ⊎ PutsNoRoute job bytes plan_bytes ws text
-ViewAnswers job bytes plan_bytes other ws text = ⊥
+abbrev pub ViewAnswers : ViewPlan → List ℕ → List ℕ → List (List ℕ) → Status → List Written →
+    List ℕ → Type 0
+ViewAnswers job bytes plan_bytes more status.Done ws text =
+    PutsSchedule job bytes plan_bytes more ws text
+ViewAnswers job bytes plan_bytes more status.Negative ws text =
+    PutsBrokenPlan job bytes plan_bytes more ws text
+ViewAnswers job bytes plan_bytes more status.Refused ws text =
+    PutsRefusal job bytes plan_bytes ws text ⊎ PutsNoPlaces job bytes plan_bytes more ws text
+    ⊎ PutsNoRoute job bytes plan_bytes more ws text
+ViewAnswers job bytes plan_bytes more other ws text = ⊥
 
 -- the line of the rule that the plan breaks is put, and this rule is heard
 abbrev pub HearsBrokenPlan : Status → List ℕ → Option Cause → Type 0
 HearsBrokenPlan answered text heard = fleet.HearsBrokenPlan cause.Plan answered text heard
+
+-- the line of the rule that the file of places breaks is put, and this rule is heard
+pub record HearsNoPlaces
+    (answered : Status) (text : List ℕ) (heard : Option Cause) : Type 0 where
+  pub fault : PlacesFault
+  pub status_is : answered ≡ status.Refused
+  pub text_is : text ≡ places_text fault
+  pub heard_is : heard ≡ Some (cause.Places fault)
 
 -- the line of a route that isn't there is put, and its number is heard
 pub record HearsNoRoute
@@ -139,23 +221,31 @@ pub record HearsNoRoute
 abbrev pub view_heard : Status → List ℕ → Option Cause → Type 0
 view_heard answered text heard =
     HearsRefusal cause.Refused answered text heard ⊎ HearsBrokenPlan answered text heard
-    ⊎ HearsNoRoute answered text heard ⊎ HearsDone answered text heard
+    ⊎ HearsNoPlaces answered text heard ⊎ HearsNoRoute answered text heard
+    ⊎ HearsDone answered text heard
 
--- two files are read
+-- two files are read, and that of places where it is given
 abbrev pub view_answers : ViewPlan → List (List ℕ) → Outcome → Type 0
-view_answers job (bytes ∷ plan_bytes ∷ []) o =
-    ViewAnswers job bytes plan_bytes o.status o.writes o.text
+view_answers job (bytes ∷ plan_bytes ∷ more) o =
+    ViewAnswers job bytes plan_bytes more o.status o.writes o.text
 view_answers job other o = ⊥
 
--- the plan is read where no rule of the instance is broken
+-- the plan is read where no rule of the instance is broken, and the places where none of the plan's
+-- text is either
 abbrev pub view_goes_on : ViewPlan → List (List ℕ) → Type 0
 view_goes_on job [] = Unit {0}
 view_goes_on job (bytes ∷ []) = (g : Network) × HasNetwork job.limit bytes g
+view_goes_on job (bytes ∷ plan_bytes ∷ []) = HoldsPlan job.limit bytes plan_bytes
 view_goes_on job other = ⊥
+
+-- the read of the file of places, where it is given
+abbrev pub places_read : Option (List ℕ) → List Read
+places_read None = []
+places_read (Some name) = file_read name ∷ []
 
 abbrev pub view_task : ViewPlan → Task Cause
 view_task job = record {
-  reads = file_read job.file ∷ file_read job.plan ∷ [];
+  reads = file_read job.file ∷ file_read job.plan ∷ places_read job.places;
   goes_on = view_goes_on job;
   answers = view_answers job;
   heard = view_heard;

@@ -4,6 +4,7 @@ ghost use Rattle.evview_run.specs.declared.cause.Cause.TheVariants as cause;
 
 use fleet_steps::PlanCause;
 use job_frame::JobCause;
+use place_names::PlacesFault;
 use plan_check::PlanFault;
 use refusal_lines::Refusal;
 
@@ -14,6 +15,8 @@ pub enum Cause {
     Words,
     /// A rule of the files and the words is broken.
     Refused(Refusal),
+    /// The file of places breaks a rule.
+    Places(PlacesFault),
     /// The plan has no route of this number, counted from 0.
     Number(u64),
     /// The plan breaks a rule.

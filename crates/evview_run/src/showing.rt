@@ -9,6 +9,7 @@ ghost use Rattle.plan_schedule.specs.Schedules.{IsTimed};
 ghost use Rattle.route_plan.specs.PlanTexts.{FitsFile};
 ghost use Rattle.schedule_texts.specs.Clocks.{AreClocks};
 ghost use Rattle.schedule_texts.specs.JsonTexts.{json_text};
+ghost use Rattle.schedule_texts.specs.Maps.{map_text};
 ghost use Rattle.schedule_texts.specs.Options.{AreTimed};
 ghost use Rattle.schedule_texts.specs.Pictures.{picture_text};
 ghost use Rattle.schedule_texts.specs.Spreadsheets.{csv_text};
@@ -19,9 +20,12 @@ ghost use Rattle.view_words.specs.JobValue.{job_value};
 use crate::cause::Cause;
 use instance_reader::Instance;
 use job_frame::{Answer, Found, NewFile, Status};
+use place_names::Place;
 use plan_schedule::{Schedule, only_route, schedule_plan};
 use route_plan::FleetPlan;
-use schedule_texts::{Clock, schedule_csv, schedule_json, schedule_picture, schedule_table};
+use schedule_texts::{
+    Clock, schedule_csv, schedule_json, schedule_map, schedule_picture, schedule_table,
+};
 use std::alloc::{AllocError, Global};
 use view_words::{DayClock, Job};
 
@@ -31,6 +35,7 @@ pub fn show(
     alloc: Global,
     inst: &Instance,
     plan: Option<&FleetPlan>,
+    places: &[Place],
     job: &Job,
 ) -> Result<Found<Cause>, AllocError>
     requires fleet { IfSome plan (λ p. IsFleetPlan inst.now 1 (stops_of p.now.routes)) }
@@ -38,20 +43,22 @@ pub fn show(
     requires route { HasRoute job.now.route (option_map (λ p. p.now) plan) }
     requires clock { IfSome job.now.clock IsDayClock }
     ensures status { IfOk result (λ f. f.answer.status ≡ Status.Done) }
-    ensures files { IfOk result (λ f. map written_by f.files.items ≡ files_of (job_value job.now)
+    ensures files { IfOk result (λ f. map written_by f.files.items
+        ≡ files_of (job_value job.now) places.now
         (shown_of inst.now job.now.route (option_map (λ p. p.now) plan.entry))) }
     ensures text { IfOk result (λ f. f.answer.text.items
-        ≡ table_text job.now.exact (clock_of job.now.clock)
+        ≡ table_text job.now.exact (clock_of job.now.clock) places.now
         (shown_of inst.now job.now.route (option_map (λ p. p.now) plan.entry))) }
     ensures cause { IfOk result (λ f. f.answer.cause ≡ None) }
 {
     let shown = shown(alloc, inst, plan, job.route)?;
     let clock = clock_of(job.clock);
-    let text = schedule_table(alloc, shown.as_ref(), job.exact, clock)?;
+    let text = schedule_table(alloc, shown.as_ref(), job.exact, clock, places)?;
     let mut files = Vec::new(alloc);
-    push_picture(alloc, &mut files, &job.svg, shown.as_ref(), clock)?;
-    push_json(alloc, &mut files, &job.json, shown.as_ref(), clock)?;
-    push_csv(alloc, &mut files, &job.csv, shown.as_ref(), clock)?;
+    push_picture(alloc, &mut files, &job.svg, shown.as_ref(), clock, places)?;
+    push_json(alloc, &mut files, &job.json, shown.as_ref(), clock, places)?;
+    push_csv(alloc, &mut files, &job.csv, shown.as_ref(), clock, places)?;
+    push_map(alloc, &mut files, &job.map, shown.as_ref(), places)?;
     let answer = Answer {
         status: Status::Done,
         text,
@@ -116,17 +123,18 @@ fn push_picture(
     name: &Option<String>,
     shown: Option<&Schedule>,
     clock: Option<Clock>,
+    places: &[Place],
 ) -> Result<(), AllocError>
     requires timed { AreTimed (option_map (λ s. s.now) shown) }
     requires clock { AreClocks clock }
     ensures { OnOk result (map written_by files.new.items ≡ map written_by files.old.items
         ++ file_of (option_map (λ s. string_bytes s) name.now)
-        (picture_text clock (option_map (λ s. s.now) shown.entry))) }
+        (picture_text clock places.now (option_map (λ s. s.now) shown.entry))) }
 {
     let Some(name) = name else {
         return Ok(());
     };
-    let bytes = schedule_picture(alloc, shown, clock)?;
+    let bytes = schedule_picture(alloc, shown, clock, places)?;
     files.push(NewFile::new(alloc, name.as_str(), bytes)?)?;
     Ok(())
 }
@@ -138,17 +146,18 @@ fn push_json(
     name: &Option<String>,
     shown: Option<&Schedule>,
     clock: Option<Clock>,
+    places: &[Place],
 ) -> Result<(), AllocError>
     requires timed { AreTimed (option_map (λ s. s.now) shown) }
     requires clock { AreClocks clock }
     ensures { OnOk result (map written_by files.new.items ≡ map written_by files.old.items
         ++ file_of (option_map (λ s. string_bytes s) name.now)
-        (json_text clock (option_map (λ s. s.now) shown.entry))) }
+        (json_text clock places.now (option_map (λ s. s.now) shown.entry))) }
 {
     let Some(name) = name else {
         return Ok(());
     };
-    let bytes = schedule_json(alloc, shown, clock)?;
+    let bytes = schedule_json(alloc, shown, clock, places)?;
     files.push(NewFile::new(alloc, name.as_str(), bytes)?)?;
     Ok(())
 }
@@ -160,17 +169,39 @@ fn push_csv(
     name: &Option<String>,
     shown: Option<&Schedule>,
     clock: Option<Clock>,
+    places: &[Place],
 ) -> Result<(), AllocError>
     requires timed { AreTimed (option_map (λ s. s.now) shown) }
     requires clock { AreClocks clock }
     ensures { OnOk result (map written_by files.new.items ≡ map written_by files.old.items
         ++ file_of (option_map (λ s. string_bytes s) name.now)
-        (csv_text clock (option_map (λ s. s.now) shown.entry))) }
+        (csv_text clock places.now (option_map (λ s. s.now) shown.entry))) }
 {
     let Some(name) = name else {
         return Ok(());
     };
-    let bytes = schedule_csv(alloc, shown, clock)?;
+    let bytes = schedule_csv(alloc, shown, clock, places)?;
+    files.push(NewFile::new(alloc, name.as_str(), bytes)?)?;
+    Ok(())
+}
+
+/// Appends the file with the map, where it has a name.
+fn push_map(
+    alloc: Global,
+    files: &mut Vec<NewFile>,
+    name: &Option<String>,
+    shown: Option<&Schedule>,
+    places: &[Place],
+) -> Result<(), AllocError>
+    requires { AreTimed (option_map (λ s. s.now) shown) }
+    ensures { OnOk result (map written_by files.new.items ≡ map written_by files.old.items
+        ++ file_of (option_map (λ s. string_bytes s) name.now)
+        (map_text places.now (option_map (λ s. s.now) shown.entry))) }
+{
+    let Some(name) = name else {
+        return Ok(());
+    };
+    let bytes = schedule_map(alloc, shown, places)?;
     files.push(NewFile::new(alloc, name.as_str(), bytes)?)?;
     Ok(())
 }

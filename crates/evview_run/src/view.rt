@@ -1,8 +1,8 @@
 //! What is found for the words: the instance and the plan of their files are read, the plan is
 //! judged, and its schedule is shown.
 
-ghost use Rattle.std.specs.Prelude.{◌≡◌, ◌≤◌, [], IfErr, IfOk, IfSome, IsNone, List, Option, Some, map, option_map, ℕ};
-ghost use Rattle.evview_run.specs.ViewAnswer.{HasRoute, ViewAnswers, no_route_text, route_count, view_heard, view_task};
+ghost use Rattle.std.specs.Prelude.{◌≡◌, ◌≤◌, ◌++◌, [], IfErr, IfOk, IfSome, IsNone, List, OnOk, Option, Some, map, option_map, ℕ};
+ghost use Rattle.evview_run.specs.ViewAnswer.{EndsPlaces, HasPlaces, HasRoute, ViewAnswers, entry_words, listed, needs_points, no_route_text, places_text, route_count, view_heard, view_task};
 ghost use Rattle.fleet_steps.specs.PlanFile.{HasPlan};
 ghost use Rattle.job_frame.specs.Finds.{Finds, written_by};
 ghost use Rattle.job_frame.specs.Task.{AreReadUpTo};
@@ -19,14 +19,15 @@ use instance_reader::Instance;
 use job_frame::{
     Answer, Ended, Found, MOST_BYTES, Status, limited_instance, read_file, refuse_job,
 };
+use place_names::{EntryFault, Place, PlacesEnded, PlacesFault, read_places};
 use plan_check::LargeFault;
-use report_lines::{push_numbered, push_word};
+use report_lines::{push_number_line, push_numbered, push_word};
 use route_plan::FleetPlan;
 use std::alloc::{AllocError, Global};
 use view_words::Job;
 
-/// What is found for the words: the instance is read, then the plan; and then this is judged and
-/// shown.
+/// What is found for the words: the instance is read, then the plan, and the places where they are
+/// given; and then the plan is judged and shown.
 pub fn view<S: Shelf>(alloc: Global, job: &Job, shelf: &mut S) -> Result<Found<Cause>, ShelfFault>
     requires { IsJob job.now }
     ensures { Finds (view_task (job_value job.now)) (S.state shelf.old) (S.state shelf.new) result }
@@ -42,7 +43,8 @@ pub fn view<S: Shelf>(alloc: Global, job: &Job, shelf: &mut S) -> Result<Found<C
     }
 }
 
-/// What is found on the instance of its file: the plan is read, judged and shown.
+/// What is found on the instance of its file: the plan is read, then the places, where they are
+/// given, and the plan is judged and shown.
 fn view_on<S: Shelf>(
     alloc: Global,
     inst: &Instance,
@@ -59,31 +61,137 @@ fn view_on<S: Shelf>(
         Ok(bytes) => bytes,
         Err(fault) => return Err(fault),
     };
-    view_text(alloc, inst, bytes.as_slice(), job)
+    match plan_of(alloc, bytes.as_slice()) {
+        Ok(plan) => match &job.places {
+            Some(name) => view_named(alloc, inst, plan.as_ref(), name.as_str(), job, shelf),
+            None => view_text(alloc, inst, plan.as_ref(), None, job),
+        },
+        Err(Ended::Refused(refusal)) => refuse_job(alloc, refusal),
+        Err(Ended::Memory) => Err(ShelfFault::Memory),
+    }
 }
 
-/// What is found for the bytes of a plan file: the plan is read, judged and shown.
+/// What is found for a plan, or for none, with the file of this name for the places.
+fn view_named<S: Shelf>(
+    alloc: Global,
+    inst: &Instance,
+    plan: Option<&FleetPlan>,
+    name: &str,
+    job: &Job,
+    shelf: &mut S,
+) -> Result<Found<Cause>, ShelfFault>
+    requires job { IsJob job.now }
+    requires text { FitsFile (option_map (λ p. p.now) plan) }
+    ensures { (bytes plan_bytes : List ℕ)
+        → AreReadUpTo most_bytes (S.state shelf.old).files (job_value job.now).file bytes
+        → AreReadUpTo most_bytes (S.state shelf.old).files (job_value job.now).plan plan_bytes
+        → HasPlan job.now.limit bytes plan_bytes inst.now (option_map (λ p. p.now) plan.entry)
+        → (job_value job.now).places ≡ Some name.now
+        → Finds (view_task (job_value job.now)) (S.state shelf.old) (S.state shelf.new) result }
+{
+    let bytes = match read_file(alloc, name, MOST_BYTES, shelf) {
+        Ok(bytes) => bytes,
+        Err(fault) => return Err(fault),
+    };
+    view_text(alloc, inst, plan, Some(bytes.as_slice()), job)
+}
+
+/// What is found for a plan, or for none, and the bytes of a file of places, where it is given.
 fn view_text(
     alloc: Global,
     inst: &Instance,
-    bytes: &[u8],
+    plan: Option<&FleetPlan>,
+    bytes: Option<&[u8]>,
     job: &Job,
 ) -> Result<Found<Cause>, ShelfFault>
-    requires { IsJob job.now }
-    ensures answers { (file : List ℕ) → HasNetwork job.now.limit file inst.now
-        → IfOk result (λ f. ViewAnswers (job_value job.now) file bytes.now
+    requires job { IsJob job.now }
+    requires text { FitsFile (option_map (λ p. p.now) plan) }
+    ensures answers { (file plan_bytes : List ℕ)
+        → HasPlan job.now.limit file plan_bytes inst.now (option_map (λ p. p.now) plan.entry)
+        → IfOk result (λ f. ViewAnswers (job_value job.now) file plan_bytes
+        (listed (option_map (λ b. b.now) bytes.entry))
         f.answer.status (map written_by f.files.items) f.answer.text.items) }
     ensures heard { IfOk result
         (λ f. view_heard f.answer.status f.answer.text.items f.answer.cause) }
     ensures memory { IfErr result (λ fault. fault ≡ ShelfFault.Memory) }
 {
-    match plan_of(alloc, bytes) {
-        Ok(plan) => match view_plan(alloc, inst, plan.as_ref(), job) {
+    match places_of(alloc, inst, bytes, job.map.is_some()) {
+        Ok(places) => match view_plan(alloc, inst, plan, places.as_slice(), job) {
             Ok(found) => Ok(found),
             Err(AllocError) => Err(ShelfFault::Memory),
         },
-        Err(Ended::Refused(refusal)) => refuse_job(alloc, refusal),
-        Err(Ended::Memory) => Err(ShelfFault::Memory),
+        Err(PlacesEnded::Refused(fault)) => match refuse_places(alloc, fault) {
+            Ok(found) => Ok(found),
+            Err(AllocError) => Err(ShelfFault::Memory),
+        },
+        Err(PlacesEnded::Memory) => Err(ShelfFault::Memory),
+    }
+}
+
+/// The places that the bytes of a file mean, which say where they are if `points_needed`; none where
+/// it isn't given.
+fn places_of(
+    alloc: Global,
+    inst: &Instance,
+    bytes: Option<&[u8]>,
+    points_needed: bool,
+) -> Result<Vec<Place>, PlacesEnded>
+    ensures places { IfOk result (λ places. HasPlaces points_needed inst.now
+        (listed (option_map (λ b. b.now) bytes.entry)) places.items) }
+    ensures fault { IfErr result
+        (EndsPlaces points_needed inst.now (listed (option_map (λ b. b.now) bytes.entry))) }
+{
+    match bytes {
+        Some(bytes) => read_places(alloc, bytes, inst.nodes(), points_needed),
+        None => Ok(Vec::new(alloc)),
+    }
+}
+
+/// The line of the rule that a file of places breaks.
+fn refuse_places(alloc: Global, fault: PlacesFault) -> Result<Found<Cause>, AllocError>
+    ensures status { IfOk result (λ f. f.answer.status ≡ Status.Refused) }
+    ensures files { IfOk result (λ f. map written_by f.files.items ≡ []) }
+    ensures text { IfOk result (λ f. f.answer.text.items ≡ places_text fault) }
+    ensures cause { IfOk result (λ f. f.answer.cause ≡ Some (Cause.Places fault)) }
+{
+    let mut text = Vec::new(alloc);
+    push_places_line(alloc, &mut text, fault)?;
+    let answer = Answer {
+        status: Status::Refused,
+        text,
+        cause: Some(Cause::Places(fault)),
+    };
+    Ok(Found::alone(alloc, answer))
+}
+
+/// Appends the line of the rule that a file of places breaks.
+#[tactic(auto, unfolding(crate::specs::ViewAnswer::places_text))]
+fn push_places_line(alloc: Global, out: &mut Vec<u8>, fault: PlacesFault) -> Result<(), AllocError>
+    ensures { OnOk result (out.new.items ≡ out.old.items ++ places_text fault) }
+{
+    match fault {
+        PlacesFault::TooLong => out.extend_from_slice(b"refused places long\n"),
+        PlacesFault::NotJson => out.extend_from_slice(b"refused places json\n"),
+        PlacesFault::NoList => out.extend_from_slice(b"refused places list\n"),
+        PlacesFault::Entry(index, wrong) => {
+            push_number_line(alloc, out, entry_words(wrong), index as u128)
+        }
+        PlacesFault::Count(count) => {
+            push_number_line(alloc, out, b"refused places ", count as u128)
+        }
+    }
+}
+
+/// What is wrong with an entry of a file of places.
+fn entry_words(wrong: EntryFault) -> &'static [u8]
+    ensures { result.now ≡ entry_words wrong }
+{
+    match wrong {
+        EntryFault::NoObject => b"refused places entry ",
+        EntryFault::Name => b"refused places name ",
+        EntryFault::Character => b"refused places character ",
+        EntryFault::X => b"refused places x ",
+        EntryFault::Y => b"refused places y ",
     }
 }
 
@@ -92,20 +200,22 @@ fn view_plan(
     alloc: Global,
     inst: &Instance,
     plan: Option<&FleetPlan>,
+    places: &[Place],
     job: &Job,
 ) -> Result<Found<Cause>, AllocError>
     requires job { IsJob job.now }
     requires text { FitsFile (option_map (λ p. p.now) plan) }
-    ensures answers { (file plan_bytes : List ℕ)
+    ensures answers { (file plan_bytes : List ℕ) (more : List (List ℕ))
         → HasPlan job.now.limit file plan_bytes inst.now (option_map (λ p. p.now) plan.entry)
-        → IfOk result (λ f. ViewAnswers (job_value job.now) file plan_bytes
+        → HasPlaces (needs_points (job_value job.now)) inst.now more places.now
+        → IfOk result (λ f. ViewAnswers (job_value job.now) file plan_bytes more
         f.answer.status (map written_by f.files.items) f.answer.text.items) }
     ensures heard { IfOk result
         (λ f. view_heard f.answer.status f.answer.text.items f.answer.cause) }
 {
     match missing_route(plan, job.route) {
         Some(number) => refuse_route(alloc, number),
-        None => view_judged(alloc, inst, plan, job),
+        None => view_judged(alloc, inst, plan, places, job),
     }
 }
 
@@ -158,20 +268,22 @@ fn view_judged(
     alloc: Global,
     inst: &Instance,
     plan: Option<&FleetPlan>,
+    places: &[Place],
     job: &Job,
 ) -> Result<Found<Cause>, AllocError>
     requires job { IsJob job.now }
     requires text { FitsFile (option_map (λ p. p.now) plan) }
     requires route { HasRoute job.now.route (option_map (λ p. p.now) plan) }
-    ensures answers { (file plan_bytes : List ℕ)
+    ensures answers { (file plan_bytes : List ℕ) (more : List (List ℕ))
         → HasPlan job.now.limit file plan_bytes inst.now (option_map (λ p. p.now) plan.entry)
-        → IfOk result (λ f. ViewAnswers (job_value job.now) file plan_bytes
+        → HasPlaces (needs_points (job_value job.now)) inst.now more places.now
+        → IfOk result (λ f. ViewAnswers (job_value job.now) file plan_bytes more
         f.answer.status (map written_by f.files.items) f.answer.text.items) }
     ensures heard { IfOk result
         (λ f. view_heard f.answer.status f.answer.text.items f.answer.cause) }
 {
     match cost_of(alloc, inst, plan) {
-        Ok(_cost) => show(alloc, inst, plan, job),
+        Ok(_cost) => show(alloc, inst, plan, places, job),
         Err(LargeFault::Plan { fault }) => reject(alloc, fault),
         Err(LargeFault::Memory) => Err(AllocError),
     }

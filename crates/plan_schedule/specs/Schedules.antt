@@ -1,6 +1,6 @@
 -- The schedule of a plan.
 use Rattle.std.specs.Prelude.{ℕ, ◌+◌, ◌^◌, ◌≤◌, List, [], ◌∷◌, drop, take}
-use Rattle.ev_model.specs.Network.{Network}
+use Rattle.ev_model.specs.Network.{Network, scaled_limit}
 use Rattle.ev_model.specs.declared.Stop.{Stop}
 use Rattle.plan_schedule.specs.Levels.{line_of}
 use Rattle.plan_schedule.specs.Totals.{AreRouteSums, plan_totals, route_totals}
@@ -30,6 +30,7 @@ schedule_of g plans = record {
   full = g.capacity;
   reserve = g.reserve;
   home = g.home_level;
+  limit = scaled_limit g;
   routes = route_schedules g 0 plans;
   totals = plan_totals (route_schedules g 0 plans);
 }

@@ -36,6 +36,7 @@ pub fn schedule_plan(
         full: inst.max_q(),
         reserve: inst.min_q(),
         home: inst.home_q(),
+        limit: inst.scaled_limit(),
         routes: Listed::from_vec(routes),
         totals,
     })
@@ -104,6 +105,7 @@ pub fn only_route(schedule: Schedule, route: usize) -> Option<Schedule>
         full: schedule.full,
         reserve: schedule.reserve,
         home: schedule.home,
+        limit: schedule.limit,
         routes: Listed::from_vec(routes),
         totals: schedule.totals,
     })

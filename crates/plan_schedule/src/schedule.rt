@@ -93,6 +93,8 @@ pub struct Schedule {
     pub reserve: u64,
     /// The least level on arriving at the end of a route.
     pub home: u64,
+    /// The scaled limit on the time of each route.
+    pub limit: u64,
     /// The routes, all of the plan or one of them.
     pub routes: Listed<RouteSchedule>,
     /// The sums over all routes of the plan.

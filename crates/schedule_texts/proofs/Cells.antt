@@ -1,5 +1,5 @@
 -- The cells of the CSV: none begins a formula, and a reader finds exactly them.
-use Rattle.std.proofs.Common.{◌≡◌, ◌∙◌, ◌==◌, ◌||◌, ℕ, ◌+◌, ◌≤◌, zero, suc, ◌++◌, Bool, false, true, List, [], ◌∷◌, Option, None, Some, ap, arith, length, map, refl, sym}
+use Rattle.std.proofs.Common.{◌≡◌, ◌∙◌, ◌==◌, ◌||◌, ℕ, ◌+◌, ◌≤◌, zero, suc, ◌++◌, Bool, false, true, List, [], ◌∷◌, Option, None, Some, ap, append_assoc, arith, codes, length, map, refl, sym}
 use Rattle.std.specs.Prelude.{if◌then◌else◌}
 use Rattle.std.specs.List.{All, AllByRecursion, list_any}
 use Rattle.std.proofs.lemmas.List.Elements.{All-append, All-cons, All-nil}
@@ -11,11 +11,12 @@ use Rattle.csv.specs.Writing.{default_writer, escaped, fields_text, is_blank, ne
 use Rattle.csv.specs.declared.parser.State.{State}
 use Rattle.csv.specs.declared.parser.State.TheVariants as state
 use Rattle.ev_text.specs.Texts.{joined_texts}
+use Rattle.place_names.specs.declared.place.Place.{Place}
 use Rattle.plan_schedule.specs.declared.schedule.RouteSchedule.{RouteSchedule}
 use Rattle.plan_schedule.specs.declared.schedule.Schedule.{Schedule}
 use Rattle.plan_schedule.specs.declared.schedule.Visit.{Visit}
 use Rattle.schedule_texts.specs.declared.clock.Clock.{Clock}
-use Rattle.schedule_texts.specs.Spreadsheets.{IsNoFormula, begins_formula, calls_for_quotes, cell_of, column_names, csv_cells, csv_text, doubled, field_text, more_fields, plan_cells, record_text, route_cells, visit_cells, visit_texts}
+use Rattle.schedule_texts.specs.Spreadsheets.{IsNoFormula, begins_formula, calls_for_quotes, cell_of, column_names, csv_cells, csv_text, doubled, field_text, more_fields, plan_cells, record_text, route_cells, visit_cells, visit_texts, with_name}
 
 -- ---- no formulas
 
@@ -30,23 +31,47 @@ no_formula_in : (texts : List (List ℕ)) → All IsNoFormula (map cell_of texts
 no_formula_in [] = All-nil IsNoFormula
 no_formula_in (text ∷ texts) = All-cons IsNoFormula (cell_of text) (map cell_of texts) (no_formula text) (no_formula_in texts)
 
-in_visits : (clock : Option Clock) (d number at : ℕ) (vs : List Visit) → All (All IsNoFormula) (visit_cells clock d number at vs)
-in_visits clock d number at [] = All-nil (All IsNoFormula)
-in_visits clock d number at (v ∷ vs) =
-    All-cons (All IsNoFormula) (map cell_of (visit_texts clock d number at v)) (visit_cells clock d number (at + 1) vs)
-    (no_formula_in (visit_texts clock d number at v)) (in_visits clock d number (at + 1) vs)
+in_visits : (clock : Option Clock) (places : List Place) (d number at : ℕ) (vs : List Visit) → All (All IsNoFormula) (visit_cells clock places d number at vs)
+in_visits clock places d number at [] = All-nil (All IsNoFormula)
+in_visits clock places d number at (v ∷ vs) =
+    All-cons (All IsNoFormula) (map cell_of (visit_texts clock places d number at v)) (visit_cells clock places d number (at + 1) vs)
+    (no_formula_in (visit_texts clock places d number at v)) (in_visits clock places d number (at + 1) vs)
 
-in_routes : (clock : Option Clock) (d : ℕ) (rs : List RouteSchedule) → All (All IsNoFormula) (route_cells clock d rs)
-in_routes clock d [] = All-nil (All IsNoFormula)
-in_routes clock d (r ∷ rs) =
-    All-append (All IsNoFormula) (visit_cells clock d r.number 0 r.visits) (route_cells clock d rs) (in_visits clock d r.number 0 r.visits) (in_routes clock d rs)
+in_routes : (clock : Option Clock) (places : List Place) (d : ℕ) (rs : List RouteSchedule) → All (All IsNoFormula) (route_cells clock places d rs)
+in_routes clock places d [] = All-nil (All IsNoFormula)
+in_routes clock places d (r ∷ rs) =
+    All-append (All IsNoFormula) (visit_cells clock places d r.number 0 r.visits) (route_cells clock places d rs) (in_visits clock places d r.number 0 r.visits) (in_routes clock places d rs)
 
-in_plan : (clock : Option Clock) (schedule : Option Schedule) → All (All IsNoFormula) (plan_cells clock schedule)
-in_plan clock None = All-nil (All IsNoFormula)
-in_plan clock (Some s) = in_routes clock s.denominator s.routes
+in_plan : (clock : Option Clock) (places : List Place) (schedule : Option Schedule) → All (All IsNoFormula) (plan_cells clock places schedule)
+in_plan clock places None = All-nil (All IsNoFormula)
+in_plan clock places (Some s) = in_routes clock places s.denominator s.routes
 
-pub no_formulas : (clock : Option Clock) (schedule : Option Schedule) → All (All IsNoFormula) (csv_cells clock schedule)
-no_formulas clock schedule = All-cons (All IsNoFormula) (map cell_of column_names) (plan_cells clock schedule) (no_formula_in column_names) (in_plan clock schedule)
+pub no_formulas : (clock : Option Clock) (places : List Place) (schedule : Option Schedule) → All (All IsNoFormula) (csv_cells clock places schedule)
+no_formulas clock places schedule = All-cons (All IsNoFormula) (map cell_of (column_names places)) (plan_cells clock places schedule) (no_formula_in (column_names places)) (in_plan clock places schedule)
+
+-- ---- the cells of a record, part by part
+
+more_both : (xs ys : List (List ℕ)) → more_fields (xs ++ ys) ≡ more_fields xs ++ more_fields ys
+more_both [] ys = refl
+more_both (x ∷ xs) ys =
+    ap (λ (rest : List ℕ). (codes "," ++ field_text x) ++ rest) (more_both xs ys) ∙ sym (append_assoc (codes "," ++ field_text x) (more_fields xs) (more_fields ys))
+
+named_both : (places : List Place) (name : List ℕ) (texts : List (List ℕ))
+    → more_fields (map cell_of (with_name places name texts)) ≡ more_fields (map cell_of (with_name places name [])) ++ more_fields (map cell_of texts)
+named_both [] name texts = refl
+named_both (p ∷ ps) name texts = more_both (map cell_of (name ∷ [])) (map cell_of texts)
+
+pub record_parts : (places : List Place) (first stop node name : List ℕ) (texts : List (List ℕ))
+    → record_text (map cell_of (first ∷ stop ∷ node ∷ with_name places name texts))
+    ≡ (((field_text (cell_of first) ++ more_fields (map cell_of (stop ∷ node ∷ []))) ++ more_fields (map cell_of (with_name places name []))) ++ more_fields (map cell_of texts)) ++ codes "\n"
+record_parts places first stop node name texts =
+    let f : List ℕ = field_text (cell_of first) in
+    let m : List ℕ = more_fields (map cell_of (stop ∷ node ∷ [])) in
+    let n : List ℕ = more_fields (map cell_of (with_name places name [])) in
+    let s : List ℕ = more_fields (map cell_of texts) in
+    let rest = more_both (map cell_of (stop ∷ node ∷ [])) (map cell_of (with_name places name texts)) ∙ ap (λ (w : List ℕ). m ++ w) (named_both places name texts) in
+    ap (λ (w : List ℕ). (f ++ w) ++ codes "\n") rest
+    ∙ ap (λ (w : List ℕ). w ++ codes "\n") (sym (append_assoc f m (n ++ s)) ∙ sym (append_assoc (f ++ m) n s))
 
 -- ---- a cell as the kit writes it
 
@@ -116,24 +141,23 @@ records_are_read (suc most) (row ∷ rows) two few =
     ap (λ (found : Option (List (List ℕ) × State × List ℕ)). records_next (records_from default_config most) found) (record_is_read row (joined_texts record_text rows) two.0)
     ∙ ap (λ (others : List (List (List ℕ))). row ∷ others) (records_are_read most rows two.1 less)
 
-visits_have_two : (clock : Option Clock) (d number at : ℕ) (vs : List Visit) → AllByRecursion HasTwo (visit_cells clock d number at vs)
-unfolding visit_texts
-visits_have_two clock d number at [] = tt
-visits_have_two clock d number at (v ∷ vs) = (tt, visits_have_two clock d number (at + 1) vs)
+visits_have_two : (clock : Option Clock) (places : List Place) (d number at : ℕ) (vs : List Visit) → AllByRecursion HasTwo (visit_cells clock places d number at vs)
+visits_have_two clock places d number at [] = tt
+visits_have_two clock places d number at (v ∷ vs) = (tt, visits_have_two clock places d number (at + 1) vs)
 
 both_have_two : (xs ys : List (List (List ℕ))) → AllByRecursion HasTwo xs → AllByRecursion HasTwo ys → AllByRecursion HasTwo (xs ++ ys)
 both_have_two [] ys first second = second
 both_have_two (x ∷ xs) ys first second = (first.0, both_have_two xs ys first.1 second)
 
-routes_have_two : (clock : Option Clock) (d : ℕ) (rs : List RouteSchedule) → AllByRecursion HasTwo (route_cells clock d rs)
-routes_have_two clock d [] = tt
-routes_have_two clock d (r ∷ rs) =
-    both_have_two (visit_cells clock d r.number 0 r.visits) (route_cells clock d rs) (visits_have_two clock d r.number 0 r.visits) (routes_have_two clock d rs)
+routes_have_two : (clock : Option Clock) (places : List Place) (d : ℕ) (rs : List RouteSchedule) → AllByRecursion HasTwo (route_cells clock places d rs)
+routes_have_two clock places d [] = tt
+routes_have_two clock places d (r ∷ rs) =
+    both_have_two (visit_cells clock places d r.number 0 r.visits) (route_cells clock places d rs) (visits_have_two clock places d r.number 0 r.visits) (routes_have_two clock places d rs)
 
-plan_has_two : (clock : Option Clock) (schedule : Option Schedule) → AllByRecursion HasTwo (plan_cells clock schedule)
-plan_has_two clock None = tt
-plan_has_two clock (Some s) = routes_have_two clock s.denominator s.routes
+plan_has_two : (clock : Option Clock) (places : List Place) (schedule : Option Schedule) → AllByRecursion HasTwo (plan_cells clock places schedule)
+plan_has_two clock places None = tt
+plan_has_two clock places (Some s) = routes_have_two clock places s.denominator s.routes
 
-pub reads_back : (clock : Option Clock) (schedule : Option Schedule) (most : ℕ) → length (csv_cells clock schedule) ≤ most
-    → records_from default_config most state.StartRecord (csv_text clock schedule) ≡ csv_cells clock schedule
-reads_back clock schedule most few = records_are_read most (csv_cells clock schedule) (tt, plan_has_two clock schedule) few
+pub reads_back : (clock : Option Clock) (places : List Place) (schedule : Option Schedule) (most : ℕ) → length (csv_cells clock places schedule) ≤ most
+    → records_from default_config most state.StartRecord (csv_text clock places schedule) ≡ csv_cells clock places schedule
+reads_back clock places schedule most few = records_are_read most (csv_cells clock places schedule) (tt, plan_has_two clock places schedule) few

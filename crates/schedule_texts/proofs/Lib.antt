@@ -1,4 +1,6 @@
 pub mod Sizes
+pub mod Spans
 pub mod Joined
 mod Steps
-mod Cells
+mod Inert
+pub mod Cells

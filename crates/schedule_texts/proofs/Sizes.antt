@@ -46,31 +46,48 @@ mark_fits h d small few =
     let most : h * d ≤ 2 ^ 71 * 10 ^ 9 = mul-le-mul up_to few in
     omega (arith, most)
 
-pub mark_wide : (h d width : ℕ) → h < 2 ^ 71 → d ≤ 10 ^ 9 → width ≤ 32000 → h * d * width < 2 ^ 117
+pub mark_wide : (h d width : ℕ) → h < 2 ^ 71 → d ≤ 10 ^ 9 → width ≤ 52000 → h * d * width < 2 ^ 118
 mark_wide h d width small few narrow =
     let fits = mark_fits h d small few in
     let up_to : h * d ≤ 2 ^ 102 = omega (arith, fits) in
-    let most : h * d * width ≤ 2 ^ 102 * 32000 = mul-le-mul up_to narrow in
+    let most : h * d * width ≤ 2 ^ 102 * 52000 = mul-le-mul up_to narrow in
     omega (arith, most)
 
-pub mark_small : (h d width over : ℕ) → h < 2 ^ 71 → d ≤ 10 ^ 9 → width ≤ 32000 → h * d * width / over < 2 ^ 117
+pub mark_small : (h d width over : ℕ) → h < 2 ^ 71 → d ≤ 10 ^ 9 → width ≤ 52000 → h * d * width / over < 2 ^ 118
 mark_small h d width over small few narrow =
     let most = mark_wide h d width small few narrow in
     let less : h * d * width / over ≤ h * d * width = div-le_self (h * d * width) over in
     omega (arith, most, less)
+
+-- the levels between stand up to a full battery
+pub step_within : (number step full : ℕ) → number < full / step → (number + 1) * step ≤ full
+step_within number step full below =
+    let up_to : number + 1 ≤ full / step = omega (arith, below) in
+    let same : step ≤ step = omega arith in
+    let most : (number + 1) * step ≤ full / step * step = mul-le-mul up_to same in
+    let whole : full / step * step ≤ full = div-mul-le_self full step in
+    omega (arith, most, whole)
+
+-- where panels stand
+pub top_small : (at rise : ℕ) → at < 2 ^ 64 → rise ≤ 1000 → at * (2800 + rise) < 2 ^ 78
+top_small at rise small low =
+    let up_to : at ≤ 2 ^ 64 = omega (arith, small) in
+    let few : 2800 + rise ≤ 3800 = omega (arith, low) in
+    let most : at * (2800 + rise) ≤ 2 ^ 64 * 3800 = mul-le-mul up_to few in
+    omega (arith, most)
 
 pub span_small : (latest d : ℕ) → latest < 2 ^ 64 → latest * 100 / d < 2 ^ 71
 span_small latest d small =
     let less : latest * 100 / d ≤ latest * 100 = div-le_self (latest * 100) d in
     omega (arith, less, small)
 
-pub x_fits : (time width : ℕ) → time < 2 ^ 102 → width ≤ 32000 → time * width < 2 ^ 118
+pub x_fits : (time width : ℕ) → time < 2 ^ 102 → width ≤ 52000 → time * width < 2 ^ 118
 x_fits time width small narrow =
     let up_to : time ≤ 2 ^ 102 = omega (arith, small) in
-    let most : time * width ≤ 2 ^ 102 * 32000 = mul-le-mul up_to narrow in
+    let most : time * width ≤ 2 ^ 102 * 52000 = mul-le-mul up_to narrow in
     omega (arith, most)
 
-pub x_small : (time width latest : ℕ) → time < 2 ^ 102 → width ≤ 32000 → time * width / latest < 2 ^ 118
+pub x_small : (time width latest : ℕ) → time < 2 ^ 102 → width ≤ 52000 → time * width / latest < 2 ^ 118
 x_small time width latest small narrow =
     let most = x_fits time width small narrow in
     let less : time * width / latest ≤ time * width = div-le_self (time * width) latest in
@@ -94,6 +111,8 @@ second_fits time seconds small short =
 
 pub second_small : (sum over : ℕ) → sum < 2 ^ 80 → sum / over < 2 ^ 80
 second_small sum over small = let less : sum / over ≤ sum = div-le_self sum over in omega (arith, less, small)
+
+pub ruleset height_small = (top_small)
 
 pub ruleset part_sizes = (part_fits, part_narrow, part_some)
 

@@ -1,5 +1,6 @@
 -- Times as texts, and texts in cells.
-use Rattle.std.specs.Prelude.{ℕ, ◌+◌, ◌-◌, ◌*◌, ◌/◌, ◌%◌, ◌++◌, Bool, List, codes, decimal, length, nat_lt, replicate, if◌then◌else◌}
+use Rattle.std.specs.Prelude.{ℕ, ◌+◌, ◌-◌, ◌*◌, ◌/◌, ◌%◌, ◌++◌, Bool, List, [], codes, decimal, length, nat_lt, replicate, if◌then◌else◌}
+use Rattle.schedule_texts.specs.Labels.{characters}
 use Rattle.report_lines.specs.Lines.{over}
 
 -- the hundredths that are nearest to what a scaled time is above a whole unit of time, a half up: from 0 to 100
@@ -21,6 +22,11 @@ decimal_text denominator scaled =
 abbrev pub time_text : Bool → ℕ → ℕ → List ℕ
 time_text exact denominator scaled =
     if exact then over denominator scaled else decimal_text denominator scaled
+
+-- a text at the left end of so many places, behind two spaces; nothing where the column has no place
+abbrev pub left_cell : ℕ → List ℕ → List ℕ
+left_cell width text =
+    if nat_lt 0 width then codes "  " ++ text ++ replicate (width - characters text) 32 else []
 
 -- a text at the right end of so many places, behind two spaces
 abbrev pub cell : ℕ → List ℕ → List ℕ

@@ -1,5 +1,9 @@
 -- The schedule as one JSON text. Times are scaled.
 use Rattle.std.specs.Prelude.{ℕ, ◌+◌, ◌++◌, Bool, List, [], ◌∷◌, Option, None, Some, codes, decimal, nat_lt, if◌then◌else◌}
+use Rattle.serde_json.specs.Data.{string}
+use Rattle.serde_json.specs.Written.{compact_text}
+use Rattle.place_names.specs.Places.{name_at}
+use Rattle.place_names.specs.declared.place.Place.{Place}
 use Rattle.plan_schedule.specs.declared.schedule.PlaceKind.{PlaceKind}
 use Rattle.plan_schedule.specs.declared.schedule.PlaceKind.TheVariants.{Depot, Customer, Station}
 use Rattle.plan_schedule.specs.declared.schedule.RouteSchedule.{RouteSchedule}
@@ -52,14 +56,20 @@ clock_fields (Some c) denominator v =
     codes ",\"arrival_clock\":\"" ++ clock_text c denominator v.arrival
     ++ codes "\",\"leaving_clock\":\"" ++ clock_text c denominator v.leaving ++ codes "\""
 
--- where a stop is
-unfoldable pub place_fields : Visit → List ℕ
-place_fields v =
-    field (codes "{\"node\":") v.node ++ kind_field v.kind ++ inserted_field v.inserted
+-- the name of a node as a JSON string, where there are names
+unfoldable pub name_field : List Place → ℕ → List ℕ
+name_field [] node = []
+name_field (p ∷ ps) node = codes ",\"name\":" ++ compact_text (string (name_at (p ∷ ps) node))
 
-abbrev pub visit_text : Option Clock → ℕ → Visit → List ℕ
-visit_text clock denominator v =
-    place_fields v ++ way_fields v ++ stay_fields v ++ clock_fields clock denominator v
+-- where a stop is
+unfoldable pub place_fields : List Place → Visit → List ℕ
+place_fields places v =
+    field (codes "{\"node\":") v.node ++ name_field places v.node ++ kind_field v.kind
+    ++ inserted_field v.inserted
+
+abbrev pub visit_text : Option Clock → List Place → ℕ → Visit → List ℕ
+visit_text clock places denominator v =
+    place_fields places v ++ way_fields v ++ stay_fields v ++ clock_fields clock denominator v
     ++ codes "}"
 
 -- the sums of a route or of a plan
@@ -72,25 +82,25 @@ totals_text t =
     ++ field (codes ",\"energy_charged\":") t.energy_charged
     ++ field (codes ",\"stops\":") t.stops ++ codes "}"
 
-unfoldable pub route_text : Option Clock → ℕ → RouteSchedule → List ℕ
-route_text clock denominator r =
+unfoldable pub route_text : Option Clock → List Place → ℕ → RouteSchedule → List ℕ
+route_text clock places denominator r =
     field (codes "{\"route\":") r.number ++ codes ",\"stops\":["
-    ++ items_from (visit_text clock denominator) 0 r.visits ++ codes "],\"totals\":" ++ totals_text r.totals
-    ++ codes "}"
+    ++ items_from (visit_text clock places denominator) 0 r.visits ++ codes "],\"totals\":"
+    ++ totals_text r.totals ++ codes "}"
 
 -- what stands of a plan behind the format
-unfoldable pub schedule_text : Option Clock → Schedule → List ℕ
-schedule_text clock s =
+unfoldable pub schedule_text : Option Clock → List Place → Schedule → List ℕ
+schedule_text clock places s =
     field (codes "\"denominator\":") s.denominator ++ field (codes ",\"full\":") s.full
     ++ field (codes ",\"reserve\":") s.reserve ++ field (codes ",\"home\":") s.home
-    ++ codes ",\"routes\":[" ++ items_from (route_text clock s.denominator) 0 s.routes
+    ++ codes ",\"routes\":[" ++ items_from (route_text clock places s.denominator) 0 s.routes
     ++ codes "],\"totals\":"
     ++ totals_text s.totals ++ codes "}\n"
 
-abbrev pub behind_format : Option Clock → Option Schedule → List ℕ
-behind_format clock None = codes "\"routes\":null}\n"
-behind_format clock (Some s) = schedule_text clock s
+abbrev pub behind_format : Option Clock → List Place → Option Schedule → List ℕ
+behind_format clock places None = codes "\"routes\":null}\n"
+behind_format clock places (Some s) = schedule_text clock places s
 
-abbrev pub json_text : Option Clock → Option Schedule → List ℕ
-json_text clock schedule =
-    codes "{\"format\":\"evview schedule 1\"," ++ behind_format clock schedule
+abbrev pub json_text : Option Clock → List Place → Option Schedule → List ℕ
+json_text clock places schedule =
+    codes "{\"format\":\"evview schedule 1\"," ++ behind_format clock places schedule

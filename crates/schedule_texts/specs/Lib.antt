@@ -1,4 +1,5 @@
 pub mod Options
+pub mod Labels
 pub mod Decimals
 pub mod Clocks
 pub mod Latest
@@ -13,3 +14,4 @@ pub mod Names
 pub mod Shapes
 pub mod Panels
 pub mod Pictures
+pub mod Maps

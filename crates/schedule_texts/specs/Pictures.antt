@@ -1,5 +1,6 @@
 -- The schedule as a picture in SVG.
 use Rattle.std.specs.Prelude.{ℕ, ◌+◌, ◌*◌, ◌/◌, ◌++◌, List, [], ◌∷◌, Option, None, Some, codes, decimal, length}
+use Rattle.place_names.specs.declared.place.Place.{Place}
 use Rattle.plan_schedule.specs.declared.schedule.RouteSchedule.{RouteSchedule}
 use Rattle.plan_schedule.specs.declared.schedule.Schedule.{Schedule}
 use Rattle.schedule_texts.specs.Panels.{panels_text}
@@ -24,7 +25,9 @@ style_text =
     ++ codes ".f{stroke:#2e7d32;stroke-width:12}"
     ++ codes ".r{stroke:#b00020;stroke-width:12;stroke-dasharray:60 40}"
     ++ codes ".a{stroke:#222222;stroke-width:12}.g{stroke:#e4e4e4;stroke-width:6}"
-    ++ codes ".n{stroke:#9a9a9a;stroke-width:6;stroke-dasharray:16 24}"
+    ++ codes ".o{stroke:#6a1b9a;stroke-width:12;stroke-dasharray:120 40}"
+    ++ codes ".i{stroke:#b00020;stroke-width:12;stroke-dasharray:20 30}.m{font-size:110px}"
+    ++ codes ".n{fill:none;stroke:#9a9a9a;stroke-width:6;stroke-dasharray:16 24}"
     ++ codes ".p{fill:#ffffff;stroke:#222222;stroke-width:16}"
     ++ codes ".s{fill:#e69f00;stroke:#222222;stroke-width:12}"
     ++ codes ".d{fill:#222222}.b{fill:#ffffff;stroke:#0b5394;stroke-width:12}</style>\n"
@@ -43,10 +46,9 @@ legend_text =
     ++ codes "<circle class='b' cx='4500' cy='600' r='26'/>"
     ++ codes "<text x='4580' y='640'>breakpoint of a charging curve</text>\n"
 
--- the head of a page of so many panels of a width: its size, colours and type, and what the shapes are
+-- the head of a page of a width, with room for panels of a height: its size, colours and type, and what the shapes are
 unfoldable pub head_text : ℕ → ℕ → List ℕ
-head_text width panels =
-    size_text (width + 2700) (panels * 2800 + 1100) ++ style_text ++ legend_text
+head_text width height = size_text (width + 2700) (height + 1100) ++ style_text ++ legend_text
 
 -- a page without a panel, which says why
 unfoldable pub none_text : List ℕ → List ℕ
@@ -54,14 +56,15 @@ none_text why =
     head_text 8000 0 ++ codes "<text x='1200' y='940'>" ++ why ++ codes "</text>\n"
 
 -- the page of routes
-abbrev pub routes_text : Scale → ℕ → List RouteSchedule → List ℕ
-routes_text scale reserve [] = none_text (codes "no routes")
-routes_text scale reserve (r ∷ rs) =
-    head_text scale.width (length (r ∷ rs)) ++ panels_text scale reserve 0 (r ∷ rs)
+abbrev pub routes_text : Scale → List Place → List RouteSchedule → List ℕ
+routes_text scale places [] = none_text (codes "no routes")
+routes_text scale places (r ∷ rs) =
+    head_text scale.width (length (r ∷ rs) * (2800 + scale.rise))
+    ++ panels_text scale places 0 (r ∷ rs)
 
-abbrev pub page_text : Option Clock → Option Schedule → List ℕ
-page_text clock None = none_text (codes "no plan")
-page_text clock (Some s) = routes_text (scale_of clock s) s.reserve s.routes
+abbrev pub page_text : Option Clock → List Place → Option Schedule → List ℕ
+page_text clock places None = none_text (codes "no plan")
+page_text clock places (Some s) = routes_text (scale_of clock places s) places s.routes
 
-abbrev pub picture_text : Option Clock → Option Schedule → List ℕ
-picture_text clock schedule = page_text clock schedule ++ codes "</svg>\n"
+abbrev pub picture_text : Option Clock → List Place → Option Schedule → List ℕ
+picture_text clock places schedule = page_text clock places schedule ++ codes "</svg>\n"

@@ -1,9 +1,11 @@
 -- The shapes of stops, where the vehicle arrives: a diamond is the depot, a circle a customer, a square a station.
 use Rattle.std.specs.Prelude.{ℕ, ◌+◌, ◌-◌, ◌++◌, List, [], ◌∷◌, codes, decimal, false}
+use Rattle.place_names.specs.declared.place.Place.{Place}
 use Rattle.plan_schedule.specs.declared.schedule.PlaceKind.{PlaceKind}
 use Rattle.plan_schedule.specs.declared.schedule.PlaceKind.TheVariants.{Depot, Customer, Station}
 use Rattle.plan_schedule.specs.declared.schedule.Visit.{Visit}
 use Rattle.schedule_texts.specs.Clocks.{moment_text}
+use Rattle.schedule_texts.specs.Labels.{name_words}
 use Rattle.schedule_texts.specs.Scales.{x_at, y_at}
 use Rattle.schedule_texts.specs.declared.picture.scale.Scale.{Scale}
 
@@ -43,23 +45,24 @@ kind_words Depot = codes ": depot "
 kind_words Customer = codes ": customer "
 kind_words Station = codes ": station "
 
--- what a node is, and its number
-abbrev pub place_text : Visit → List ℕ
-place_text v = kind_words v.kind ++ decimal v.node
+-- what a node is, its number and its name
+abbrev pub place_text : List Place → Visit → List ℕ
+place_text places v = kind_words v.kind ++ decimal v.node ++ name_words places v.node
 
 -- what a pointer at a shape is told
-unfoldable pub title_text : Scale → ℕ → Visit → List ℕ
-title_text scale at v =
-    (codes "<title>stop " ++ decimal at) ++ place_text v ++ codes ", arrival "
+unfoldable pub title_text : Scale → List Place → ℕ → Visit → List ℕ
+title_text scale places at v =
+    (codes "<title>stop " ++ decimal at) ++ place_text places v ++ codes ", arrival "
     ++ moment_text scale.clock false scale.denominator v.arrival ++ (codes ", level " ++ decimal v.level)
     ++ codes "</title>"
 
-abbrev pub stop_text : Scale → ℕ → Visit → List ℕ
-stop_text scale at v =
+abbrev pub stop_text : Scale → List Place → ℕ → Visit → List ℕ
+stop_text scale places at v =
     shape_text v.kind (x_at scale v.arrival) (y_at scale v.level)
-    ++ title_text scale at v ++ shape_end v.kind
+    ++ title_text scale places at v ++ shape_end v.kind
 
 -- the shapes of visits, of which the first has this position
-abbrev pub stops_text : Scale → ℕ → List Visit → List ℕ
-stops_text scale at [] = []
-stops_text scale at (v ∷ vs) = stop_text scale at v ++ stops_text scale (at + 1) vs
+abbrev pub stops_text : Scale → List Place → ℕ → List Visit → List ℕ
+stops_text scale places at [] = []
+stops_text scale places at (v ∷ vs) =
+    stop_text scale places at v ++ stops_text scale places (at + 1) vs

@@ -2,6 +2,8 @@
 use Rattle.std.specs.Prelude.{◌≡◌, ◌==◌, ◌||◌, ℕ, ◌+◌, ◌-◌, ◌++◌, Bool, false, List, [], ◌∷◌, Option, None, Some, codes, decimal, map, nat_lt, if◌then◌else◌}
 use Rattle.std.specs.List.{list_any}
 use Rattle.ev_text.specs.Texts.{joined_texts}
+use Rattle.place_names.specs.Places.{name_at}
+use Rattle.place_names.specs.declared.place.Place.{Place}
 use Rattle.plan_schedule.specs.declared.schedule.PlaceKind.{PlaceKind}
 use Rattle.plan_schedule.specs.declared.schedule.PlaceKind.TheVariants.{Depot, Customer, Station}
 use Rattle.plan_schedule.specs.declared.schedule.RouteSchedule.{RouteSchedule}
@@ -61,48 +63,66 @@ charged_text v text = if nat_lt 0 v.charged then text else []
 abbrev pub charge_begin : Visit → ℕ
 charge_begin v = v.leaving - v.charging
 
--- the names of the columns
-abbrev pub column_names : List (List ℕ)
-column_names =
-    codes "route" ∷ codes "stop" ∷ codes "node" ∷ codes "what" ∷ codes "arrival"
-    ∷ codes "level" ∷ codes "plug time" ∷ codes "charge begin" ∷ codes "charge end"
-    ∷ codes "from" ∷ codes "to" ∷ codes "leaving" ∷ []
+-- texts with that of a name in front, where there are names
+abbrev pub with_name : List Place → List ℕ → List (List ℕ) → List (List ℕ)
+with_name [] name texts = texts
+with_name (p ∷ ps) name texts = name ∷ texts
 
--- the texts of a visit, column by column
-unfoldable pub visit_texts : Option Clock → ℕ → ℕ → ℕ → Visit → List (List ℕ)
-visit_texts clock denominator number at v =
-    decimal number ∷ decimal at ∷ decimal v.node ∷ kind_word v.kind
-    ∷ moment_text clock false denominator v.arrival ∷ decimal v.level
+-- the names of the columns behind that of names
+abbrev pub last_names : List (List ℕ)
+last_names =
+    codes "what" ∷ codes "arrival" ∷ codes "level" ∷ codes "plug time" ∷ codes "charge begin"
+    ∷ codes "charge end" ∷ codes "from" ∷ codes "to" ∷ codes "leaving" ∷ []
+
+-- the names of the columns
+abbrev pub column_names : List Place → List (List ℕ)
+column_names places =
+    codes "route" ∷ codes "stop" ∷ codes "node" ∷ with_name places (codes "name") last_names
+
+-- what a visit is and when, column by column
+unfoldable pub stay_texts : Option Clock → ℕ → Visit → List (List ℕ)
+stay_texts clock denominator v =
+    kind_word v.kind ∷ moment_text clock false denominator v.arrival ∷ decimal v.level
     ∷ charged_text v (decimal_text denominator v.plugging)
     ∷ charged_text v (moment_text clock false denominator (charge_begin v))
     ∷ charged_text v (moment_text clock false denominator v.leaving)
     ∷ charged_text v (decimal v.level) ∷ charged_text v (decimal v.level_left)
     ∷ moment_text clock false denominator v.leaving ∷ []
 
+-- the texts of a visit, column by column
+abbrev pub visit_texts : Option Clock → List Place → ℕ → ℕ → ℕ → Visit → List (List ℕ)
+visit_texts clock places denominator number at v =
+    decimal number ∷ decimal at ∷ decimal v.node
+    ∷ with_name places (name_at places v.node) (stay_texts clock denominator v)
+
 -- the cells of visits of a route, of which the first has this position
-abbrev pub visit_cells : Option Clock → ℕ → ℕ → ℕ → List Visit → List (List (List ℕ))
-visit_cells clock denominator number at [] = []
-visit_cells clock denominator number at (v ∷ vs) =
-    map cell_of (visit_texts clock denominator number at v)
-    ∷ visit_cells clock denominator number (at + 1) vs
+abbrev pub visit_cells : Option Clock → List Place → ℕ → ℕ → ℕ → List Visit →
+    List (List (List ℕ))
+visit_cells clock places denominator number at [] = []
+visit_cells clock places denominator number at (v ∷ vs) =
+    map cell_of (visit_texts clock places denominator number at v)
+    ∷ visit_cells clock places denominator number (at + 1) vs
 
 -- the cells of routes
-abbrev pub route_cells : Option Clock → ℕ → List RouteSchedule → List (List (List ℕ))
-route_cells clock denominator [] = []
-route_cells clock denominator (r ∷ rs) =
-    visit_cells clock denominator r.number 0 r.visits ++ route_cells clock denominator rs
+abbrev pub route_cells : Option Clock → List Place → ℕ → List RouteSchedule →
+    List (List (List ℕ))
+route_cells clock places denominator [] = []
+route_cells clock places denominator (r ∷ rs) =
+    visit_cells clock places denominator r.number 0 r.visits
+    ++ route_cells clock places denominator rs
 
 -- the cells behind the names of the columns: none without a plan
-abbrev pub plan_cells : Option Clock → Option Schedule → List (List (List ℕ))
-plan_cells clock None = []
-plan_cells clock (Some s) = route_cells clock s.denominator s.routes
+abbrev pub plan_cells : Option Clock → List Place → Option Schedule → List (List (List ℕ))
+plan_cells clock places None = []
+plan_cells clock places (Some s) = route_cells clock places s.denominator s.routes
 
 -- all cells, record by record
-abbrev pub csv_cells : Option Clock → Option Schedule → List (List (List ℕ))
-csv_cells clock schedule = map cell_of column_names ∷ plan_cells clock schedule
+abbrev pub csv_cells : Option Clock → List Place → Option Schedule → List (List (List ℕ))
+csv_cells clock places schedule =
+    map cell_of (column_names places) ∷ plan_cells clock places schedule
 
-abbrev pub csv_text : Option Clock → Option Schedule → List ℕ
-csv_text clock schedule = joined_texts record_text (csv_cells clock schedule)
+abbrev pub csv_text : Option Clock → List Place → Option Schedule → List ℕ
+csv_text clock places schedule = joined_texts record_text (csv_cells clock places schedule)
 
 -- no spreadsheet takes the cell for a formula
 abbrev pub IsNoFormula : List ℕ → Type 0

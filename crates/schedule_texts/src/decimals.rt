@@ -1,8 +1,9 @@
 //! Times as texts, and texts in cells.
 
 ghost use Rattle.std.specs.Prelude.{◌≡◌, ◌≤◌, ◌<◌, ◌%◌, ◌++◌, OnOk};
-ghost use Rattle.schedule_texts.specs.Decimals.{cell, decimal_text, hundredths_text, part_of, time_text};
+ghost use Rattle.schedule_texts.specs.Decimals.{cell, decimal_text, hundredths_text, left_cell, part_of, time_text};
 
+use crate::labels::characters;
 use report_lines::{push_numbered, push_over};
 use std::alloc::{AllocError, Global};
 
@@ -60,6 +61,25 @@ pub(crate) fn push_hundredths(
 {
     push_numbered(alloc, out, b"", whole)?;
     push_numbered(alloc, out, if part < 10 { b".0" } else { b"." }, part)
+}
+
+/// Appends a text at the left end of so many places, behind two spaces; nothing where there are no
+/// places.
+pub(crate) fn push_left_cell(
+    alloc: Global,
+    out: &mut Vec<u8>,
+    width: usize,
+    text: &[u8],
+) -> Result<(), AllocError>
+    ensures { OnOk result (out.new.items ≡ out.old.items ++ left_cell width text.now) }
+{
+    if width == 0 {
+        return Ok(());
+    }
+    let spaces = vec![in alloc; b' '; width.saturating_sub(characters(text))]?;
+    out.extend_from_slice(b"  ")?;
+    out.extend_from_slice(text)?;
+    out.extend_from_slice(spaces.as_slice())
 }
 
 /// Appends a text at the right end of so many places, behind two spaces.

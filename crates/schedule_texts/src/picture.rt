@@ -11,4 +11,6 @@ mod panel;
 mod scale;
 mod stops;
 
+pub(crate) use page::push_size;
 pub use page::schedule_picture;
+pub(crate) use stops::push_place;

@@ -1,20 +1,22 @@
 //! The schedule as CSV, for spreadsheets.
 
-ghost use Rattle.std.specs.Prelude.{◌≡◌, ◌≤◌, ◌^◌, ◌++◌, OnOk, IfOk, codes, decimal, false, length, map, option_map};
+ghost use Rattle.std.specs.Prelude.{◌≡◌, ◌≤◌, ◌^◌, ◌++◌, [], ◌∷◌, OnOk, IfOk, codes, decimal, false, length, map, option_map};
 ghost use Rattle.std.specs.List.{list_any};
 ghost use Rattle.ev_text.specs.Texts.{joined_texts};
+ghost use Rattle.place_names.specs.Places.{name_at};
 ghost use Rattle.schedule_texts.specs.Clocks.{AreClocks, moment_text};
 ghost use Rattle.schedule_texts.specs.Decimals.{decimal_text};
 ghost use Rattle.schedule_texts.specs.Options.{AreTimed};
-ghost use Rattle.schedule_texts.specs.Spreadsheets.{begins_formula, calls_for_quotes, cell_of, charge_begin, charged_text, column_names, csv_text, doubled, field_text, kind_word, more_fields, record_text, route_cells, starts_formula, visit_cells, visit_texts};
+ghost use Rattle.schedule_texts.specs.Spreadsheets.{begins_formula, calls_for_quotes, cell_of, charge_begin, charged_text, column_names, csv_text, doubled, field_text, kind_word, more_fields, record_text, route_cells, starts_formula, stay_texts, visit_cells, visit_texts, with_name};
 
 use crate::clock::{Clock, push_moment};
 use crate::decimals::push_decimal;
+use place_names::{Place, name_at};
 use plan_schedule::{PlaceKind, RouteSchedule, Schedule, Visit};
 use report_lines::push_word;
 use std::alloc::{AllocError, Global};
 
-/// The names of the columns.
+/// The names of the columns where there are no names of places, and where there are.
 const COLUMN_NAMES: &[&[u8]] = &[
     b"route",
     b"stop",
@@ -30,26 +32,56 @@ const COLUMN_NAMES: &[&[u8]] = &[
     b"leaving",
 ];
 
+const COLUMN_NAMES_WITH_NAME: &[&[u8]] = &[
+    b"route",
+    b"stop",
+    b"node",
+    b"name",
+    b"what",
+    b"arrival",
+    b"level",
+    b"plug time",
+    b"charge begin",
+    b"charge end",
+    b"from",
+    b"to",
+    b"leaving",
+];
+
 /// The schedule as CSV: a record with the names of the columns, and one a stop. Without a plan it
 /// is the names alone. Times are decimals; with a clock all but the one to plug in are times of
-/// day. The only refusal is want of memory.
+/// day. Where there are places, by node, their names have a column. The only refusal is want of
+/// memory.
 pub fn schedule_csv(
     alloc: Global,
     schedule: Option<&Schedule>,
     clock: Option<Clock>,
+    places: &[Place],
 ) -> Result<Vec<u8>, AllocError>
     requires timed { AreTimed (option_map (λ s. s.now) schedule) }
     requires clock { AreClocks clock }
-    ensures { IfOk result
-        (λ text. text.items ≡ csv_text clock (option_map (λ s. s.now) schedule.entry)) }
+    ensures { IfOk result (λ text. text.items
+        ≡ csv_text clock places.now (option_map (λ s. s.now) schedule.entry)) }
 {
     let mut out = Vec::new(alloc);
-    push_record(alloc, &mut out, COLUMN_NAMES)?;
+    push_names(alloc, &mut out, places)?;
     if let Some(schedule) = schedule {
         let routes = schedule.routes.as_slice();
-        push_routes(alloc, &mut out, clock, schedule.denominator, routes)?;
+        push_routes(alloc, &mut out, clock, places, schedule.denominator, routes)?;
     }
     Ok(out)
+}
+
+/// Appends the record of the names of the columns.
+fn push_names(alloc: Global, out: &mut Vec<u8>, places: &[Place]) -> Result<(), AllocError>
+    ensures { OnOk result (out.new.items
+        ≡ out.old.items ++ record_text (map cell_of (column_names places.now))) }
+{
+    if places.is_empty() {
+        push_record(alloc, out, COLUMN_NAMES)
+    } else {
+        push_record(alloc, out, COLUMN_NAMES_WITH_NAME)
+    }
 }
 
 /// Appends the records of routes.
@@ -57,20 +89,22 @@ fn push_routes(
     alloc: Global,
     out: &mut Vec<u8>,
     clock: Option<Clock>,
+    places: &[Place],
     denominator: u64,
     routes: &[RouteSchedule],
 ) -> Result<(), AllocError>
     requires some { 1 ≤ denominator }
     requires small { denominator ≤ 10 ^ 9 }
     requires clock { AreClocks clock }
-    ensures { OnOk result (out.new.items
-        ≡ out.old.items ++ joined_texts record_text (route_cells clock denominator routes.now)) }
+    ensures { OnOk result (out.new.items ≡ out.old.items
+        ++ joined_texts record_text (route_cells clock places.now denominator routes.now)) }
 {
     for route in routes {
         push_visits(
             alloc,
             out,
             clock,
+            places,
             denominator,
             route.number,
             route.visits.as_slice(),
@@ -84,6 +118,7 @@ fn push_visits(
     alloc: Global,
     out: &mut Vec<u8>,
     clock: Option<Clock>,
+    places: &[Place],
     denominator: u64,
     number: usize,
     visits: &[Visit],
@@ -91,21 +126,21 @@ fn push_visits(
     requires some { 1 ≤ denominator }
     requires small { denominator ≤ 10 ^ 9 }
     requires clock { AreClocks clock }
-    ensures { OnOk result (out.new.items ≡ out.old.items
-        ++ joined_texts record_text (visit_cells clock denominator number 0 visits.now)) }
+    ensures { OnOk result (out.new.items ≡ out.old.items ++ joined_texts record_text
+        (visit_cells clock places.now denominator number 0 visits.now)) }
 {
     for (at, visit) in visits.iter().enumerate() {
-        push_visit(alloc, out, clock, denominator, number, at, visit)?;
+        push_visit(alloc, out, clock, places, denominator, number, at, visit)?;
     }
     Ok(())
 }
 
 /// Appends the record of a visit.
-#[tactic(auto, unfolding(crate::specs::Spreadsheets::visit_texts))]
 fn push_visit(
     alloc: Global,
     out: &mut Vec<u8>,
     clock: Option<Clock>,
+    places: &[Place],
     denominator: u64,
     number: usize,
     at: usize,
@@ -115,11 +150,64 @@ fn push_visit(
     requires small { denominator ≤ 10 ^ 9 }
     requires clock { AreClocks clock }
     ensures { OnOk result (out.new.items ≡ out.old.items
-        ++ record_text (map cell_of (visit_texts clock denominator number at visit.now))) }
+        ++ record_text (map cell_of (visit_texts clock places.now denominator number at visit.now))) }
+{
+    push_start(alloc, out, number, at, visit.node)?;
+    push_place_name(alloc, out, places, visit.node)?;
+    push_stay(alloc, out, clock, denominator, visit)?;
+    push_word(out, b"\n")?;
+    Ok(())
+}
+
+/// Appends the cells of the numbers of a route, a stop and a node, with which a record begins.
+fn push_start(
+    alloc: Global,
+    out: &mut Vec<u8>,
+    number: usize,
+    at: usize,
+    node: usize,
+) -> Result<(), AllocError>
+    ensures { OnOk result (out.new.items ≡ out.old.items ++ (field_text (cell_of (decimal number))
+        ++ more_fields (map cell_of (decimal at ∷ decimal node ∷ [])))) }
 {
     let route = number.to_string(alloc)?;
     let stop = at.to_string(alloc)?;
-    let node = visit.node.to_string(alloc)?;
+    let node = node.to_string(alloc)?;
+    push_cell(alloc, out, route.as_bytes())?;
+    push_more(alloc, out, &[stop.as_bytes(), node.as_bytes()])
+}
+
+/// Appends the cell with the name of a node, where there are names.
+fn push_place_name(
+    alloc: Global,
+    out: &mut Vec<u8>,
+    places: &[Place],
+    node: usize,
+) -> Result<(), AllocError>
+    ensures { OnOk result (out.new.items ≡ out.old.items
+        ++ more_fields (map cell_of (with_name places.now (name_at places.now node) []))) }
+{
+    if places.is_empty() {
+        return Ok(());
+    }
+    push_more(alloc, out, &[name_at(places, node).as_bytes()])
+}
+
+/// Appends the cells of what a visit is and when.
+#[tactic(auto, unfolding(crate::specs::Spreadsheets::stay_texts))]
+fn push_stay(
+    alloc: Global,
+    out: &mut Vec<u8>,
+    clock: Option<Clock>,
+    denominator: u64,
+    visit: &Visit,
+) -> Result<(), AllocError>
+    requires some { 1 ≤ denominator }
+    requires small { denominator ≤ 10 ^ 9 }
+    requires clock { AreClocks clock }
+    ensures { OnOk result (out.new.items ≡ out.old.items
+        ++ more_fields (map cell_of (stay_texts clock denominator visit.now))) }
+{
     let arrival = moment_of(alloc, clock, denominator, visit.arrival)?;
     let level = visit.level.to_string(alloc)?;
     let plugging = charged_time(alloc, denominator, visit, visit.plugging)?;
@@ -128,13 +216,10 @@ fn push_visit(
     let from = charged_level(alloc, visit, visit.level)?;
     let to = charged_level(alloc, visit, visit.level_left)?;
     let leaving = moment_of(alloc, clock, denominator, visit.leaving)?;
-    push_record(
+    push_more(
         alloc,
         out,
         &[
-            route.as_bytes(),
-            stop.as_bytes(),
-            node.as_bytes(),
             kind_word(visit.kind),
             arrival.as_slice(),
             level.as_bytes(),

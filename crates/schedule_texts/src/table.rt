@@ -5,16 +5,19 @@ ghost use Rattle.ev_text.specs.Texts.{joined_texts};
 ghost use Rattle.plan_schedule.specs.Schedules.{IsTimed};
 ghost use Rattle.schedule_texts.specs.Clocks.{AreClocks};
 ghost use Rattle.schedule_texts.specs.Options.{AreTimed};
-ghost use Rattle.schedule_texts.specs.Tables.{AreColumns, charge_cells, columns_of, energies_text, header_text, kind_cell, latest_width, moment_cell, number_cell, place_cells, plan_text, route_text, row_text, rows_text, stay_cells, sum_text, sums_text, table_text, time_cell, times_text};
+ghost use Rattle.schedule_texts.specs.Tables.{AreColumns, charge_cells, columns_of, energies_text, header_text, kind_cell, latest_width, moment_cell, names_width, number_cell, place_cells, plan_text, route_text, row_text, rows_text, stay_cells, sum_text, sums_text, table_text, time_cell, times_text};
 
 use crate::clock::{Clock, push_moment};
-use crate::decimals::{push_cell, push_time};
+use crate::decimals::{push_cell, push_left_cell, push_time};
+use crate::labels::widest;
 use crate::latest::latest_of;
+use place_names::{Place, name_at};
 use plan_schedule::{PlaceKind, RouteSchedule, Schedule, Totals, Visit};
 use report_lines::{push_number_line, push_numbered, push_word};
 use std::alloc::{AllocError, Global};
 
-/// How a table is laid out: times exact or not, and how wide their columns and those of levels are.
+/// How a table is laid out: times exact or not, and how wide their columns, those of levels and that
+/// of names are.
 #[derive(Clone, Copy)]
 struct Columns {
     exact: bool,
@@ -22,27 +25,30 @@ struct Columns {
     denominator: u64,
     time: usize,
     level: usize,
+    name: usize,
 }
 
 /// The schedule as a table: for each route a line a stop, and the sums; below them those of the
 /// plan. Without a plan it is the line `no plan`.
 ///
 /// Times are `X/D` where they are to be exact, and else decimals; with a clock those of arriving
-/// and of leaving are times of day. The only refusal is want of memory.
+/// and of leaving are times of day. Where there are places, by node, their names have a column. The
+/// only refusal is want of memory.
 pub fn schedule_table(
     alloc: Global,
     schedule: Option<&Schedule>,
     exact: bool,
     clock: Option<Clock>,
+    places: &[Place],
 ) -> Result<Vec<u8>, AllocError>
     requires timed { AreTimed (option_map (λ s. s.now) schedule) }
     requires clock { AreClocks clock }
-    ensures { IfOk result
-        (λ text. text.items ≡ table_text exact clock (option_map (λ s. s.now) schedule.entry)) }
+    ensures { IfOk result (λ text. text.items
+        ≡ table_text exact clock places.now (option_map (λ s. s.now) schedule.entry)) }
 {
     let mut out = Vec::new(alloc);
     match schedule {
-        Some(schedule) => push_table(alloc, &mut out, schedule, exact, clock)?,
+        Some(schedule) => push_table(alloc, &mut out, schedule, exact, clock, places)?,
         None => out.extend_from_slice(b"no plan\n")?,
     }
     Ok(out)
@@ -55,14 +61,15 @@ fn push_table(
     schedule: &Schedule,
     exact: bool,
     clock: Option<Clock>,
+    places: &[Place],
 ) -> Result<(), AllocError>
     requires timed { IsTimed schedule.now }
     requires clock { AreClocks clock }
-    ensures { OnOk result (out.new.items
-        ≡ out.old.items ++ plan_text (columns_of exact clock schedule.now) schedule.now) }
+    ensures { OnOk result (out.new.items ≡ out.old.items
+        ++ plan_text (columns_of exact clock places.now schedule.now) places.now schedule.now) }
 {
-    let columns = columns_of(alloc, schedule, exact, clock)?;
-    push_plan(alloc, out, columns, schedule)
+    let columns = columns_of(alloc, schedule, exact, clock, places)?;
+    push_plan(alloc, out, columns, places, schedule)
 }
 
 /// Appends the lines of the routes of a plan, and those of its sums.
@@ -70,12 +77,14 @@ fn push_plan(
     alloc: Global,
     out: &mut Vec<u8>,
     columns: Columns,
+    places: &[Place],
     schedule: &Schedule,
 ) -> Result<(), AllocError>
     requires { AreColumns columns }
-    ensures { OnOk result (out.new.items ≡ out.old.items ++ plan_text columns schedule.now) }
+    ensures { OnOk result
+        (out.new.items ≡ out.old.items ++ plan_text columns places.now schedule.now) }
 {
-    push_routes(alloc, out, columns, schedule.routes.as_slice())?;
+    push_routes(alloc, out, columns, places, schedule.routes.as_slice())?;
     push_word(out, b"total of the plan: ")?;
     push_sums(alloc, out, columns, &schedule.totals)?;
     Ok(())
@@ -86,14 +95,15 @@ fn push_routes(
     alloc: Global,
     out: &mut Vec<u8>,
     columns: Columns,
+    places: &[Place],
     routes: &[RouteSchedule],
 ) -> Result<(), AllocError>
     requires { AreColumns columns }
-    ensures { OnOk result
-        (out.new.items ≡ out.old.items ++ joined_texts (route_text columns) routes.now) }
+    ensures { OnOk result (out.new.items
+        ≡ out.old.items ++ joined_texts (route_text columns places.now) routes.now) }
 {
     for route in routes {
-        push_route(alloc, out, columns, route)?;
+        push_route(alloc, out, columns, places, route)?;
     }
     Ok(())
 }
@@ -104,10 +114,11 @@ fn columns_of(
     schedule: &Schedule,
     exact: bool,
     clock: Option<Clock>,
+    places: &[Place],
 ) -> Result<Columns, AllocError>
     requires timed { IsTimed schedule.now }
     requires clock { AreClocks clock }
-    ensures value { IfOk result (λ c. c ≡ columns_of exact clock schedule.now) }
+    ensures value { IfOk result (λ c. c ≡ columns_of exact clock places.now schedule.now) }
     ensures are { IfOk result AreColumns }
 {
     let denominator = schedule.denominator;
@@ -120,7 +131,18 @@ fn columns_of(
         denominator,
         time: width.max(9),
         level: full.len().max(5),
+        name: names_width(places),
     })
+}
+
+/// How wide the column of names is: 4 at least, and 0 where there are no names.
+fn names_width(places: &[Place]) -> usize
+    ensures { result ≡ names_width places.now }
+{
+    if places.is_empty() {
+        return 0;
+    }
+    widest(4, places)
 }
 
 /// How wide the latest time is, as a time and as a moment.
@@ -148,14 +170,16 @@ fn push_route(
     alloc: Global,
     out: &mut Vec<u8>,
     columns: Columns,
+    places: &[Place],
     route: &RouteSchedule,
 ) -> Result<(), AllocError>
     requires { AreColumns columns }
-    ensures { OnOk result (out.new.items ≡ out.old.items ++ route_text columns route.now) }
+    ensures { OnOk result
+        (out.new.items ≡ out.old.items ++ route_text columns places.now route.now) }
 {
     push_number_line(alloc, out, b"route ", route.number as u128)?;
     push_header(alloc, out, columns)?;
-    push_rows(alloc, out, columns, route.visits.as_slice())?;
+    push_rows(alloc, out, columns, places, route.visits.as_slice())?;
     push_numbered(alloc, out, b"total of route ", route.number as u128)?;
     push_word(out, b": ")?;
     push_sums(alloc, out, columns, &route.totals)?;
@@ -167,7 +191,9 @@ fn push_route(
 fn push_header(alloc: Global, out: &mut Vec<u8>, columns: Columns) -> Result<(), AllocError>
     ensures { OnOk result (out.new.items ≡ out.old.items ++ header_text columns) }
 {
-    push_word(out, b"  stop  node  what    ")?;
+    push_word(out, b"  stop  node")?;
+    push_left_cell(alloc, out, columns.name, b"name")?;
+    push_word(out, b"  what    ")?;
     push_cell(alloc, out, columns.time, b"arrival")?;
     push_cell(alloc, out, columns.level, b"level")?;
     push_cell(alloc, out, columns.time, b"plug time")?;
@@ -183,13 +209,15 @@ fn push_rows(
     alloc: Global,
     out: &mut Vec<u8>,
     columns: Columns,
+    places: &[Place],
     visits: &[Visit],
 ) -> Result<(), AllocError>
     requires { AreColumns columns }
-    ensures { OnOk result (out.new.items ≡ out.old.items ++ rows_text columns 0 visits.now) }
+    ensures { OnOk result
+        (out.new.items ≡ out.old.items ++ rows_text columns places.now 0 visits.now) }
 {
     for (at, visit) in visits.iter().enumerate() {
-        push_row(alloc, out, columns, at, visit)?;
+        push_row(alloc, out, columns, places, at, visit)?;
     }
     Ok(())
 }
@@ -199,24 +227,36 @@ fn push_row(
     alloc: Global,
     out: &mut Vec<u8>,
     columns: Columns,
+    places: &[Place],
     at: usize,
     visit: &Visit,
 ) -> Result<(), AllocError>
     requires { AreColumns columns }
-    ensures { OnOk result (out.new.items ≡ out.old.items ++ row_text columns at visit.now) }
+    ensures { OnOk result
+        (out.new.items ≡ out.old.items ++ row_text columns places.now at visit.now) }
 {
-    push_place(alloc, out, at, visit)?;
+    push_place(alloc, out, columns, places, at, visit)?;
     push_stay(alloc, out, columns, visit)?;
     out.extend_from_slice(b"\n")
 }
 
 /// Appends where a visit is.
 #[tactic(auto, unfolding(crate::specs::Tables::place_cells))]
-fn push_place(alloc: Global, out: &mut Vec<u8>, at: usize, visit: &Visit) -> Result<(), AllocError>
-    ensures { OnOk result (out.new.items ≡ out.old.items ++ place_cells at visit.now) }
+fn push_place(
+    alloc: Global,
+    out: &mut Vec<u8>,
+    columns: Columns,
+    places: &[Place],
+    at: usize,
+    visit: &Visit,
+) -> Result<(), AllocError>
+    ensures { OnOk result
+        (out.new.items ≡ out.old.items ++ place_cells columns places.now at visit.now) }
 {
     push_number(alloc, out, 4, at as u128)?;
     push_number(alloc, out, 4, visit.node as u128)?;
+    let name = name_at(places, visit.node);
+    push_left_cell(alloc, out, columns.name, name.as_bytes())?;
     out.extend_from_slice(kind_cell(visit.kind))
 }
 

@@ -5,6 +5,10 @@
 #[cfg(test)]
 mod files;
 #[cfg(test)]
+mod maps;
+#[cfg(test)]
+mod named;
+#[cfg(test)]
 mod pictures;
 #[cfg(test)]
 mod refused;

@@ -13,8 +13,9 @@ const PAGE: &str = "<svg xmlns='http://www.w3.org/2000/svg' width='1070' \
     <style>";
 
 /// What stands behind the colours, the type and the line that says what the shapes are.
-const PANEL: &str = "<g transform='translate(0,900)'>\n\
-    <text class='h' x='1200' y='200'>route 0: stops 4, time 24.50, energy charged 2</text>\n\
+const PANEL: &str =
+    "<text class='h' x='1200' y='1030'>route 0: stops 4, time 24.50, energy charged 2</text>\n\
+    <g transform='translate(0,900)'>\n\
     <path class='g' d='M1200 600v1600'/><path class='a' d='M1200 2200v50'/>\n\
     <text class='c' x='1200' y='2390'>0</text>\n\
     <path class='g' d='M2832 600v1600'/><path class='a' d='M2832 2200v50'/>\n\
@@ -25,15 +26,22 @@ const PANEL: &str = "<g transform='translate(0,900)'>\n\
     <text class='c' x='6097' y='2390'>15</text>\n\
     <path class='g' d='M7730 600v1600'/><path class='a' d='M7730 2200v50'/>\n\
     <text class='c' x='7730' y='2390'>20</text>\n\
+    <path class='g' d='M1200 1400h8000'/><text class='e' x='1100' y='1440'>5</text>\n\
     <path class='f' d='M1200 600h8000'/><path class='r' d='M1200 2200h8000'/><path class='a\
     ' d='M1200 2200h8000'/>\n\
     <text class='e' x='1100' y='640'>full 10</text><text class='e' x='1100' y='2240'>0</text\
     >\n\
-    <text x='9300' y='2240'>reserve 0</text><text x='9300' y='2390'>time</text>\n\
-    <path class='n' d='M1200 470V600'/><text class='c' x='1200' y='440'>depot</text>\n\
-    <path class='n' d='M3812 470V1080'/><text class='c' x='3812' y='440'>s2</text>\n\
-    <path class='n' d='M5934 470V1080'/><text class='c' x='5934' y='440'>c1</text>\n\
-    <path class='n' d='M9200 470V2040'/><text class='c' x='9200' y='440'>depot</text>\n\
+    <text class='e' x='1100' y='480'>units of charge</text>\n\
+    <text x='1200' y='2560'>time, in units of the instance</text>\n\
+    <text x='9300' y='2240'>reserve 0</text>\n\
+    <path class='n' d='M1200 600V600L1200 555'/><text class='m' transform='translate(1200,54\
+    0) rotate(-60)' y='40'>depot</text>\n\
+    <path class='n' d='M3812 1080V600L3812 555'/><text class='m' transform='translate(3812,5\
+    40) rotate(-60)' y='40'>s2</text>\n\
+    <path class='n' d='M5934 1080V600L5934 555'/><text class='m' transform='translate(5934,5\
+    40) rotate(-60)' y='40'>c1</text>\n\
+    <path class='n' d='M9200 2040V600L9200 555'/><text class='m' transform='translate(9200,5\
+    40) rotate(-60)' y='40'>depot</text>\n\
     <polyline class='l' points='1200,600 1200,600 3812,1080 3812,1080 3975,920 4955,760 5934\
     ,1080 5934,1080 9200,2040 9200,2040 '/>\n\
     <circle class='b' cx='3975' cy='920' r='26'/>\n\

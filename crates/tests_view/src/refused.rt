@@ -33,7 +33,7 @@ fn the_first_broken_rule_is_put_and_nothing_is_written(rt: HostRuntime) {
             ONE_STATION,
             BY_STATION,
             Status::Words,
-            "evview FILE PLAN [--limit N] [--route N] [--exact] [--begin HH:MM --unit U] [--svg OUT] [--json OUT] [--csv OUT]\n",
+            "evview FILE PLAN [--limit N] [--route N] [--exact] [--begin HH:MM --unit U] [--places FILE] [--svg OUT] [--json OUT] [--csv OUT] [--map OUT]\n",
         ),
         (
             "A P --svg S --json J",

@@ -1,5 +1,5 @@
--- The command that reads the words of `evview`: its name, two positionals, a flag, and seven options
--- of one value each. It has no flag for help and none for a version.
+-- The command that reads the words of `evview`: its name, two positionals, a flag, and nine
+-- options of one value each. It has no flag for help and none for a version.
 use Rattle.std.specs.Prelude.{Some, codes, true}
 use Rattle.clap.specs.Words.{App, Rule, Text, new_rule, with_rule}
 use Rattle.clap.specs.declared.builder.action.ArgAction.TheVariants.{SetTrue}
@@ -29,14 +29,20 @@ abbrev pub with_clock : App → App
 with_clock app =
     with_rule (with_rule app (option_rule (codes "begin"))) (option_rule (codes "unit"))
 
+-- the file with the names of places
+abbrev pub with_places : App → App
+with_places app = with_rule app (option_rule (codes "places"))
+
 -- the names of the files that are written
 abbrev pub with_outputs : App → App
 with_outputs app =
     with_rule
+    (with_rule
     (with_rule (with_rule app (option_rule (codes "svg"))) (option_rule (codes "json")))
-    (option_rule (codes "csv"))
+    (option_rule (codes "csv")))
+    (option_rule (codes "map"))
 
 unfoldable pub evview : App
 evview =
     with_outputs
-    (with_clock (with_choice (with_names (without_arguments (codes "evview")))))
+    (with_places (with_clock (with_choice (with_names (without_arguments (codes "evview"))))))

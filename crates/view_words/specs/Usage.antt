@@ -4,4 +4,4 @@ use Rattle.std.specs.Prelude.{List, ℕ, ◌++◌, codes}
 abbrev pub usage_text : List ℕ
 usage_text =
     codes "evview FILE PLAN [--limit N] [--route N] [--exact] [--begin HH:MM --unit U] "
-    ++ codes "[--svg OUT] [--json OUT] [--csv OUT]\n"
+    ++ codes "[--places FILE] [--svg OUT] [--json OUT] [--csv OUT] [--map OUT]\n"

@@ -1,5 +1,5 @@
 -- The job that the words of `evview` name: a function of what the command finds in them.
-use Rattle.std.specs.Prelude.{ℕ, Bool, false, List, [], ◌∷◌, Option, None, Some, codes, option_and_then, if◌then◌else◌}
+use Rattle.std.specs.Prelude.{◌&&◌, ◌||◌, ℕ, Bool, false, is_none, is_some, List, [], ◌∷◌, Option, None, Some, codes, option_and_then, if◌then◌else◌}
 use Rattle.std.specs.Option.{option_map_or}
 use Rattle.std.specs.Str.{bytes_eq}
 use Rattle.clap.specs.Words.{Row, Text, fault_of, first_of, matches_of}
@@ -12,8 +12,9 @@ use Rattle.view_words.specs.declared.clock.DayClock.{DayClock}
 
 -- the job of showing a plan: the names of the files with the instance and the plan, the limit where
 -- one is given, the number of the one route that is shown where it is given, whether times are
--- shown as they are scaled, the clock by which is told when something happens where one is given, and the names of the files into which the pictures and the schedule, as
--- JSON and as CSV, are written, where they are given
+-- shown as they are scaled, the clock by which is told when something happens where one is given, the
+-- name of the file with the names of places where it is given, and the names of the files into which
+-- the pictures, the schedule, as JSON and as CSV, and a map are written, where they are given
 pub record ViewPlan : Type 0 where
   pub file : Text
   pub plan : Text
@@ -21,9 +22,11 @@ pub record ViewPlan : Type 0 where
   pub route : Option ℕ
   pub exact : Bool
   pub clock : Option DayClock
+  pub places : Option Text
   pub svg : Option Text
   pub json : Option Text
   pub csv : Option Text
+  pub map : Option Text
 
 -- the number of the route that is shown, where it is given; none where its value is no number of
 -- one
@@ -39,6 +42,10 @@ exact_in rows =
 abbrev pub clock_in : List Row → Option (Option DayClock)
 clock_in rows = clock_of (first_of (codes "begin") rows) (first_of (codes "unit") rows)
 
+-- the name of the file with the names of places
+abbrev pub places_in : List Row → Option Text
+places_in rows = first_of (codes "places") rows
+
 -- the name of the file for the pictures
 abbrev pub svg_in : List Row → Option Text
 svg_in rows = first_of (codes "svg") rows
@@ -51,6 +58,14 @@ json_in rows = first_of (codes "json") rows
 abbrev pub csv_in : List Row → Option Text
 csv_in rows = first_of (codes "csv") rows
 
+-- the name of the file for the map
+abbrev pub map_in : List Row → Option Text
+map_in rows = first_of (codes "map") rows
+
+-- a map is drawn by the places of a file, so it asks for one
+abbrev pub has_places : Option Text → Option Text → Bool
+has_places map places = is_none map || is_some places
+
 -- the names that are given
 abbrev pub given_names : List (Option Text) → List Text
 given_names [] = []
@@ -58,42 +73,46 @@ given_names (None ∷ names) = given_names names
 given_names (Some name ∷ names) = name ∷ given_names names
 
 -- the names of all files: of those that are written, and of those that are read
-abbrev pub all_names : Text → Text → Option Text → Option Text → Option Text → List Text
-all_names file plan svg json csv =
-    given_names (svg ∷ json ∷ csv ∷ Some file ∷ Some plan ∷ [])
+abbrev pub all_names : Text → Text → List Row → List Text
+all_names file plan rows =
+    given_names
+    (svg_in rows ∷ json_in rows ∷ csv_in rows ∷ map_in rows ∷ places_in rows ∷ Some file
+    ∷ Some plan ∷ [])
 
 -- the job of these words
 abbrev pub view_job_of : Text → Text → Option ℕ → Option ℕ → Bool → Option DayClock → Option Text →
-    Option Text → Option Text → ViewPlan
-view_job_of file plan limit route exact clock svg json csv = record {
+    Option Text → Option Text → Option Text → Option Text → ViewPlan
+view_job_of file plan limit route exact clock places svg json csv map = record {
   file = file;
   plan = plan;
   limit = limit;
   route = route;
   exact = exact;
   clock = clock;
+  places = places;
   svg = svg;
   json = json;
   csv = csv;
+  map = map;
 }
 
 -- the names of the files that a job writes
 abbrev pub written_names : ViewPlan → List Text
-written_names job = given_names (job.svg ∷ job.json ∷ job.csv ∷ [])
+written_names job = given_names (job.svg ∷ job.json ∷ job.csv ∷ job.map ∷ [])
 
 -- the same, where the values of the options are numbers and a clock
 abbrev pub view_with : Text → Text → Option (Option ℕ) → Option (Option ℕ) →
     Option (Option DayClock) → List Row → Option ViewPlan
 view_with file plan (Some limit) (Some route) (Some clock) rows =
-    Some (view_job_of file plan limit route (exact_in rows) clock (svg_in rows) (json_in rows)
-    (csv_in rows))
+    Some (view_job_of file plan limit route (exact_in rows) clock (places_in rows) (svg_in rows)
+    (json_in rows) (csv_in rows) (map_in rows))
 view_with file plan limit route clock rows = None
 
--- `FILE PLAN [--limit N] [--route N] [--exact] [--begin HH:MM --unit U] [--svg OUT] [--json OUT]
--- [--csv OUT]`
+-- `FILE PLAN [--limit N] [--route N] [--exact] [--begin HH:MM --unit U] [--places FILE]
+-- [--svg OUT] [--json OUT] [--csv OUT] [--map OUT]`, where `--map` asks for `--places`
 abbrev pub view_of : Text → Text → List Row → Option ViewPlan
 view_of file plan rows =
-    if are_different (all_names file plan (svg_in rows) (json_in rows) (csv_in rows))
+    if are_different (all_names file plan rows) && has_places (map_in rows) (places_in rows)
     then view_with file plan (limit_in rows) (route_in rows) (clock_in rows) rows
     else None
 

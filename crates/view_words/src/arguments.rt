@@ -4,7 +4,7 @@ ghost use Rattle.std.specs.Prelude.{◌≡◌, IfOk};
 ghost use Rattle.clap.specs.Words.{app_of, with_rule};
 ghost use Rattle.clap.specs.Walk.{texts};
 ghost use Rattle.call_words.specs.Matches.{IsMatched};
-ghost use Rattle.view_words.specs.Command.{evview, flag_rule, with_choice, with_clock, with_names, with_outputs, word_rule};
+ghost use Rattle.view_words.specs.Command.{evview, flag_rule, with_choice, with_clock, with_names, with_outputs, with_places, word_rule};
 
 use call_words::{matches_of, with_option, without_arguments};
 use clap::{Arg, ArgAction, ArgMatches, Command};
@@ -64,13 +64,21 @@ fn with_clock<'a>(alloc: Global, command: Command<'a>) -> Result<Command<'a>, Al
     with_option(alloc, command, "unit")
 }
 
+/// The command and the file with the names of places.
+fn with_places<'a>(alloc: Global, command: Command<'a>) -> Result<Command<'a>, AllocError>
+    ensures { IfOk result (λ c. app_of c ≡ with_places (app_of command.entry)) }
+{
+    with_option(alloc, command, "places")
+}
+
 /// The command and the names of the files that are written.
 fn with_outputs<'a>(alloc: Global, command: Command<'a>) -> Result<Command<'a>, AllocError>
     ensures { IfOk result (λ c. app_of c ≡ with_outputs (app_of command.entry)) }
 {
     let command = with_option(alloc, command, "svg")?;
     let command = with_option(alloc, command, "json")?;
-    with_option(alloc, command, "csv")
+    let command = with_option(alloc, command, "csv")?;
+    with_option(alloc, command, "map")
 }
 
 /// The command.
@@ -81,6 +89,7 @@ fn evview<'a>(alloc: Global) -> Result<Command<'a>, AllocError>
     let command = with_names(alloc, without_arguments(alloc, PROGRAM))?;
     let command = with_choice(alloc, command)?;
     let command = with_clock(alloc, command)?;
+    let command = with_places(alloc, command)?;
     with_outputs(alloc, command)
 }
 

@@ -5,7 +5,7 @@ ghost use Rattle.call_words.specs.Matches.{rows_in};
 ghost use Rattle.call_words.specs.Names.{are_different, is_listed};
 ghost use Rattle.view_words.specs.JobValue.{AnswersJob, IsJob, names_in};
 ghost use Rattle.view_words.specs.Clocks.{IsDayClock};
-ghost use Rattle.view_words.specs.Words.{clock_in, exact_in, given_names, job_in, route_in, view_of};
+ghost use Rattle.view_words.specs.Words.{clock_in, exact_in, given_names, has_places, job_in, route_in, view_of};
 
 use crate::Job;
 use crate::clock::{DayClock, clock_of};
@@ -61,8 +61,12 @@ fn view_job(
     ensures is { IfOk result (λ job. IfSome job IsJob) }
 {
     let (svg, json) = (first_of(matches, "svg"), first_of(matches, "json"));
-    let csv = first_of(matches, "csv");
-    if !given_differ(&[svg, json, csv, Some(file), Some(plan)]) {
+    let (csv, places) = (first_of(matches, "csv"), first_of(matches, "places"));
+    let map = first_of(matches, "map");
+    if !given_differ(&[svg, json, csv, map, places, Some(file), Some(plan)]) {
+        return Ok(None);
+    }
+    if !has_places(map, places) {
         return Ok(None);
     }
     let (Some(limit), Some(route)) = (limit_in(matches), route_in(matches)) else {
@@ -78,10 +82,20 @@ fn view_job(
         route,
         exact: exact_in(matches),
         clock,
+        places: owned(alloc, places)?,
         svg: owned(alloc, svg)?,
         json: owned(alloc, json)?,
         csv: owned(alloc, csv)?,
+        map: owned(alloc, map)?,
     }))
+}
+
+/// Whether there is a file of places where a map is asked for.
+fn has_places(map: Option<&str>, places: Option<&str>) -> bool
+    ensures { result ≡ has_places (option_map (λ text. text.now) map.entry)
+        (option_map (λ text. text.now) places.entry) }
+{
+    map.is_none() || places.is_some()
 }
 
 /// Whether no two of the names that are given are the same text.

@@ -43,7 +43,7 @@ fn push_marks(
 
 /// The first of 1, 2, 5, 10, 20, 50 and so on up to 10^20 that is above a number; 10^20 where none
 /// is.
-fn step_above(least: u128) -> u128
+pub(crate) fn step_above(least: u128) -> u128
     ensures value { result ≡ step_above least }
     ensures some { 1 ≤ result }
 {

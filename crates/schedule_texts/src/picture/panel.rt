@@ -1,7 +1,7 @@
 //! The panel of a route.
 
-ghost use Rattle.std.specs.Prelude.{◌≡◌, ◌≤◌, ◌++◌, OnOk};
-ghost use Rattle.schedule_texts.specs.Panels.{heading_text, panel_text, panels_text, placed_text, span_text};
+ghost use Rattle.std.specs.Prelude.{◌≡◌, ◌<◌, ◌≤◌, ◌^◌, ◌++◌, OnOk};
+ghost use Rattle.schedule_texts.specs.Panels.{heading_text, left_out_text, panel_text, panel_top, panels_text, placed_text, span_text};
 ghost use Rattle.schedule_texts.specs.Scales.{IsScale};
 
 use crate::clock::push_clock_time;
@@ -10,9 +10,10 @@ use crate::latest::latest_in;
 use crate::picture::axis::push_axis;
 use crate::picture::frame::push_frame;
 use crate::picture::line::{push_bends, push_line};
-use crate::picture::names::push_names;
+use crate::picture::names::{left_out, push_names};
 use crate::picture::scale::Scale;
 use crate::picture::stops::push_stops;
+use place_names::Place;
 use plan_schedule::RouteSchedule;
 use report_lines::{push_numbered, push_word};
 use std::alloc::{AllocError, Global};
@@ -22,15 +23,15 @@ pub(crate) fn push_panels(
     alloc: Global,
     out: &mut Vec<u8>,
     scale: Scale,
-    reserve: u64,
+    places: &[Place],
     routes: &[RouteSchedule],
 ) -> Result<(), AllocError>
     requires { IsScale scale }
     ensures { OnOk result
-        (out.new.items ≡ out.old.items ++ panels_text scale reserve 0 routes.now) }
+        (out.new.items ≡ out.old.items ++ panels_text scale places.now 0 routes.now) }
 {
     for (at, route) in routes.iter().enumerate() {
-        push_placed(alloc, out, scale, reserve, at, route)?;
+        push_placed(alloc, out, scale, places, at, route)?;
     }
     Ok(())
 }
@@ -40,24 +41,32 @@ fn push_placed(
     alloc: Global,
     out: &mut Vec<u8>,
     scale: Scale,
-    reserve: u64,
+    places: &[Place],
     at: usize,
     route: &RouteSchedule,
 ) -> Result<(), AllocError>
     requires { IsScale scale }
     ensures { OnOk result
-        (out.new.items ≡ out.old.items ++ placed_text scale reserve at route.now) }
+        (out.new.items ≡ out.old.items ++ placed_text scale places.now at route.now) }
 {
-    push_numbered(
-        alloc,
-        out,
-        b"<g transform='translate(0,",
-        at as u128 * 2800 + 900,
-    )?;
+    let top = panel_top(scale, at);
+    push_heading(alloc, out, scale, top + 130, route)?;
+    let below = top + scale.rise as u128;
+    push_numbered(alloc, out, b"<g transform='translate(0,", below)?;
     push_word(out, b")'>\n")?;
-    push_panel(alloc, out, scale, reserve, route)?;
+    push_panel(alloc, out, scale, places, route)?;
     push_word(out, b"</g>\n")?;
     Ok(())
+}
+
+/// Where the panel with this number begins, from the top.
+#[tactic(auto, using(crate::proofs::Sizes::height_small))]
+fn panel_top(scale: Scale, at: usize) -> u128
+    requires { IsScale scale }
+    ensures value { result ≡ panel_top scale at }
+    ensures small { result < 2 ^ 80 }
+{
+    at as u128 * (2800 + scale.rise as u128) + 900
 }
 
 /// Appends what stands in the panel of a route.
@@ -65,38 +74,34 @@ fn push_panel(
     alloc: Global,
     out: &mut Vec<u8>,
     scale: Scale,
-    reserve: u64,
+    places: &[Place],
     route: &RouteSchedule,
 ) -> Result<(), AllocError>
     requires { IsScale scale }
-    ensures { OnOk result (out.new.items ≡ out.old.items ++ panel_text scale reserve route.now) }
+    ensures { OnOk result (out.new.items ≡ out.old.items ++ panel_text scale places.now route.now) }
 {
-    push_heading(alloc, out, scale, route)?;
     push_axis(alloc, out, scale)?;
-    push_frame(alloc, out, scale, reserve)?;
-    push_names(alloc, out, scale, route.visits.as_slice())?;
+    push_frame(alloc, out, scale)?;
+    push_names(alloc, out, scale, places, route.visits.as_slice())?;
     push_line(alloc, out, scale, route.line.as_slice())?;
     push_bends(alloc, out, scale, route.line.as_slice())?;
-    push_stops(alloc, out, scale, route.visits.as_slice())?;
+    push_stops(alloc, out, scale, places, route.visits.as_slice())?;
     Ok(())
 }
 
-/// Appends the heading of a route.
+/// Appends the heading of a route at a height.
 fn push_heading(
     alloc: Global,
     out: &mut Vec<u8>,
     scale: Scale,
+    y: u128,
     route: &RouteSchedule,
 ) -> Result<(), AllocError>
     requires { IsScale scale }
-    ensures { OnOk result (out.new.items ≡ out.old.items ++ heading_text scale route.now) }
+    ensures { OnOk result (out.new.items ≡ out.old.items ++ heading_text scale y route.now) }
 {
-    push_numbered(
-        alloc,
-        out,
-        b"<text class='h' x='1200' y='200'>route ",
-        route.number as u128,
-    )?;
+    push_numbered(alloc, out, b"<text class='h' x='1200' y='", y)?;
+    push_numbered(alloc, out, b"'>route ", route.number as u128)?;
     push_numbered(alloc, out, b": stops ", route.totals.stops)?;
     push_word(out, b", time ")?;
     push_decimal(alloc, out, scale.denominator, route.totals.time)?;
@@ -107,7 +112,18 @@ fn push_heading(
         route.totals.energy_charged,
     )?;
     push_span(alloc, out, scale, route)?;
+    push_left_out(alloc, out, left_out(scale, route.visits.as_slice()))?;
     push_word(out, b"</text>\n")?;
+    Ok(())
+}
+
+/// Appends how many names are left out, where some are.
+fn push_left_out(alloc: Global, out: &mut Vec<u8>, count: u64) -> Result<(), AllocError>
+    ensures { OnOk result (out.new.items ≡ out.old.items ++ left_out_text count) }
+{
+    if count > 0 {
+        push_numbered(alloc, out, b", names left out ", count as u128)?;
+    }
     Ok(())
 }
 

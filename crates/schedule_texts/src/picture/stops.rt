@@ -5,7 +5,9 @@ ghost use Rattle.schedule_texts.specs.Scales.{IsScale};
 ghost use Rattle.schedule_texts.specs.Shapes.{circle_text, diamond_text, kind_words, place_text, shape_end, shape_text, square_text, stop_text, stops_text, title_text};
 
 use crate::clock::push_moment;
+use crate::labels::push_name_words;
 use crate::picture::scale::{Scale, x_at, y_at};
+use place_names::Place;
 use plan_schedule::{PlaceKind, Visit};
 use report_lines::{push_numbered, push_word};
 use std::alloc::{AllocError, Global};
@@ -16,13 +18,14 @@ pub(crate) fn push_stops(
     alloc: Global,
     out: &mut Vec<u8>,
     scale: Scale,
+    places: &[Place],
     visits: &[Visit],
 ) -> Result<(), AllocError>
     requires { IsScale scale }
-    ensures { OnOk result (out.new.items ≡ out.old.items ++ stops_text scale 0 visits.now) }
+    ensures { OnOk result (out.new.items ≡ out.old.items ++ stops_text scale places.now 0 visits.now) }
 {
     for (at, visit) in visits.iter().enumerate() {
-        push_stop(alloc, out, scale, at, visit)?;
+        push_stop(alloc, out, scale, places, at, visit)?;
     }
     Ok(())
 }
@@ -32,16 +35,17 @@ fn push_stop(
     alloc: Global,
     out: &mut Vec<u8>,
     scale: Scale,
+    places: &[Place],
     at: usize,
     visit: &Visit,
 ) -> Result<(), AllocError>
     requires { IsScale scale }
-    ensures { OnOk result (out.new.items ≡ out.old.items ++ stop_text scale at visit.now) }
+    ensures { OnOk result (out.new.items ≡ out.old.items ++ stop_text scale places.now at visit.now) }
 {
     let x = x_at(scale, visit.arrival as u128);
     let y = y_at(scale, visit.level);
     push_shape(alloc, out, visit.kind, x, y)?;
-    push_title(alloc, out, scale, at, visit)?;
+    push_title(alloc, out, scale, places, at, visit)?;
     out.extend_from_slice(shape_end(visit.kind))
 }
 
@@ -110,14 +114,15 @@ fn push_title(
     alloc: Global,
     out: &mut Vec<u8>,
     scale: Scale,
+    places: &[Place],
     at: usize,
     visit: &Visit,
 ) -> Result<(), AllocError>
     requires { IsScale scale }
-    ensures { OnOk result (out.new.items ≡ out.old.items ++ title_text scale at visit.now) }
+    ensures { OnOk result (out.new.items ≡ out.old.items ++ title_text scale places.now at visit.now) }
 {
     push_numbered(alloc, out, b"<title>stop ", at as u128)?;
-    push_place(alloc, out, visit)?;
+    push_place(alloc, out, places, visit)?;
     push_word(out, b", arrival ")?;
     push_moment(
         alloc,
@@ -133,10 +138,16 @@ fn push_title(
 }
 
 /// Appends what a node is, and its number.
-fn push_place(alloc: Global, out: &mut Vec<u8>, visit: &Visit) -> Result<(), AllocError>
-    ensures { OnOk result (out.new.items ≡ out.old.items ++ place_text visit.now) }
+pub(crate) fn push_place(
+    alloc: Global,
+    out: &mut Vec<u8>,
+    places: &[Place],
+    visit: &Visit,
+) -> Result<(), AllocError>
+    ensures { OnOk result (out.new.items ≡ out.old.items ++ place_text places.now visit.now) }
 {
-    push_numbered(alloc, out, kind_words(visit.kind), visit.node as u128)
+    push_numbered(alloc, out, kind_words(visit.kind), visit.node as u128)?;
+    push_name_words(out, places, visit.node)
 }
 
 /// The words between the number of a stop and that of its node.

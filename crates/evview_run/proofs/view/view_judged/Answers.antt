@@ -11,16 +11,16 @@ pub show-requires-clause-fleet : goal.show-requires-clause-fleet
 show-requires-clause-fleet c = plan_is_fleet c.args.inst.now c.args.plan c.in-Ok._cost c.in-Ok.ensures.ok
 
 pub returns-in-Ok-clause-answers : goal.returns-in-Ok-clause-answers
-returns-in-Ok-clause-answers c = λ file plan_bytes has.
-    puts_schedule (job_value c.args.job.now) file plan_bytes c.args.inst.now (option_map (λ p. p.now) c.args.plan) c.in-Ok._cost c.show.result
-    has c.in-Ok.ensures.ok c.requires.route c.show.ensures.status c.show.ensures.files c.show.ensures.text
+returns-in-Ok-clause-answers c = λ file plan_bytes more has named.
+    puts_schedule (job_value c.args.job.now) file plan_bytes more c.args.inst.now (option_map (λ p. p.now) c.args.plan) c.args.places.now c.in-Ok._cost c.show.result
+    has named c.in-Ok.ensures.ok c.requires.route c.show.ensures.status c.show.ensures.files c.show.ensures.text
 
 pub returns-in-Err-Plan-clause-answers : goal.returns-in-Err-Plan-clause-answers
-returns-in-Err-Plan-clause-answers c = λ file plan_bytes has.
+returns-in-Err-Plan-clause-answers c = λ file plan_bytes more has named.
     let plan = option_map (λ p. p.now) c.args.plan in
     let broken = subst (λ (fault : LargeFault). IsUnfit c.args.inst.now plan fault) c.in-Err-Plan.field-0-is c.in-Err-Plan.ensures.fault in
-    puts_broken (job_value c.args.job.now) file plan_bytes c.args.inst.now plan c.in-Err-Plan.fault c.reject.result
-    has c.requires.route broken c.reject.ensures.status c.reject.ensures.files c.reject.ensures.text
+    puts_broken (job_value c.args.job.now) file plan_bytes more c.args.inst.now plan c.args.places.now c.in-Err-Plan.fault c.reject.result
+    has named c.requires.route broken c.reject.ensures.status c.reject.ensures.files c.reject.ensures.text
 
 pub returns-in-Ok-clause-heard : goal.returns-in-Ok-clause-heard
 returns-in-Ok-clause-heard c = done_is_heard c.show.result c.show.ensures.status c.show.ensures.cause

@@ -1,22 +1,26 @@
-use Rattle.std.proofs.Common.{Option, subst, sym}
-use Rattle.evview_run.proofs.Hearing.{refusal_is_heard}
-use Rattle.evview_run.proofs.ViewFinds.{puts_refusal}
-use Rattle.route_plan.specs.PlanTexts.{SpellsFleetPlan}
-use Rattle.route_plan.specs.declared.plan.FleetPlan.{FleetPlan}
+use Rattle.std.proofs.Common.{List, subst, sym}
+use Rattle.std.specs.Option.{option_map}
+use Rattle.ev_outside.specs.declared.shelf.ShelfFault.{ShelfFault}
+use Rattle.evview_run.proofs.Hearing.{no_places_are_heard}
+use Rattle.evview_run.proofs.ViewFinds.{puts_no_places}
+use Rattle.evview_run.specs.ViewAnswer.{EndsPlaces, HasPlaces, listed, needs_points}
+use Rattle.place_names.specs.declared.faults.PlacesEnded.{PlacesEnded}
+use Rattle.place_names.specs.declared.place.Place.{Place}
 use Rattle.view_words.specs.JobValue.{job_value}
 use Rattle.evview_run.proofs.view.view_text.Goals as goal
 
 pub returns-in-Ok-view_plan-clause-answers : goal.returns-in-Ok-view_plan-clause-answers
-returns-in-Ok-view_plan-clause-answers c = λ file network.
-    let spelled = subst (λ (plan : Option FleetPlan). SpellsFleetPlan c.args.bytes.now plan) (sym c.as_ref.ensures.value) c.in-Ok.ensures.ok in
-    c.in-Ok-view_plan.ensures.answers file c.args.bytes.now (record { network = network; spelled = spelled })
+returns-in-Ok-view_plan-clause-answers c = λ file plan_bytes has.
+    let more = listed (option_map (λ b. b.now) c.args.bytes) in
+    let named = subst (λ (places : List Place). HasPlaces (needs_points (job_value c.args.job.now)) c.args.inst.now more places) (sym c.as_slice.ensures.value) c.in-Ok.ensures.places in
+    c.in-Ok-view_plan.ensures.answers file plan_bytes more has named
 
-pub returns-in-Err-Refused-clause-answers : goal.returns-in-Err-Refused-clause-answers
-returns-in-Err-Refused-clause-answers c = λ file network.
-    puts_refusal (job_value c.args.job.now) file c.args.bytes.now c.args.inst.now c.in-Err-Refused.field-0 c.in-Err-Refused.refusal c.refuse_job.result
-    network c.in-Err-Refused.field-0-is c.in-Err-Refused.ensures.rule c.in-Err-Refused.ensures.ended
-    c.refuse_job.ensures.status c.refuse_job.ensures.files c.refuse_job.ensures.text
+pub returns-in-Ok-refuse_places-clause-answers : goal.returns-in-Ok-refuse_places-clause-answers
+returns-in-Ok-refuse_places-clause-answers c = λ file plan_bytes has.
+    let more = listed (option_map (λ b. b.now) c.args.bytes) in
+    let breaks = subst (λ (e : PlacesEnded). EndsPlaces (needs_points (job_value c.args.job.now)) c.args.inst.now more e) c.in-Err-Refused.field-0-is c.in-Err-Refused.ensures.fault in
+    puts_no_places (job_value c.args.job.now) file plan_bytes more c.args.inst.now (option_map (λ p. p.now) c.args.plan) c.in-Err-Refused.fault c.refuse_places.result
+    has breaks c.refuse_places.ensures.status c.refuse_places.ensures.files c.refuse_places.ensures.text
 
-pub returns-in-Err-Refused-clause-heard : goal.returns-in-Err-Refused-clause-heard
-returns-in-Err-Refused-clause-heard c =
-    refusal_is_heard c.in-Err-Refused.refusal c.refuse_job.result c.refuse_job.ensures.status c.refuse_job.ensures.text c.refuse_job.ensures.cause
+pub returns-in-Ok-refuse_places-clause-heard : goal.returns-in-Ok-refuse_places-clause-heard
+returns-in-Ok-refuse_places-clause-heard c = no_places_are_heard c.in-Err-Refused.fault c.refuse_places.result c.refuse_places.ensures.status c.refuse_places.ensures.text c.refuse_places.ensures.cause

@@ -4,4 +4,4 @@ use Rattle.schedule_texts.proofs.json.push_visits.Given as goal
 
 abbrev pub invariant-loop-at : goal.invariant-loop-at
 invariant-loop-at l =
-    l.out.items ++ items_from (visit_text l.clock l.denominator) l.at (drop l.at l.visits) ≡ l.fn.out.items ++ items_from (visit_text l.clock l.denominator) 0 l.visits
+    l.out.items ++ items_from (visit_text l.clock l.places l.denominator) l.at (drop l.at l.visits) ≡ l.fn.out.items ++ items_from (visit_text l.clock l.places l.denominator) 0 l.visits

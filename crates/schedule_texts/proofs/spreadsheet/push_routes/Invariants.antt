@@ -5,5 +5,5 @@ use Rattle.schedule_texts.proofs.spreadsheet.push_routes.Given as goal
 
 abbrev pub invariant-loop-route : goal.invariant-loop-route
 invariant-loop-route l =
-    l.out.items ++ joined_texts record_text (route_cells l.clock l.denominator (drop l.route-index l.routes))
-    ≡ l.fn.out.items ++ joined_texts record_text (route_cells l.clock l.denominator l.routes)
+    l.out.items ++ joined_texts record_text (route_cells l.clock l.places l.denominator (drop l.route-index l.routes))
+    ≡ l.fn.out.items ++ joined_texts record_text (route_cells l.clock l.places l.denominator l.routes)

@@ -1,5 +1,5 @@
 use Rattle.std.proofs.Common.{◌≡◌, ℕ, ◌++◌, List, codes}
-use Rattle.schedule_texts.specs.Decimals.{cell}
+use Rattle.schedule_texts.specs.Decimals.{cell, left_cell}
 use Rattle.schedule_texts.specs.Tables.{header_text}
 use Rattle.schedule_texts.proofs.Joined.{join}
 use Rattle.schedule_texts.proofs.table.push_header.Goals as goal
@@ -8,30 +8,36 @@ pub returns : goal.returns
 unfolding header_text
 returns c =
     let x = c.args.out.now.items in
-    let a1 : List ℕ = codes "  stop  node  what    " in
+    let a1 : List ℕ = codes "  stop  node" in
     let y1 = c.push_word.new.out.items in
-    let a2 : List ℕ = cell c.args.columns.time (codes "arrival") in
-    let y2 = c.push_cell.new.out.items in
-    let a3 : List ℕ = cell c.args.columns.level (codes "level") in
-    let y3 = c.push_cell-2.new.out.items in
-    let a4 : List ℕ = cell c.args.columns.time (codes "plug time") in
-    let y4 = c.push_cell-3.new.out.items in
-    let a5 : List ℕ = cell c.args.columns.level (codes "from") in
-    let y5 = c.push_cell-4.new.out.items in
-    let a6 : List ℕ = cell c.args.columns.level (codes "to") in
-    let y6 = c.push_cell-5.new.out.items in
-    let a7 : List ℕ = cell c.args.columns.time (codes "leaving") in
-    let y7 = c.push_cell-6.new.out.items in
-    let a8 : List ℕ = codes "\n" in
-    let y8 = c.push_word-2.new.out.items in
+    let a2 : List ℕ = left_cell c.args.columns.name (codes "name") in
+    let y2 = c.push_left_cell.new.out.items in
+    let a3 : List ℕ = codes "  what    " in
+    let y3 = c.push_word-2.new.out.items in
+    let a4 : List ℕ = cell c.args.columns.time (codes "arrival") in
+    let y4 = c.push_cell.new.out.items in
+    let a5 : List ℕ = cell c.args.columns.level (codes "level") in
+    let y5 = c.push_cell-2.new.out.items in
+    let a6 : List ℕ = cell c.args.columns.time (codes "plug time") in
+    let y6 = c.push_cell-3.new.out.items in
+    let a7 : List ℕ = cell c.args.columns.level (codes "from") in
+    let y7 = c.push_cell-4.new.out.items in
+    let a8 : List ℕ = cell c.args.columns.level (codes "to") in
+    let y8 = c.push_cell-5.new.out.items in
+    let a9 : List ℕ = cell c.args.columns.time (codes "leaving") in
+    let y9 = c.push_cell-6.new.out.items in
+    let a10 : List ℕ = codes "\n" in
+    let y10 = c.push_word-3.new.out.items in
     let e1 : y1 ≡ x ++ a1 = c.in_ok-push_word.ensures.ok in
-    let e2 : y2 ≡ y1 ++ a2 = c.in_ok-push_cell.ensures in
-    let e3 : y3 ≡ y2 ++ a3 = c.in_ok-push_cell-2.ensures in
-    let e4 : y4 ≡ y3 ++ a4 = c.in_ok-push_cell-3.ensures in
-    let e5 : y5 ≡ y4 ++ a5 = c.in_ok-push_cell-4.ensures in
-    let e6 : y6 ≡ y5 ++ a6 = c.in_ok-push_cell-5.ensures in
-    let e7 : y7 ≡ y6 ++ a7 = c.in_ok-push_cell-6.ensures in
-    let e8 : y8 ≡ y7 ++ a8 = c.in_ok-push_word-2.ensures.ok in
+    let e2 : y2 ≡ y1 ++ a2 = c.in_ok-push_left_cell.ensures in
+    let e3 : y3 ≡ y2 ++ a3 = c.in_ok-push_word-2.ensures.ok in
+    let e4 : y4 ≡ y3 ++ a4 = c.in_ok-push_cell.ensures in
+    let e5 : y5 ≡ y4 ++ a5 = c.in_ok-push_cell-2.ensures in
+    let e6 : y6 ≡ y5 ++ a6 = c.in_ok-push_cell-3.ensures in
+    let e7 : y7 ≡ y6 ++ a7 = c.in_ok-push_cell-4.ensures in
+    let e8 : y8 ≡ y7 ++ a8 = c.in_ok-push_cell-5.ensures in
+    let e9 : y9 ≡ y8 ++ a9 = c.in_ok-push_cell-6.ensures in
+    let e10 : y10 ≡ y9 ++ a10 = c.in_ok-push_word-3.ensures.ok in
     let t2 = join x y1 y2 (a1) a2 e1 e2 in
     let t3 = join x y2 y3 (a1 ++ a2) a3 t2 e3 in
     let t4 = join x y3 y4 (a1 ++ a2 ++ a3) a4 t3 e4 in
@@ -39,4 +45,6 @@ returns c =
     let t6 = join x y5 y6 (a1 ++ a2 ++ a3 ++ a4 ++ a5) a6 t5 e6 in
     let t7 = join x y6 y7 (a1 ++ a2 ++ a3 ++ a4 ++ a5 ++ a6) a7 t6 e7 in
     let t8 = join x y7 y8 (a1 ++ a2 ++ a3 ++ a4 ++ a5 ++ a6 ++ a7) a8 t7 e8 in
-    t8
+    let t9 = join x y8 y9 (a1 ++ a2 ++ a3 ++ a4 ++ a5 ++ a6 ++ a7 ++ a8) a9 t8 e9 in
+    let t10 = join x y9 y10 (a1 ++ a2 ++ a3 ++ a4 ++ a5 ++ a6 ++ a7 ++ a8 ++ a9) a10 t9 e10 in
+    t10

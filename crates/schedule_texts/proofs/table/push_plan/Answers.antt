@@ -10,13 +10,13 @@ pub returns : goal.returns
 unfolding plan_text
 returns c =
     let x = c.args.out.now.items in
-    let a1 : List ℕ = joined_texts (route_text c.args.columns) c.args.schedule.now.routes in
+    let a1 : List ℕ = joined_texts (route_text c.args.columns c.args.places.now) c.args.schedule.now.routes in
     let y1 = c.push_routes.new.out.items in
     let a2 : List ℕ = codes "total of the plan: " in
     let y2 = c.push_word.new.out.items in
     let a3 : List ℕ = sums_text c.args.columns c.args.schedule.now.totals in
     let y3 = c.push_sums.new.out.items in
-    let e1 : y1 ≡ x ++ a1 = c.in_ok-push_routes.ensures ∙ ap (λ (w : List ℕ). x ++ w) (ap (λ (rs : List RouteSchedule). joined_texts (route_text c.args.columns) rs) c.as_slice.ensures) in
+    let e1 : y1 ≡ x ++ a1 = c.in_ok-push_routes.ensures ∙ ap (λ (w : List ℕ). x ++ w) (ap (λ (rs : List RouteSchedule). joined_texts (route_text c.args.columns c.args.places.now) rs) c.as_slice.ensures) in
     let e2 : y2 ≡ y1 ++ a2 = c.in_ok-push_word.ensures.ok in
     let e3 : y3 ≡ y2 ++ a3 = c.in_ok-push_sums.ensures in
     let t2 = join x y1 y2 (a1) a2 e1 e2 in

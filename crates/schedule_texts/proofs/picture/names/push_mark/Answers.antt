@@ -9,17 +9,21 @@ returns c =
     let x = c.args.out.now.items in
     let a1 : List ℕ = codes "<path class='n' d='M" ++ decimal c.args.x in
     let y1 = c.push_numbered.new.out.items in
-    let a2 : List ℕ = codes " 470V" ++ decimal c.args.y in
+    let a2 : List ℕ = codes " " ++ decimal c.args.y in
     let y2 = c.push_numbered-2.new.out.items in
-    let a3 : List ℕ = codes "'/><text class='c' x='" ++ decimal c.args.x in
+    let a3 : List ℕ = codes "V600L" ++ decimal c.args.place in
     let y3 = c.push_numbered-3.new.out.items in
-    let a4 : List ℕ = codes "' y='440'>" in
-    let y4 = c.push_word.new.out.items in
+    let a4 : List ℕ = codes " 555'/><text class='m' transform='translate(" ++ decimal c.args.place in
+    let y4 = c.push_numbered-4.new.out.items in
+    let a5 : List ℕ = codes ",540) rotate(-60)' y='40'>" in
+    let y5 = c.push_word.new.out.items in
     let e1 : y1 ≡ x ++ a1 = c.in_ok-push_numbered.ensures.ok in
     let e2 : y2 ≡ y1 ++ a2 = c.in_ok-push_numbered-2.ensures.ok in
     let e3 : y3 ≡ y2 ++ a3 = c.in_ok-push_numbered-3.ensures.ok in
-    let e4 : y4 ≡ y3 ++ a4 = c.in_ok-push_word.ensures.ok in
+    let e4 : y4 ≡ y3 ++ a4 = c.in_ok-push_numbered-4.ensures.ok in
+    let e5 : y5 ≡ y4 ++ a5 = c.in_ok-push_word.ensures.ok in
     let t2 = join x y1 y2 (a1) a2 e1 e2 in
     let t3 = join x y2 y3 (a1 ++ a2) a3 t2 e3 in
     let t4 = join x y3 y4 (a1 ++ a2 ++ a3) a4 t3 e4 in
-    t4
+    let t5 = join x y4 y5 (a1 ++ a2 ++ a3 ++ a4) a5 t4 e5 in
+    t5

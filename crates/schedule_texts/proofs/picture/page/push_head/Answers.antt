@@ -7,7 +7,7 @@ pub returns : goal.returns
 unfolding head_text
 returns c =
     let x = c.args.out.now.items in
-    let a1 : List ℕ = size_text (c.args.width + 2700) (c.args.panels * 2800 + 1100) in
+    let a1 : List ℕ = size_text (c.args.width + 2700) (c.args.height + 1100) in
     let y1 = c.push_size.new.out.items in
     let y2 = c.push_style.new.out.items in
     let y3 = c.push_legend.new.out.items in

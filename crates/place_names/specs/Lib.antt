@@ -1,0 +1,4 @@
+pub mod Places
+pub mod Characters
+pub mod Entries
+pub mod Reading
