@@ -1,2 +1,3 @@
 pub mod Simple
 pub mod NamedJobs
+pub mod Differ
