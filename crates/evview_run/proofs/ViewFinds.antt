@@ -1,7 +1,7 @@
 -- What is found, and which of the reads failed.
 use Rattle.std.specs.Borrow.{Bor}
 use Rattle.std.specs.Option.{option_map}
-use Rattle.std.proofs.Common.{◌≡◌, ◌≢◌, ◌⊎◌, ℕ, ◌≤◌, List, [], ◌∷◌, ◌++◌, true, Option, None, Some, Result, Ok, Err, IfOk, IfSome, ap, inl, inr, map, refl, subst, sym}
+use Rattle.std.proofs.Common.{◌≡◌, ◌≢◌, ◌⊎◌, ℕ, ◌≤◌, List, [], ◌∷◌, ◌++◌, true, Option, None, Some, Result, Ok, Err, IfOk, IfSome, Global, String, ap, inl, inr, is_some, map, refl, string_bytes, subst, sym}
 use Rattle.call_words.specs.Names.{are_different}
 use Rattle.ev_model.specs.Fleet.{IsFleetPlan}
 use Rattle.ev_model.specs.Network.{Network}
@@ -204,3 +204,8 @@ one_more job files bytes name is read = subst (λ (places : Option (List ℕ)). 
 
 pub none_more : (job : ViewPlan) (files : Option Files) → job.places ≡ None → AreRead files (places_read job.places) []
 none_more job files is = subst (λ (places : Option (List ℕ)). AreRead files (places_read places) []) (sym is) tt
+
+-- a name is given whether it is seen as a text or as its bytes
+pub still_some : (name : Option (String Global)) → is_some (option_map (λ s. string_bytes s) name) ≡ is_some name
+still_some None = refl
+still_some (Some name) = refl

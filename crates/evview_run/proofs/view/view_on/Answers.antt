@@ -25,18 +25,18 @@ returns-in-Some g c = λ bytes read network.
     let read_plan = named_read _ _ _ _ _ c.as_str.ensures.value c.in-Ok.ensures.bytes in
     let spelled = subst (λ (bs : List ℕ). SpellsFleetPlan bs c.in-Ok-plan_of.plan) c.as_slice.ensures.value c.in-Ok-plan_of.ensures.ok in
     let told = subst (λ (plan : Option FleetPlan). SpellsFleetPlan plan_bytes plan) (sym c.as_ref.ensures.value) spelled in
-    let named = ap (λ (o : Option (String Global)). option_map (λ s. string_bytes s) o) c.in-Some.is ∙ ap (λ (bs : List ℕ). Some bs) (sym c.as_str-2.ensures.value) in
+    let named = ap (λ (o : Option (String Global)). option_map (λ s. string_bytes s) o) c.in-Some.is ∙ ap (λ (bs : List ℕ). Some bs) (sym c.as_str-in-Some.ensures.value) in
     finds_behind c.in-Ok.ensures.files c.in-Ok.ensures.stays c.in-Ok.ensures.falls
     (c.view_named.ensures bytes plan_bytes (read_still _ _ _ _ _ c.in-Ok.ensures.files read) (read_still _ _ _ _ _ c.in-Ok.ensures.files read_plan) (record { network = network; spelled = told }) named)
 
-pub returns-in-None : goal.returns-in-None
-returns-in-None g c = λ bytes read network.
+pub returns-in-Ok-plan_of : goal.returns-in-Ok-plan_of
+returns-in-Ok-plan_of g c = λ bytes read network.
     let w = c.args.job.now in
     let before = g.S.Shelf.state c.args.shelf.now in
     let plan_bytes = c.in-Ok.bytes.items in
     let read_plan = named_read _ _ _ _ _ c.as_str.ensures.value c.in-Ok.ensures.bytes in
     let spelled = subst (λ (bs : List ℕ). SpellsFleetPlan bs c.in-Ok-plan_of.plan) c.as_slice.ensures.value c.in-Ok-plan_of.ensures.ok in
-    let told = subst (λ (plan : Option FleetPlan). SpellsFleetPlan plan_bytes plan) (sym c.as_ref-2.ensures.value) spelled in
+    let told = subst (λ (plan : Option FleetPlan). SpellsFleetPlan plan_bytes plan) (sym c.as_ref-in-None.ensures.value) spelled in
     let unnamed : (job_value w).places ≡ None = ap (λ (o : Option (String Global)). option_map (λ s. string_bytes s) o) c.in-None.is in
     finds_made c.view_text.result
     (view_found (job_value w) before.files bytes plan_bytes _ _ c.view_text.result
