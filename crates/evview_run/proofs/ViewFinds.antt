@@ -1,7 +1,7 @@
 -- What is found, and which of the reads failed.
 use Rattle.std.specs.Borrow.{Bor}
 use Rattle.std.specs.Option.{option_map}
-use Rattle.std.proofs.Common.{◌≡◌, ◌≢◌, ◌⊎◌, ℕ, ◌≤◌, List, [], ◌∷◌, ◌++◌, true, Option, None, Some, Result, Ok, Err, IfOk, IfSome, Global, String, ap, inl, inr, is_some, map, refl, string_bytes, subst, sym}
+use Rattle.std.proofs.Common.{◌≡◌, ◌⊎◌, ℕ, ◌≤◌, List, [], ◌∷◌, true, Option, None, Some, Result, Ok, Err, IfOk, IfSome, Global, String, ap, inl, inr, is_some, map, refl, string_bytes, subst, sym}
 use Rattle.call_words.specs.Names.{are_different}
 use Rattle.ev_model.specs.Fleet.{IsFleetPlan}
 use Rattle.ev_model.specs.Network.{Network}

@@ -1,4 +1,4 @@
-use Rattle.std.proofs.Common.{◌≡◌, ◌∷◌, ℕ, List, [], ap, refl}
+use Rattle.std.proofs.Common.{◌∷◌, ℕ, List, [], ap, refl}
 use Rattle.evview_run.proofs.ViewFinds.{one_more, places_fail, view_found}
 use Rattle.job_frame.proofs.BehindReads.{finds_made, read_fails}
 use Rattle.view_words.specs.JobValue.{job_value}

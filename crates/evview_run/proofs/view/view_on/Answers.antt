@@ -3,7 +3,6 @@ use Rattle.std.proofs.Common.{Global, String}
 use Rattle.std.specs.Option.{option_map}
 use Rattle.evview_run.proofs.ViewFinds.{none_more, plan_fails, refused_plan, view_found}
 use Rattle.evview_run.specs.declared.cause.Cause.TheVariants as cause
-use Rattle.fleet_steps.specs.PlanFile.{HasPlan}
 use Rattle.job_frame.proofs.BehindReads.{finds_behind, finds_made, finds_refused, read_fails}
 use Rattle.job_frame.proofs.FileReads.{named_read, read_still}
 use Rattle.job_frame.proofs.Hearing.{its_rule}

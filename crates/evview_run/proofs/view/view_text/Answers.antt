@@ -1,6 +1,5 @@
 use Rattle.std.proofs.Common.{◌≡◌, ◌∙◌, ℕ, Bool, List, Ok, subst, sym}
 use Rattle.std.specs.Option.{option_map}
-use Rattle.ev_outside.specs.declared.shelf.ShelfFault.{ShelfFault}
 use Rattle.evview_run.proofs.Hearing.{no_places_are_heard}
 use Rattle.evview_run.proofs.ViewFinds.{puts_no_places, still_some}
 use Rattle.evview_run.specs.ViewAnswer.{EndsPlaces, HasPlaces, listed, needs_points}

@@ -1,4 +1,4 @@
-use Rattle.std.proofs.Common.{rules, ◌≡◌, [], ◌∷◌, Some, true, option_map, sym}
+use Rattle.std.proofs.Common.{rules, [], ◌∷◌, Some, option_map, sym}
 use Rattle.view_words.proofs.Differ.{written_differ}
 use Rattle.view_words.proofs.jobs.view_job.Goals as goal
 
