@@ -20,6 +20,12 @@ const ROUTE: CommandOption = CommandOption {
     is_required: false,
 };
 
+const PARTIAL: CommandOption = CommandOption {
+    word: "--partial",
+    value: OptionValue::Nothing,
+    is_required: false,
+};
+
 const EXACT: CommandOption = CommandOption {
     word: "--exact",
     value: OptionValue::Nothing,
@@ -76,6 +82,6 @@ pub(crate) const COMMANDS: &[Command] = &[Command {
     names: &["FILE", "PLAN"],
     more: 0,
     options: &[
-        LIMIT, ROUTE, EXACT, BEGIN, UNIT, PLACES, SVG, JSON, CSV, MAP,
+        LIMIT, ROUTE, PARTIAL, EXACT, BEGIN, UNIT, PLACES, SVG, JSON, CSV, MAP,
     ],
 }];

@@ -3,3 +3,4 @@ pub mod WrittenNames
 pub mod ViewFinds
 pub mod ViewLaw
 pub mod Shown
+pub mod Parts

@@ -1,13 +1,11 @@
 -- What is found, and which of the reads failed.
-use Rattle.std.specs.Borrow.{Bor}
 use Rattle.std.specs.Option.{option_map}
-use Rattle.std.proofs.Common.{◌≡◌, ◌⊎◌, ℕ, ◌≤◌, List, [], ◌∷◌, true, Option, None, Some, Result, Ok, Err, IfOk, IfSome, Global, String, ap, inl, inr, is_some, map, refl, string_bytes, subst, sym}
+use Rattle.std.proofs.Common.{◌≡◌, ◌⊎◌, ℕ, ◌≤◌, List, [], ◌∷◌, true, Option, None, Some, Result, Ok, Err, IfOk, Global, String, ap, inl, inr, is_some, map, refl, string_bytes, subst, sym}
 use Rattle.call_words.specs.Names.{are_different}
-use Rattle.ev_model.specs.Fleet.{IsFleetPlan}
 use Rattle.ev_model.specs.Network.{Network}
 use Rattle.ev_outside.specs.Shelf.{Files, ShelfState}
 use Rattle.fleet_steps.proofs.PlanFiles.{early_rule, plan_rule}
-use Rattle.fleet_steps.specs.PlanFile.{BreaksFirst, HasPlan, HoldsPlan, IsPlanEnded, IsTextRefused, IsValid}
+use Rattle.fleet_steps.specs.PlanFile.{BreaksFirst, HasPlan, HoldsPlan, IsPlanEnded, IsTextRefused}
 use Rattle.job_frame.proofs.Endings.{rule_of}
 use Rattle.job_frame.proofs.BehindReads.{IsFoundFor, no_write}
 use Rattle.job_frame.proofs.FileReads.{some_read}
@@ -25,7 +23,6 @@ use Rattle.job_frame.specs.declared.answer.Ended.{Ended}
 use Rattle.job_frame.specs.declared.answer.Ended.TheVariants.{Refused}
 use Rattle.place_names.specs.declared.faults.PlacesFault.{PlacesFault}
 use Rattle.place_names.specs.declared.place.Place.{Place}
-use Rattle.plan_check.specs.FleetRules.{stops_of}
 use Rattle.plan_check.specs.declared.fault.PlanFault.{PlanFault}
 use Rattle.refusal_lines.specs.RejectedText.{rejected_text}
 use Rattle.refusal_lines.specs.RefusalText.{IsRule, refusal_text}
@@ -33,16 +30,11 @@ use Rattle.refusal_lines.specs.declared.refusal.Refusal.{Refusal}
 use Rattle.route_plan.specs.declared.plan.FleetPlan.{FleetPlan}
 use Rattle.schedule_texts.specs.Tables.{table_text}
 use Rattle.view_words.specs.Words.{ViewPlan, written_names}
-use Rattle.evview_run.specs.ViewAnswer.{BreaksPlaces, HasPlaces, HasRoute, PutsNoPlaces, PutsNoRoute, PutsRefusal, ViewAnswers, clock_of, files_of, needs_points, no_route_text, places_read, places_text, route_count, shown_of, view_task, view_heard}
+use Rattle.evview_run.specs.ViewAnswer.{BreaksPlaces, HasPlaces, HasRoute, IsShowable, is_asked, PutsNoPlaces, PutsNoRoute, PutsRefusal, ViewAnswers, clock_of, files_of, needs_points, no_route_text, places_read, places_text, route_count, shown_of, view_task, view_heard}
 use Rattle.evview_run.specs.declared.cause.Cause.{Cause}
 use Rattle.evview_run.proofs.Shown.{time_is_cost}
 use Rattle.evview_run.proofs.WrittenNames.{files_differ}
 use Rattle.job_frame.proofs.Hearing.{HearsOfFound}
-
--- a plan that costs something is a fleet plan
-pub plan_is_fleet : (g : Network) (plan : Option (Bor FleetPlan)) (cost : Option ℕ) → IsValid g (option_map (λ p. p.now) plan) cost → IfSome plan (λ p. IsFleetPlan g 1 (stops_of p.now.routes))
-plan_is_fleet g None cost valid = tt
-plan_is_fleet g (Some p) cost valid = valid.0
 
 module _ (job : ViewPlan) (bytes plan_bytes : List ℕ) (more : List (List ℕ)) where
   by_status : (f : Found Cause) (s : Status) → f.answer.status ≡ s → ViewAnswers job bytes plan_bytes more s (map written_by f.files.items) f.answer.text.items
@@ -50,7 +42,7 @@ module _ (job : ViewPlan) (bytes plan_bytes : List ℕ) (more : List (List ℕ))
   by_status f s is answers = subst (λ (x : Status). ViewAnswers job bytes plan_bytes more x (map written_by f.files.items) f.answer.text.items) (sym is) answers
 
   -- a schedule, with the files that are asked for
-  pub puts_schedule : {E : Type 0} (g : Network) (plan : Option FleetPlan) (places : List Place) (cost : Option ℕ) (made : Result (Found Cause) E) → HasPlan job.limit bytes plan_bytes g plan → HasPlaces (needs_points job) g more places → IsValid g plan cost → HasRoute job.route plan
+  pub puts_schedule : {E : Type 0} (g : Network) (plan : Option FleetPlan) (places : List Place) (cost : Option ℕ) (made : Result (Found Cause) E) → HasPlan job.limit bytes plan_bytes g plan → HasPlaces (needs_points job) g more places → IsShowable job.partial g plan cost → HasRoute job.route plan
       → IfOk made (λ f. f.answer.status ≡ status.Done)
       → IfOk made (λ f. map written_by f.files.items ≡ files_of job places (shown_of g job.route plan))
       → IfOk made (λ f. f.answer.text.items ≡ table_text job.exact (clock_of job.clock) places (shown_of g job.route plan))
@@ -66,20 +58,20 @@ module _ (job : ViewPlan) (bytes plan_bytes : List ℕ) (more : List (List ℕ))
         route = route;
         shown = shown_of g job.route plan;
         is = refl;
-        time = time_is_cost g job.route plan cost valid;
+        time = time_is_cost job.partial g job.route plan cost valid;
         written = files;
         text_is = text;
       })
 
   -- the first rule that the plan breaks
-  pub puts_broken : {E : Type 0} (g : Network) (plan : Option FleetPlan) (places : List Place) (fault : PlanFault) (made : Result (Found Cause) E) → HasPlan job.limit bytes plan_bytes g plan → HasPlaces (needs_points job) g more places → HasRoute job.route plan → BreaksFirst g plan fault
+  pub puts_broken : {E : Type 0} (g : Network) (plan : Option FleetPlan) (places : List Place) (fault : PlanFault) (made : Result (Found Cause) E) → HasPlan job.limit bytes plan_bytes g plan → HasPlaces (needs_points job) g more places → HasRoute job.route plan → BreaksFirst g plan fault → is_asked job.partial fault ≡ true
       → IfOk made (λ f. f.answer.status ≡ status.Negative) → IfOk made (λ f. map written_by f.files.items ≡ [])
       → IfOk made (λ f. f.answer.text.items ≡ rejected_text fault)
       → IfOk made (λ f. ViewAnswers job bytes plan_bytes more f.answer.status (map written_by f.files.items) f.answer.text.items)
-  puts_broken {E} g plan places fault (Err e) has named route broken answered files text = tt
-  puts_broken {E} g plan places fault (Ok f) has named route broken answered files text =
+  puts_broken {E} g plan places fault (Err e) has named route broken asked answered files text = tt
+  puts_broken {E} g plan places fault (Ok f) has named route broken asked answered files text =
       by_status f status.Negative answered
-      (record { files = record { network = g; plan = plan; has = has }; places = places; named = named; route = route; fault = fault; broken = broken; none = files; text_is = text })
+      (record { files = record { network = g; plan = plan; has = has }; places = places; named = named; route = route; fault = fault; broken = broken; asked = asked; none = files; text_is = text })
 
   -- the line of a route that isn't there
   pub puts_no_route : {E : Type 0} (g : Network) (plan : Option FleetPlan) (places : List Place) (number : ℕ) (made : Result (Found Cause) E) → HasPlan job.limit bytes plan_bytes g plan → HasPlaces (needs_points job) g more places → job.route ≡ Some number → route_count plan ≤ number

@@ -2,7 +2,6 @@
 use Rattle.std.proofs.Common.{◌≡◌, ◌⊎◌, ℕ, ◌<◌, ◌≤◌, List, [], ◌∷◌, Bool, Option, Some, inl, inr, arith, subst}
 use Rattle.ev_model.specs.Network.{Network, node_count}
 use Rattle.fleet_steps.proofs.PlanFiles.{refused_holds_not, same_held, same_network}
-use Rattle.fleet_steps.proofs.Plans.{valid_breaks_none}
 use Rattle.fleet_steps.specs.PlanFile.{BreaksFirst, HoldsPlan}
 use Rattle.job_frame.proofs.OneStatus.{ExcludeEachOther, IsPlain, lawful, nothing_excludes}
 use Rattle.job_frame.specs.Lawful.{IsLawful}
@@ -15,6 +14,7 @@ use Rattle.place_names.specs.declared.faults.PlacesFault.{PlacesFault}
 use Rattle.place_names.specs.declared.place.Place.{Place}
 use Rattle.route_plan.specs.declared.plan.FleetPlan.{FleetPlan}
 use Rattle.view_words.specs.Words.{ViewPlan}
+use Rattle.evview_run.proofs.Parts.{showable_breaks_none}
 use Rattle.evview_run.specs.ViewAnswer.{BreaksPlaces, HasPlaces, HasRoute, PutsBrokenPlan, PutsNoPlaces, PutsNoRoute, PutsRefusal, PutsSchedule, ViewAnswers, needs_points, route_count, view_answers, view_task}
 
 -- a route that is there isn't past the last one
@@ -36,7 +36,7 @@ module _ (job : ViewPlan) (bytes plan_bytes : List ℕ) (more : List (List ℕ))
       subst (λ (g : Network). BreaksFirst g q.files.plan q.fault) (same_network job.limit bytes plan_bytes p.files q.files) q.broken in
       let here : BreaksFirst p.files.network p.files.plan q.fault =
       subst (λ (plan : Option FleetPlan). BreaksFirst p.files.network plan q.fault) (same_held job.limit bytes plan_bytes p.files q.files) there in
-      valid_breaks_none p.files.network p.files.plan p.cost q.fault p.valid here
+      showable_breaks_none job.partial p.files.network p.files.plan p.cost q.fault p.valid here q.asked
 
   -- what the files hold, with the route that is asked for, is refused by no rule
   held_is_not_refused : (h : HoldsPlan job.limit bytes plan_bytes) (places : List Place) (ws : List Written) (text : List ℕ) → HasPlaces (needs_points job) h.network more places → HasRoute job.route h.plan

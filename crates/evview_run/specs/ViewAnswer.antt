@@ -1,5 +1,8 @@
 -- What is written and put for the bytes of an instance, of a plan file, and of a file with places.
-use Rattle.std.specs.Prelude.{◌≡◌, ℕ, ◌<◌, ◌≤◌, ◌⊎◌, List, [], ◌∷◌, ◌++◌, Option, None, Some, Bool, codes, decimal, is_some, length, option_map}
+use Rattle.std.specs.Prelude.{◌≡◌, ℕ, ◌<◌, ◌≤◌, ◌⊎◌, ◌||◌, false, true, not, nat_lt, List, [], ◌∷◌, ◌++◌, Option, None, Some, Bool, codes, decimal, is_some, length, option_map}
+use Rattle.std.specs.List.{All}
+use Rattle.ev_model.specs.Feasible.{IsFeasible}
+use Rattle.ev_model.specs.Fleet.{cost_of}
 use Rattle.ev_model.specs.Network.{Network, node_count}
 use Rattle.fleet_steps.specs.PlanFile.{BreaksFirst, HoldsPlan, IsTextRefused, IsValid}
 use Rattle.fleet_steps.specs.Heard as fleet
@@ -18,7 +21,7 @@ use Rattle.place_names.specs.declared.faults.PlacesEnded.TheVariants as ended
 use Rattle.place_names.specs.declared.faults.PlacesFault.{PlacesFault}
 use Rattle.place_names.specs.declared.faults.PlacesFault.TheVariants as places_fault
 use Rattle.place_names.specs.declared.place.Place.{Place}
-use Rattle.plan_check.specs.FleetRules.{stops_of}
+use Rattle.plan_check.specs.FleetRules.{IsCustomer, rule_of, stops_of, times_served}
 use Rattle.plan_check.specs.declared.fault.PlanFault.{PlanFault}
 use Rattle.plan_schedule.specs.Schedules.{only, schedule_of}
 use Rattle.plan_schedule.specs.declared.schedule.Schedule.{Schedule}
@@ -27,6 +30,7 @@ use Rattle.refusal_lines.specs.RefusalText.{IsRule, refusal_text}
 use Rattle.refusal_lines.specs.declared.refusal.Refusal.{Refusal}
 use Rattle.report_lines.specs.Lines.{number_line}
 use Rattle.route_plan.specs.declared.plan.FleetPlan.{FleetPlan}
+use Rattle.route_plan.specs.declared.plan.RoutePlan.{RoutePlan}
 use Rattle.schedule_texts.specs.JsonTexts.{json_text}
 use Rattle.schedule_texts.specs.Maps.{map_text}
 use Rattle.schedule_texts.specs.Pictures.{picture_text}
@@ -114,6 +118,26 @@ abbrev pub clock_of : Option DayClock → Option Clock
 clock_of None = None
 clock_of (Some c) = Some (record { begin = c.begin; seconds = c.seconds; parts = c.parts })
 
+-- a part of a fleet plan: each route is feasible from full, and no customer is served more than once
+pub record IsPart (g : Network) (plans : List RoutePlan) : Type 0 where
+  pub feasible : All (IsFeasible g 1 g.capacity) (stops_of plans)
+  pub once : (customer : ℕ) → IsCustomer g customer → times_served g plans customer ≤ 1
+
+-- the plan is a fleet plan of this cost, or, where that is asked for, a part of one; or there is none
+abbrev pub IsShowable : Bool → Network → Option FleetPlan → Option ℕ → Type 0
+IsShowable false g plan cost = IsValid g plan cost
+IsShowable true g None cost = cost ≡ None
+IsShowable true g (Some plan) cost =
+    IsPart g plan.routes × (cost ≡ Some (cost_of g 1 (stops_of plan.routes)))
+
+-- the rule is one of a part of a plan: of the walks, and that no customer is served twice
+abbrev pub is_of_part : PlanFault → Bool
+is_of_part fault = nat_lt (rule_of fault) 3
+
+-- the rule is asked of the plan, or of a part of one
+abbrev pub is_asked : Bool → PlanFault → Bool
+is_asked partial fault = not partial || is_of_part fault
+
 -- the files that are asked for
 abbrev pub files_of : ViewPlan → List Place → Option Schedule → List Written
 files_of job places shown =
@@ -122,17 +146,17 @@ files_of job places shown =
     ++ file_of job.csv (csv_text (clock_of job.clock) places shown)
     ++ file_of job.map (map_text places shown)
 
--- The plan is a fleet plan, or there is none, and the one route that is asked for is there. Its
--- schedule is put as tables, behind the files that are asked for, with its pictures, and with it as
--- JSON and as CSV, and with its map, with the names of places where they are given; its total time is what the whole
--- plan costs.
+-- The plan is a fleet plan, or a part of one where that is asked for, or there is none, and the one
+-- route that is asked for is there. Its schedule is put as tables, behind the files that are asked
+-- for, with its pictures, and with it as JSON and as CSV, and with its map, with the names of places
+-- where they are given; its total time is what the whole plan costs.
 pub record PutsSchedule (job : ViewPlan) (bytes plan_bytes : List ℕ) (more : List (List ℕ))
     (ws : List Written) (text : List ℕ) : Type 0 where
   pub files : HoldsPlan job.limit bytes plan_bytes
   pub places : List Place
   pub named : HasPlaces (needs_points job) files.network more places
   pub cost : Option ℕ
-  pub valid : IsValid files.network files.plan cost
+  pub valid : IsShowable job.partial files.network files.plan cost
   pub route : HasRoute job.route files.plan
   pub shown : Option Schedule
   pub is : shown ≡ shown_of files.network job.route files.plan
@@ -140,7 +164,8 @@ pub record PutsSchedule (job : ViewPlan) (bytes plan_bytes : List ℕ) (more : L
   pub written : ws ≡ files_of job places shown
   pub text_is : text ≡ table_text job.exact (clock_of job.clock) places shown
 
--- the first rule that the plan breaks is put, and nothing is written
+-- the first rule that the plan breaks is put, and nothing is written; where a part of a plan is asked
+-- for, it is a rule of one
 pub record PutsBrokenPlan (job : ViewPlan) (bytes plan_bytes : List ℕ) (more : List (List ℕ))
     (ws : List Written) (text : List ℕ) : Type 0 where
   pub files : HoldsPlan job.limit bytes plan_bytes
@@ -149,6 +174,7 @@ pub record PutsBrokenPlan (job : ViewPlan) (bytes plan_bytes : List ℕ) (more :
   pub route : HasRoute job.route files.plan
   pub fault : PlanFault
   pub broken : BreaksFirst files.network files.plan fault
+  pub asked : is_asked job.partial fault ≡ true
   pub none : ws ≡ []
   pub text_is : text ≡ rejected_text fault
 

@@ -1,7 +1,8 @@
 //! The schedule of a plan, and the texts by which it is shown.
 
 ghost use Rattle.std.specs.Prelude.{◌≡◌, ◌<◌, ◌++◌, IfOk, IfSome, None, OnOk, Some, length, map, option_map, string_bytes};
-ghost use Rattle.ev_model.specs.Fleet.{IsFleetPlan};
+ghost use Rattle.std.specs.List.{All};
+ghost use Rattle.ev_model.specs.Feasible.{IsFeasible};
 ghost use Rattle.evview_run.specs.ViewAnswer.{HasRoute, clock_of, file_of, files_of, part_of, shown_of};
 ghost use Rattle.job_frame.specs.Finds.{written_by};
 ghost use Rattle.plan_check.specs.FleetRules.{stops_of};
@@ -29,8 +30,8 @@ use schedule_texts::{
 use std::alloc::{AllocError, Global};
 use view_words::{DayClock, Job};
 
-/// What is found for a fleet plan, or for none, with the one route that is asked for: its tables,
-/// and the files that are asked for.
+/// What is found for a plan of feasible routes, or for none, with the one route that is asked for:
+/// its tables, and the files that are asked for.
 pub fn show(
     alloc: Global,
     inst: &Instance,
@@ -38,7 +39,8 @@ pub fn show(
     places: &[Place],
     job: &Job,
 ) -> Result<Found<Cause>, AllocError>
-    requires fleet { IfSome plan (λ p. IsFleetPlan inst.now 1 (stops_of p.now.routes)) }
+    requires feasible { IfSome plan
+        (λ p. All (IsFeasible inst.now 1 inst.now.capacity) (stops_of p.now.routes)) }
     requires text { FitsFile (option_map (λ p. p.now) plan) }
     requires route { HasRoute job.now.route (option_map (λ p. p.now) plan) }
     requires clock { IfSome job.now.clock IsDayClock }
@@ -74,7 +76,8 @@ fn shown(
     plan: Option<&FleetPlan>,
     route: Option<u64>,
 ) -> Result<Option<Schedule>, AllocError>
-    requires fleet { IfSome plan (λ p. IsFleetPlan inst.now 1 (stops_of p.now.routes)) }
+    requires feasible { IfSome plan
+        (λ p. All (IsFeasible inst.now 1 inst.now.capacity) (stops_of p.now.routes)) }
     requires text { FitsFile (option_map (λ p. p.now) plan) }
     requires route { HasRoute route (option_map (λ p. p.now) plan) }
     ensures shown { IfOk result

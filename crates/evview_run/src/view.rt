@@ -2,7 +2,7 @@
 //! judged, and its schedule is shown.
 
 ghost use Rattle.std.specs.Prelude.{◌≡◌, ◌≤◌, ◌++◌, [], IfErr, IfOk, IfSome, IsNone, List, OnOk, Option, Some, map, option_map, ℕ};
-ghost use Rattle.evview_run.specs.ViewAnswer.{EndsPlaces, HasPlaces, HasRoute, ViewAnswers, entry_words, listed, needs_points, no_route_text, places_text, route_count, view_heard, view_task};
+ghost use Rattle.evview_run.specs.ViewAnswer.{EndsPlaces, HasPlaces, HasRoute, ViewAnswers, entry_words, is_asked, listed, needs_points, no_route_text, places_text, route_count, view_heard, view_task};
 ghost use Rattle.fleet_steps.specs.PlanFile.{HasPlan};
 ghost use Rattle.job_frame.specs.Finds.{Finds, written_by};
 ghost use Rattle.job_frame.specs.Task.{AreReadUpTo};
@@ -20,7 +20,7 @@ use job_frame::{
     Answer, Ended, Found, MOST_BYTES, Status, limited_instance, read_file, refuse_job,
 };
 use place_names::{EntryFault, Place, PlacesEnded, PlacesFault, read_places};
-use plan_check::LargeFault;
+use plan_check::{LargeFault, PlanFault};
 use report_lines::{push_number_line, push_numbered, push_word};
 use route_plan::FleetPlan;
 use std::alloc::{AllocError, Global};
@@ -262,8 +262,8 @@ fn refuse_route(alloc: Global, number: u64) -> Result<Found<Cause>, AllocError>
     Ok(Found::alone(alloc, answer))
 }
 
-/// What is found for a plan, or for none, with the one route that is asked for: it is judged and
-/// shown.
+/// What is found for a plan, or for none, with the one route that is asked for: it is judged, as a
+/// part of a plan where that is asked for, and shown.
 fn view_judged(
     alloc: Global,
     inst: &Instance,
@@ -284,7 +284,26 @@ fn view_judged(
 {
     match cost_of(alloc, inst, plan) {
         Ok(_cost) => show(alloc, inst, plan, places, job),
-        Err(LargeFault::Plan { fault }) => reject(alloc, fault),
+        Err(LargeFault::Plan { fault }) => {
+            if is_asked(job.partial, fault) {
+                reject(alloc, fault)
+            } else {
+                show(alloc, inst, plan, places, job)
+            }
+        }
         Err(LargeFault::Memory) => Err(AllocError),
+    }
+}
+
+/// Whether a rule is asked of a plan, or of a part of one: the walks come to their ends, and no
+/// customer stands more than once. These rules are tried before the others.
+fn is_asked(partial: bool, fault: PlanFault) -> bool
+    ensures { result ≡ is_asked partial fault }
+{
+    match fault {
+        PlanFault::Walk { .. } | PlanFault::Twice { .. } => true,
+        PlanFault::Unserved { .. } | PlanFault::EmptyRoute { .. } | PlanFault::Stray { .. } => {
+            !partial
+        }
     }
 }

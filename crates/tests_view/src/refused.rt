@@ -33,7 +33,7 @@ fn the_first_broken_rule_is_put_and_nothing_is_written(rt: HostRuntime) {
             ONE_STATION,
             BY_STATION,
             Status::Words,
-            "evview FILE PLAN [--limit N] [--route N] [--exact] [--begin HH:MM --unit U] [--places FILE] [--svg OUT] [--json OUT] [--csv OUT] [--map OUT]\n",
+            "evview FILE PLAN [--limit N] [--route N] [--partial] [--exact] [--begin HH:MM --unit U] [--places FILE] [--svg OUT] [--json OUT] [--csv OUT] [--map OUT]\n",
         ),
         (
             "A P --svg S --json J",
@@ -111,6 +111,20 @@ fn the_first_broken_rule_is_put_and_nothing_is_written(rt: HostRuntime) {
             "evroute plan 1\nroutes 2\nroute 0 1 0\nroute 0 1 0\n",
             Status::Negative,
             "rejected plan 2 customer 1\n",
+        ),
+        (
+            "A P --partial --svg S --json J",
+            ONE_STATION,
+            OUT,
+            Status::Negative,
+            "rejected plan 1 route 0 walk 4 at 2\n",
+        ),
+        (
+            "A P --partial --svg S --json J",
+            TWO_CUSTOMERS,
+            "evroute plan 1\nroutes 2\nroute 0 2 0\nroute 0 2 0\n",
+            Status::Negative,
+            "rejected plan 2 customer 2\n",
         ),
         (
             "A P --svg S --json J",

@@ -66,6 +66,34 @@ fn the_schedule_is_put_as_tables(rt: HostRuntime) {
 }
 
 #[test]
+fn a_part_of_a_plan_is_shown_where_it_is_asked_for(rt: HostRuntime) {
+    let alloc = rt.alloc();
+    for &(line, instance, plan, put) in &[
+        (
+            "A P --partial --exact",
+            TWO_CUSTOMERS,
+            OUT,
+            "route 0\n  stop  node  what        arrival  level  plug time   from     to    leaving\n     0     0  depot           0/1     10          -      -      -        0/1\n     1     1  customer        4/1      9          -      -      -        4/1\n     2     0  depot           8/1      8          -      -      -        8/1\ntotal of route 0: time 8/1, driving 8/1, serving 0/1, plugging in 0/1, charging 0/1, energy driven 2, energy charged 0, stops 3\n\ntotal of the plan: time 8/1, driving 8/1, serving 0/1, plugging in 0/1, charging 0/1, energy driven 2, energy charged 0, stops 3\n",
+        ),
+        (
+            "A P --partial",
+            TWO_CUSTOMERS,
+            EMPTY,
+            "total of the plan: time 0.00, driving 0.00, serving 0.00, plugging in 0.00, charging 0.00, energy driven 0, energy charged 0, stops 0\n",
+        ),
+        (
+            "A P --partial",
+            ONE_STATION,
+            "evroute plan 1\nroutes 1\nroute 0 2+1 0\n",
+            "route 0\n  stop  node  what        arrival  level  plug time   from     to    leaving\n     0     0  depot          0.00     10          -      -      -       0.00\n     1     2  station        8.00      7       0.00      7      8       8.50\n     2     0  depot         16.50      3          -      -      -      16.50\ntotal of route 0: time 16.50, driving 16.00, serving 0.00, plugging in 0.00, charging 0.50, energy driven 8, energy charged 1, stops 3\n\ntotal of the plan: time 16.50, driving 16.00, serving 0.00, plugging in 0.00, charging 0.50, energy driven 8, energy charged 1, stops 3\n",
+        ),
+    ] {
+        let mut shelf = shelf_with(alloc, instance, plan, &[]).expect(&rt, "memory");
+        assert_run(&rt, alloc, line, &mut shelf, Status::Done, put);
+    }
+}
+
+#[test]
 fn the_schedule_is_written_as_json(rt: HostRuntime) {
     let alloc = rt.alloc();
     for &(line, instance, plan, want) in &[

@@ -12,11 +12,12 @@ fn name_or_dash(name: &Option<String>) -> &str {
     }
 }
 
-/// The job in short: its limit and its route, or 0 where there is none, whether times are shown as
-/// they are scaled, the file with the names of places, and the files that are written.
+/// The job in short: its limit and its route, or 0 where there is none, whether it may be a
+/// part of a plan, whether times are shown as they are scaled, the file with the names of places, and the files that are written.
 fn told(alloc: Global, job: &Job) -> Option<String> {
     let limit = job.limit.unwrap_or(0);
     let route = job.route.unwrap_or(0);
+    let partial = job.partial;
     let exact = job.exact;
     let clock = match job.clock {
         Some(clock) => format!(in alloc; "{}+{}/{}", clock.begin, clock.seconds, clock.parts).ok()?,
@@ -27,7 +28,9 @@ fn told(alloc: Global, job: &Job) -> Option<String> {
     let json = name_or_dash(&job.json);
     let csv = name_or_dash(&job.csv);
     let map = name_or_dash(&job.map);
-    format!(in alloc; "{limit} {route} {exact} {clock} {places} {svg} {json} {csv} {map}").ok()
+    format!(in alloc;
+        "{limit} {route} {partial} {exact} {clock} {places} {svg} {json} {csv} {map}"
+    ).ok()
 }
 
 /// What the words of a line name, in short; `None` where they name no job.
@@ -41,30 +44,34 @@ fn named(alloc: Global, line: &str) -> Option<String> {
 fn words_name_a_job_or_none(rt: HostRuntime) {
     let alloc = rt.alloc();
     for &(line, want) in &[
-        ("A P", "0 0 false - - - - - -"),
-        ("A P --limit 5 --route 7", "5 7 false - - - - - -"),
-        ("--exact A --route=0 P", "0 0 true - - - - - -"),
-        ("A P --svg S", "0 0 false - - S - - -"),
-        ("A --json J P --svg=S --exact", "0 0 true - - S J - -"),
+        ("A P", "0 0 false false - - - - - -"),
+        ("A P --limit 5 --route 7", "5 7 false false - - - - - -"),
+        ("--exact A --route=0 P", "0 0 false true - - - - - -"),
+        ("A --partial P", "0 0 true false - - - - - -"),
+        ("A P --svg S", "0 0 false false - - S - - -"),
+        ("A --json J P --svg=S --exact", "0 0 false true - - S J - -"),
         (
             "A P --limit 1000000000000000000",
-            "1000000000000000000 0 false - - - - - -",
+            "1000000000000000000 0 false false - - - - - -",
         ),
-        ("A P --csv C --json J --svg S", "0 0 false - - S J C -"),
+        (
+            "A P --csv C --json J --svg S",
+            "0 0 false false - - S J C -",
+        ),
         (
             "A P --begin 07:30 --unit min",
-            "0 0 false 450+60/1 - - - - -",
+            "0 0 false false 450+60/1 - - - - -",
         ),
         (
             "A P --begin 00:00 --unit=h/100 --exact",
-            "0 0 true 0+3600/100 - - - - -",
+            "0 0 false true 0+3600/100 - - - - -",
         ),
         (
             "A P --unit s/1000000000 --begin 23:59",
-            "0 0 false 1439+1/1000000000 - - - - -",
+            "0 0 false false 1439+1/1000000000 - - - - -",
         ),
-        ("A P --places N", "0 0 false - N - - - -"),
-        ("A P --map M --places N", "0 0 false - N - - - M"),
+        ("A P --places N", "0 0 false false - N - - - -"),
+        ("A P --map M --places N", "0 0 false false - N - - - M"),
         ("A", ""),
         ("A P Q", ""),
         ("A A", ""),
@@ -83,6 +90,7 @@ fn words_name_a_job_or_none(rt: HostRuntime) {
         ("A P --route -1", ""),
         ("A P --exact --exact", ""),
         ("A P --exact=1", ""),
+        ("A P --partial --partial", ""),
         ("A P --begin 07:30", ""),
         ("A P --unit min", ""),
         ("A P --begin 7:30 --unit min", ""),

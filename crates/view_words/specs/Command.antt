@@ -1,5 +1,5 @@
--- The command that reads the words of `evview`: its name, two positionals, a flag, and nine
--- options of one value each. It has no flag for help and none for a version.
+-- The command that reads the words of `evview`: its name, two positionals, two flags, and
+-- nine options of one value each. It has no flag for help and none for a version.
 use Rattle.std.specs.Prelude.{Some, codes, true}
 use Rattle.clap.specs.Words.{App, Rule, Text, new_rule, with_rule}
 use Rattle.clap.specs.declared.builder.action.ArgAction.TheVariants.{SetTrue}
@@ -21,7 +21,9 @@ with_names app = with_rule (with_rule app (word_rule (codes "file"))) (word_rule
 abbrev pub with_choice : App → App
 with_choice app =
     with_rule
+    (with_rule
     (with_rule (with_rule app (option_rule (codes "limit"))) (option_rule (codes "route")))
+    (flag_rule (codes "partial")))
     (flag_rule (codes "exact"))
 
 -- the clock by which is told when something happens

@@ -11,8 +11,8 @@ use Rattle.view_words.specs.Command.{evview}
 use Rattle.view_words.specs.declared.clock.DayClock.{DayClock}
 
 -- the job of showing a plan: the names of the files with the instance and the plan, the limit where
--- one is given, the number of the one route that is shown where it is given, whether times are
--- shown as they are scaled, the clock by which is told when something happens where one is given, the
+-- one is given, the number of the one route that is shown where it is given, whether it may be a
+-- part of a plan, whether times are shown as they are scaled, the clock by which is told when something happens where one is given, the
 -- name of the file with the names of places where it is given, and the names of the files into which
 -- the pictures, the schedule, as JSON and as CSV, and a map are written, where they are given
 pub record ViewPlan : Type 0 where
@@ -20,6 +20,7 @@ pub record ViewPlan : Type 0 where
   pub plan : Text
   pub limit : Option ℕ
   pub route : Option ℕ
+  pub partial : Bool
   pub exact : Bool
   pub clock : Option DayClock
   pub places : Option Text
@@ -33,10 +34,10 @@ pub record ViewPlan : Type 0 where
 abbrev pub route_in : List Row → Option (Option ℕ)
 route_in rows = optional_number most_value (first_of (codes "route") rows)
 
--- whether the flag stands among the words
-abbrev pub exact_in : List Row → Bool
-exact_in rows =
-    option_map_or (λ value. bytes_eq value (codes "true")) (first_of (codes "exact") rows) false
+-- whether the flag of this name stands among the words
+abbrev pub flag_in : Text → List Row → Bool
+flag_in name rows =
+    option_map_or (λ value. bytes_eq value (codes "true")) (first_of name rows) false
 
 -- the clock, where it is given; none where its words are no clock
 abbrev pub clock_in : List Row → Option (Option DayClock)
@@ -80,13 +81,14 @@ all_names file plan rows =
     ∷ Some plan ∷ [])
 
 -- the job of these words
-abbrev pub view_job_of : Text → Text → Option ℕ → Option ℕ → Bool → Option DayClock → Option Text →
+abbrev pub view_job_of : Text → Text → Option ℕ → Option ℕ → Bool → Bool → Option DayClock → Option Text →
     Option Text → Option Text → Option Text → Option Text → ViewPlan
-view_job_of file plan limit route exact clock places svg json csv map = record {
+view_job_of file plan limit route partial exact clock places svg json csv map = record {
   file = file;
   plan = plan;
   limit = limit;
   route = route;
+  partial = partial;
   exact = exact;
   clock = clock;
   places = places;
@@ -104,11 +106,12 @@ written_names job = given_names (job.svg ∷ job.json ∷ job.csv ∷ job.map �
 abbrev pub view_with : Text → Text → Option (Option ℕ) → Option (Option ℕ) →
     Option (Option DayClock) → List Row → Option ViewPlan
 view_with file plan (Some limit) (Some route) (Some clock) rows =
-    Some (view_job_of file plan limit route (exact_in rows) clock (places_in rows) (svg_in rows)
+    Some (view_job_of file plan limit route (flag_in (codes "partial") rows)
+    (flag_in (codes "exact") rows) clock (places_in rows) (svg_in rows)
     (json_in rows) (csv_in rows) (map_in rows))
 view_with file plan limit route clock rows = None
 
--- `FILE PLAN [--limit N] [--route N] [--exact] [--begin HH:MM --unit U] [--places FILE]
+-- `FILE PLAN [--limit N] [--route N] [--partial] [--exact] [--begin HH:MM --unit U] [--places FILE]
 -- [--svg OUT] [--json OUT] [--csv OUT] [--map OUT]`, where `--map` asks for `--places`
 abbrev pub view_of : Text → Text → List Row → Option ViewPlan
 view_of file plan rows =

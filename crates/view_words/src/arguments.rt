@@ -53,6 +53,7 @@ fn with_choice<'a>(alloc: Global, command: Command<'a>) -> Result<Command<'a>, A
 {
     let command = with_option(alloc, command, "limit")?;
     let command = with_option(alloc, command, "route")?;
+    let command = with_flag(alloc, command, "partial")?;
     with_flag(alloc, command, "exact")
 }
 

@@ -5,7 +5,7 @@ ghost use Rattle.call_words.specs.Matches.{rows_in};
 ghost use Rattle.call_words.specs.Names.{are_different, is_listed};
 ghost use Rattle.view_words.specs.JobValue.{AnswersJob, IsJob, names_in};
 ghost use Rattle.view_words.specs.Clocks.{IsDayClock};
-ghost use Rattle.view_words.specs.Words.{clock_in, exact_in, given_names, has_places, job_in, route_in, view_of};
+ghost use Rattle.view_words.specs.Words.{clock_in, flag_in, given_names, has_places, job_in, route_in, view_of};
 
 use crate::Job;
 use crate::clock::{DayClock, clock_of};
@@ -21,11 +21,11 @@ fn route_in(matches: &ArgMatches<'_>) -> Option<Option<u64>>
     optional_number(first_of(matches, "route"), GREATEST_VALUE)
 }
 
-/// Whether times are shown as they are scaled.
-fn exact_in(matches: &ArgMatches<'_>) -> bool
-    ensures { result ≡ exact_in (rows_in matches.now) }
+/// Whether the flag of this name stands among the words.
+fn flag_in(matches: &ArgMatches<'_>, name: &str) -> bool
+    ensures { result ≡ flag_in name.now (rows_in matches.now) }
 {
-    match first_of(matches, "exact") {
+    match first_of(matches, name) {
         Some(value) => value == "true",
         None => false,
     }
@@ -80,7 +80,8 @@ fn view_job(
         plan: String::from_str(alloc, plan)?,
         limit,
         route,
-        exact: exact_in(matches),
+        partial: flag_in(matches, "partial"),
+        exact: flag_in(matches, "exact"),
         clock,
         places: owned(alloc, places)?,
         svg: owned(alloc, svg)?,
