@@ -4,7 +4,7 @@ use Rattle.std.proofs.lemmas.Bool.{false≢true}
 use Rattle.ev_model.specs.Network.{Network}
 use Rattle.fleet_steps.proofs.PlanFiles as plans
 use Rattle.fleet_steps.proofs.Plans.{valid_breaks_none}
-use Rattle.fleet_steps.specs.PlanFile.{BreaksFirst, HasPlan, HoldsPlan}
+use Rattle.fleet_steps.specs.PlanFile.{BreaksFirst, HoldsPlan}
 use Rattle.gap_words.specs.Words.{CheckGap}
 use Rattle.job_frame.proofs.OneStatus.{ExcludeEachOther, IsPlain, lawful, nothing_excludes}
 use Rattle.job_frame.specs.Lawful.{IsLawful}
