@@ -16,5 +16,6 @@ mod Within
 mod RestRate
 mod RestLaw
 mod RestTable
+mod LateStops
 mod WayLaw
 mod WayTables

@@ -112,7 +112,7 @@ module _ (most rest rate : ℕ) (some : 0 < most) where
         omega (arith, later, time)
   ]
 
-below_level : (most rest rate : ℕ) (ps : List (ℕ × ℕ)) (level : ℕ) → ArePoints ps → IsBelowPoints rate rest ps most → IsLevel (level_times ps) level → most ≤ time_at (level_times ps) level + rest - rate * level
+pub below_level : (most rest rate : ℕ) (ps : List (ℕ × ℕ)) (level : ℕ) → ArePoints ps → IsBelowPoints rate rest ps most → IsLevel (level_times ps) level → most ≤ time_at (level_times ps) level + rest - rate * level
 below_level most rest rate ps level are below is = elim (cases_lt 0 most) [
   | inl some ↦
       let within = level_is ps level are is in

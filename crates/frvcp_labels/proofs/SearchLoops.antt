@@ -1,5 +1,5 @@
 -- The search goes on until no label waits.
-use Rattle.std.proofs.Common.{◌≡◌, ℕ, ◌+◌, ◌-◌, ◌<◌, ◌≤◌, inl, inr, List, [], ◌∷◌, length, set, refl, sym, ◌∙◌, ap, subst, arith, Option, Some, true}
+use Rattle.std.proofs.Common.{◌≡◌, ℕ, ◌+◌, ◌-◌, ◌<◌, ◌≤◌, inl, inr, List, [], ◌∷◌, length, set, refl, sym, ◌∙◌, ap, subst, arith, Option, None, Some, true}
 use Rattle.std.specs.Prelude.{IfSome, slice_get}
 use Rattle.std.proofs.lemmas.Bool.{cases_Bool, cases_eq}
 use Rattle.std.proofs.lemmas.List.{drop_all}
@@ -22,29 +22,31 @@ use Rattle.frvcp_labels.proofs.SearchTurns.{now_cases, now_reached, settled_now}
 use Rattle.frvcp_labels.proofs.WaysBack.{last_is_depot}
 use Rattle.frvcp_labels.proofs.TakenLabels.{labels_are, here_now}
 
-pub on_way_only : (t : Journey) (labels : List (Label State)) (first : Leaving) → IsSpread t labels first → IsSpreadOnWay t labels first
+pub on_way_only : (t : Journey) (labels : List (Label State)) (first : Leaving) → IsSpread t labels None first → IsSpreadOnWay t labels first
 on_way_only t labels first is = record { spreads = λ i label here settled on_way. is.spreads i label here settled; begun = is.begun }
 
 -- a label was settled, and what it leads to was added where it is on its way
 pub turn_on_way : (t : Journey) (old : List (Label State)) (i : ℕ) (label : Label State) (here : slice_get old i ≡ Some label) (waits : is_waiting label ≡ true) (first : Leaving) (now : List (Label State))
-    → IsSpreadOnWay t old first → IsGrown (settled_now t old i label here waits) now → (label.value.passed < length t.route - 1 → Spreads t now label.value) → IsSpreadOnWay t now first
+    → IsSpreadOnWay t old first → IsGrown (settled_now t old i label here waits) now → (label.value.passed < length t.route - 1 → Spreads t now None label.value) → IsSpreadOnWay t now first
 turn_on_way t old i label here waits first now is grown spreads = record {
   spreads = λ j x at settled on_way.
       let was = grown.were j x at settled in
       elim (now_cases t old i label here waits j was.0 was.1) [
         | inl this ↦
             let value : label.value ≡ x.value = ap (λ (l : Label State). l.value) (sym this.1) ∙ was.3 in
-            subst (λ (s : State). Spreads t now s) value (spreads (subst (λ (s : State). s.passed < length t.route - 1) (sym value) on_way))
+            subst (λ (s : State). Spreads t now None s) value (spreads (subst (λ (s : State). s.passed < length t.route - 1) (sym value) on_way))
         | inr other ↦
-            λ v stop holds may. grown.keeps (leaving_after t.network v stop) (now_reached t old i label here waits (leaving_after t.network v stop)
-            (is.spreads j was.0 other was.2 (subst (λ (s : State). s.passed < length t.route - 1) (sym was.3) on_way) v stop (subst (λ (s : State). Holds s v) (sym was.3) holds) may))
+            λ v stop holds may. elim (is.spreads j was.0 other was.2 (subst (λ (s : State). s.passed < length t.route - 1) (sym was.3) on_way) v stop (subst (λ (s : State). Holds s v) (sym was.3) holds) may) [
+              | inl reached ↦ inl (grown.keeps (leaving_after t.network v stop) (now_reached t old i label here waits (leaving_after t.network v stop) reached))
+              | inr late ↦ absurd late
+            ]
       ];
   begun = grown.keeps first (now_reached t old i label here waits first is.begun);
 }
 
 module _ (t : Journey) (old now : Labels State) (i : ℕ) (taken : IsTaken old now i) where
   pub taken_turn_on_way : (later : Labels State) → IsSpreadOnWay t old.labels (begin t.start) → IsGrown now.labels later.labels
-      → ((label : Label State) → slice_get now.labels i ≡ Some label → label.value.passed < length t.route - 1 → Spreads t later.labels label.value) → IsSpreadOnWay t later.labels (begin t.start)
+      → ((label : Label State) → slice_get now.labels i ≡ Some label → label.value.passed < length t.route - 1 → Spreads t later.labels None label.value) → IsSpreadOnWay t later.labels (begin t.start)
   taken_turn_on_way later spread grown spreads =
       turn_on_way t old.labels i taken.label taken.next.here taken.next.waits (begin t.start) later.labels spread
       (subst (λ (ls : List (Label State)). IsGrown ls later.labels) (labels_are t old now i taken) grown)
@@ -100,7 +102,10 @@ all_held t labels states trip sound spread none held stand = record {
       let settled = settled_all labels by.0 by.1 none by.2 by.3 in
       let before = may.on_way in
       let short : by.1.value.passed < length t.route - 1 = subst (λ (x : State). x.passed < length t.route - 1) (sym by.4) (omega (arith, holds.passed, before)) in
-      held (leaving_after t.network v stop) (spread.spreads by.0 by.1 by.2 settled short v stop (subst (λ (x : State). Holds x v) (sym by.4) holds) may) on_way;
+      elim (spread.spreads by.0 by.1 by.2 settled short v stop (subst (λ (x : State). Holds x v) (sym by.4) holds) may) [
+        | inl reached ↦ held (leaving_after t.network v stop) reached on_way
+        | inr late ↦ absurd late
+      ];
   home = λ s level stop in_states is may home.
       let by = stand s in_states in
       home_plan t s level stop trip (subst (λ (x : State). HasPlans t x) by.4 (sound by.0 by.1 by.2).plans) is may home;

@@ -14,9 +14,9 @@ use Rattle.piece_fn.specs.PieceFn.{level_times}
 use Rattle.label_pool.specs.Labels.{IsNext, NoneWaits, is_waiting}
 use Rattle.label_pool.specs.declared.label.Label.{Label}
 use Rattle.label_pool.proofs.Elements.{appended_before, appended_here, element_at, set_here, set_there}
-use Rattle.route_steps.specs.Homes.{IsBelowHomes, NoWayHome}
+use Rattle.route_steps.specs.Homes.{IsBelowHomes}
 use Rattle.frvcp_labels.specs.Charged.{OnlyAdds}
-use Rattle.frvcp_labels.specs.Search.{AreReached, AreSound, HasOrigin, IsGrown, IsSound, IsSpread, Reached, Spreads, SpreadsTo, settled_count}
+use Rattle.frvcp_labels.specs.Search.{AreReached, AreSound, HasOrigin, IsGrown, IsLate, IsSound, IsSpread, Reached, Spreads, SpreadsInTimeTo, SpreadsTo, SpreadsToStations, settled_count}
 use Rattle.route_steps.specs.Steps.{AreSteps, CoverStops, Holds, IsSoundState, IsSoundStep, IsStep, MayGo, state_at}
 use Rattle.route_steps.specs.Stations.{stations}
 use Rattle.route_steps.specs.Trips.{IsTrip, Journey}
@@ -94,17 +94,26 @@ stays_there t labels from passed to here v stop holds may node after = absurd (m
 pub spreads_stays : (t : Journey) (old now : List (Label State)) (s : State) (passed to : ℕ) → IsGrown old now → SpreadsTo t old s passed to → SpreadsTo t now s passed to
 spreads_stays t old now s passed to grown spreads v stop holds may node after = grown.keeps (leaving_after t.network v stop) (spreads v stop holds may node after)
 
+pub in_time_stays : (t : Journey) (old now : List (Label State)) (bar : Option ℕ) (s : State) (passed to : ℕ) → IsGrown old now → SpreadsInTimeTo t old bar s passed to → SpreadsInTimeTo t now bar s passed to
+in_time_stays t old now bar s passed to grown is = elim is [
+  | inl spreads ↦ inl (spreads_stays t old now s passed to grown spreads)
+  | inr late ↦ inr late
+]
+
 -- the next node of the route and each station: that is each stop
-pub spreads_all : (t : Journey) (labels : List (Label State)) (s : State) → SpreadsTo t labels s (s.passed + 1) (slice_index t.route (s.passed + 1)) → ((n : ℕ) → n < length (stations t.network) → SpreadsTo t labels s s.passed (slice_index (stations t.network) n)) → Spreads t labels s
-spreads_all t labels s next each v stop holds may = elim (cases_Bool stop.via) [
+pub spreads_all : (t : Journey) (labels : List (Label State)) (bar : Option ℕ) (s : State) → SpreadsTo t labels s (s.passed + 1) (slice_index t.route (s.passed + 1)) → SpreadsToStations t labels bar s → Spreads t labels bar s
+spreads_all t labels bar s next each v stop holds may = elim (cases_Bool stop.via) [
   | inl via ↦
       let found = station-number t.network stop.node may.stop.known (may.stop.station (inl via)) in
       let same : passed_after v.passed stop ≡ s.passed = rw via (sym holds.passed) in
-      each found.0 found.1 v stop holds may (sym found.2) same
+      elim (each found.0 found.1) [
+        | inl spreads ↦ inl (spreads v stop holds may (sym found.2) same)
+        | inr late ↦ inr (late v stop holds may (sym found.2) same)
+      ]
   | inr own ↦
       let node : slice_index t.route (s.passed + 1) ≡ stop.node = ap (λ i. slice_index t.route (i + 1)) holds.passed ∙ may.next own in
       let more : passed_after v.passed stop ≡ s.passed + 1 = rw own (ap (λ i. i + 1) (sym holds.passed)) in
-      next v stop holds may (sym node) more
+      inl (next v stop holds may (sym node) more)
 ]
 
 -- labels once one was settled
@@ -186,15 +195,17 @@ module _ (t : Journey) (old : List (Label State)) (i : ℕ) (label : Label State
   now_few = count_most settled_now
 
   -- and then what it leads to was added
-  pub turn : (first : Leaving) (now : List (Label State)) → IsSpread t old first → IsGrown settled_now now → label.value.passed < length t.route - 1 → Spreads t now label.value → IsSpread t now first
-  turn first now is grown before spreads = record {
+  pub turn : (first : Leaving) (now : List (Label State)) (bar : Option ℕ) → IsSpread t old bar first → IsGrown settled_now now → label.value.passed < length t.route - 1 → Spreads t now bar label.value → IsSpread t now bar first
+  turn first now bar is grown before spreads = record {
     spreads = λ j x at settled.
         let was = grown.were j x at settled in
         elim (now_cases j was.0 was.1) [
-          | inl this ↦ subst (λ (s : State). Spreads t now s) (ap (λ (l : Label State). l.value) (sym this.1) ∙ was.3) spreads
+          | inl this ↦ subst (λ (s : State). Spreads t now bar s) (ap (λ (l : Label State). l.value) (sym this.1) ∙ was.3) spreads
           | inr other ↦
-              λ v stop holds may. grown.keeps (leaving_after t.network v stop) (now_reached (leaving_after t.network v stop)
-              (is.spreads j was.0 other was.2 v stop (subst (λ (s : State). Holds s v) (sym was.3) holds) may))
+              λ v stop holds may. elim (is.spreads j was.0 other was.2 v stop (subst (λ (s : State). Holds s v) (sym was.3) holds) may) [
+                | inl reached ↦ inl (grown.keeps (leaving_after t.network v stop) (now_reached (leaving_after t.network v stop) reached))
+                | inr late ↦ inr late
+              ]
         ];
     on_way = λ j x at settled.
         let was = grown.were j x at settled in
@@ -206,8 +217,8 @@ module _ (t : Journey) (old : List (Label State)) (i : ℕ) (label : Label State
   }
 
 -- where no label is settled
-pub spread_none : (t : Journey) (labels : List (Label State)) (first : Leaving) → ((i : ℕ) (label : Label State) → slice_get labels i ≡ Some label → label.settled ≡ true → ⊥) → Reached labels first → IsSpread t labels first
-spread_none t labels first none begun = record {
+pub spread_none : (t : Journey) (labels : List (Label State)) (first : Leaving) → ((i : ℕ) (label : Label State) → slice_get labels i ≡ Some label → label.settled ≡ true → ⊥) → Reached labels first → (bar : Option ℕ) → IsSpread t labels bar first
+spread_none t labels first none begun bar = record {
   spreads = λ i label here settled. absurd (none i label here settled);
   on_way = λ i label here settled. absurd (none i label here settled);
   begun = begun;
@@ -231,43 +242,62 @@ held labels v r = elim (cases_Bool r.label.settled) [
 waiting_is : (labels : List (Label State)) (v : Leaving) (h : HeldBy labels false v) → is_waiting h.label ≡ true
 waiting_is labels v h = let live = h.live in let unset = h.is in rw (live, unset) refl
 
--- each way home of the start leads by a label that waits
-module _ (t : Journey) (labels : List (Label State)) (is : IsSpread t labels (begin t.start)) where
+-- each way home of the start leads by a label that waits, or isn't below the bar
+module _ (t : Journey) (labels : List (Label State)) (bar : ℕ) (is : IsSpread t labels (Some bar) (begin t.start)) where
+  left_out : (v : Leaving) → Reached labels v ⊎ IsLate t (Some bar) v → HeldBy labels true v ⊎ (HeldBy labels false v ⊎ IsLate t (Some bar) v)
+  left_out v some = elim some [
+    | inl reached ↦ elim (held labels v reached) [ inl settled ↦ inl settled | inr waits ↦ inr (inl waits) ]
+    | inr late ↦ inr (inr late)
+  ]
+
   each_way : (Bounds : ℕ → Type 0) → ((v : Leaving) (stops : List Stop) → HeldBy labels false v → IsRest t.network t.route v stops → Bounds (v.time + time_from t.network 1 v.node v.level stops))
-      → (stops : List Stop) → IsRest t.network t.route (begin t.start) stops → Bounds (0 + time_from t.network 1 0 t.start stops)
-  each_way Bounds low stops rest =
-      way_home t.network t.route (HeldBy labels true) (HeldBy labels false) Bounds
-      (λ v stop h may. held labels (leaving_after t.network v stop) (is.spreads h.by h.label h.here h.is v stop h.holds may))
-      low (λ v h. subst (λ n. n < length t.route - 1) h.holds.passed (is.on_way h.by h.label h.here h.is))
-      stops (begin t.start) (held labels (begin t.start) is.begun) rest
+      → ((time : ℕ) → bar ≤ time → Bounds time) → (stops : List Stop) → IsRest t.network t.route (begin t.start) stops → Bounds (0 + time_from t.network 1 0 t.start stops)
+  each_way Bounds low late stops rest =
+      way_home t.network t.route (HeldBy labels true) (λ v. HeldBy labels false v ⊎ IsLate t (Some bar) v) Bounds
+      (λ v stop h may. left_out (leaving_after t.network v stop) (is.spreads h.by h.label h.here h.is v stop h.holds may))
+      (λ v ss waits own. elim waits [
+        | inl h ↦ low v ss h own
+        | inr past ↦ late (v.time + time_from t.network 1 v.node v.level ss) (past ss own)
+      ])
+      (λ v h. subst (λ n. n < length t.route - 1) h.holds.passed (is.on_way h.by h.label h.here h.is))
+      stops (begin t.start) (left_out (begin t.start) (inl is.begun)) rest
 
-  pub none_home : NoneWaits labels → NoWayHome t
-  none_home none = each_way (λ n. ⊥) (λ v stops h rest. absurd (none h.by h.label h.here (waiting_is labels v h)))
+  -- none is below the bar where none waits
+  pub none_below : NoneWaits labels → IsBelowHomes t bar
+  none_below none stops rest =
+      let all : bar ≤ 0 + time_from t.network 1 0 t.start stops = each_way (λ n. bar ≤ n) (λ v ss h own. absurd (none h.by h.label h.here (waiting_is labels v h))) (λ time past. past) stops rest in
+      omega (arith, all)
 
-  pub least_home : (i : ℕ) (label : Label State) → AreSound t labels → IsNext labels i label → (stops : List Stop) → IsRest t.network t.route (begin t.start) stops → label.key ≤ 0 + time_from t.network 1 0 t.start stops
-  least_home i label sound next = each_way (λ n. label.key ≤ n) (λ v stops h rest.
+  least_or_late : (i : ℕ) (label : Label State) → AreSound t labels → IsNext labels i label → (stops : List Stop) → IsRest t.network t.route (begin t.start) stops
+      → (label.key ≤ 0 + time_from t.network 1 0 t.start stops) ⊎ (bar ≤ 0 + time_from t.network 1 0 t.start stops)
+  least_or_late i label sound next = each_way (λ n. (label.key ≤ n) ⊎ (bar ≤ n)) (λ v stops h rest.
       let other = (sound h.by h.label h.here).below v stops h.holds rest in
       elim (next.least h.by h.label h.here (waiting_is labels v h)) [
-        | inl less ↦ omega (arith, less, other)
-        | inr equal ↦ omega (arith, equal.0, other)
-      ])
+        | inl less ↦ inl (omega (arith, less, other))
+        | inr equal ↦ inl (omega (arith, equal.0, other))
+      ]) (λ time past. inr past)
 
-  -- nor is any below a bar where none waits
-  pub none_below : (bar : ℕ) → NoneWaits labels → IsBelowHomes t bar
-  none_below bar none stops rest = absurd (none_home none stops rest)
+  pub least_home : (i : ℕ) (label : Label State) → AreSound t labels → IsNext labels i label → label.key < bar → (stops : List Stop) → IsRest t.network t.route (begin t.start) stops → label.key ≤ 0 + time_from t.network 1 0 t.start stops
+  least_home i label sound next below stops rest = elim (least_or_late i label sound next stops rest) [
+    | inl least ↦ least
+    | inr past ↦ omega (arith, past, below)
+  ]
 
-  -- or where the label that is next is past the limit
-  pub late_home : (limit bar i key : ℕ) (label : Label State) → AreSound t labels → IsNext labels i label → key ≡ label.key → limit ≡ scaled_limit t.network → limit < key → IsBelowHomes t bar
-  late_home limit bar i key label sound next is_key is_limit late stops rest =
-      let least = least_home i label sound next stops rest in
-      let in_time : 0 + time_from t.network 1 0 t.start stops ≤ scaled_limit t.network = rest.in_time in
-      absurd (omega (arith, least, in_time, is_key, is_limit, late))
+  -- nor where the label that is next is past the limit
+  pub late_home : (limit i key : ℕ) (label : Label State) → AreSound t labels → IsNext labels i label → key ≡ label.key → limit ≡ scaled_limit t.network → limit < key → IsBelowHomes t bar
+  late_home limit i key label sound next is_key is_limit late stops rest = elim (least_or_late i label sound next stops rest) [
+    | inl least ↦
+        let in_time : 0 + time_from t.network 1 0 t.start stops ≤ scaled_limit t.network = rest.in_time in
+        absurd (omega (arith, least, in_time, is_key, is_limit, late))
+    | inr past ↦ omega (arith, past)
+  ]
 
   -- or not below the bar
-  pub bar_home : (bar i key : ℕ) (label : Label State) → AreSound t labels → IsNext labels i label → key ≡ label.key → bar ≤ key → IsBelowHomes t bar
-  bar_home bar i key label sound next is_key at_bar stops rest =
-      let least = least_home i label sound next stops rest in
-      omega (arith, least, is_key, at_bar)
+  pub bar_home : (i key : ℕ) (label : Label State) → AreSound t labels → IsNext labels i label → key ≡ label.key → bar ≤ key → IsBelowHomes t bar
+  bar_home i key label sound next is_key at_bar stops rest = elim (least_or_late i label sound next stops rest) [
+    | inl least ↦ omega (arith, least, is_key, at_bar)
+    | inr past ↦ omega (arith, past)
+  ]
 
 -- of two labels that are next the keys are the same
 pub next_key : (labels : List (Label State)) (i j : ℕ) (one other : Label State) → IsNext labels i one → IsNext labels j other → other.key ≤ one.key
@@ -287,7 +317,7 @@ start_sound t value trip low is = record {
       omega (arith, none);
 }
 
-pub begun : (t : Journey) (old now : List (Label State)) (value : List (ℕ × ℕ)) → old ≡ [] → IsGrown old now → value ≡ (t.start, 0) ∷ [] → ((v : Leaving) → Holds (record { passed = 0; node = 0; charged = false; value = value }) v → Reached now v) → IsSpread t now (begin t.start)
+pub begun : (t : Journey) (old now : List (Label State)) (value : List (ℕ × ℕ)) → old ≡ [] → IsGrown old now → value ≡ (t.start, 0) ∷ [] → ((v : Leaving) → Holds (record { passed = 0; node = 0; charged = false; value = value }) v → Reached now v) → (bar : Option ℕ) → IsSpread t now bar (begin t.start)
 begun t old now value empty grown is reached =
     let has : IsLevel (level_times value) t.start = subst (λ v. IsLevel (level_times v) t.start) (sym is) (has_start t.start 0) in
     let none : time_at (level_times value) t.start ≡ 0 = ap (λ v. time_at (level_times v) t.start) is ∙ start_time t.start t.start (has_start t.start 0) in

@@ -1,5 +1,5 @@
 -- The loop over the stations that a step from a label may lead to.
-use Rattle.std.proofs.Common.{◌≡◌, ℕ, ◌+◌, ◌*◌, ◌^◌, ◌<◌, ◌≤◌, inl, inr, List, length, Result, Ok, Err, sym, ◌∙◌, ap, subst, arith, Some}
+use Rattle.std.proofs.Common.{◌≡◌, ℕ, ◌+◌, ◌*◌, ◌^◌, ◌<◌, ◌≤◌, inl, inr, List, length, Result, Ok, Err, sym, ◌∙◌, ap, subst, arith, Option, Some}
 use Rattle.std.specs.Prelude.{IfOk, slice_get, slice_index}
 use Rattle.std.proofs.lemmas.Option.{same_Some, slice_get_within}
 use Rattle.std.proofs.lemmas.Bool.{cases_eq}
@@ -8,12 +8,12 @@ use Rattle.ev_model.specs.Network.{node_count}
 use Rattle.label_pool.specs.Labels.{Labels}
 use Rattle.label_pool.specs.declared.label.Label.{Label}
 use Rattle.label_pool.proofs.Elements.{element_at}
-use Rattle.frvcp_labels.specs.Search.{IsGrown, IsSoundPool, Spreads, SpreadsTo, SpreadsToStations}
+use Rattle.frvcp_labels.specs.Search.{IsGrown, IsSoundPool, Spreads, SpreadsInTimeTo, SpreadsTo, SpreadsToStations}
 use Rattle.route_steps.specs.Steps.{MayGo}
 use Rattle.route_steps.specs.Stations.{stations}
 use Rattle.route_steps.specs.Trips.{IsTrip, Journey}
 use Rattle.route_steps.specs.declared.state.State.{State}
-use Rattle.frvcp_labels.proofs.SearchTurns.{next_node, next_station, spreads_all, spreads_stays}
+use Rattle.frvcp_labels.proofs.SearchTurns.{in_time_stays, next_node, next_station, spreads_all, spreads_stays}
 
 pub IfOk-both : {X E : Type 0} (r : Result X E) (P Q : X → Type 0) → IfOk r P → IfOk r Q → IfOk r (λ x. P x × Q x)
 IfOk-both (Ok x) P Q p q = (p, q)
@@ -79,37 +79,37 @@ module _ (t : Journey) (old now : List (Label State)) (i passed : ℕ) (grown : 
       subst (λ (s : State). MayGo t.network t.route s.passed passed to) (same_value label here) (next_station t passed n to from.label.value from.before from.is inside at)
 
 -- what was spread to stations, and one more
-abbrev pub SpreadsBelow : Journey → List (Label State) → List (Label State) → ℕ → ℕ → ℕ → Type 0
-SpreadsBelow t first now i passed count =
-    (label : Label State) → slice_get first i ≡ Some label → (n : ℕ) → n < count → SpreadsTo t now label.value passed (slice_index (stations t.network) n)
+abbrev pub SpreadsBelow : Journey → List (Label State) → List (Label State) → Option ℕ → ℕ → ℕ → ℕ → Type 0
+SpreadsBelow t first now bar i passed count =
+    (label : Label State) → slice_get first i ≡ Some label → (n : ℕ) → n < count → SpreadsInTimeTo t now bar label.value passed (slice_index (stations t.network) n)
 
-pub spreads_none : (t : Journey) (first now : List (Label State)) (i passed : ℕ) → SpreadsBelow t first now i passed 0
-spreads_none t first now i passed label here n less = absurd (omega (arith, less))
+pub spreads_none : (t : Journey) (first now : List (Label State)) (bar : Option ℕ) (i passed : ℕ) → SpreadsBelow t first now bar i passed 0
+spreads_none t first now bar i passed label here n less = absurd (omega (arith, less))
 
-pub spreads_more : (t : Journey) (first before now : List (Label State)) (i passed count to : ℕ) → IsGrown first before → IsGrown before now → to ≡ slice_index (stations t.network) count → SpreadsBelow t first before i passed count
-    → ((label : Label State) → slice_get before i ≡ Some label → SpreadsTo t now label.value passed to) → SpreadsBelow t first now i passed (count + 1)
-spreads_more t first before now i passed count to grown more at below own label here n less = elim (cases_eq n count) [
+pub spreads_more : (t : Journey) (first before now : List (Label State)) (bar : Option ℕ) (i passed count to : ℕ) → IsGrown first before → IsGrown before now → to ≡ slice_index (stations t.network) count → SpreadsBelow t first before bar i passed count
+    → ((label : Label State) → slice_get before i ≡ Some label → SpreadsInTimeTo t now bar label.value passed to) → SpreadsBelow t first now bar i passed (count + 1)
+spreads_more t first before now bar i passed count to grown more at below own label here n less = elim (cases_eq n count) [
   | inl this ↦
       let there = grown.stays i label here in
       let goal : to ≡ slice_index (stations t.network) n = at ∙ ap (λ m. slice_index (stations t.network) m) (sym this) in
-      subst (λ (s : State). SpreadsTo t now s passed (slice_index (stations t.network) n)) there.2 (subst (λ x. SpreadsTo t now there.0.value passed x) goal (own there.0 there.1))
-  | inr other ↦ spreads_stays t before now label.value passed (slice_index (stations t.network) n) more (below label here n (omega (arith, less, other)))
+      subst (λ (s : State). SpreadsInTimeTo t now bar s passed (slice_index (stations t.network) n)) there.2 (subst (λ x. SpreadsInTimeTo t now bar there.0.value passed x) goal (own there.0 there.1))
+  | inr other ↦ in_time_stays t before now bar label.value passed (slice_index (stations t.network) n) more (below label here n (omega (arith, less, other)))
 ]
 
 -- at the end of the loop: each station
-pub spreads_each : (t : Journey) (first now : List (Label State)) (i passed count : ℕ) → IsSpreadFrom t first i passed → SpreadsBelow t first now i passed count → count ≡ length (stations t.network)
-    → (label : Label State) → slice_get first i ≡ Some label → SpreadsToStations t now label.value
-spreads_each t first now i passed count from below all label here n inside =
+pub spreads_each : (t : Journey) (first now : List (Label State)) (bar : Option ℕ) (i passed count : ℕ) → IsSpreadFrom t first i passed → SpreadsBelow t first now bar i passed count → count ≡ length (stations t.network)
+    → (label : Label State) → slice_get first i ≡ Some label → SpreadsToStations t now bar label.value
+spreads_each t first now bar i passed count from below all label here n inside =
     let is : passed ≡ label.value.passed = from.is ∙ ap (λ (l : Label State). l.value.passed) (same_Some from.label label (sym from.here ∙ here)) in
-    subst (λ p. SpreadsTo t now label.value p (slice_index (stations t.network) n)) is (below label here n (omega (arith, inside, all)))
+    subst (λ p. SpreadsInTimeTo t now bar label.value p (slice_index (stations t.network) n)) is (below label here n (omega (arith, inside, all)))
 
 -- and the next node before them
-pub spreads_whole : (t : Journey) (first between now : List (Label State)) (i passed : ℕ) → IsSpreadFrom t first i passed → IsGrown first between → IsGrown between now
+pub spreads_whole : (t : Journey) (first between now : List (Label State)) (bar : Option ℕ) (i passed : ℕ) → IsSpreadFrom t first i passed → IsGrown first between → IsGrown between now
     → ((label : Label State) → slice_get first i ≡ Some label → SpreadsTo t between label.value (passed + 1) (slice_index t.route (passed + 1)))
-    → ((label : Label State) → slice_get between i ≡ Some label → SpreadsToStations t now label.value) → (label : Label State) → slice_get first i ≡ Some label → Spreads t now label.value
-spreads_whole t first between now i passed from grown more next each label here =
+    → ((label : Label State) → slice_get between i ≡ Some label → SpreadsToStations t now bar label.value) → (label : Label State) → slice_get first i ≡ Some label → Spreads t now bar label.value
+spreads_whole t first between now bar i passed from grown more next each label here =
     let is : passed ≡ label.value.passed = from.is ∙ ap (λ (l : Label State). l.value.passed) (same_Some from.label label (sym from.here ∙ here)) in
     let there = grown.stays i label here in
-    spreads_all t now label.value
+    spreads_all t now bar label.value
     (subst (λ p. SpreadsTo t now label.value (p + 1) (slice_index t.route (p + 1))) is (spreads_stays t between now label.value (passed + 1) (slice_index t.route (passed + 1)) more (next label here)))
-    (subst (λ (s : State). SpreadsToStations t now s) there.2 (each there.0 there.1))
+    (subst (λ (s : State). SpreadsToStations t now bar s) there.2 (each there.0 there.1))

@@ -64,11 +64,11 @@ module _ (t : Journey) (old now : Labels State) (i : ℕ) (taken : IsTaken old n
         | inr short ↦ omega (arith, inside, two, short)
       ]
 
-  pub taken_turn : (later : Labels State) → IsSpread t old.labels (begin t.start) → IsGrown now.labels later.labels → ((label : Label State) → slice_get now.labels i ≡ Some label → label.value.passed + 1 < length t.route)
-      → ((label : Label State) → slice_get now.labels i ≡ Some label → Spreads t later.labels label.value) → IsSpread t later.labels (begin t.start)
-  taken_turn later spread grown before spreads =
+  pub taken_turn : (later : Labels State) (bar : Option ℕ) → IsSpread t old.labels bar (begin t.start) → IsGrown now.labels later.labels → ((label : Label State) → slice_get now.labels i ≡ Some label → label.value.passed + 1 < length t.route)
+      → ((label : Label State) → slice_get now.labels i ≡ Some label → Spreads t later.labels bar label.value) → IsSpread t later.labels bar (begin t.start)
+  taken_turn later bar spread grown before spreads =
       let short : taken.label.value.passed + 1 < length t.route = before (record taken.label { settled = true }) here_now in
-      turn t old.labels i taken.label taken.next.here taken.next.waits (begin t.start) later.labels spread (subst (λ (ls : List (Label State)). IsGrown ls later.labels) labels_are grown) (omega (arith, short))
+      turn t old.labels i taken.label taken.next.here taken.next.waits (begin t.start) later.labels bar spread (subst (λ (ls : List (Label State)). IsGrown ls later.labels) labels_are grown) (omega (arith, short))
       (spreads (record taken.label { settled = true }) here_now)
 
   pub taken_falls : (later : Labels State) → IsGrown now.labels later.labels → length now.labels < 2 ^ 63 → 2 ^ 63 - settled_count later.labels < 2 ^ 63 - settled_count old.labels
@@ -79,12 +79,12 @@ module _ (t : Journey) (old now : Labels State) (i : ℕ) (taken : IsTaken old n
       (grown.count ∙ ap settled_count labels_are ∙ now_count t old.labels i taken.label taken.next.here taken.next.waits) (omega (arith, most, count)) small
 
   -- at the end no way home takes less time
-  pub taken_home : (state : State) (end bar : ℕ) → IsSoundPool t old → IsSpread t old.labels (begin t.start) → end ≡ length t.route - 1 → state.passed ≡ end → ((label : Label State) → slice_get now.labels i ≡ Some label → state ≡ label.value)
+  pub taken_home : (state : State) (end bar : ℕ) → IsSoundPool t old → IsSpread t old.labels (Some bar) (begin t.start) → end ≡ length t.route - 1 → state.passed ≡ end → ((label : Label State) → slice_get now.labels i ≡ Some label → state ≡ label.value)
       → ((label : Label State) → slice_get old.labels i ≡ Some label → label.key < bar) → IsHome t now.labels bar i
   taken_home state end bar sound spread is at told below = record {
     label = record taken.label { settled = true };
     here = here_now;
     home = ap (λ (s : State). s.passed) (sym (told (record taken.label { settled = true }) here_now)) ∙ at ∙ is;
     below = below taken.label taken.next.here;
-    least = λ stops rest. least_home t old.labels spread i taken.label sound.labels taken.next stops rest;
+    least = λ stops rest. least_home t old.labels bar spread i taken.label sound.labels taken.next (below taken.label taken.next.here) stops rest;
   }

@@ -1,5 +1,5 @@
 -- What ways over stations cost at least, and their sum along a route.
-use Rattle.std.specs.Prelude.{◌≡◌, ℕ, ◌+◌, ◌<◌, List, [], ◌∷◌, get_or, length, map, slice_index}
+use Rattle.std.specs.Prelude.{◌≡◌, ℕ, ◌+◌, ◌-◌, ◌^◌, ◌<◌, List, [], ◌∷◌, get_or, length, map, min, slice_index}
 use Rattle.std.specs.Global.{Vec}
 use Rattle.ev_model.specs.Network.{Network, node_count}
 use Rattle.frvcp_labels.specs.Rest.{IsDirect, IsSteady}
@@ -26,3 +26,7 @@ way_cost layers from to = slice_index (get_or layers to []) from
 abbrev pub way_sum : List (List ℕ) → ℕ → List ℕ → ℕ
 way_sum layers from [] = 0
 way_sum layers from (to ∷ nodes) = way_cost layers from to + way_sum layers to nodes
+
+-- the number, or the greatest one of 64 bits where that is less
+abbrev pub capped : ℕ → ℕ
+capped n = min n (2 ^ 64 - 1)

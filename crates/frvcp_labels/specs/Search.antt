@@ -1,5 +1,5 @@
 -- The labels of a search, and what it keeps true of them.
-use Rattle.std.specs.Prelude.{◌≡◌, ℕ, ◌+◌, ◌-◌, ◌*◌, ◌^◌, ◌<◌, ◌≤◌, true, List, [], ◌∷◌, length, if◌then◌else◌, slice_get, slice_index, Option, Some, MatchOption}
+use Rattle.std.specs.Prelude.{◌≡◌, ℕ, ◌+◌, ◌-◌, ◌*◌, ◌^◌, ◌<◌, ◌≤◌, ◌⊎◌, true, List, [], ◌∷◌, length, if◌then◌else◌, slice_get, slice_index, Option, None, Some, MatchOption}
 use Rattle.ev_model.specs.Network.{node_count}
 use Rattle.ev_model.specs.Time.{time_from}
 use Rattle.ev_model.specs.declared.Stop.{Stop}
@@ -94,31 +94,50 @@ SpreadsTo t labels s passed to =
     (v : Leaving) (stop : Stop) → Holds s v → MayStop t.network t.route v stop → stop.node ≡ to →
     passed_after v.passed stop ≡ passed → Reached labels (leaving_after t.network v stop)
 
--- each stop at a station that a vehicle of the state may make does, where the stop is inserted
-abbrev pub SpreadsToStations : Journey → List (Label State) → State → Type 0
-SpreadsToStations t labels s = (n : ℕ) → n < length (stations t.network)
-    → SpreadsTo t labels s s.passed (slice_index (stations t.network) n)
+-- no way home of a vehicle is below the bar, if there is one
+abbrev pub IsLate : Journey → Option ℕ → Leaving → Type 0
+IsLate t None v = ⊥
+IsLate t (Some bar) v =
+    (stops : List Stop) → IsRest t.network t.route v stops →
+    bar ≤ v.time + time_from t.network 1 v.node v.level stops
 
--- each stop that a vehicle of the state may make does
-abbrev pub Spreads : Journey → List (Label State) → State → Type 0
-Spreads t labels s =
+-- whatever stop at that node a vehicle of the state may make, no way home from there is
+abbrev pub IsLateTo : Journey → Option ℕ → State → ℕ → ℕ → Type 0
+IsLateTo t bar s passed to =
+    (v : Leaving) (stop : Stop) → Holds s v → MayStop t.network t.route v stop → stop.node ≡ to →
+    passed_after v.passed stop ≡ passed → IsLate t bar (leaving_after t.network v stop)
+
+-- each stop there leads to one that is reached, or to none from where a way home is below the bar
+abbrev pub SpreadsInTimeTo : Journey → List (Label State) → Option ℕ → State → ℕ → ℕ → Type 0
+SpreadsInTimeTo t labels bar s passed to =
+    SpreadsTo t labels s passed to ⊎ IsLateTo t bar s passed to
+
+-- so does each stop at a station, where the stop is inserted
+abbrev pub SpreadsToStations : Journey → List (Label State) → Option ℕ → State → Type 0
+SpreadsToStations t labels bar s = (n : ℕ) → n < length (stations t.network)
+    → SpreadsInTimeTo t labels bar s s.passed (slice_index (stations t.network) n)
+
+-- so does each stop that a vehicle of the state may make
+abbrev pub Spreads : Journey → List (Label State) → Option ℕ → State → Type 0
+Spreads t labels bar s =
     (v : Leaving) (stop : Stop) → Holds s v → MayStop t.network t.route v stop →
-    Reached labels (leaving_after t.network v stop)
+    Reached labels (leaving_after t.network v stop) ⊎ IsLate t bar (leaving_after t.network v stop)
 
 -- each settled label spreads and is on its way, and the start is reached
-pub record IsSpread (t : Journey) (labels : List (Label State)) (first : Leaving) : Type 0 where
+pub record IsSpread (t : Journey) (labels : List (Label State)) (bar : Option ℕ)
+    (first : Leaving) : Type 0 where
   pub spreads : (i : ℕ) (label : Label State) → slice_get labels i ≡ Some label →
-      label.settled ≡ true → Spreads t labels label.value
+      label.settled ≡ true → Spreads t labels bar label.value
   pub on_way : (i : ℕ) (label : Label State) → slice_get labels i ≡ Some label →
       label.settled ≡ true → label.value.passed < length t.route - 1
   pub begun : Reached labels first
 
--- each settled label that is on its way spreads, and the start is reached
+-- each settled label that is on its way spreads, whatever the ways home, and the start is reached
 pub record IsSpreadOnWay (t : Journey) (labels : List (Label State))
     (first : Leaving) : Type 0 where
   pub spreads : (i : ℕ) (label : Label State) → slice_get labels i ≡ Some label →
       label.settled ≡ true → label.value.passed < length t.route - 1 →
-      Spreads t labels label.value
+      Spreads t labels None label.value
   pub begun : Reached labels first
 
 -- what a vehicle of each of the values does is reached

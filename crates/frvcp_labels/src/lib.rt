@@ -25,4 +25,4 @@ mod trip;
 pub use bounds::RouteBounds;
 pub use reaching::reachable_states;
 pub use route_steps::station_nodes;
-pub use solve::{Solved, solve_below, solve_route, solve_with_labels};
+pub use solve::{Solved, solve_route, solve_with_labels};

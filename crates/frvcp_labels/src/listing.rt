@@ -1,6 +1,6 @@
 //! The labels of a search, as a list of states.
 
-ghost use Rattle.std.specs.Prelude.{◌≡◌, ◌↔◌, ◌-◌, ◌<◌, ℕ, IfOk, IsTrue, OnOk, Some, true, length, slice_get};
+ghost use Rattle.std.specs.Prelude.{◌≡◌, ◌↔◌, ◌-◌, ◌<◌, ℕ, IfOk, IsTrue, None, OnOk, Some, true, length, slice_get};
 ghost use Rattle.std.specs.List.{All, Contains};
 ghost use Rattle.charge_curve.specs.Points.{ArePoints};
 ghost use Rattle.frvcp_labels.specs.Charged.{AreCharged};
@@ -60,12 +60,12 @@ impl<'a> Trip<'a> {
         ensures spreads { OnOk result ((label : Label State) →
             slice_get pool.old.labels i ≡ Some label →
             label.value.passed < length self.now.route - 1 →
-            Spreads self.now pool.new.labels label.value) }
+            Spreads self.now pool.new.labels None label.value) }
     {
         if pool.value(i).passed == self.end() {
             return Ok(());
         }
-        self.spread(alloc, pool, full, i)
+        self.spread(alloc, pool, full, i, None)
     }
 
     /// The states of the live labels that are on their way.

@@ -1,6 +1,6 @@
 //! The search by labels.
 
-ghost use Rattle.std.specs.Prelude.{◌≡◌, ◌<◌, ◌*◌, ◌+◌, ◌-◌, ◌^◌, ℕ, Some, IfOk, IfSome, IsNone, OnOk, length, slice_get};
+ghost use Rattle.std.specs.Prelude.{◌≡◌, ◌<◌, ◌*◌, ◌+◌, ◌-◌, ◌^◌, ℕ, Option, Some, IfOk, IfSome, IsNone, IsTrue, OnOk, length, slice_get};
 ghost use Rattle.label_pool.specs.declared.label.Label.{Label};
 ghost use Rattle.ev_model.specs.Network.{node_count};
 ghost use Rattle.dominance.specs.LevelTimes.{IsValue, time_at};
@@ -9,13 +9,13 @@ ghost use Rattle.frvcp_labels.specs.Answers.{IsHomeOrNone, IsTaken};
 ghost use Rattle.route_steps.specs.Homes.{IsBelowHomes};
 ghost use Rattle.frvcp_labels.specs.Charged.{AreCharged, OnlyAdds};
 ghost use Rattle.frvcp_labels.specs.Full.{AreFull};
-ghost use Rattle.frvcp_labels.specs.Search.{AreReached, HasOrigin, IsBelowWays, IsGrown, IsSoundPool, IsSpread, Reached, Spreads, SpreadsTo, SpreadsToStations};
+ghost use Rattle.frvcp_labels.specs.Search.{AreReached, HasOrigin, IsBelowWays, IsGrown, IsLateTo, IsSoundPool, IsSpread, Reached, Spreads, SpreadsInTimeTo, SpreadsTo, SpreadsToStations};
 ghost use Rattle.route_steps.specs.Steps.{AreSteps, CoverStops, Holds, IsSoundState, MayGo};
 ghost use Rattle.route_steps.specs.Ways.{Leaving, begin};
 ghost use Rattle.route_steps.specs.declared.state.State.{State};
 
 use crate::full::none_yet;
-use crate::rest::least_total;
+use crate::rest::{Arcs, least_total};
 use crate::trip::Trip;
 use dominance::LabelValue;
 use label_pool::Pool;
@@ -30,8 +30,8 @@ impl<'a> Trip<'a> {
         ensures pool { IfOk result (λ found. IsSoundPool self.now found.0) }
         ensures full { IfOk result (λ found. AreFull self.now found.0.labels found.1.items) }
         ensures charged { IfOk result (λ found. AreCharged self.now found.0.labels) }
-        ensures spread { IfOk result (λ found.
-            IsSpread self.now found.0.labels (begin self.now.start)) }
+        ensures spread { IfOk result (λ found. (bar : Option ℕ) →
+            IsSpread self.now found.0.labels bar (begin self.now.start)) }
     {
         let buckets = self.buckets();
         let mut pool = Pool::new(alloc, buckets)?;
@@ -58,7 +58,7 @@ impl<'a> Trip<'a> {
         requires pool { IsSoundPool self.now pool.old }
         requires full { AreFull self.now pool.old.labels full.old }
         requires charged { AreCharged self.now pool.old.labels }
-        requires spread { IsSpread self.now pool.old.labels (begin self.now.start) }
+        requires spread { IsSpread self.now pool.old.labels (Some bar) (begin self.now.start) }
         ensures pool { OnOk result (IsSoundPool self.now pool.new) }
         ensures full { OnOk result (AreFull self.now pool.new.labels full.new) }
         ensures home { IfOk result (IsHomeOrNone self.now pool.new.labels bar) }
@@ -67,7 +67,7 @@ impl<'a> Trip<'a> {
             if pool.value(i).passed == self.end() {
                 return Ok(Some(i));
             }
-            self.spread(alloc, pool, full, i)?;
+            self.spread(alloc, pool, full, i, Some(bar))?;
         }
         Ok(None)
     }
@@ -76,7 +76,7 @@ impl<'a> Trip<'a> {
     /// the bar.
     fn take_in_time(&self, pool: &mut Pool<State>, bar: u128) -> Option<usize>
         requires pool { IsSoundPool self.now pool.old }
-        requires spread { IsSpread self.now pool.old.labels (begin self.now.start) }
+        requires spread { IsSpread self.now pool.old.labels (Some bar) (begin self.now.start) }
         ensures none { IsNone result → IsBelowHomes self.now bar }
         ensures next { IfSome result (λ i. IsTaken pool.old pool.new i) }
         ensures below { IfSome result (λ i. (label : Label State) →
@@ -96,13 +96,15 @@ impl<'a> Trip<'a> {
         pool.take_next()
     }
 
-    /// Adds the labels that one step from a label leads to.
+    /// Adds the labels that one step from a label leads to, but those at stations from where no way
+    /// home is below the bar, if there is one.
     pub(crate) fn spread(
         &self,
         alloc: Global,
         pool: &mut Pool<State>,
         full: &mut [Option<u64>],
         i: usize,
+        bar: Option<u128>,
     ) -> Result<(), AllocError>
         requires pool { IsSoundPool self.now pool.old }
         requires full { AreFull self.now pool.old.labels full.old }
@@ -116,14 +118,15 @@ impl<'a> Trip<'a> {
         ensures grown { OnOk result (IsGrown pool.old.labels pool.new.labels) }
         ensures spreads { OnOk result ((label : Label State) →
             slice_get pool.old.labels i ≡ Some label →
-            Spreads self.now pool.new.labels label.value) }
+            Spreads self.now pool.new.labels bar label.value) }
     {
         let passed = pool.value(i).passed;
         self.go(alloc, pool, full, i, passed + 1, self.node_at(passed + 1))?;
-        self.go_to_stations(alloc, pool, full, i, passed)
+        self.go_to_stations(alloc, pool, full, i, passed, bar)
     }
 
-    /// Adds the labels at the stations that a step from a label leads to, `passed` being its own.
+    /// Adds the labels at the stations that a step from a label leads to, `passed` being its own,
+    /// but those from where no way home is below the bar.
     fn go_to_stations(
         &self,
         alloc: Global,
@@ -131,6 +134,7 @@ impl<'a> Trip<'a> {
         full: &mut [Option<u64>],
         i: usize,
         passed: usize,
+        bar: Option<u128>,
     ) -> Result<(), AllocError>
         requires pool { IsSoundPool self.now pool.old }
         requires full { AreFull self.now pool.old.labels full.old }
@@ -144,12 +148,65 @@ impl<'a> Trip<'a> {
         ensures grown { OnOk result (IsGrown pool.old.labels pool.new.labels) }
         ensures spreads { OnOk result ((label : Label State) →
             slice_get pool.old.labels i ≡ Some label →
-            SpreadsToStations self.now pool.new.labels label.value) }
+            SpreadsToStations self.now pool.new.labels bar label.value) }
     {
         for station in self.stations {
-            self.go(alloc, pool, full, i, passed, *station)?;
+            self.go_to_station(alloc, pool, full, i, passed, *station, bar)?;
         }
         Ok(())
+    }
+
+    /// Adds the labels at one station that a step from a label leads to, but where no way home from
+    /// there is below the bar.
+    fn go_to_station(
+        &self,
+        alloc: Global,
+        pool: &mut Pool<State>,
+        full: &mut [Option<u64>],
+        i: usize,
+        passed: usize,
+        to: usize,
+        bar: Option<u128>,
+    ) -> Result<(), AllocError>
+        requires pool { IsSoundPool self.now pool.old }
+        requires full { AreFull self.now pool.old.labels full.old }
+        requires charged { AreCharged self.now pool.old.labels }
+        requires from { i < length pool.old.labels }
+        requires next { (label : Label State) → slice_get pool.old.labels i ≡ Some label →
+            MayGo self.now.network self.now.route label.value.passed passed to }
+        ensures pool { OnOk result (IsSoundPool self.now pool.new) }
+        ensures full { OnOk result (AreFull self.now pool.new.labels full.new) }
+        ensures charged { OnOk result (AreCharged self.now pool.new.labels) }
+        ensures grown { OnOk result (IsGrown pool.old.labels pool.new.labels) }
+        ensures spreads { OnOk result ((label : Label State) →
+            slice_get pool.old.labels i ≡ Some label →
+            SpreadsInTimeTo self.now pool.new.labels bar label.value passed to) }
+    {
+        if self.is_late_over(pool.value(i), passed, to, bar) {
+            return Ok(());
+        }
+        self.go(alloc, pool, full, i, passed, to)
+    }
+
+    /// Whether no way home of a vehicle of a state over a station is below the bar: by its arc
+    /// there, and the bound on the rest.
+    fn is_late_over(&self, from: &State, passed: usize, to: usize, bar: Option<u128>) -> bool
+        requires from { IsSoundState self.now.network self.now.route from.now }
+        requires next { MayGo self.now.network self.now.route from.now.passed passed to }
+        requires few { length self.now.route * node_count self.now.network < 2 ^ 64 }
+        ensures { IsTrue result → IsLateTo self.now bar from.now passed to }
+    {
+        let Some(bar) = bar else {
+            return false;
+        };
+        let rest = self.rest.least[self.bucket(passed, to)];
+        let arcs = Arcs {
+            inst: self.inst,
+            stations: self.stations,
+            rate: self.rest.rate,
+        };
+        let on = arcs.cost(from.node, to).saturating_add(rest);
+        bar <= u128::from(least_total(from.value.points(), on, self.rest.rate))
     }
 
     /// Adds the labels at one node that a step from a label leads to.

@@ -47,34 +47,6 @@ pub fn solve_route(
     trip.fastest(alloc)
 }
 
-/// A fastest plan of the route, as `solve_route` finds it, where it takes less than `bar`, a scaled
-/// time. `Ok(None)` comes exactly where no feasible plan of the route does, in any fraction of a
-/// unit; the search ends as soon as that is known.
-pub fn solve_below(
-    alloc: Global,
-    inst: &Instance,
-    route: &[usize],
-    start: u64,
-    bar: u128,
-) -> Result<Option<RoutePlan>, AllocError>
-    requires route { IsRoute inst.now route.now }
-    requires start { start ≤ inst.now.capacity }
-    ensures { IfOk result (λ answer. MatchOption answer
-        (HasNoneBelow inst.now route.now start bar)
-        (λ plan. IsFastestBelow inst.now route.now start bar plan.stops)) }
-{
-    let stations = station_nodes(alloc, inst)?;
-    let rest = Rest::new(alloc, inst, route, &stations)?;
-    let trip = Trip {
-        inst,
-        route,
-        stations: &stations,
-        start,
-        rest: &rest,
-    };
-    trip.fastest_below(alloc, bar)
-}
-
 /// A fastest plan of a route, or none, and states by which a judge may see that none is faster.
 #[derive(Drop)]
 pub struct Solved {
@@ -125,8 +97,12 @@ impl<'a> Trip<'a> {
         self.fastest_below(alloc, self.past_limit())
     }
 
-    /// What `solve_below` answers.
-    fn fastest_below(&self, alloc: Global, bar: u128) -> Result<Option<RoutePlan>, AllocError>
+    /// What `RouteBounds::solve_below` answers.
+    pub(crate) fn fastest_below(
+        &self,
+        alloc: Global,
+        bar: u128,
+    ) -> Result<Option<RoutePlan>, AllocError>
         ensures { IfOk result (λ answer. MatchOption answer
             (HasNoneBelow self.now.network self.now.route self.now.start bar)
             (λ plan. IsFastestBelow self.now.network self.now.route self.now.start bar

@@ -1,16 +1,25 @@
--- What is held once a search has looked for cheaper plans.
-use Rattle.std.specs.Prelude.{◌≡◌, ◌≤◌}
-use Rattle.ev_model.specs.Fleet.{cost_of}
+-- What is held while a search looks for cheaper plans, and what is made of it in the end.
+use Rattle.std.specs.Prelude.{◌≡◌, ◌≤◌, List, Option, None, Some}
+use Rattle.ev_model.specs.Fleet.{IsFleetPlan, cost_of}
 use Rattle.ev_model.specs.Network.{Network}
 use Rattle.plan_check.specs.FleetRules.{stops_of}
-use Rattle.route_improve.specs.Improved.{IsImproved}
+use Rattle.route_improve.specs.Improved.{IsAnswer, IsFirstAlone}
 use Rattle.route_improve.specs.declared.improving.Improved.{Improved}
 use Rattle.route_improve.specs.declared.improving.Improved.TheVariants.{Plan, Alone}
 use Rattle.route_plan.specs.declared.plan.FleetPlan.{FleetPlan}
+use Rattle.route_plan.specs.declared.plan.RoutePlan.{RoutePlan}
+use Rattle.gap_search.specs.Gap.{IsNoDearer}
 
--- a plan that no move makes cheaper, and that costs no more than the one before
+-- a fleet plan that is no dearer than the one to begin with; or, where there was none, the first
+-- customer without a route of his own
+abbrev pub IsBegun : Network → Option (List RoutePlan) → Improved → Type 0
+IsBegun g start (Plan plan) =
+    IsFleetPlan g 1 (stops_of plan.routes) × IsNoDearer g start (cost_of g 1 (stops_of plan.routes))
+IsBegun g start (Alone node) = (start ≡ None) × IsFirstAlone g node
+
+-- a fleet plan that costs no more than the one before
 pub record IsPlanAfter (g : Network) (before after : FleetPlan) : Type 0 where
-  pub improved : IsImproved g after.routes
+  pub fleet : IsFleetPlan g 1 (stops_of after.routes)
   pub no_more : cost_of g 1 (stops_of after.routes) ≤ cost_of g 1 (stops_of before.routes)
 
 -- such a plan where one was held, and else no plan for the same reason
@@ -18,3 +27,8 @@ abbrev pub IsHeldAfter : Network → Improved → Improved → Type 0
 IsHeldAfter g (Plan before) (Plan after) = IsPlanAfter g before after
 IsHeldAfter g (Plan before) (Alone node) = ⊥
 IsHeldAfter g (Alone node) after = after ≡ Alone node
+
+-- what moves of single customers answer to such a plan, and else no plan for the same reason
+abbrev pub IsSettledAfter : Network → Improved → Improved → Type 0
+IsSettledAfter g (Plan before) after = IsAnswer g (Some before.routes) after
+IsSettledAfter g (Alone node) after = after ≡ Alone node

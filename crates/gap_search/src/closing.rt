@@ -12,6 +12,7 @@ use crate::offers::cost_of_plan;
 use crate::outcome::GapOutcome;
 use crate::plans::{FoundRoutes, cheaper};
 use crate::recreation::Recreation;
+use crate::settling::settled;
 use crate::watcher::{GapProgress, GapWatcher};
 use instance_reader::Instance;
 use near_columns::{GapClock, NearFound, search_near};
@@ -56,6 +57,7 @@ pub fn close_gap<C: GapClock, W: GapWatcher>(
     let proof = proof_of_candidate(alloc, inst, candidate, &prices, watcher)?;
     let found = FoundRoutes { orders, dives };
     let plan = cheaper(alloc, inst, first, found, &proof, clock, watcher)?;
+    let plan = settled(alloc, inst, plan, watcher)?;
     Ok(GapOutcome { plan, proof })
 }
 

@@ -1,9 +1,9 @@
-//! The first plan: by ruin and recreate, and then by moves of single customers.
+//! The first plan: by ruin and recreate, or by moves of single customers.
 
 ghost use Rattle.std.specs.Prelude.{◌≡◌, ◌≤◌, IfOk, IfSome, IsTrue, None, Some, option_map};
 ghost use Rattle.ev_model.specs.Fleet.{IsFleetPlan, cost_of};
+ghost use Rattle.gap_search.specs.After.{IsBegun};
 ghost use Rattle.gap_search.specs.Gap as gap;
-ghost use Rattle.gap_search.specs.Gap.{IsHeld};
 ghost use Rattle.plan_check.specs.FleetRules.{stops_of};
 ghost use Rattle.route_improve.specs.Improved.{IsOrderly};
 ghost use Rattle.ruin_recreate.specs.Recreated.{IsNoDearer};
@@ -22,9 +22,9 @@ use std::alloc::{AllocError, Global};
 /// More customers a route than so many make routes long.
 const LONG_ROUTE: usize = 20;
 
-/// The first plan, or why none is held: where work is done for it, by ruin and recreate first, and
-/// then by moves of single customers until none helps.
-#[tactic(auto, using(crate::proofs::Outcomes::held))]
+/// The first plan, or why none is held: where work is done for it, by ruin and recreate, which ends
+/// with some moves of single customers, and else by these until none helps.
+#[tactic(auto, using(crate::proofs::Outcomes::begun))]
 pub(crate) fn first_plan<C: GapClock, W: GapWatcher>(
     alloc: Global,
     inst: &Instance,
@@ -34,7 +34,7 @@ pub(crate) fn first_plan<C: GapClock, W: GapWatcher>(
     watcher: &mut W,
 ) -> Result<Improved, AllocError>
     requires { IfSome start (λ plan. IsFleetPlan inst.now 1 (stops_of plan.now.routes)) }
-    ensures { IfOk result (IsHeld inst.now (option_map (λ plan. plan.now.routes) start.entry)) }
+    ensures { IfOk result (IsBegun inst.now (option_map (λ plan. plan.now.routes) start.entry)) }
 {
     let Some(work) = recreation.work(inst.customers().len()) else {
         return improve_watched(alloc, inst, start, watcher);
@@ -46,7 +46,7 @@ pub(crate) fn first_plan<C: GapClock, W: GapWatcher>(
 }
 
 /// A plan that is made of this one, and no dearer.
-#[tactic(auto, using(crate::proofs::Outcomes::held_behind))]
+#[tactic(auto, using(crate::proofs::Outcomes::begun_behind))]
 fn from_plan<C: GapClock, W: GapWatcher>(
     alloc: Global,
     inst: &Instance,
@@ -57,11 +57,11 @@ fn from_plan<C: GapClock, W: GapWatcher>(
     watcher: &mut W,
 ) -> Result<Improved, AllocError>
     requires { IsFleetPlan inst.now 1 (stops_of plan.now.routes) }
-    ensures { IfOk result (IsHeld inst.now (Some plan.now.routes)) }
+    ensures { IfOk result (IsBegun inst.now (Some plan.now.routes)) }
 {
     let better = recreated(alloc, inst, plan, work.first, seed, watcher)?;
     let better = more_work(alloc, inst, better, work.then, seed, clock, watcher)?;
-    improve_watched(alloc, inst, Some(&better), watcher)
+    Ok(Improved::Plan(better))
 }
 
 /// A plan, or the first customer without a route of his own.
@@ -73,7 +73,7 @@ fn from_none<C: GapClock, W: GapWatcher>(
     clock: &mut C,
     watcher: &mut W,
 ) -> Result<Improved, AllocError>
-    ensures { IfOk result (IsHeld inst.now None) }
+    ensures { IfOk result (IsBegun inst.now None) }
 {
     let found = recreate(alloc, inst, None, work.first, seed, watcher)?;
     let Recreated {
@@ -83,7 +83,7 @@ fn from_none<C: GapClock, W: GapWatcher>(
     match outcome {
         Improved::Plan(plan) => {
             let plan = more_work(alloc, inst, plan, work.then, seed, clock, watcher)?;
-            settled(alloc, inst, &plan, watcher)
+            no_dearer_than_own(alloc, inst, plan, watcher)
         }
         Improved::Alone(node) => Ok(Improved::Alone(node)),
     }
@@ -141,21 +141,20 @@ fn are_long(inst: &Instance, plan: &FleetPlan) -> bool {
     inst.customers().len() > plan.routes.len().saturating_mul(LONG_ROUTE)
 }
 
-/// The plan, made cheaper by moves; or one of routes for the customers alone, where the plan is
-/// dearer than these.
-fn settled<W: GapWatcher>(
+/// The plan; or one that moves make of routes for the customers alone, where the plan is dearer
+/// than these.
+#[tactic(auto, using(crate::proofs::Outcomes::begun))]
+fn no_dearer_than_own<W: GapWatcher>(
     alloc: Global,
     inst: &Instance,
-    plan: &FleetPlan,
+    plan: FleetPlan,
     watcher: &mut W,
 ) -> Result<Improved, AllocError>
-    requires { IsFleetPlan inst.now 1 (stops_of plan.now.routes) }
-    ensures { IfOk result (IsHeld inst.now None) }
+    requires { IsFleetPlan inst.now 1 (stops_of plan.routes) }
+    ensures { IfOk result (IsBegun inst.now None) }
 {
-    if let Improved::Plan(better) = improve_watched(alloc, inst, Some(plan), watcher)? {
-        if is_no_dearer_than_own(alloc, inst, &better)? {
-            return Ok(Improved::Plan(better));
-        }
+    if is_no_dearer_than_own(alloc, inst, &plan)? {
+        return Ok(Improved::Plan(plan));
     }
     improve_watched(alloc, inst, None, watcher)
 }

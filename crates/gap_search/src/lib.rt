@@ -16,6 +16,7 @@ mod outcome;
 mod own;
 mod plans;
 mod recreation;
+mod settling;
 mod watcher;
 
 pub use candidate::proof_of_candidate;

@@ -1,11 +1,10 @@
-//! Plans that are made of routes that a search found, and made cheaper by moves.
+//! Plans that are made of routes that a search found, and made cheaper by some moves.
 
 ghost use Rattle.std.specs.Prelude.{◌≡◌, IfOk, IfSome};
-ghost use Rattle.ev_model.specs.Fleet.{cost_of};
+ghost use Rattle.ev_model.specs.Fleet.{IsFleetPlan, cost_of};
 ghost use Rattle.plan_check.specs.FleetRules.{stops_of};
 ghost use Rattle.gap_search.specs.After.{IsHeldAfter, IsPlanAfter};
 ghost use Rattle.gap_search.specs.Gap.{plan_held};
-ghost use Rattle.route_improve.specs.Improved.{IsImproved};
 
 use crate::offers::Offers;
 use crate::watcher::GapWatcher;
@@ -14,12 +13,15 @@ use instance_reader::Instance;
 use near_columns::{GapClock, NearOrder, fastest_plan};
 use near_proof::NearProof;
 use plan_check::{LargeFault, check_large};
-use route_improve::{Improved, improve_watched};
+use route_improve::{Improved, improve_within};
 use route_plan::FleetPlan;
 use std::alloc::{AllocError, Global};
 
 /// So many plans are made of choices of routes at the most.
 const MOST_PLANS: usize = 40;
+
+/// So much work is done at the most to make one of them cheaper by moves: some seconds.
+const MOVES_WORK: u64 = 4_000_000;
 
 /// Routes that a search found, of which plans are made.
 #[derive(Drop)]
@@ -31,7 +33,7 @@ pub(crate) struct FoundRoutes {
 }
 
 /// What is held, with a plan that costs no more: of the routes others are made, each is made
-/// cheaper by moves, and the cheapest is held. Where no plan is held none is made. The clock is
+/// cheaper by some moves, and the cheapest is held. Where no plan is held none is made. The clock is
 /// asked between two of them whether to stop.
 pub(crate) fn cheaper<C: GapClock, W: GapWatcher>(
     alloc: Global,
@@ -42,7 +44,8 @@ pub(crate) fn cheaper<C: GapClock, W: GapWatcher>(
     clock: &mut C,
     watcher: &mut W,
 ) -> Result<Improved, AllocError>
-    requires { IfSome (plan_held held) (λ plan. IsImproved inst.now plan.routes) }
+    requires { IfSome (plan_held held) (λ plan. IsFleetPlan inst.now 1
+        (stops_of plan.routes)) }
     ensures { IfOk result (IsHeldAfter inst.now held) }
 {
     match held {
@@ -54,7 +57,7 @@ pub(crate) fn cheaper<C: GapClock, W: GapWatcher>(
     }
 }
 
-/// A plan that costs no more than the one that is held, and that no move makes cheaper.
+/// A plan that costs no more than the one that is held.
 fn cheaper_plan<C: GapClock, W: GapWatcher>(
     alloc: Global,
     inst: &Instance,
@@ -64,7 +67,7 @@ fn cheaper_plan<C: GapClock, W: GapWatcher>(
     clock: &mut C,
     watcher: &mut W,
 ) -> Result<FleetPlan, AllocError>
-    requires { IsImproved inst.now held.routes }
+    requires { IsFleetPlan inst.now 1 (stops_of held.routes) }
     ensures { IfOk result (IsPlanAfter inst.now held) }
 {
     let FoundRoutes { orders, dives } = found;
@@ -84,7 +87,7 @@ fn with_dives<C: GapClock, W: GapWatcher>(
     clock: &mut C,
     watcher: &mut W,
 ) -> Result<FleetPlan, AllocError>
-    requires { IsImproved inst.now held.routes }
+    requires { IsFleetPlan inst.now 1 (stops_of held.routes) }
     ensures { IfOk result (IsPlanAfter inst.now held) }
 {
     for dive in dives {
@@ -107,7 +110,7 @@ fn with_choices<C: GapClock, W: GapWatcher>(
     clock: &mut C,
     watcher: &mut W,
 ) -> Result<FleetPlan, AllocError>
-    requires { IsImproved inst.now held.routes }
+    requires { IsFleetPlan inst.now 1 (stops_of held.routes) }
     ensures { IfOk result (IsPlanAfter inst.now held) }
 {
     for _ in 0..MOST_PLANS {
@@ -123,8 +126,8 @@ fn with_choices<C: GapClock, W: GapWatcher>(
     Ok(held)
 }
 
-/// The plan that is held, or the one of the routes at these places, made cheaper by moves, where it
-/// is one and costs less.
+/// The plan that is held, or the one of the routes at these places, made cheaper by some moves,
+/// where it is one and costs less.
 fn with_choice<W: GapWatcher>(
     alloc: Global,
     inst: &Instance,
@@ -133,13 +136,13 @@ fn with_choice<W: GapWatcher>(
     places: &[usize],
     watcher: &mut W,
 ) -> Result<FleetPlan, AllocError>
-    requires { IsImproved inst.now held.routes }
+    requires { IsFleetPlan inst.now 1 (stops_of held.routes) }
     ensures { IfOk result (IsPlanAfter inst.now held) }
 {
     let Some(plan) = plan_of(alloc, inst, offers, places)? else {
         return Ok(held);
     };
-    let Some(other) = improved(alloc, inst, &plan, watcher)? else {
+    let Some(other) = improved(alloc, inst, &plan)? else {
         return Ok(held);
     };
     let held = cheaper_of(alloc, inst, held, other)?;
@@ -169,35 +172,32 @@ fn plan_of(
     }))
 }
 
-/// The plan, made cheaper by moves, where it is a fleet plan.
-fn improved<W: GapWatcher>(
+/// The plan, made cheaper by some moves, where it is a fleet plan.
+fn improved(
     alloc: Global,
     inst: &Instance,
     plan: &FleetPlan,
-    watcher: &mut W,
 ) -> Result<Option<FleetPlan>, AllocError>
-    ensures { IfOk result (λ found. IfSome found (λ better. IsImproved inst.now better.routes)) }
+    ensures { IfOk result (λ found. IfSome found
+        (λ better. IsFleetPlan inst.now 1 (stops_of better.routes))) }
 {
     match check_large(alloc, inst, plan) {
         Ok(_) => {}
         Err(LargeFault::Memory) => return Err(AllocError),
         Err(LargeFault::Plan { .. }) => return Ok(None),
     }
-    match improve_watched(alloc, inst, Some(plan), watcher)? {
-        Improved::Plan(better) => Ok(Some(better)),
-        Improved::Alone(_) => Ok(None),
-    }
+    Ok(Some(improve_within(alloc, inst, plan, MOVES_WORK)?))
 }
 
-/// The cheaper one of two plans that no move makes cheaper.
+/// The cheaper one of two fleet plans.
 fn cheaper_of(
     alloc: Global,
     inst: &Instance,
     held: FleetPlan,
     other: FleetPlan,
 ) -> Result<FleetPlan, AllocError>
-    requires held { IsImproved inst.now held.routes }
-    requires other { IsImproved inst.now other.routes }
+    requires held { IsFleetPlan inst.now 1 (stops_of held.routes) }
+    requires other { IsFleetPlan inst.now 1 (stops_of other.routes) }
     ensures { IfOk result (IsPlanAfter inst.now held) }
 {
     let (Some(cost), Some(than)) = (cost_of(alloc, inst, &other)?, cost_of(alloc, inst, &held)?)

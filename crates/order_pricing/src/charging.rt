@@ -6,7 +6,7 @@ ghost use Rattle.order_pricing.specs.Orders.{IsOrder, route_over};
 ghost use Rattle.order_pricing.specs.Pricing.{IsKnownOf, IsTimeOf, Tells};
 
 use crate::known::Known;
-use frvcp_labels::{solve_below, solve_route};
+use frvcp_labels::{RouteBounds, solve_route};
 use instance_reader::Instance;
 use route_plan::RoutePlan;
 use std::alloc::{AllocError, Global};
@@ -31,9 +31,11 @@ pub(crate) fn charge(
 pub(crate) fn charge_below(
     alloc: Global,
     inst: &Instance,
+    bounds: &RouteBounds,
     order: &[usize],
     bar: u128,
 ) -> Result<Known, AllocError>
+    requires bounds { bounds.now ≡ inst.now }
     requires order { IsOrder inst.now order.now }
     requires some { order.now ≢ [] }
     ensures known { IfOk result (IsKnownOf inst.now order.now) }
@@ -41,7 +43,7 @@ pub(crate) fn charge_below(
 {
     let _nodes = inst.nodes();
     let route = route_over(alloc, order)?;
-    match solve_below(alloc, inst, &route, inst.max_q(), bar)? {
+    match bounds.solve_below(alloc, &route, inst.max_q(), bar)? {
         Some(plan) => Ok(Known::Time(plan.full_time(inst))),
         None => Ok(Known::NotBelow(bar)),
     }

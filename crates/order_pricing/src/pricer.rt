@@ -171,7 +171,7 @@ impl<'a> Pricer<'a> {
         ensures known { IfOk result (IsKnownOf self.old order.now) }
         ensures tells { IfOk result (λ told. (least : ℕ) → least ≤ bar → Tells least told) }
     {
-        let told = charge_below(alloc, self.inst, order, bar)?;
+        let told = charge_below(alloc, self.inst, &self.bounds, order, bar)?;
         remember(alloc, self.inst, &mut self.known, order, told)?;
         Ok(told)
     }

@@ -23,7 +23,7 @@ use std::alloc::{AllocError, Global};
 /// none helps or so much work was done.
 ///
 /// Work is counted in customers that are looked at. Charging an order of n customers takes as much
-/// as looking at n squared: a million is about a second. What was begun is brought to its end, the
+/// as looking at n squared: a million is a second at most. What was begun is brought to its end, the
 /// moves of one customer to and with one route, and each route of the plan is charged once
 /// whatever the work.
 ///

@@ -16,7 +16,7 @@ use route_plan::FleetPlan;
 use std::alloc::{AllocError, Global};
 
 /// So much work the moves of single customers do at the end at the most.
-const MOVES_WORK: u64 = 4_000_000;
+const MOVES_WORK: u64 = 40_000_000;
 
 /// What a search found.
 #[derive(Drop)]

@@ -1,4 +1,4 @@
-use Rattle.std.proofs.Common.{List, ℕ, arith}
+use Rattle.std.proofs.Common.{List, None, ℕ, arith}
 use Rattle.std.proofs.lemmas.Grind.{common_steps}
 use Rattle.ev_model.specs.Network.{Network}
 use Rattle.std.proofs.lemmas.Result.{IfOk-weaker}
@@ -13,7 +13,7 @@ abbrev of : Network → List ℕ → ℕ → Journey
 of g route start = record { network = g; route = route; start = start }
 
 pub settle_all-requires-clause-spread : goal.settle_all-requires-clause-spread
-settle_all-requires-clause-spread c = on_way_only (of c.args.inst.now c.args.route.now c.args.start) c.in_ok-pool.pool.labels (begin c.args.start) c.in_ok-pool.ensures.spread
+settle_all-requires-clause-spread c = on_way_only (of c.args.inst.now c.args.route.now c.args.start) c.in_ok-pool.pool.labels (begin c.args.start) (c.in_ok-pool.ensures.spread None)
 
 pub returns-clause-all : goal.returns-clause-all
 returns-clause-all c =

@@ -1,4 +1,4 @@
-use Rattle.std.proofs.Common.{◌<◌, ◌^◌, ℕ, length, refl, subst, sym}
+use Rattle.std.proofs.Common.{◌<◌, ◌^◌, ℕ, Some, length, refl, subst, sym}
 use Rattle.std.specs.Prelude.{IfSome, IsNone, Option}
 use Rattle.label_pool.specs.Labels.{Labels}
 use Rattle.frvcp_labels.specs.Full.{AreFull}
@@ -33,7 +33,7 @@ loop-i-preserved c = record {
   pool = c.in_ok-spread.ensures.pool;
   full = c.in_ok-spread.ensures.full;
   charged = c.in_ok-spread.ensures.charged;
-  spread = taken_turn c.args.self.now c.loop-i.pool c.take_in_time.new.pool c.in-Some.i (is_taken c.loop-i.pool c.take_in_time.new.pool c.take_in_time.result c.in-Some.i c.in-Some.is c.take_in_time.ensures.next) c.spread.new.pool c.loop-i.invariant.spread c.in_ok-spread.ensures.grown
+  spread = taken_turn c.args.self.now c.loop-i.pool c.take_in_time.new.pool c.in-Some.i (is_taken c.loop-i.pool c.take_in_time.new.pool c.take_in_time.result c.in-Some.i c.in-Some.is c.take_in_time.ensures.next) c.spread.new.pool (Some c.args.bar) c.loop-i.invariant.spread c.in_ok-spread.ensures.grown
       (taken_on_way c.args.self.now c.loop-i.pool c.take_in_time.new.pool c.in-Some.i (is_taken c.loop-i.pool c.take_in_time.new.pool c.take_in_time.result c.in-Some.i c.in-Some.is c.take_in_time.ensures.next) c.value.result.now c.end.result c.loop-i.invariant.pool c.end.ensures.value c.if-value-end.false c.value.ensures) c.in_ok-spread.ensures.spreads;
 }
 

@@ -1,4 +1,4 @@
-use Rattle.std.proofs.Common.{◌-◌, ◌^◌}
+use Rattle.std.proofs.Common.{◌-◌, ◌^◌, Some}
 use Rattle.frvcp_labels.specs.Charged.{AreCharged}
 use Rattle.frvcp_labels.specs.Full.{AreFull}
 use Rattle.frvcp_labels.specs.Search.{IsSoundPool, IsSpread, settled_count}
@@ -10,7 +10,7 @@ invariant-loop-i l = record {
   pool : IsSoundPool l.self l.pool;
   full : AreFull l.self l.pool.labels l.full;
   charged : AreCharged l.self l.pool.labels;
-  spread : IsSpread l.self l.pool.labels (begin l.self.start);
+  spread : IsSpread l.self l.pool.labels (Some l.bar) (begin l.self.start);
 }
 
 abbrev pub decreases-loop-i : goal.decreases-loop-i

@@ -10,5 +10,5 @@ invariant-loop-station l = record {
   full : AreFull l.self l.pool.labels l.full;
   charged : AreCharged l.self l.pool.labels;
   grown : IsGrown l.fn.pool.labels l.pool.labels;
-  below : SpreadsBelow l.self l.fn.pool.labels l.pool.labels l.i l.passed l.station-index;
+  below : SpreadsBelow l.self l.fn.pool.labels l.pool.labels l.bar l.i l.passed l.station-index;
 }

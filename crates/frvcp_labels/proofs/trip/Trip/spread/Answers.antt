@@ -48,6 +48,6 @@ returns-clause-grown c =
 pub returns-clause-spreads : goal.returns-clause-spreads
 returns-clause-spreads c =
     IfOk-weaker c.go_to_stations.result _ _
-    (λ u both. spreads_whole c.args.self.now c.args.pool.now.labels c.go.new.pool.labels c.go_to_stations.new.pool.labels c.args.i c.value.result.now.passed (spread_from c.args.self.now c.args.pool.now.labels c.args.i c.value.result.now c.requires.from c.requires.on_way c.value.ensures) c.in_ok-go.ensures.grown both.0
+    (λ u both. spreads_whole c.args.self.now c.args.pool.now.labels c.go.new.pool.labels c.go_to_stations.new.pool.labels c.args.bar c.args.i c.value.result.now.passed (spread_from c.args.self.now c.args.pool.now.labels c.args.i c.value.result.now c.requires.from c.requires.on_way c.value.ensures) c.in_ok-go.ensures.grown both.0
     (subst (λ x. (label : Label State) → slice_get c.args.pool.now.labels c.args.i ≡ Some label → SpreadsTo c.args.self.now c.go.new.pool.labels label.value (c.value.result.now.passed + 1) x) c.node_at.ensures c.in_ok-go.ensures.spreads) both.1)
     (IfOk-both c.go_to_stations.result _ _ c.go_to_stations.ensures.grown c.go_to_stations.ensures.spreads)
