@@ -1,6 +1,6 @@
 //! When a search has had its time.
 
-use evgap_run::{GapClock, JobClock};
+use evgap_run::{GapClock, JobClock, SearchClock};
 use std::rt::Clock;
 use std::time::Duration;
 
@@ -20,15 +20,29 @@ impl<'a, R: Clock> Deadline<'a, R> {
     }
 }
 
-impl<'a, R: Clock> GapClock for Deadline<'a, R> {
+impl<'a, R: Clock> SearchClock for Deadline<'a, R> {
     fn is_up(&mut self) -> bool {
+        self.is_up_in(0)
+    }
+}
+
+impl<'a, R: Clock> GapClock for Deadline<'a, R> {
+    fn is_up_in(&mut self, milliseconds: u64) -> bool {
         let Some(until) = self.until else {
             return false;
         };
         match self.rt.monotonic() {
-            Ok(now) => now.checked_sub(until).is_some(),
+            Ok(now) => is_behind(now, milliseconds, until),
             Err(_) => false,
         }
+    }
+}
+
+/// Whether so many milliseconds from now on are at the end of a time, or behind it.
+fn is_behind(now: Duration, milliseconds: u64, until: Duration) -> bool {
+    match now.checked_add(Duration::from_millis(milliseconds)) {
+        Some(then) => then.checked_sub(until).is_some(),
+        None => true,
     }
 }
 

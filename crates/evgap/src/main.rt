@@ -1,4 +1,4 @@
-//! `evgap`: plans for electric delivery fleets of up to 128 customers, with close bounds.
+//! `evgap`: plans for electric delivery fleets of up to 399 customers, with close bounds.
 #![tactic(auto)]
 
 mod commands;

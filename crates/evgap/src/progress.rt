@@ -2,8 +2,7 @@
 
 use evgap_run::{
     Cause, CauseListener, GapProgress, GapWatcher, JobWatcher, MoveProgress, MoveWatcher,
-    PriceProgress, PriceWatcher, RecreateProgress, RecreateWatcher, RoundsProgress, RoundsWatcher,
-    ScaleWatcher,
+    PricesProgress, PricesWatcher, RecreateProgress, RecreateWatcher, ScaleWatcher,
 };
 use job_listeners::Pace;
 use std::fmt::{self, Display, Formatter};
@@ -77,10 +76,10 @@ impl<'a, R: Clock + Eprint> MoveWatcher for ToldGap<'a, R> {
     }
 }
 
-impl<'a, R: Clock + Eprint> RoundsWatcher for ToldGap<'a, R> {
-    fn watch_rounds(&mut self, progress: RoundsProgress) {
+impl<'a, R: Clock + Eprint> PricesWatcher for ToldGap<'a, R> {
+    fn watch_prices(&mut self, progress: PricesProgress) {
         if self.is_due() {
-            let RoundsProgress {
+            let PricesProgress {
                 rounds,
                 routes,
                 prices,
@@ -89,23 +88,6 @@ impl<'a, R: Clock + Eprint> RoundsWatcher for ToldGap<'a, R> {
             let held = self.held();
             let _ = eprintln!(self.rt;
                 "evgap: rounds {rounds}, routes {routes}, prices {prices}/{denominator}{held}"
-            );
-        }
-    }
-}
-
-impl<'a, R: Clock + Eprint> PriceWatcher for ToldGap<'a, R> {
-    fn watch_prices(&mut self, progress: PriceProgress) {
-        if self.is_due() {
-            let PriceProgress {
-                customers,
-                fixed,
-                bound,
-            } = progress;
-            let denominator = self.denominator;
-            let held = self.held();
-            let _ = eprintln!(self.rt;
-                "evgap: prices {fixed} of {customers}, bound {bound}/{denominator}{held}"
             );
         }
     }

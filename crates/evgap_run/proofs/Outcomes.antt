@@ -7,8 +7,6 @@ use Rattle.fleet_steps.specs.PlanFile.{BreaksFirst, IsValid}
 use Rattle.gap_search.specs.Gap.{IsGapOutcome, IsHeld, cost_held, plan_held}
 use Rattle.gap_search.specs.declared.outcome.GapOutcome.{GapOutcome}
 use Rattle.job_frame.specs.declared.status.Status.{Status}
-use Rattle.near_text.specs.NearTexts.{near_text}
-use Rattle.near_text.specs.Written.{written_near}
 use Rattle.report_lines.specs.Lines.{IsBoundOf}
 use Rattle.route_improve.specs.Improved.{IsImproved}
 use Rattle.route_improve.specs.declared.improving.Improved.{Improved}
@@ -18,6 +16,8 @@ use Rattle.plan_check.specs.declared.fault.PlanFault.{PlanFault}
 use Rattle.route_plan.specs.PlanTexts.{FitsFile, fleet_plan_text}
 use Rattle.route_plan.specs.declared.plan.FleetPlan.{FleetPlan}
 use Rattle.route_plan.specs.declared.plan.RoutePlan.{RoutePlan}
+use Rattle.tree_text.proofs.BoundLaws.{shown_bound}
+use Rattle.tree_text.specs.BoundProofs.{bound_of, bound_proof_text}
 use Rattle.evgap_run.proofs.PlanFinds.{same_routes}
 use Rattle.evgap_run.specs.PlanAnswer.{IsPlanFound, alone_in, plan_status}
 use Rattle.evgap_run.specs.Report.{found_text}
@@ -29,22 +29,22 @@ held_is_improved g start (Alone node) is = tt
 -- what was found, by what it costs
 pub is_found : (g : Network) (start : Option (Bor FleetPlan)) (o : GapOutcome) (cost alone : Option ℕ) (plan_bytes proof_bytes text : List ℕ) (ended : Status) → IsNetwork g →
     IsGapOutcome g (option_map (λ p. p.now.routes) start) o → cost ≡ cost_held g o.plan → alone ≡ alone_in o.plan → plan_bytes ≡ fleet_plan_text (plan_held o.plan) →
-    proof_bytes ≡ near_text (written_near g o.proof) → ended ≡ plan_status cost o.proof.bound → text ≡ found_text g.denominator alone cost o.proof.bound
+    proof_bytes ≡ bound_proof_text g o.proof → ended ≡ plan_status cost (bound_of o.proof) → text ≡ found_text g.denominator alone cost (bound_of o.proof)
     → IsPlanFound g (option_map (λ p. p.now) start) plan_bytes proof_bytes ended text
 is_found g start o cost alone plan_bytes proof_bytes text ended network is cost_is alone_is plan_is proof_is ended_is text_is = record {
   is_network = network;
   outcome = o;
   is = subst (λ (from : Option (List RoutePlan)). IsGapOutcome g from o) (same_routes start) is;
-  true_bound = is.proof.shows.bound;
+  true_bound = shown_bound g o.proof is.proof;
   plan_is = plan_is;
   proof_is = proof_is;
-  status_is = subst (λ (c : Option ℕ). ended ≡ plan_status c o.proof.bound) cost_is ended_is;
-  text_is = subst (λ (a : Option ℕ). text ≡ found_text g.denominator a (cost_held g o.plan) o.proof.bound) alone_is
-      (subst (λ (c : Option ℕ). text ≡ found_text g.denominator alone c o.proof.bound) cost_is text_is);
+  status_is = subst (λ (c : Option ℕ). ended ≡ plan_status c (bound_of o.proof)) cost_is ended_is;
+  text_is = subst (λ (a : Option ℕ). text ≡ found_text g.denominator a (cost_held g o.plan) (bound_of o.proof)) alone_is
+      (subst (λ (c : Option ℕ). text ≡ found_text g.denominator alone c (bound_of o.proof)) cost_is text_is);
 }
 
-pub bound_of : (cost held bound : Option ℕ) → cost ≡ held → IsBoundOf held bound → IsBoundOf cost bound
-bound_of cost held bound is bounds = subst (λ (c : Option ℕ). IsBoundOf c bound) (sym is) bounds
+pub bounds_cost : (cost held bound : Option ℕ) → cost ≡ held → IsBoundOf held bound → IsBoundOf cost bound
+bounds_cost cost held bound is bounds = subst (λ (c : Option ℕ). IsBoundOf c bound) (sym is) bounds
 
 -- ---- what the plan that is held costs
 

@@ -7,8 +7,6 @@ use Rattle.ev_model.specs.Fleet.{IsFleetPlan, cost_of}
 use Rattle.ev_model.specs.Network.{Network}
 use Rattle.ev_outside.specs.Shelf.{Files, ShelfState}
 use Rattle.fleet_steps.specs.PlanFile.{BreaksFirst, IsPlanEnded, IsValid, routes_of}
-use Rattle.fleet_steps.specs.FleetNetwork.{IsFleetEnded}
-use Rattle.fleet_steps.specs.FleetNetwork.{HasFleetNetwork, IsFleetRefused}
 use Rattle.gap_search.specs.Gap.{cost_held}
 use Rattle.gap_words.specs.JobValue.{plan_value}
 use Rattle.gap_words.specs.Words.{PlanGap}
@@ -25,7 +23,8 @@ use Rattle.job_frame.specs.declared.found.Found.{Found}
 use Rattle.job_frame.specs.declared.status.Status.{Status}
 use Rattle.job_frame.specs.declared.status.Status.TheVariants as status
 use Rattle.job_frame.specs.Caps.{file_read, most_bytes}
-use Rattle.job_frame.specs.Ended.{IsRuleOrMemory}
+use Rattle.job_frame.specs.Ended.{IsNetworkEnded, IsRuleOrMemory}
+use Rattle.job_frame.specs.LimitedNetwork.{HasNetwork, IsNetworkRefused}
 use Rattle.job_frame.specs.declared.answer.Ended.{Ended}
 use Rattle.job_frame.specs.declared.answer.Ended.TheVariants.{Refused}
 use Rattle.plan_check.specs.FleetRules.{stops_of}
@@ -35,6 +34,7 @@ use Rattle.refusal_lines.specs.RefusalText.{IsRule, refusal_text}
 use Rattle.refusal_lines.specs.declared.refusal.Refusal.{Refusal}
 use Rattle.route_plan.specs.declared.plan.FleetPlan.{FleetPlan}
 use Rattle.job_frame.proofs.Endings.{rule_of}
+use Rattle.tree_text.specs.BoundProofs.{bound_of}
 use Rattle.evgap_run.proofs.Written.{are_accepted, held_fits}
 use Rattle.evgap_run.specs.PlanAnswer.{HasPlanJob, HasStart, IsNoStart, IsPlanFound, IsPlanRefused, PlanAnswers, PutsBrokenStart, PutsPlan, plan_status, plan_task, start_reads, plan_heard}
 use Rattle.evgap_run.specs.declared.cause.Cause.{Cause}
@@ -86,7 +86,7 @@ is_found_status (Some c) (Some b) = by_test (nat_eq c b)
 module _ (job : PlanGap) (bytes : List ℕ) (more : List (List ℕ)) where
   of_found : (ended : Status) (ws : List Written) (text : List ℕ) → PutsPlan job bytes more ended ws text → IsFoundStatus ended
   of_found ended ws text p =
-      subst IsFoundStatus (sym p.found.status_is) (is_found_status (cost_held p.network p.found.outcome.plan) p.found.outcome.proof.bound)
+      subst IsFoundStatus (sym p.found.status_is) (is_found_status (cost_held p.network p.found.outcome.plan) (bound_of p.found.outcome.proof))
 
   pub found_answers : (ended : Status) (ws : List Written) (text : List ℕ) → PutsPlan job bytes more ended ws text → PlanAnswers job bytes more ended ws text
   unfolding IsFoundStatus
@@ -148,7 +148,7 @@ no_start : (name bytes : List ℕ) (start : Option (List ℕ)) (r : Refusal) →
 no_start name bytes start r is (fault, same, first) =
     subst (λ (s : Option (List ℕ)). IsNoStart s (bytes ∷ []) r) (sym is) (subst (λ (x : Refusal). IsNoStart (Some name) (bytes ∷ []) x) (sym same) first)
 
-pub puts_no_start : {E : Type 0} (job : PlanGap) (file name bytes : List ℕ) (g : Network) (ended : Ended) (r : Refusal) (made : Result (Found Cause) E) → HasFleetNetwork job.limit file g → job.start ≡ Some name → ended ≡ Refused r
+pub puts_no_start : {E : Type 0} (job : PlanGap) (file name bytes : List ℕ) (g : Network) (ended : Ended) (r : Refusal) (made : Result (Found Cause) E) → HasNetwork job.limit file g → job.start ≡ Some name → ended ≡ Refused r
     → IsRuleOrMemory ended → IsPlanEnded bytes ended → IfOk made (λ f. f.answer.status ≡ status.Refused) → IfOk made (λ f. f.files.items ≡ []) → IfOk made (λ f. f.answer.text.items ≡ refusal_text r)
     → IfOk made (λ f. PlanAnswers job file (bytes ∷ []) f.answer.status (map written_by f.files.items) f.answer.text.items)
 puts_no_start {E} job file name bytes g ended r made fleet named is rule refused answered files text =
@@ -157,12 +157,12 @@ puts_no_start {E} job file name bytes g ended r made fleet named is rule refused
 
 -- ---- what the bytes of the files answer
 
-pub has_start : (job : PlanGap) (name bytes : List ℕ) (file : List ℕ) (g : Network) (start : Option FleetPlan) → job.start ≡ Some name → HasFleetNetwork job.limit file g → HasStart (Some name) (bytes ∷ []) start
+pub has_start : (job : PlanGap) (name bytes : List ℕ) (file : List ℕ) (g : Network) (start : Option FleetPlan) → job.start ≡ Some name → HasNetwork job.limit file g → HasStart (Some name) (bytes ∷ []) start
     → HasPlanJob job file (bytes ∷ []) g start
 has_start job name bytes file g start named fleet spelled =
     record { network = fleet; held = subst (λ (s : Option (List ℕ)). HasStart s (bytes ∷ []) start) (sym named) spelled }
 
-pub has_none : (job : PlanGap) (file : List ℕ) (g : Network) → job.start ≡ None → HasFleetNetwork job.limit file g → HasPlanJob job file [] g None
+pub has_none : (job : PlanGap) (file : List ℕ) (g : Network) → job.start ≡ None → HasNetwork job.limit file g → HasPlanJob job file [] g None
 has_none job file g named fleet = record { network = fleet; held = subst (λ (s : Option (List ℕ)). HasStart s [] None) (sym named) refl }
 
 -- the files that are written have different names
@@ -223,11 +223,11 @@ some_start files (Some name) = let read = some_read most_bytes files name in (re
 
 -- a refusal before the plan to begin with is read is the answer whatever that holds
 pub refused_early : (job : PlanGap) (files : Option Files) (bytes given : List ℕ) (ended : Ended) (r : Refusal) → AreReadUpTo most_bytes files job.file bytes → given ≡ bytes → ended ≡ Refused r
-    → IsFleetEnded job.limit given ended → Answers (plan_task job) files (record { status = status.Refused; writes = []; text = refusal_text r })
+    → IsNetworkEnded job.limit given ended → Answers (plan_task job) files (record { status = status.Refused; writes = []; text = refusal_text r })
 refused_early job files bytes given ended r read same is refused =
     let start = some_start files job.start in
-    let here = subst (λ (bs : List ℕ). IsFleetEnded job.limit bs ended) same refused in
-    let first : IsRule r × IsFleetRefused job.limit bytes r = subst (λ (e : Ended). IsFleetEnded job.limit bytes e) is here in
+    let here = subst (λ (bs : List ℕ). IsNetworkEnded job.limit bs ended) same refused in
+    let first : IsRule r × IsNetworkRefused job.limit bytes r = subst (λ (e : Ended). IsNetworkEnded job.limit bytes e) is here in
     record {
       bytes = bytes ∷ start.0;
       read = (read, start.1);
@@ -236,7 +236,7 @@ refused_early job files bytes given ended r read same is refused =
 
 -- ---- a read that failed
 
-pub start_fails : (job : PlanGap) (before after : ShelfState) (bytes name : List ℕ) (g : Network) → job.start ≡ Some name → AreReadUpTo most_bytes before.files job.file bytes → HasFleetNetwork job.limit bytes g
+pub start_fails : (job : PlanGap) (before after : ShelfState) (bytes name : List ℕ) (g : Network) → job.start ≡ Some name → AreReadUpTo most_bytes before.files job.file bytes → HasNetwork job.limit bytes g
     → HasFailedRead before after name → FailsReading (plan_task job) before after
 start_fails job before after bytes name g named read fleet failed = record {
   first = file_read job.file ∷ [];

@@ -5,9 +5,8 @@ use Rattle.ev_model.specs.Network.{Network}
 use Rattle.ev_outside.specs.Shelf.{Files, HoldsUnder}
 use Rattle.ev_text.proofs.Results.{Err-ne-Ok}
 use Rattle.fleet_steps.proofs.Plans.{one_plan, same_plan, valid_breaks_none}
-use Rattle.fleet_steps.proofs.Instances.{fleet_refused_not, same_fleet}
+use Rattle.job_frame.proofs.LimitedNetworks.{one_limited, refused_has_none}
 use Rattle.fleet_steps.specs.PlanFile.{BreaksFirst}
-use Rattle.fleet_steps.specs.FleetNetwork.{HasFleetNetwork}
 use Rattle.fleet_steps.specs.PlanFile.{routes_of}
 use Rattle.gap_search.specs.Gap.{cost_held, plan_held}
 use Rattle.gap_words.specs.Words.{PlanGap}
@@ -16,8 +15,6 @@ use Rattle.job_frame.specs.Task.{Outcome}
 use Rattle.job_frame.specs.Writes.{HoldsAll, Written}
 use Rattle.job_frame.specs.declared.status.Status.{Status}
 use Rattle.job_frame.specs.declared.status.Status.TheVariants as status
-use Rattle.near_proof.specs.declared.proof.NearProof.{NearProof}
-use Rattle.near_text.proofs.NearLaws.{one_near}
 use Rattle.refusal_lines.specs.RefusalText.{IsRule}
 use Rattle.refusal_lines.specs.declared.refusal.Refusal.{Refusal}
 use Rattle.refusal_lines.specs.declared.refusal.Refusal.TheVariants as refusal
@@ -25,7 +22,9 @@ use Rattle.route_improve.specs.declared.improving.Improved.{Improved}
 use Rattle.route_improve.specs.declared.improving.Improved.TheVariants.{Alone, Plan}
 use Rattle.route_plan.proofs.PlanLaws.{fleet_plan_is_spelled}
 use Rattle.route_plan.specs.declared.plan.FleetPlan.{FleetPlan}
-use Rattle.evgap_run.proofs.Written.{held_fits}
+use Rattle.tree_text.specs.BoundProofs.{bound_of}
+use Rattle.tree_text.specs.declared.bounds.proof.BoundProof.{BoundProof}
+use Rattle.evgap_run.proofs.Written.{held_fits, one_shown}
 use Rattle.evgap_run.specs.PlanAnswer.{HasPlanJob, HasStart, IsNoStart, IsPlanFound, IsPlanRefused, PlanAnswers, PutsBrokenStart, PutsPlan, PutsPlanRefusal, plan_answers, plan_status, plan_task}
 
 -- what the plan that is held costs, by the plan
@@ -38,22 +37,20 @@ unfolding cost_by_plan
 held_cost g (Plan plan) = refl
 held_cost g (Alone node) = refl
 
-same_status : (g : Network) (held other : Improved) (p q : NearProof) → plan_held held ≡ plan_held other → p ≡ q → plan_status (cost_held g held) p.bound ≡ plan_status (cost_held g other) q.bound
+same_status : (g : Network) (held other : Improved) (p q : BoundProof) → plan_held held ≡ plan_held other → p ≡ q → plan_status (cost_held g held) (bound_of p) ≡ plan_status (cost_held g other) (bound_of q)
 same_status g held other p q plan proof =
     let cost : cost_held g held ≡ cost_held g other = held_cost g held ∙ ap (cost_by_plan g) plan ∙ sym (held_cost g other) in
-    ap (λ (c : Option ℕ). plan_status c p.bound) cost ∙ ap (λ (x : NearProof). plan_status (cost_held g other) x.bound) proof
+    ap (λ (c : Option ℕ). plan_status c (bound_of p)) cost ∙ ap (λ (x : BoundProof). plan_status (cost_held g other) (bound_of x)) proof
 
 -- the same texts tell the same status
-same_found : (limit : Option ℕ) (bytes : List ℕ) (g : Network) (start : Option FleetPlan) (plan_bytes proof_bytes text other : List ℕ) (s t : Status) → HasFleetNetwork limit bytes g →
-    IsPlanFound g start plan_bytes proof_bytes s text → IsPlanFound g start plan_bytes proof_bytes t other → s ≡ t
-same_found limit bytes g start plan_bytes proof_bytes text other s t fleet p q =
+same_found : (g : Network) (start : Option FleetPlan) (plan_bytes proof_bytes text other : List ℕ) (s t : Status) → IsPlanFound g start plan_bytes proof_bytes s text → IsPlanFound g start plan_bytes proof_bytes t other → s ≡ t
+same_found g start plan_bytes proof_bytes text other s t p q =
     let held = p.outcome.plan in
     let another = q.outcome.plan in
     let plan : plan_held held ≡ plan_held another =
     one_plan (plan_held held) (plan_held another) (held_fits g (routes_of start) held p.is.plan) (held_fits g (routes_of start) another q.is.plan) (sym p.plan_is ∙ q.plan_is) in
     let proof : p.outcome.proof ≡ q.outcome.proof =
-    one_near g p.is_network fleet.few proof_bytes p.outcome.proof q.outcome.proof
-    (record { fits = p.is.proof.fits; kept = p.is.proof.kept; text = p.proof_is }) (record { fits = q.is.proof.fits; kept = q.is.proof.kept; text = q.proof_is }) in
+    one_shown g p.is_network proof_bytes p.outcome.proof q.outcome.proof p.is.proof q.is.proof p.proof_is q.proof_is in
     p.status_is ∙ same_status g held another p.outcome.proof q.outcome.proof plan proof ∙ sym q.status_is
 
 -- what stands in two files
@@ -71,7 +68,7 @@ module _ (job : PlanGap) (bytes : List ℕ) (more : List (List ℕ)) where
   one_start (Some name) (b ∷ c ∷ bs) p q is was = absurd is
 
   same_network : (g h : Network) (p q : Option FleetPlan) → HasPlanJob job bytes more g p → HasPlanJob job bytes more h q → h ≡ g
-  same_network g h p q is was = same_fleet job.limit bytes h g was.network is.network
+  same_network g h p q is was = one_limited job.limit bytes h g was.network is.network
 
   same_start : (g h : Network) (p q : Option FleetPlan) → HasPlanJob job bytes more g p → HasPlanJob job bytes more h q → q ≡ p
   same_start g h p q is was = one_start job.start more q p was.held is.held
@@ -85,7 +82,7 @@ module _ (job : PlanGap) (bytes : List ℕ) (more : List (List ℕ)) where
       let hold = both_in (Some alike.files) r.writes (record { name = job.plan; bytes = q.plan_bytes }) (record { name = job.proof; bytes = q.proof_bytes }) q.written alike.other in
       let plan : q.plan_bytes ≡ p.plan_bytes = same_Some q.plan_bytes p.plan_bytes (sym hold.0 ∙ held.0) in
       let proof : q.proof_bytes ≡ p.proof_bytes = same_Some q.proof_bytes p.proof_bytes (sym hold.1 ∙ held.1) in
-      same_found job.limit bytes p.network p.start p.plan_bytes p.proof_bytes o.text r.text o.status r.status p.has.network p.found
+      same_found p.network p.start p.plan_bytes p.proof_bytes o.text r.text o.status r.status p.found
       (subst (λ (g : Network). IsPlanFound g p.start p.plan_bytes p.proof_bytes r.status r.text) network
       (subst (λ (s : Option FleetPlan). IsPlanFound q.network s p.plan_bytes p.proof_bytes r.status r.text) start
       (subst (λ (bs : List ℕ). IsPlanFound q.network q.start bs p.proof_bytes r.status r.text) plan
@@ -114,7 +111,7 @@ module _ (job : PlanGap) (bytes : List ℕ) (more : List (List ℕ)) where
 
   -- what the files hold breaks no rule of a text
   refused_holds_not : (g : Network) (start : Option FleetPlan) (r : Refusal) → HasPlanJob job bytes more g start → IsRule r → IsPlanRefused job bytes more r → ⊥
-  refused_holds_not g start r has rule (inl first) = fleet_refused_not job.limit bytes g r has.network rule first
+  refused_holds_not g start r has rule (inl first) = refused_has_none job.limit bytes r g rule first has.network
   refused_holds_not g start r has rule (inr (h, fleet, none)) = spelled_is_read job.start more start r has.held none
 
 -- ---- an answer is what was found, or the rule that the plan to begin with breaks, or a refusal

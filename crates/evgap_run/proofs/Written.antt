@@ -1,25 +1,26 @@
 -- The two files that `plan` writes, read again, are accepted.
-use Rattle.std.proofs.Common.{◌≡◌, ℕ, ◌≤◌, List, Option, Ok, length, refl, subst, sym}
+use Rattle.std.proofs.Common.{◌≡◌, ◌∙◌, ℕ, ◌≤◌, List, Option, ap, false, length, refl, subst, sym, true}
+use Rattle.std.proofs.lemmas.Bool.{false≢true}
 use Rattle.certificate_parts.specs.Limits as certificate
 use Rattle.ev_model.specs.Network.{IsNetwork, Network}
 use Rattle.fleet_steps.specs.PlanFile.{IsValid}
-use Rattle.near_steps.specs.NearFile.{HasNear}
-use Rattle.fleet_steps.specs.FleetNetwork.{HasFleetNetwork}
-use Rattle.gap_search.specs.Gap.{IsGapOutcome, IsGapProof, IsHeld, cost_held, plan_held}
+use Rattle.job_frame.specs.LimitedNetwork.{HasNetwork}
+use Rattle.gap_search.specs.Gap.{IsGapOutcome, IsHeld, cost_held, plan_held}
 use Rattle.gap_search.specs.declared.outcome.GapOutcome.{GapOutcome}
 use Rattle.near_proof.specs.declared.proof.NearProof.{NearProof}
-use Rattle.near_text.proofs.NearLaws.{text_is_read}
-use Rattle.near_text.specs.NearIn.{near_in}
-use Rattle.near_text.specs.NearTexts.{near_text}
-use Rattle.near_text.specs.Written.{written_near}
+use Rattle.near_text.proofs.NearLaws.{one_near}
 use Rattle.route_improve.specs.declared.improving.Improved.{Improved}
 use Rattle.route_improve.specs.declared.improving.Improved.TheVariants.{Alone, Plan}
 use Rattle.route_plan.specs.PlanTexts.{FitsFile, fleet_plan_text}
 use Rattle.route_plan.specs.declared.plan.RoutePlan.{RoutePlan}
+use Rattle.near_tree.specs.declared.proof.TreeProof.{TreeProof}
 use Rattle.tree_text.proofs.BoundLaws.{proof_is_read}
-use Rattle.tree_text.specs.BoundTexts.{HasProof}
-use Rattle.tree_text.specs.declared.bounds.proof.BoundProof.TheVariants.{Near}
-use Rattle.evgap_run.specs.PlanAnswer.{AreAccepted}
+use Rattle.tree_text.proofs.TreeLaws.{one_tree}
+use Rattle.tree_text.specs.BoundProofs.{IsBoundShown, TakesCustomers, bound_of, bound_proof_text}
+use Rattle.tree_text.specs.BoundTexts.{HasProof, begins_tree}
+use Rattle.tree_text.specs.declared.bounds.proof.BoundProof.{BoundProof}
+use Rattle.tree_text.specs.declared.bounds.proof.BoundProof.TheVariants.{Near, Tree}
+use Rattle.evgap_run.specs.PlanAnswer.{AreAccepted, IsAcceptedBound}
 
 pub held_fits : (g : Network) (start : Option (List RoutePlan)) (held : Improved) → IsHeld g start held → FitsFile (plan_held held)
 held_fits g start (Plan plan) is = is.0.text
@@ -29,38 +30,66 @@ pub held_valid : (g : Network) (start : Option (List RoutePlan)) (held : Improve
 held_valid g start (Plan plan) is = (is.0.fleet, refl)
 held_valid g start (Alone node) is = refl
 
--- the text of a proof, where it isn't too long, is read as it
-near_again : (g : Network) (bytes : List ℕ) (p : NearProof) → IsNetwork g → (limit : Option ℕ) (file : List ℕ) → HasFleetNetwork limit file g → IsGapProof g p
-    → bytes ≡ near_text (written_near g p) → length bytes ≤ certificate.most_bytes → HasNear g bytes p
-near_again g bytes p network limit file fleet proof is within =
+-- the text of a proof that is shown, where it isn't too long, is read as it
+shown_again : (g : Network) (bytes : List ℕ) (p : BoundProof) → IsNetwork g → IsBoundShown g p → bytes ≡ bound_proof_text g p → length bytes ≤ certificate.most_bytes → HasProof g bytes p
+shown_again g bytes p network shown is within =
     let short = subst (λ (bs : List ℕ). length bs ≤ certificate.most_bytes) is within in
-    let read = text_is_read g network fleet.few p proof.fits short in
+    subst (λ (bs : List ℕ). HasProof g bs p) (sym is) (proof_is_read g network p shown.fits shown.kept short)
+
+-- and may be written
+pub takes : (g : Network) (p : BoundProof) → IsBoundShown g p → TakesCustomers g p
+takes g (Near p) shown = shown.fits.0
+takes g (Tree p) shown = tt
+
+-- two proofs that are shown have one text only where they are one
+pub one_shown : (g : Network) → IsNetwork g → (bytes : List ℕ) (p q : BoundProof) → IsBoundShown g p → IsBoundShown g q → bytes ≡ bound_proof_text g p → bytes ≡ bound_proof_text g q → p ≡ q
+one_shown g network bytes (Near p) (Near q) is was text other =
+    ap (λ (x : NearProof). Near x)
+    (one_near g network is.fits.0 bytes p q (record { fits = is.fits.1; kept = is.kept; text = text }) (record { fits = was.fits.1; kept = was.kept; text = other }))
+one_shown g network bytes (Near p) (Tree q) is was text other =
+    let kind : begins_tree bytes ≡ false = ap begins_tree text in
+    let tree : begins_tree bytes ≡ true = ap begins_tree other in
+    absurd (false≢true (sym kind ∙ tree))
+one_shown g network bytes (Tree p) (Near q) is was text other =
+    let tree : begins_tree bytes ≡ true = ap begins_tree text in
+    let kind : begins_tree bytes ≡ false = ap begins_tree other in
+    absurd (false≢true (sym kind ∙ tree))
+one_shown g network bytes (Tree p) (Tree q) is was text other =
+    ap (λ (x : TreeProof). Tree x)
+    (one_tree g network bytes p q (record { fits = is.fits; kept = is.kept; text = text }) (record { fits = was.fits; kept = was.kept; text = other }))
+
+-- a text that is no tree's is that of a near proof, which `check-bound` accepts
+bound_again : (limit : Option ℕ) (file bytes : List ℕ) (g : Network) (p : BoundProof) → IsNetwork g → HasNetwork limit file g → IsBoundShown g p → bytes ≡ bound_proof_text g p → begins_tree bytes ≡ false
+    → length bytes ≤ certificate.most_bytes → IsAcceptedBound limit file bytes (bound_of p)
+bound_again limit file bytes g (Near p) network has shown is kind within =
+    let read = shown_again g bytes (Near p) network shown is within in
     record {
-      read = subst (λ (bs : List ℕ). near_in g bs ≡ Ok (written_near g p)) (sym is) read;
-      spelled = record { fits = proof.fits; kept = proof.kept; text = is };
+      network = g;
+      fleet = record { network = has; few = shown.fits.0 };
+      proof = p;
+      has = record { read = read.read; spelled = read.spelled };
+      accepted = shown.accepted;
+      shows = shown.shows;
+      bound_is = refl;
     }
+bound_again limit file bytes g (Tree p) network has shown is kind within =
+    let tree : begins_tree bytes ≡ true = ap begins_tree is in
+    absurd (false≢true (sym kind ∙ tree))
 
--- also as a proof of either kind
-proof_again : (g : Network) (bytes : List ℕ) (p : NearProof) → IsNetwork g → (limit : Option ℕ) (file : List ℕ) → HasFleetNetwork limit file g → IsGapProof g p
-    → bytes ≡ near_text (written_near g p) → length bytes ≤ certificate.most_bytes → HasProof g bytes (Near p)
-proof_again g bytes p network limit file fleet proof is within =
-    let short = subst (λ (bs : List ℕ). length bs ≤ certificate.most_bytes) is within in
-    subst (λ (bs : List ℕ). HasProof g bs (Near p)) (sym is) (proof_is_read g network (Near p) (fleet.few, proof.fits) proof.kept short)
-
-pub are_accepted : (limit : Option ℕ) (file plan_bytes proof_bytes : List ℕ) (g : Network) (start : Option (List RoutePlan)) (o : GapOutcome) → IsNetwork g → HasFleetNetwork limit file g → IsGapOutcome g start o
-    → plan_bytes ≡ fleet_plan_text (plan_held o.plan) → proof_bytes ≡ near_text (written_near g o.proof)
-    → AreAccepted limit file plan_bytes proof_bytes g.denominator (cost_held g o.plan) o.proof.bound
-are_accepted limit file plan_bytes proof_bytes g start o network fleet is plan_is proof_is = record {
+pub are_accepted : (limit : Option ℕ) (file plan_bytes proof_bytes : List ℕ) (g : Network) (start : Option (List RoutePlan)) (o : GapOutcome) → IsNetwork g → HasNetwork limit file g → IsGapOutcome g start o
+    → plan_bytes ≡ fleet_plan_text (plan_held o.plan) → proof_bytes ≡ bound_proof_text g o.proof
+    → AreAccepted limit file plan_bytes proof_bytes g.denominator (cost_held g o.plan) (bound_of o.proof)
+are_accepted limit file plan_bytes proof_bytes g start o network has is plan_is proof_is = record {
   both = λ short within. record {
     files = record {
       network = g;
       plan = plan_held o.plan;
       fleet = record {
-        network = fleet.network;
+        network = has;
         spelled = record { within = short; fits = held_fits g start o.plan is.plan; text = plan_is };
       };
-      proof = Near o.proof;
-      has = proof_again g proof_bytes o.proof network limit file fleet is.proof proof_is within;
+      proof = o.proof;
+      has = shown_again g proof_bytes o.proof network is.proof proof_is within;
     };
     cost = cost_held g o.plan;
     valid = held_valid g start o.plan is.plan;
@@ -68,13 +97,5 @@ are_accepted limit file plan_bytes proof_bytes g start o network fleet is plan_i
     shows = is.proof.shows;
     text_is = refl;
   };
-  proof = λ within. record {
-    network = g;
-    fleet = fleet;
-    proof = o.proof;
-    has = near_again g proof_bytes o.proof network limit file fleet is.proof proof_is within;
-    accepted = is.proof.accepted;
-    shows = is.proof.shows;
-    bound_is = refl;
-  };
+  proof = bound_again limit file proof_bytes g o.proof network has is.proof proof_is;
 }

@@ -1,16 +1,17 @@
 -- What `plan` writes and puts on the bytes of its instance, and of the plan to begin with where it
 -- is given one.
-use Rattle.std.specs.Prelude.{◌≡◌, ℕ, ◌≤◌, ◌⊎◌, List, [], ◌∷◌, Option, None, Some, Err, if◌then◌else◌, length, nat_eq}
+use Rattle.std.specs.Prelude.{◌≡◌, ℕ, ◌≤◌, ◌⊎◌, false, List, [], ◌∷◌, Option, None, Some, Err, if◌then◌else◌, length, nat_eq}
 use Rattle.certificate_parts.specs.Limits as certificate
 use Rattle.ev_model.specs.Network.{IsNetwork, Network}
 use Rattle.near_steps.specs.NearFile.{HasNear}
 use Rattle.fleet_steps.specs.PlanFile.{BreaksFirst, IsReadBack, IsValid, routes_of}
-use Rattle.fleet_steps.specs.FleetNetwork.{HasFleetNetwork, IsFleetRefused}
+use Rattle.fleet_steps.specs.FleetNetwork.{HasFleetNetwork}
 use Rattle.gap_search.specs.Gap.{IsGapOutcome, cost_held, plan_held}
 use Rattle.gap_search.specs.declared.outcome.GapOutcome.{GapOutcome}
 use Rattle.gap_words.specs.Words.{PlanGap}
 use Rattle.evgap_run.specs.Heard.{HearsBrokenPlan}
 use Rattle.evgap_run.specs.Heard.{HearsRefusal}
+use Rattle.job_frame.specs.LimitedNetwork.{HasNetwork, IsNetworkRefused}
 use Rattle.job_frame.specs.Task.{Outcome, Read, Task}
 use Rattle.job_frame.specs.Writes.{Written}
 use Rattle.evgap_run.specs.declared.cause.Cause.{Cause}
@@ -21,8 +22,6 @@ use Rattle.job_frame.specs.Caps.{file_read}
 use Rattle.near_proof.specs.Accepted.{IsAccepted}
 use Rattle.near_proof.specs.Truth.{IsTrue, IsTrueNearBound}
 use Rattle.near_proof.specs.declared.proof.NearProof.{NearProof}
-use Rattle.near_text.specs.NearTexts.{near_text}
-use Rattle.near_text.specs.Written.{written_near}
 use Rattle.plan_check.specs.declared.fault.PlanFault.{PlanFault}
 use Rattle.refusal_lines.specs.RejectedText.{rejected_text}
 use Rattle.refusal_lines.specs.RefusalText.{IsRule, refusal_text}
@@ -34,6 +33,8 @@ use Rattle.route_plan.specs.Limits as route
 use Rattle.route_plan.specs.PlanReading.{fleet_plan_in}
 use Rattle.route_plan.specs.PlanTexts.{SpellsFleetPlan, fleet_plan_text}
 use Rattle.route_plan.specs.declared.plan.FleetPlan.{FleetPlan}
+use Rattle.tree_text.specs.BoundProofs.{bound_of, bound_proof_text}
+use Rattle.tree_text.specs.BoundTexts.{begins_tree}
 use Rattle.evgap_run.specs.CheckAnswer.{CheckAnswers}
 use Rattle.evgap_run.specs.Report.{accepted_text, found_text}
 
@@ -49,7 +50,7 @@ HasStart (Some name) (bytes ∷ other ∷ more) start = ⊥
 -- the bytes break no rule of a text: g is the network, and this is the plan to begin with
 pub record HasPlanJob (job : PlanGap) (bytes : List ℕ) (more : List (List ℕ))
     (g : Network) (start : Option FleetPlan) : Type 0 where
-  pub network : HasFleetNetwork job.limit bytes g
+  pub network : HasNetwork job.limit bytes g
   pub held : HasStart job.start more start
 
 -- the text of the plan to begin with is none
@@ -57,12 +58,11 @@ abbrev pub IsNoStart : Option (List ℕ) → List (List ℕ) → Refusal → Typ
 IsNoStart (Some name) (bytes ∷ []) (refusal.Plan fault) = fleet_plan_in bytes ≡ Err fault
 IsNoStart name more other = ⊥
 
--- the first broken rule: of the instance, the limit, the count of customers, then of the text of
--- the plan to begin with
+-- the first broken rule: of the instance, the limit, then of the text of the plan to begin with
 abbrev pub IsPlanRefused : PlanGap → List ℕ → List (List ℕ) → Refusal → Type 0
 IsPlanRefused job bytes more r =
-    IsFleetRefused job.limit bytes r
-    ⊎ ((g : Network) × HasFleetNetwork job.limit bytes g × IsNoStart job.start more r)
+    IsNetworkRefused job.limit bytes r
+    ⊎ ((g : Network) × HasNetwork job.limit bytes g × IsNoStart job.start more r)
 
 -- the customer whom no route of his own reaches, where no plan is held
 abbrev pub alone_in : Improved → Option ℕ
@@ -90,14 +90,14 @@ pub record IsAcceptedBound (limit : Option ℕ) (bytes proof_bytes : List ℕ)
   pub shows : IsTrue network proof
   pub bound_is : proof.bound ≡ bound
 
--- the two files, read again, are accepted by `check`, with the same cost and bound, and the proof
--- by `evroute check-bound`, where no text is too long
+-- the two files, read again, are accepted by `check`, with the same cost and bound, and a proof that
+-- is no tree by `evroute check-bound`, where no text is too long
 pub record AreAccepted (limit : Option ℕ) (bytes plan_bytes proof_bytes : List ℕ)
     (denominator : ℕ) (cost bound : Option ℕ) : Type 0 where
   pub both : length plan_bytes ≤ route.most_bytes → length proof_bytes ≤ certificate.most_bytes
       → CheckAnswers limit bytes plan_bytes proof_bytes status.Done
       (accepted_text denominator cost bound)
-  pub proof : length proof_bytes ≤ certificate.most_bytes
+  pub proof : begins_tree proof_bytes ≡ false → length proof_bytes ≤ certificate.most_bytes
       → IsAcceptedBound limit bytes proof_bytes bound
 
 -- A search found a plan, or holds none, and a proof, and these are the text of the plan file, the
@@ -108,12 +108,12 @@ pub record IsPlanFound (g : Network) (start : Option FleetPlan)
   pub is_network : IsNetwork g
   pub outcome : GapOutcome
   pub is : IsGapOutcome g (routes_of start) outcome
-  pub true_bound : IsTrueNearBound g outcome.proof.bound
+  pub true_bound : IsTrueNearBound g (bound_of outcome.proof)
   pub plan_is : plan_bytes ≡ fleet_plan_text (plan_held outcome.plan)
-  pub proof_is : proof_bytes ≡ near_text (written_near g outcome.proof)
-  pub status_is : ended ≡ plan_status (cost_held g outcome.plan) outcome.proof.bound
+  pub proof_is : proof_bytes ≡ bound_proof_text g outcome.proof
+  pub status_is : ended ≡ plan_status (cost_held g outcome.plan) (bound_of outcome.proof)
   pub text_is : text ≡ found_text g.denominator (alone_in outcome.plan)
-      (cost_held g outcome.plan) outcome.proof.bound
+      (cost_held g outcome.plan) (bound_of outcome.proof)
 
 -- the plan to begin with breaks no rule, and what was found is put, behind the two files, which are
 -- accepted
@@ -128,7 +128,7 @@ pub record PutsPlan (job : PlanGap) (bytes : List ℕ) (more : List (List ℕ))
   pub proof_bytes : List ℕ
   pub found : IsPlanFound network start plan_bytes proof_bytes ended text
   pub accepted : AreAccepted job.limit bytes plan_bytes proof_bytes network.denominator
-      (cost_held network found.outcome.plan) found.outcome.proof.bound
+      (cost_held network found.outcome.plan) (bound_of found.outcome.proof)
   pub again : IsReadBack plan_bytes (plan_held found.outcome.plan)
   pub written : ws
       ≡ record { name = job.plan; bytes = plan_bytes }
@@ -194,7 +194,7 @@ plan_answers job (bytes ∷ more) o = PlanAnswers job bytes more o.status o.writ
 -- it comes to the plan to begin with where no rule of its instance is broken
 abbrev pub plan_goes_on : PlanGap → List (List ℕ) → Type 0
 plan_goes_on job [] = Unit {0}
-plan_goes_on job (bytes ∷ []) = (g : Network) × HasFleetNetwork job.limit bytes g
+plan_goes_on job (bytes ∷ []) = (g : Network) × HasNetwork job.limit bytes g
 plan_goes_on job other = ⊥
 
 abbrev pub start_reads : Option (List ℕ) → List Read

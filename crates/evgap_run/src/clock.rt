@@ -2,7 +2,7 @@
 
 ghost use Rattle.std.specs.Prelude.{Option, ℕ};
 
-use gap_search::GapClock;
+use gap_search::{GapClock, SearchClock};
 
 /// A clock that begins once the words are read. When it is up isn't promised: that changes what a
 /// search finds, and nothing of what is true of that.
@@ -19,8 +19,14 @@ pub trait JobClock: GapClock {
 #[derive(Drop)]
 pub struct Never {}
 
-impl GapClock for Never {
+impl SearchClock for Never {
     fn is_up(&mut self) -> bool {
+        false
+    }
+}
+
+impl GapClock for Never {
+    fn is_up_in(&mut self, _milliseconds: u64) -> bool {
         false
     }
 }
@@ -33,8 +39,14 @@ impl JobClock for Never {
 #[derive(Drop)]
 pub struct AtOnce {}
 
-impl GapClock for AtOnce {
+impl SearchClock for AtOnce {
     fn is_up(&mut self) -> bool {
+        true
+    }
+}
+
+impl GapClock for AtOnce {
+    fn is_up_in(&mut self, _milliseconds: u64) -> bool {
         true
     }
 }

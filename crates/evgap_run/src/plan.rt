@@ -1,13 +1,12 @@
 //! What `plan` finds: a fleet is planned with a close bound, and its plan and the proof of the
 //! bound are written.
 
-ghost use Rattle.std.specs.Prelude.{◌≡◌, ◌≤◌, ◌∷◌, [], IfErr, IfOk, IfSome, List, None, Some, length, map, option_map, ℕ};
+ghost use Rattle.std.specs.Prelude.{◌≡◌, ◌∷◌, [], IfErr, IfOk, IfSome, List, None, Some, map, option_map, ℕ};
 ghost use Rattle.ev_model.specs.Fleet.{IsFleetPlan};
 ghost use Rattle.evgap_run.specs.PlanAnswer.{HasPlanJob, PlanAnswers, plan_heard, plan_task};
-ghost use Rattle.fleet_steps.specs.FleetNetwork.{HasFleetNetwork};
 ghost use Rattle.gap_words.specs.JobValue.{IsPlanJob, plan_value};
-ghost use Rattle.instance_reader.specs.Instance.{customer_nodes, most_customers};
 ghost use Rattle.job_frame.specs.Finds.{Finds, written_by};
+ghost use Rattle.job_frame.specs.LimitedNetwork.{HasNetwork};
 ghost use Rattle.job_frame.specs.Task.{AreReadUpTo};
 ghost use Rattle.job_frame.specs.Caps.{most_bytes};
 ghost use Rattle.plan_check.specs.FleetRules.{stops_of};
@@ -16,11 +15,11 @@ use crate::cause::Cause;
 use crate::clock::JobClock;
 use crate::planning::plan_all;
 use ev_outside::{Shelf, ShelfFault};
-use fleet_steps::{cost_of, fleet_instance, plan_of, reject};
+use fleet_steps::{cost_of, plan_of, reject};
 use gap_search::{GapClock, GapWatcher, Recreation};
 use gap_words::PlanWords;
 use instance_reader::Instance;
-use job_frame::{Ended, Found, MOST_BYTES, ScaleWatcher, read_file, refuse_job};
+use job_frame::{Ended, Found, MOST_BYTES, ScaleWatcher, limited_instance, read_file, refuse_job};
 use plan_check::LargeFault;
 use route_plan::FleetPlan;
 use std::alloc::{AllocError, Global};
@@ -42,7 +41,7 @@ pub fn plan<S: Shelf, C: JobClock, W: GapWatcher + ScaleWatcher>(
         Ok(bytes) => bytes,
         Err(fault) => return Err(fault),
     };
-    match fleet_instance(alloc, bytes.as_slice(), job.limit) {
+    match limited_instance(alloc, bytes.as_slice(), job.limit) {
         Ok(inst) => {
             clock.begin(job.seconds);
             watcher.begin(inst.denominator());
@@ -63,12 +62,11 @@ fn plan_on<S: Shelf, C: JobClock, W: GapWatcher>(
     clock: &mut C,
     watcher: &mut W,
 ) -> Result<Found<Cause>, ShelfFault>
-    requires few { length (customer_nodes inst.now) ≤ most_customers }
     requires files { IsPlanJob job.now }
     requires begun { C.Begun clock.now job.now.seconds }
     ensures { (bytes : List ℕ)
         → AreReadUpTo most_bytes (S.state shelf.old).files (plan_value job.now).file bytes
-        → HasFleetNetwork job.now.limit bytes inst.now
+        → HasNetwork job.now.limit bytes inst.now
         → Finds (plan_task (plan_value job.now))
         (S.state shelf.old) (S.state shelf.new) result }
 {
@@ -88,11 +86,10 @@ fn plan_from_file<S: Shelf, C: GapClock, W: GapWatcher>(
     clock: &mut C,
     watcher: &mut W,
 ) -> Result<Found<Cause>, ShelfFault>
-    requires few { length (customer_nodes inst.now) ≤ most_customers }
-    requires files { IsPlanJob job.now }
+    requires { IsPlanJob job.now }
     ensures { (bytes : List ℕ)
         → AreReadUpTo most_bytes (S.state shelf.old).files (plan_value job.now).file bytes
-        → HasFleetNetwork job.now.limit bytes inst.now
+        → HasNetwork job.now.limit bytes inst.now
         → (plan_value job.now).start ≡ Some name.now
         → Finds (plan_task (plan_value job.now))
         (S.state shelf.old) (S.state shelf.new) result }
@@ -112,8 +109,7 @@ fn plan_from_none<C: GapClock, W: GapWatcher>(
     clock: &mut C,
     watcher: &mut W,
 ) -> Result<Found<Cause>, ShelfFault>
-    requires few { length (customer_nodes inst.now) ≤ most_customers }
-    requires files { IsPlanJob job.now }
+    requires { IsPlanJob job.now }
     ensures answers { (bytes : List ℕ) (more : List (List ℕ))
         → HasPlanJob (plan_value job.now) bytes more inst.now None
         → IfOk result (λ f. PlanAnswers (plan_value job.now) bytes more
@@ -138,9 +134,8 @@ fn plan_from_text<C: GapClock, W: GapWatcher>(
     clock: &mut C,
     watcher: &mut W,
 ) -> Result<Found<Cause>, ShelfFault>
-    requires few { length (customer_nodes inst.now) ≤ most_customers }
-    requires files { IsPlanJob job.now }
-    ensures answers { (file name : List ℕ) → HasFleetNetwork job.now.limit file inst.now
+    requires { IsPlanJob job.now }
+    ensures answers { (file name : List ℕ) → HasNetwork job.now.limit file inst.now
         → (plan_value job.now).start ≡ Some name
         → IfOk result (λ f. PlanAnswers (plan_value job.now) file (bytes.now ∷ [])
         f.answer.status (map written_by f.files.items) f.answer.text.items) }
@@ -167,8 +162,7 @@ fn plan_from<C: GapClock, W: GapWatcher>(
     clock: &mut C,
     watcher: &mut W,
 ) -> Result<Found<Cause>, AllocError>
-    requires few { length (customer_nodes inst.now) ≤ most_customers }
-    requires files { IsPlanJob job.now }
+    requires { IsPlanJob job.now }
     ensures answers { (bytes : List ℕ) (more : List (List ℕ))
         → HasPlanJob (plan_value job.now) bytes more inst.now
         (option_map (λ p. p.now) start.entry)
@@ -193,8 +187,7 @@ fn plan_judged<C: GapClock, W: GapWatcher>(
     clock: &mut C,
     watcher: &mut W,
 ) -> Result<Found<Cause>, AllocError>
-    requires few { length (customer_nodes inst.now) ≤ most_customers }
-    requires start { IfSome start (λ plan. IsFleetPlan inst.now 1 (stops_of plan.now.routes)) }
+    requires { IfSome start (λ plan. IsFleetPlan inst.now 1 (stops_of plan.now.routes)) }
     ensures answers { (bytes : List ℕ) (more : List (List ℕ))
         → HasPlanJob (plan_value job.now) bytes more inst.now
         (option_map (λ p. p.now) start.entry)

@@ -1,27 +1,25 @@
 //! The search of `plan`, and the texts of what it finds.
 
-ghost use Rattle.std.specs.Prelude.{◌≡◌, ◌≤◌, IfOk, IfSome, length, option_map};
+ghost use Rattle.std.specs.Prelude.{◌≡◌, IfOk, IfSome, option_map};
 ghost use Rattle.ev_model.specs.Fleet.{IsFleetPlan};
 ghost use Rattle.evgap_run.specs.PlanAnswer.{IsPlanFound, alone_in, found_cause, plan_heard, plan_status};
 ghost use Rattle.evgap_run.specs.Report.{IsSmallCost, found_text};
 ghost use Rattle.gap_search.specs.Gap.{cost_held, plan_held};
-ghost use Rattle.instance_reader.specs.Instance.{customer_nodes, most_customers};
-ghost use Rattle.near_text.specs.NearTexts.{near_text};
-ghost use Rattle.near_text.specs.Written.{written_near};
 ghost use Rattle.plan_check.specs.FleetRules.{stops_of};
 ghost use Rattle.report_lines.specs.Lines.{IsBoundOf};
 ghost use Rattle.route_improve.specs.Improved.{IsImproved};
+ghost use Rattle.tree_text.specs.BoundProofs.{TakesCustomers, bound_proof_text};
 
 use crate::cause::Cause;
 use crate::report::push_found;
 use fleet_steps::{cost_of, plan_text};
-use gap_search::{GapClock, GapWatcher, Improved, NearProof, Recreation, close_gap};
+use gap_search::{BoundProof, GapClock, GapWatcher, Improved, Recreation, close_gap};
 use instance_reader::Instance;
 use job_frame::{Answer, Planned, Status};
-use near_text::push_near;
 use plan_check::LargeFault;
 use route_plan::FleetPlan;
 use std::alloc::{AllocError, Global};
+use tree_text::push_bound_proof;
 
 /// What a search finds that begins with a plan, or with none: the texts of a plan and of a proof,
 /// and the report on both.
@@ -33,8 +31,7 @@ pub fn plan_all<C: GapClock, W: GapWatcher>(
     clock: &mut C,
     watcher: &mut W,
 ) -> Result<Planned<Cause>, AllocError>
-    requires few { length (customer_nodes inst.now) ≤ most_customers }
-    requires start { IfSome start (λ plan. IsFleetPlan inst.now 1 (stops_of plan.now.routes)) }
+    requires { IfSome start (λ plan. IsFleetPlan inst.now 1 (stops_of plan.now.routes)) }
     ensures found { IfOk result (λ p. IsPlanFound inst.now
         (option_map (λ plan. plan.now) start.entry)
         p.plan.items p.cert.items p.answer.status p.answer.text.items) }
@@ -50,7 +47,7 @@ pub fn plan_all<C: GapClock, W: GapWatcher>(
         inst,
         alone_in(&outcome.plan),
         cost,
-        outcome.proof.bound,
+        outcome.proof.bound(),
     )?;
     let plan = plan_text(alloc, plan_held(&outcome.plan))?;
     let cert = proof_text(alloc, inst, &outcome.proof)?;
@@ -138,11 +135,11 @@ fn plan_status(cost: Option<u128>, bound: Option<u128>) -> Status
 }
 
 /// The text of a proof.
-fn proof_text(alloc: Global, inst: &Instance, proof: &NearProof) -> Result<Vec<u8>, AllocError>
-    requires { length (customer_nodes inst.now) ≤ most_customers }
-    ensures { IfOk result (λ text. text.items ≡ near_text (written_near inst.now proof.now)) }
+fn proof_text(alloc: Global, inst: &Instance, proof: &BoundProof) -> Result<Vec<u8>, AllocError>
+    requires { TakesCustomers inst.now proof.now }
+    ensures { IfOk result (λ text. text.items ≡ bound_proof_text inst.now proof.now) }
 {
     let mut text = Vec::new(alloc);
-    push_near(alloc, &mut text, inst, proof)?;
+    push_bound_proof(alloc, &mut text, inst, proof)?;
     Ok(text)
 }

@@ -2,8 +2,8 @@
 
 use crate::cause::Cause;
 use gap_search::{
-    GapProgress, GapWatcher, MoveProgress, MoveWatcher, PriceProgress, PriceWatcher,
-    RecreateProgress, RecreateWatcher, RoundsProgress, RoundsWatcher,
+    GapProgress, GapWatcher, MoveProgress, MoveWatcher, PricesProgress, PricesWatcher,
+    RecreateProgress, RecreateWatcher,
 };
 use job_frame::{CauseListener, ScaleWatcher};
 
@@ -25,16 +25,12 @@ impl Nobody {
     }
 }
 
-impl PriceWatcher for Nobody {
-    fn watch_prices(&mut self, _progress: PriceProgress) {}
+impl PricesWatcher for Nobody {
+    fn watch_prices(&mut self, _progress: PricesProgress) {}
 }
 
 impl MoveWatcher for Nobody {
     fn watch_moves(&mut self, _progress: MoveProgress) {}
-}
-
-impl RoundsWatcher for Nobody {
-    fn watch_rounds(&mut self, _progress: RoundsProgress) {}
 }
 
 impl RecreateWatcher for Nobody {

@@ -1,3 +1,3 @@
 pub mod Outcomes
-pub mod Candidates
 pub mod OwnCosts
+pub mod Inner

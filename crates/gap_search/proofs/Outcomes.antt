@@ -4,15 +4,17 @@ use Rattle.std.specs.Prelude.{IfSome}
 use Rattle.ev_model.specs.Fleet.{IsFleetPlan, cost_of}
 use Rattle.ev_model.specs.Network.{Network}
 use Rattle.near_proof.specs.Truth.{IsTrueNearBound}
-use Rattle.near_proof.specs.declared.proof.NearProof.{NearProof}
 use Rattle.plan_check.specs.FleetRules.{stops_of}
 use Rattle.report_lines.specs.Lines.{IsBoundOf}
 use Rattle.route_improve.specs.Improved.{CostsNoMore, IsAnswer}
 use Rattle.route_improve.specs.declared.improving.Improved.{Improved}
 use Rattle.route_improve.specs.declared.improving.Improved.TheVariants.{Alone, Plan}
 use Rattle.route_plan.specs.declared.plan.RoutePlan.{RoutePlan}
+use Rattle.tree_text.proofs.BoundLaws.{shown_bound}
+use Rattle.tree_text.specs.BoundProofs.{IsBoundShown, bound_of}
+use Rattle.tree_text.specs.declared.bounds.proof.BoundProof.{BoundProof}
 use Rattle.gap_search.specs.After.{IsBegun, IsHeldAfter, IsSettledAfter}
-use Rattle.gap_search.specs.Gap.{IsGapOutcome, IsGapProof, IsHeld, IsNoDearer, cost_held, plan_held}
+use Rattle.gap_search.specs.Gap.{IsGapOutcome, IsHeld, IsNoDearer, cost_held, plan_held}
 
 -- what is no dearer than what is no dearer
 still_no_dearer : (g : Network) (start : Option (List RoutePlan)) (before after : ℕ) → after ≤ before → IsNoDearer g start before → IsNoDearer g start after
@@ -63,12 +65,12 @@ none_held : (g : Network) (start : Option (List RoutePlan)) (found : Improved) (
 none_held g start found None is truth none = no_plan g start found is truth
 none_held g start found (Some b) is truth none = absurd (cc)
 
-pub is_outcome : (g : Network) (start : Option (List RoutePlan)) (found : Improved) (proof : NearProof) → IsHeld g start found → IsGapProof g proof → IsGapOutcome g start (record { plan = found; proof = proof })
+pub is_outcome : (g : Network) (start : Option (List RoutePlan)) (found : Improved) (proof : BoundProof) → IsHeld g start found → IsBoundShown g proof → IsGapOutcome g start (record { plan = found; proof = proof })
 is_outcome g start found proof is accepted = record {
   plan = is;
   proof = accepted;
-  bound = bounded g start found proof.bound is accepted.shows.bound;
-  none = none_held g start found proof.bound is accepted.shows.bound;
+  bound = bounded g start found (bound_of proof) is (shown_bound g proof accepted);
+  none = none_held g start found (bound_of proof) is (shown_bound g proof accepted);
 }
 
 -- what ruin and recreate makes of a plan in two steps, each no dearer than the one before

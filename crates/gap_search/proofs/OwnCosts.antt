@@ -1,5 +1,5 @@
 -- What routes for the customers alone cost.
-use Rattle.std.proofs.Common.{◌≡◌, ℕ, ◌+◌, ◌<◌, ◌≤◌, List, [], ◌∷◌, None, drop, length, map, sum, arith, subst, sym}
+use Rattle.std.proofs.Common.{◌≡◌, ℕ, ◌+◌, ◌<◌, ◌≤◌, List, [], ◌∷◌, None, drop, length, sum, arith, subst, sym}
 use Rattle.std.specs.Prelude.{slice_index}
 use Rattle.std.proofs.lemmas.List.{drop_more}
 use Rattle.std.proofs.lemmas.List.Sums.{sum_by-cons}
@@ -8,7 +8,6 @@ use Rattle.instance_reader.specs.Instance.{customer_nodes}
 use Rattle.order_pricing.specs.Orders.{IsLeastTime}
 use Rattle.order_pricing.specs.Pricing.{HasNoTime}
 use Rattle.route_improve.proofs.Prices.{least_once}
-use Rattle.route_improve.specs.Orders.{AreLeastTimes}
 use Rattle.gap_search.specs.Gap.{IsNoDearer, IsNoMoreThanOwn}
 
 -- the first customer's time is taken off

@@ -1,50 +1,37 @@
--- What is made of a candidate for a near proof, of which nothing is known.
-use Rattle.std.specs.Prelude.{◌≡◌, ◌≢◌, ◌⊎◌, ℕ, Option, None, Some, Ok, IsErr}
+-- What is made of candidates for a proof of a bound, of which nothing is known.
+use Rattle.std.specs.Prelude.{◌≡◌, ◌⊎◌, List, [], ◌∷◌, Option, None, Some}
 use Rattle.ev_model.specs.Network.{Network}
-use Rattle.near_proof.specs.NearSets.{AreNearSets}
-use Rattle.near_proof.specs.Verdicts.{IsVerdict}
-use Rattle.near_proof.specs.declared.proof.NearProof.{NearProof}
-use Rattle.near_proof.specs.declared.verdict.NearVerdict.{NearVerdict}
-use Rattle.near_proof.specs.declared.verdict.NearVerdict.TheVariants as verdict
-use Rattle.near_text.specs.NearIn.{IsSpelledBy, near_in}
-use Rattle.near_text.specs.NearTexts.{near_text}
-use Rattle.near_text.specs.Written.{written_near}
-use Rattle.ng_pricing.specs.NearBound.{IsBoundFrom}
-use Rattle.gap_search.specs.Gap.{IsGapProof}
-use Rattle.gap_search.specs.declared.judged.Judged.{Judged}
-use Rattle.gap_search.specs.declared.judged.Judged.TheVariants.{Accepted, Rejected, Unread}
+use Rattle.near_tree.specs.Zero.{IsZeroTree}
+use Rattle.near_tree.specs.declared.proof.TreeProof.{TreeProof}
+use Rattle.tree_text.specs.BoundProofs.{IsAcceptedProof, IsBoundShown, bound_proof_text}
+use Rattle.tree_text.specs.BoundTexts.{HasProof}
+use Rattle.tree_text.specs.declared.bounds.proof.BoundProof.{BoundProof}
+use Rattle.tree_text.specs.declared.bounds.proof.BoundProof.TheVariants.{Tree}
 
 -- its text is read as this proof, which is in its ranges: no other has this text
-pub record IsReadAs (g : Network) (candidate p : NearProof) : Type 0 where
-  pub read : near_in g (near_text (written_near g candidate)) ≡ Ok (written_near g p)
-  pub spelled : IsSpelledBy g (near_text (written_near g candidate)) p
+abbrev pub IsReadAs : Network → BoundProof → BoundProof → Type 0
+IsReadAs g candidate p = HasProof g (bound_proof_text g candidate) p
 
--- its text is none of a proof in its ranges, or is too long
-abbrev pub IsUnread : Network → NearProof → Type 0
-IsUnread g candidate = IsErr (near_in g (near_text (written_near g candidate)))
+-- its text is read as this proof, which is accepted
+abbrev pub IsTaken : Network → BoundProof → BoundProof → Type 0
+IsTaken g candidate p = IsReadAs g candidate p × IsBoundShown g p
 
--- a proof breaks a rule of the judge
-abbrev pub IsRejected : Network → NearProof → Type 0
-IsRejected g p = (found : NearVerdict) × (found ≢ verdict.Accepted) × IsVerdict g p found
+-- no proof that is accepted is read from its text
+abbrev pub IsLeft : Network → BoundProof → Type 0
+IsLeft g candidate = (p : BoundProof) → IsReadAs g candidate p → IsAcceptedProof g p → ⊥
 
--- what the judge makes of it
-abbrev pub IsJudged : Network → NearProof → Judged → Type 0
-IsJudged g candidate (Accepted p) = IsReadAs g candidate p × IsGapProof g p
-IsJudged g candidate (Rejected p) = IsReadAs g candidate p × IsRejected g p
-IsJudged g candidate Unread = IsUnread g candidate
+-- what the judge makes of one
+abbrev pub IsJudged : Network → BoundProof → Option BoundProof → Type 0
+IsJudged g candidate (Some p) = IsTaken g candidate p
+IsJudged g candidate None = IsLeft g candidate
 
--- how many other customers stand in a near set of the proof that stands in for a candidate that
--- isn't read, or where there is none
-abbrev pub few_others : ℕ
-few_others = 4
+-- the tree that each network has
+abbrev pub IsZeroProof : Network → BoundProof → Type 0
+IsZeroProof g p = (t : TreeProof) × IsZeroTree g t × (p ≡ Tree t)
 
--- The proof that is made of it: itself as it is read, where it is accepted; one by its near sets
--- that begins with its prices, where it is read and breaks a rule; and else one of few near
--- customers.
-abbrev pub IsMadeOf : Network → Option NearProof → NearProof → Type 0
-IsMadeOf g None p = AreNearSets g few_others p.sets
-IsMadeOf g (Some candidate) p =
-    IsReadAs g candidate p
-    ⊎ ((rejected : NearProof) × IsReadAs g candidate rejected × IsRejected g rejected
-    × IsBoundFrom g rejected.sets rejected.prices p)
-    ⊎ (IsUnread g candidate × AreNearSets g few_others p.sets)
+-- The proof that is made of candidates: the first of them that is accepted, as it is read, and where
+-- none is, the tree that each network has.
+abbrev pub IsMadeOf : Network → List BoundProof → BoundProof → Type 0
+IsMadeOf g [] p = IsZeroProof g p
+IsMadeOf g (candidate ∷ candidates) p =
+    IsTaken g candidate p ⊎ (IsLeft g candidate × IsMadeOf g candidates p)

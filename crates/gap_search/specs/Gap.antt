@@ -3,11 +3,6 @@
 use Rattle.std.specs.Prelude.{◌≡◌, ℕ, ◌≤◌, List, [], ◌∷◌, Option, None, Some, map, sum}
 use Rattle.ev_model.specs.Fleet.{cost_of}
 use Rattle.ev_model.specs.Network.{Network}
-use Rattle.near_proof.specs.Accepted.{IsAccepted}
-use Rattle.near_proof.specs.Ranges.{NearFits}
-use Rattle.near_proof.specs.Truth.{IsTrue}
-use Rattle.near_proof.specs.declared.proof.NearProof.{NearProof}
-use Rattle.near_text.specs.NearIn.{IsKept}
 use Rattle.plan_check.specs.FleetRules.{stops_of}
 use Rattle.report_lines.specs.Lines.{IsBoundOf}
 use Rattle.route_improve.specs.Improved.{IsFirstAlone, IsImproved, own_orders}
@@ -16,15 +11,8 @@ use Rattle.route_improve.specs.declared.improving.Improved.{Improved}
 use Rattle.route_improve.specs.declared.improving.Improved.TheVariants.{Plan, Alone}
 use Rattle.route_plan.specs.declared.plan.FleetPlan.{FleetPlan}
 use Rattle.route_plan.specs.declared.plan.RoutePlan.{RoutePlan}
+use Rattle.tree_text.specs.BoundProofs.{IsBoundShown, bound_of}
 use Rattle.gap_search.specs.declared.outcome.GapOutcome.{GapOutcome}
-
--- a near proof that is accepted, and so is true, and whose text is read as it where it isn't too
--- long
-pub record IsGapProof (g : Network) (p : NearProof) : Type 0 where
-  pub fits : NearFits g p
-  pub kept : IsKept p
-  pub accepted : IsAccepted g p
-  pub shows : IsTrue g p
 
 -- the cost is no more than that of the plan to begin with, or, where there was none, than that of
 -- routes for the customers alone, if each has one
@@ -60,6 +48,6 @@ cost_held g (Alone node) = None
 pub record IsGapOutcome (g : Network) (start : Option (List RoutePlan)) (o : GapOutcome) :
     Type 0 where
   pub plan : IsHeld g start o.plan
-  pub proof : IsGapProof g o.proof
-  pub bound : IsBoundOf (cost_held g o.plan) o.proof.bound
-  pub none : o.proof.bound ≡ None → plan_held o.plan ≡ None
+  pub proof : IsBoundShown g o.proof
+  pub bound : IsBoundOf (cost_held g o.plan) (bound_of o.proof)
+  pub none : bound_of o.proof ≡ None → plan_held o.plan ≡ None

@@ -1,3 +1,4 @@
 pub mod After
 pub mod Gap
 pub mod Candidate
+pub mod Inner

@@ -1,44 +1,34 @@
 //! The proof that is made of what a search for one found.
 
-ghost use Rattle.std.specs.Prelude.{◌≤◌, IfOk, length};
+ghost use Rattle.std.specs.Prelude.{IfOk};
 ghost use Rattle.gap_search.specs.Candidate.{IsMadeOf};
-ghost use Rattle.gap_search.specs.Gap.{IsGapProof};
-ghost use Rattle.instance_reader.specs.Instance.{customer_nodes, most_customers};
+ghost use Rattle.tree_text.specs.BoundProofs.{IsBoundShown};
 
-use crate::few_near::few_near_from;
-use crate::judged::{Judged, judge};
+use crate::judged::accepted;
 use instance_reader::Instance;
-use near_proof::NearProof;
-use ng_pricing::{PriceWatcher, near_bound_from};
+use near_tree::zero_tree;
 use std::alloc::{AllocError, Global};
+use tree_text::BoundProof;
 
-/// A proof that is accepted, and whose text is read as it where it isn't too long, of a candidate
-/// of which nothing is known.
+/// A proof that is accepted, and whose text is read as it where it isn't too long, of candidates of
+/// which nothing is known.
 ///
-/// Where the candidate's text is read and the proof accepted, it is that proof; where it is read
-/// and rejected, one by its near sets that begins with its prices; and where it isn't read, or
-/// there is none, one of few near customers that begins with `prices`, of which nothing is known
-/// either: by customer's number, 0 where none is told. The only `Err` is want of memory.
-pub fn proof_of_candidate<W: PriceWatcher>(
+/// It is the first of them from whose text a proof is read that is accepted, as it is read; where
+/// there is none, the tree of one leaf with the bound 0. The only `Err` is want of memory.
+pub fn proof_of_candidates(
     alloc: Global,
     inst: &Instance,
-    candidate: Option<NearProof>,
-    prices: &[u64],
-    watcher: &mut W,
-) -> Result<NearProof, AllocError>
-    requires { length (customer_nodes inst.now) ≤ most_customers }
-    ensures proof { IfOk result (IsGapProof inst.now) }
-    ensures made { IfOk result (IsMadeOf inst.now candidate) }
+    candidates: &[BoundProof],
+) -> Result<BoundProof, AllocError>
+    ensures proof { IfOk result (IsBoundShown inst.now) }
+    ensures made { IfOk result (IsMadeOf inst.now candidates.now) }
 {
-    let Some(candidate) = candidate else {
-        return few_near_from(alloc, inst, prices, watcher);
-    };
-    match judge(alloc, inst, &candidate)? {
-        Judged::Accepted { proof } => Ok(proof),
-        Judged::Rejected { proof } => {
-            let NearProof { prices, sets, .. } = proof;
-            near_bound_from(alloc, inst, sets.into_vec(), prices.into_vec(), watcher)
+    for candidate in candidates {
+        if let Some(proof) = accepted(alloc, inst, candidate)? {
+            return Ok(proof);
         }
-        Judged::Unread => few_near_from(alloc, inst, prices, watcher),
     }
+    // That the instance's network is one is told by its calls.
+    let _nodes = inst.nodes();
+    Ok(BoundProof::Tree(zero_tree(alloc, inst)?))
 }

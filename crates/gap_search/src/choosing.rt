@@ -14,6 +14,9 @@ const FEW_LOOKS: u64 = 1_000_000;
 /// Of so many routes that stand near one another others are sought, from few to many.
 const SIZES: [usize; 4] = [3, 5, 7, 10];
 
+/// The weight of time beside prices.
+const WEIGHT: u64 = 1;
+
 /// So often parts of a plan are replaced at the most.
 const MOST_TURNS: usize = 200;
 
@@ -143,7 +146,7 @@ impl Offers<'_> {
                 candidates.push(self.candidate(&part, offer))?;
             }
         }
-        let room = room_below(Some(cost), self.weight, &part.prices);
+        let room = room_below(Some(cost), WEIGHT, &part.prices);
         let customers = part.prices.len().min(128);
         let Some(found) = find_partition(alloc, &candidates, customers, room, looks)? else {
             return Ok(None);
@@ -159,7 +162,7 @@ impl Offers<'_> {
 
     /// A route as a candidate for a part.
     fn candidate(&self, part: &Part, offer: &Offer) -> Candidate {
-        let mut candidate = Candidate::at_cost(offer.time, self.weight);
+        let mut candidate = Candidate::at_cost(offer.time, WEIGHT);
         for node in &offer.nodes {
             if let Some(number) = number_of(self.inst, *node) {
                 let rank = part.ranks.get(number).copied().unwrap_or(0);

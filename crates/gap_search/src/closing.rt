@@ -1,13 +1,14 @@
 //! The search for a plan and for a close bound.
 
-ghost use Rattle.std.specs.Prelude.{◌≡◌, ◌≤◌, IfOk, IfSome, length, option_map};
+ghost use Rattle.std.specs.Prelude.{◌≡◌, IfOk, IfSome, option_map};
 ghost use Rattle.ev_model.specs.Fleet.{IsFleetPlan};
 ghost use Rattle.gap_search.specs.Gap.{IsGapOutcome};
-ghost use Rattle.instance_reader.specs.Instance.{customer_nodes, most_customers};
 ghost use Rattle.plan_check.specs.FleetRules.{stops_of};
 
-use crate::candidate::proof_of_candidate;
-use crate::first::first_plan;
+use crate::bound::{BoundFound, search_bound};
+use crate::candidate::proof_of_candidates;
+use crate::clock::GapClock;
+use crate::first::{FirstPlan, first_plan};
 use crate::offers::cost_of_plan;
 use crate::outcome::GapOutcome;
 use crate::plans::{FoundRoutes, cheaper};
@@ -15,7 +16,6 @@ use crate::recreation::Recreation;
 use crate::settling::settled;
 use crate::watcher::{GapProgress, GapWatcher};
 use instance_reader::Instance;
-use near_columns::{GapClock, NearFound, search_near};
 use route_improve::Improved;
 use route_plan::FleetPlan;
 use std::alloc::{AllocError, Global};
@@ -27,12 +27,10 @@ use std::alloc::{AllocError, Global};
 /// may be written as text. None is held only where there is no `start` and some customer has no
 /// feasible route of his own; the first is named. The proof is accepted, its text is read as it
 /// where it isn't too long, and no plan that is held costs less than its bound. How close the two
-/// are isn't promised.
+/// are isn't promised, nor of which kind the proof is.
 ///
-/// The clock is asked whether the search stops. Where the search finds no proof that is accepted,
-/// one from the prices and by the near sets of what it found stands in, and where that is no proof
-/// in its ranges, one of few near customers from its last prices; it takes its time, whatever the
-/// clock says. The only `Err` is want of memory.
+/// The clock is asked whether the search stops. Where it is up, what makes a proof of the prices at
+/// hand goes on. The only `Err` is want of memory.
 pub fn close_gap<C: GapClock, W: GapWatcher>(
     alloc: Global,
     inst: &Instance,
@@ -41,22 +39,27 @@ pub fn close_gap<C: GapClock, W: GapWatcher>(
     clock: &mut C,
     watcher: &mut W,
 ) -> Result<GapOutcome, AllocError>
-    requires few { length (customer_nodes inst.now) ≤ most_customers }
-    requires start { IfSome start (λ plan. IsFleetPlan inst.now 1 (stops_of plan.now.routes)) }
+    requires { IfSome start (λ plan. IsFleetPlan inst.now 1 (stops_of plan.now.routes)) }
     ensures { IfOk result
         (IsGapOutcome inst.now (option_map (λ plan. plan.now.routes) start.entry)) }
 {
     let first = first_plan(alloc, inst, start, recreation, clock, watcher)?;
-    tell_first(inst, &first, watcher);
-    let NearFound {
-        proof: candidate,
+    tell_first(inst, &first.plan, watcher);
+    let BoundFound {
+        candidates,
         prices,
         orders,
         dives,
-    } = search_near(alloc, inst, clock, watcher)?;
-    let proof = proof_of_candidate(alloc, inst, candidate, &prices, watcher)?;
-    let found = FoundRoutes { orders, dives };
-    let plan = cheaper(alloc, inst, first, found, &proof, clock, watcher)?;
+    } = search_bound(alloc, inst, &first, clock, watcher)?;
+    let proof = proof_of_candidates(alloc, inst, &candidates)?;
+    let found = FoundRoutes {
+        orders,
+        dives,
+        prices,
+        bound: proof.bound(),
+    };
+    let FirstPlan { plan, seen: _seen } = first;
+    let plan = cheaper(alloc, inst, plan, found, clock, watcher)?;
     let plan = settled(alloc, inst, plan, watcher)?;
     Ok(GapOutcome { plan, proof })
 }

@@ -8,28 +8,57 @@ ghost use Rattle.plan_check.specs.FleetRules.{stops_of};
 ghost use Rattle.route_improve.specs.Improved.{IsOrderly};
 ghost use Rattle.ruin_recreate.specs.Recreated.{IsNoDearer};
 
+use crate::bound::bound_milliseconds;
+use crate::clock::{GapClock, Timed};
 use crate::own::is_no_more_than_own;
 use crate::plans::cost_of;
 use crate::recreation::{Recreation, Work};
 use crate::watcher::GapWatcher;
 use instance_reader::Instance;
-use near_columns::GapClock;
 use route_improve::{Improved, improve_watched, improve_within};
 use route_plan::FleetPlan;
-use ruin_recreate::{Effort, Recreated, recreate};
+use ruin_recreate::{Effort, RecreateWatcher, Recreated, SeenRoute, recreate};
 use std::alloc::{AllocError, Global};
 
 /// More customers a route than so many make routes long.
 const LONG_ROUTE: usize = 20;
 
+/// The first plan, and what was seen on the way to it.
+#[derive(Drop)]
+pub(crate) struct FirstPlan {
+    /// The plan, or why none is held.
+    pub(crate) plan: Improved,
+    /// Routes that were seen. Nothing is promised of them.
+    pub(crate) seen: Vec<SeenRoute>,
+}
+
 /// The first plan, or why none is held: where work is done for it, by ruin and recreate, which ends
 /// with some moves of single customers, and else by these until none helps.
-#[tactic(auto, using(crate::proofs::Outcomes::begun))]
 pub(crate) fn first_plan<C: GapClock, W: GapWatcher>(
     alloc: Global,
     inst: &Instance,
     start: Option<&FleetPlan>,
     recreation: Recreation,
+    clock: &mut C,
+    watcher: &mut W,
+) -> Result<FirstPlan, AllocError>
+    requires { IfSome start (λ plan. IsFleetPlan inst.now 1 (stops_of plan.now.routes)) }
+    ensures { IfOk result
+        (λ f. IsBegun inst.now (option_map (λ plan. plan.now.routes) start.entry) f.plan) }
+{
+    let mut seen = Vec::new(alloc);
+    let plan = begun_plan(alloc, inst, start, recreation, &mut seen, clock, watcher)?;
+    Ok(FirstPlan { plan, seen })
+}
+
+/// The first plan, or why none is held. The routes that are seen are added.
+#[tactic(auto, using(crate::proofs::Outcomes::begun))]
+fn begun_plan<C: GapClock, W: GapWatcher>(
+    alloc: Global,
+    inst: &Instance,
+    start: Option<&FleetPlan>,
+    recreation: Recreation,
+    seen: &mut Vec<SeenRoute>,
     clock: &mut C,
     watcher: &mut W,
 ) -> Result<Improved, AllocError>
@@ -40,8 +69,17 @@ pub(crate) fn first_plan<C: GapClock, W: GapWatcher>(
         return improve_watched(alloc, inst, start, watcher);
     };
     match start {
-        Some(plan) => from_plan(alloc, inst, plan, work, recreation.seed, clock, watcher),
-        None => from_none(alloc, inst, work, recreation.seed, clock, watcher),
+        Some(plan) => from_plan(
+            alloc,
+            inst,
+            plan,
+            work,
+            recreation.seed,
+            seen,
+            clock,
+            watcher,
+        ),
+        None => from_none(alloc, inst, work, recreation.seed, seen, clock, watcher),
     }
 }
 
@@ -53,14 +91,15 @@ fn from_plan<C: GapClock, W: GapWatcher>(
     plan: &FleetPlan,
     work: Work,
     seed: u64,
+    seen: &mut Vec<SeenRoute>,
     clock: &mut C,
     watcher: &mut W,
 ) -> Result<Improved, AllocError>
     requires { IsFleetPlan inst.now 1 (stops_of plan.now.routes) }
     ensures { IfOk result (IsBegun inst.now (Some plan.now.routes)) }
 {
-    let better = recreated(alloc, inst, plan, work.first, seed, watcher)?;
-    let better = more_work(alloc, inst, better, work.then, seed, clock, watcher)?;
+    let better = recreated(alloc, inst, plan, work.first, seed, seen, watcher)?;
+    let better = more_work(alloc, inst, better, work.then, seed, seen, clock, watcher)?;
     Ok(Improved::Plan(better))
 }
 
@@ -70,6 +109,7 @@ fn from_none<C: GapClock, W: GapWatcher>(
     inst: &Instance,
     work: Work,
     seed: u64,
+    seen: &mut Vec<SeenRoute>,
     clock: &mut C,
     watcher: &mut W,
 ) -> Result<Improved, AllocError>
@@ -78,11 +118,12 @@ fn from_none<C: GapClock, W: GapWatcher>(
     let found = recreate(alloc, inst, None, work.first, seed, watcher)?;
     let Recreated {
         outcome,
-        seen: _seen,
+        seen: others,
     } = found;
+    add_all(seen, others)?;
     match outcome {
         Improved::Plan(plan) => {
-            let plan = more_work(alloc, inst, plan, work.then, seed, clock, watcher)?;
+            let plan = more_work(alloc, inst, plan, work.then, seed, seen, clock, watcher)?;
             no_dearer_than_own(alloc, inst, plan, watcher)
         }
         Improved::Alone(node) => Ok(Improved::Alone(node)),
@@ -90,12 +131,13 @@ fn from_none<C: GapClock, W: GapWatcher>(
 }
 
 /// A plan that is made of this one by ruin and recreate.
-fn recreated<W: GapWatcher>(
+fn recreated<W: RecreateWatcher>(
     alloc: Global,
     inst: &Instance,
     plan: &FleetPlan,
     effort: Effort,
     seed: u64,
+    seen: &mut Vec<SeenRoute>,
     watcher: &mut W,
 ) -> Result<FleetPlan, AllocError>
     requires { IsFleetPlan inst.now 1 (stops_of plan.now.routes) }
@@ -104,8 +146,9 @@ fn recreated<W: GapWatcher>(
     let found = recreate(alloc, inst, Some(plan), effort, seed, watcher)?;
     let Recreated {
         outcome,
-        seen: _seen,
+        seen: others,
     } = found;
+    add_all(seen, others)?;
     match outcome {
         Improved::Plan(better) => Ok(better),
         // It comes only where there is no plan to begin with.
@@ -113,14 +156,15 @@ fn recreated<W: GapWatcher>(
     }
 }
 
-/// The plan once more work was done, where there is some, the clock isn't up and no routes are
-/// long.
+/// The plan once more work was done, where there is some, no routes are long, and as far as the clock
+/// leaves time for a bound.
 fn more_work<C: GapClock, W: GapWatcher>(
     alloc: Global,
     inst: &Instance,
     plan: FleetPlan,
     effort: Option<Effort>,
     seed: u64,
+    seen: &mut Vec<SeenRoute>,
     clock: &mut C,
     watcher: &mut W,
 ) -> Result<FleetPlan, AllocError>
@@ -130,10 +174,23 @@ fn more_work<C: GapClock, W: GapWatcher>(
     let Some(effort) = effort else {
         return Ok(plan);
     };
-    if clock.is_up() || are_long(inst, &plan) {
+    let mut timed = Timed {
+        clock,
+        milliseconds: bound_milliseconds(inst.customers().len()),
+        watcher,
+    };
+    if timed.is_up() || are_long(inst, &plan) {
         return Ok(plan);
     }
-    recreated(alloc, inst, &plan, effort, seed, watcher)
+    recreated(alloc, inst, &plan, effort, seed, seen, &mut timed)
+}
+
+/// Adds routes that were seen.
+fn add_all(seen: &mut Vec<SeenRoute>, others: Vec<SeenRoute>) -> Result<(), AllocError> {
+    for route in others {
+        seen.push(route)?;
+    }
+    Ok(())
 }
 
 /// Whether routes serve more than twenty customers in the mean: these take long to charge.

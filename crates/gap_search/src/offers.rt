@@ -1,10 +1,9 @@
 //! Routes of which plans are made.
 
+use crate::bound::NearOrder;
 use crate::watcher::GapProgress;
 use customer_sets::CustSet;
 use instance_reader::Instance;
-use near_columns::NearOrder;
-use near_proof::NearProof;
 use route_plan::{FleetPlan, RoutePlan, walk};
 use std::alloc::{AllocError, Global};
 
@@ -24,30 +23,29 @@ pub(crate) struct Offer {
 #[derive(Drop)]
 pub(crate) struct Offers<'i> {
     pub(crate) inst: &'i Instance,
-    /// The prices of the customers, by number, times the weight.
+    /// The prices of the customers, by number.
     pub(crate) prices: Vec<i128>,
-    pub(crate) weight: u64,
     /// What no plan costs less than.
     bound: Option<u128>,
     pub(crate) all: Vec<Offer>,
 }
 
 impl<'i> Offers<'i> {
-    /// No route yet.
+    /// No route yet, by these prices of the customers, by number, and beside this bound.
     pub(crate) fn new(
         alloc: Global,
         inst: &'i Instance,
-        proof: &NearProof,
+        told: &[i64],
+        bound: Option<u128>,
     ) -> Result<Offers<'i>, AllocError> {
-        let mut prices = Vec::new(alloc);
-        for price in proof.prices.as_slice() {
+        let mut prices = Vec::with_capacity(alloc, told.len())?;
+        for price in told {
             prices.push(i128::from(*price))?;
         }
         Ok(Offers {
             inst,
             prices,
-            weight: proof.weight,
-            bound: proof.bound,
+            bound,
             all: Vec::new(alloc),
         })
     }
@@ -122,14 +120,14 @@ impl<'i> Offers<'i> {
 }
 
 /// The nodes of the customers of a route, in order.
-fn customers_of(
+pub(crate) fn customers_of(
     alloc: Global,
     inst: &Instance,
     route: &RoutePlan,
 ) -> Result<Vec<usize>, AllocError> {
     let mut nodes = Vec::new(alloc);
     for stop in route.stops.as_slice() {
-        if !stop.via && number_of(inst, stop.node).is_some() {
+        if !stop.via && is_customer(inst, stop.node) {
             nodes.push(stop.node)?;
         }
     }
@@ -146,11 +144,16 @@ pub(crate) fn cost_of_plan(inst: &Instance, plan: &FleetPlan) -> u128 {
 }
 
 /// The scaled time of a route, the greatest number where it can't be driven.
-fn time_of(inst: &Instance, route: &RoutePlan) -> u64 {
+pub(crate) fn time_of(inst: &Instance, route: &RoutePlan) -> u64 {
     match walk(inst, inst.max_q(), route.stops.as_slice()) {
         Ok(end) => end.time,
         Err(_) => u64::MAX,
     }
+}
+
+/// Whether there is a customer at a node.
+fn is_customer(inst: &Instance, node: usize) -> bool {
+    node < inst.nodes() && inst.customer_number(node).is_some()
 }
 
 /// The number of the customer at a node, below 128.

@@ -1,7 +1,7 @@
 //! What a search for a close gap answers.
 
-use near_proof::NearProof;
 use route_improve::Improved;
+use tree_text::BoundProof;
 
 /// A fleet plan, or why none is held, and a proof of what no fleet plan costs less than.
 #[derive(Drop)]
@@ -11,5 +11,5 @@ pub struct GapOutcome {
     pub plan: Improved,
     /// The proof, whose bound is scaled by the instance's denominator; without a bound there is no
     /// fleet plan.
-    pub proof: NearProof,
+    pub proof: BoundProof,
 }

@@ -6,12 +6,13 @@ ghost use Rattle.plan_check.specs.FleetRules.{stops_of};
 ghost use Rattle.gap_search.specs.After.{IsHeldAfter, IsPlanAfter};
 ghost use Rattle.gap_search.specs.Gap.{plan_held};
 
+use crate::bound::NearOrder;
+use crate::clock::GapClock;
 use crate::offers::Offers;
+use crate::trips::fastest_plan;
 use crate::watcher::GapWatcher;
 use ev_list::Listed;
-use instance_reader::Instance;
-use near_columns::{GapClock, NearOrder, fastest_plan};
-use near_proof::NearProof;
+use instance_reader::{Instance, MOST_CUSTOMERS};
 use plan_check::{LargeFault, check_large};
 use route_improve::{Improved, improve_within};
 use route_plan::FleetPlan;
@@ -26,21 +27,23 @@ const MOVES_WORK: u64 = 4_000_000;
 /// Routes that a search found, of which plans are made.
 #[derive(Drop)]
 pub(crate) struct FoundRoutes {
-    /// No two of them have the same customers.
     pub(crate) orders: Vec<NearOrder>,
     /// Those of whole plans.
     pub(crate) dives: Vec<Vec<NearOrder>>,
+    /// The prices by which they were found, by customer's number.
+    pub(crate) prices: Vec<i64>,
+    /// What no plan costs less than.
+    pub(crate) bound: Option<u128>,
 }
 
 /// What is held, with a plan that costs no more: of the routes others are made, each is made
-/// cheaper by some moves, and the cheapest is held. Where no plan is held none is made. The clock is
-/// asked between two of them whether to stop.
+/// cheaper by some moves, and the cheapest is held. Where no plan is held, and for more than 128
+/// customers, none is made. The clock is asked between two of them whether to stop.
 pub(crate) fn cheaper<C: GapClock, W: GapWatcher>(
     alloc: Global,
     inst: &Instance,
     held: Improved,
     found: FoundRoutes,
-    proof: &NearProof,
     clock: &mut C,
     watcher: &mut W,
 ) -> Result<Improved, AllocError>
@@ -49,11 +52,11 @@ pub(crate) fn cheaper<C: GapClock, W: GapWatcher>(
     ensures { IfOk result (IsHeldAfter inst.now held) }
 {
     match held {
-        Improved::Plan(plan) => {
-            let plan = cheaper_plan(alloc, inst, plan, found, proof, clock, watcher)?;
+        Improved::Plan(plan) if inst.customers().len() <= MOST_CUSTOMERS => {
+            let plan = cheaper_plan(alloc, inst, plan, found, clock, watcher)?;
             Ok(Improved::Plan(plan))
         }
-        Improved::Alone(node) => Ok(Improved::Alone(node)),
+        held => Ok(held),
     }
 }
 
@@ -63,15 +66,19 @@ fn cheaper_plan<C: GapClock, W: GapWatcher>(
     inst: &Instance,
     held: FleetPlan,
     found: FoundRoutes,
-    proof: &NearProof,
     clock: &mut C,
     watcher: &mut W,
 ) -> Result<FleetPlan, AllocError>
     requires { IsFleetPlan inst.now 1 (stops_of held.routes) }
     ensures { IfOk result (IsPlanAfter inst.now held) }
 {
-    let FoundRoutes { orders, dives } = found;
-    let mut offers = Offers::new(alloc, inst, proof)?;
+    let FoundRoutes {
+        orders,
+        dives,
+        prices,
+        bound,
+    } = found;
+    let mut offers = Offers::new(alloc, inst, &prices, bound)?;
     offers.add_orders(alloc, orders)?;
     let held = with_dives(alloc, inst, held, &mut offers, dives, clock, watcher)?;
     with_choices(alloc, inst, held, &mut offers, clock, watcher)

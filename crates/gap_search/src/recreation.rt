@@ -5,6 +5,9 @@ use ruin_recreate::Effort;
 /// So many customers make the effort a step greater, where none is given.
 const CUSTOMERS_A_STEP: usize = 20;
 
+/// So many steps greater it is at the most then.
+const MOST_STEPS: usize = 5;
+
 /// The seed and the effort of the search for the first plan.
 #[derive(Clone, Copy, Debug, Drop, PartialEq, Eq)]
 pub struct Recreation {
@@ -41,7 +44,7 @@ impl Recreation {
 /// The work for so many customers where no effort is given.
 fn work_by_size(customers: usize) -> Work {
     let first = effort_of(customers, 1);
-    let steps = (customers / CUSTOMERS_A_STEP) as u64;
+    let steps = (customers / CUSTOMERS_A_STEP).min(MOST_STEPS) as u64;
     let all = effort_of(customers, steps.saturating_add(1));
     Work {
         first,

@@ -2,7 +2,7 @@
 
 use crate::files::{shelf_with, words_of};
 use ev_outside::MemorySink;
-use evgap_run::{Evgap, GapClock, JobClock, Nobody};
+use evgap_run::{Evgap, GapClock, JobClock, Nobody, SearchClock};
 use std::alloc::Global;
 use worked_instances::ONE_STATION;
 
@@ -12,8 +12,14 @@ struct Noting {
     begun: Option<Option<u64>>,
 }
 
-impl GapClock for Noting {
+impl SearchClock for Noting {
     fn is_up(&mut self) -> bool {
+        true
+    }
+}
+
+impl GapClock for Noting {
+    fn is_up_in(&mut self, _milliseconds: u64) -> bool {
         true
     }
 }

@@ -34,9 +34,6 @@ fn cost_of(alloc: Global, inst: &Instance, found: &GapOutcome) -> Option<u128> {
 fn compare(alloc: Global, number: u64) -> Option<Compared> {
     let text = instance_text(alloc, number, number % 5 + 1, number / 5 % 3)?;
     let inst = read_instance(alloc, text.as_bytes()).ok()?;
-    if inst.customers().len() > 128 {
-        return None;
-    }
     let recreation = Recreation {
         seed: number,
         effort: None,
@@ -52,7 +49,7 @@ fn compare(alloc: Global, number: u64) -> Option<Compared> {
     .ok()?;
     Some(Compared {
         cost: cost_of(alloc, &inst, &found),
-        bound: found.proof.bound,
+        bound: found.proof.bound(),
         least: least_cost(alloc, &inst, inst.customers().len())?,
     })
 }

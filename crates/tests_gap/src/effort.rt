@@ -24,9 +24,6 @@ const STAR: &str =
 /// The bound that is found on the instance of a text; `None` says nothing.
 fn bound_on(alloc: Global, text: &str) -> Option<u128> {
     let inst = read_instance(alloc, text.as_bytes()).ok()?;
-    if inst.customers().len() > 128 {
-        return None;
-    }
     let recreation = Recreation {
         seed: 1,
         effort: None,
@@ -40,7 +37,7 @@ fn bound_on(alloc: Global, text: &str) -> Option<u128> {
         &mut Nobody::new(),
     )
     .ok()?;
-    found.proof.bound
+    found.proof.bound()
 }
 
 #[test]

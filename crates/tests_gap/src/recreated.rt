@@ -4,8 +4,7 @@ use crate::files::{run_with, shelf_with, words_of};
 use ev_outside::{MemoryShelf, MemorySink};
 use evgap_run::{
     Cause, CauseListener, Evgap, GapProgress, GapWatcher, JobWatcher, MoveProgress, MoveWatcher,
-    Never, PriceProgress, PriceWatcher, RecreateProgress, RecreateWatcher, RoundsProgress,
-    RoundsWatcher, ScaleWatcher,
+    Never, PricesProgress, PricesWatcher, RecreateProgress, RecreateWatcher, ScaleWatcher,
 };
 use level_table::instance_text;
 use std::alloc::{AllocError, Global};
@@ -23,16 +22,12 @@ struct Looks {
     cause: Option<Cause>,
 }
 
-impl PriceWatcher for Looks {
-    fn watch_prices(&mut self, _progress: PriceProgress) {}
+impl PricesWatcher for Looks {
+    fn watch_prices(&mut self, _progress: PricesProgress) {}
 }
 
 impl MoveWatcher for Looks {
     fn watch_moves(&mut self, _progress: MoveProgress) {}
-}
-
-impl RoundsWatcher for Looks {
-    fn watch_rounds(&mut self, _progress: RoundsProgress) {}
 }
 
 impl RecreateWatcher for Looks {

@@ -1,5 +1,5 @@
 //! Tests of bounds by near routes on worked instances: by rising prices, also from start prices, and
-//! by prices of a linear optimum; of prices and amounts that cover, on problems whose optima are
+//! prices of a linear optimum; of prices and amounts that cover, on problems whose optima are
 //! known; and of closed lists of labels. They stand here so that what they run isn't proved once more
 //! with them. Drawn instances are compared by `tools/drawn_runs`, changed proofs by
 //! `judge/compare.py`.
@@ -7,8 +7,6 @@
 
 #[cfg(test)]
 mod covers;
-#[cfg(test)]
-mod found;
 #[cfg(test)]
 mod listed;
 #[cfg(test)]

@@ -1,6 +1,6 @@
 use Rattle.std.proofs.Common.{List, ℕ, refl, subst}
 use Rattle.evgap_run.proofs.PlanFinds.{refused_early}
-use Rattle.fleet_steps.specs.FleetNetwork.{HasFleetNetwork}
+use Rattle.job_frame.specs.LimitedNetwork.{HasNetwork}
 use Rattle.gap_words.specs.JobValue.{plan_value}
 use Rattle.job_frame.proofs.BehindReads.{finds_behind, finds_refused, first_fails}
 use Rattle.evgap_run.proofs.Refusals.{its_rule}
@@ -10,12 +10,12 @@ use Rattle.evgap_run.proofs.plan.plan.Goals as goal
 pub returns-in-Err : goal.returns-in-Err
 returns-in-Err g c = first_fails refl tt c.as_str.ensures.value c.in-Err.ensures.fault c.in-Err.ensures.stays c.in-Err.ensures.falls c.in-Err.ensures.files
 
-pub returns-in-Ok-fleet_instance : goal.returns-in-Ok-fleet_instance
-returns-in-Ok-fleet_instance g c =
+pub returns-in-Ok-limited_instance : goal.returns-in-Ok-limited_instance
+returns-in-Ok-limited_instance g c =
     let w = c.args.job.now in
     let bytes = c.in-Ok.bytes.items in
     let read = named_read _ _ _ _ _ c.as_str.ensures.value c.in-Ok.ensures.bytes in
-    let fleet = subst (λ (bs : List ℕ). HasFleetNetwork w.limit bs c.in-Ok-fleet_instance.inst) c.as_slice.ensures.value c.in-Ok-fleet_instance.ensures.ok in
+    let fleet = subst (λ (bs : List ℕ). HasNetwork w.limit bs c.in-Ok-limited_instance.inst) c.as_slice.ensures.value c.in-Ok-limited_instance.ensures.ok in
     finds_behind c.in-Ok.ensures.files c.in-Ok.ensures.stays c.in-Ok.ensures.falls
     (c.plan_on.ensures bytes (read_still _ _ _ _ _ c.in-Ok.ensures.files read) fleet)
 

@@ -9,8 +9,8 @@ use Rattle.plan_check.specs.declared.fault.LargeFault.{LargeFault}
 use Rattle.evgap_run.specs.declared.cause.Cause.TheVariants as cause
 use Rattle.evgap_run.proofs.plan.plan_from.Goals as goal
 
-pub plan_judged-requires-clause-start : goal.plan_judged-requires-clause-start
-plan_judged-requires-clause-start g c = start_is_fleet c.args.inst.now c.args.start c.in-Ok._was c.in-Ok.ensures.ok
+pub plan_judged-requires : goal.plan_judged-requires
+plan_judged-requires g c = start_is_fleet c.args.inst.now c.args.start c.in-Ok._was c.in-Ok.ensures.ok
 
 pub returns-in-Err-Plan-clause-answers : goal.returns-in-Err-Plan-clause-answers
 returns-in-Err-Plan-clause-answers g c = λ bytes more has.

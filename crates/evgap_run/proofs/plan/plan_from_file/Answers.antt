@@ -17,6 +17,6 @@ returns g c = λ bytes read fleet named.
     let before = g.S.Shelf.state c.args.shelf.now in
     finds_made c.plan_from_text.result
     (found_from_text job before.files bytes c.args.name.now c.in-Ok.bytes.items c.as_slice.result.now c.plan_from_text.result
-    c.requires.files named read c.in-Ok.ensures.bytes c.as_slice.ensures.value (c.plan_from_text.ensures.answers bytes c.args.name.now fleet named) c.plan_from_text.ensures.heard)
+    c.requires named read c.in-Ok.ensures.bytes c.as_slice.ensures.value (c.plan_from_text.ensures.answers bytes c.args.name.now fleet named) c.plan_from_text.ensures.heard)
     c.plan_from_text.ensures.memory
     c.in-Ok.ensures.stays c.in-Ok.ensures.falls c.in-Ok.ensures.files

@@ -8,7 +8,7 @@ use Rattle.evgap_run.proofs.plan.plan_judged.Goals as goal
 pub returns-clause-answers : goal.returns-clause-answers
 returns-clause-answers g c = λ bytes more has.
     let start = option_map (λ p. p.now) c.args.start in
-    let valid = start_costs c.args.inst.now c.args.start c.requires.start in
+    let valid = start_costs c.args.inst.now c.args.start c.requires in
     let planned = c.in_ok-planned.planned in
     puts_plan (plan_value c.args.job.now) bytes more c.args.inst.now start valid.0 planned.plan.items planned.cert.items c.as_str.result.now c.as_str-2.result.now planned.answer c.found.result
     has valid.1 c.in_ok-planned.ensures.found c.as_str.ensures.value c.as_str-2.ensures.value c.found.ensures.answer c.found.ensures.files

@@ -1,7 +1,7 @@
 //! Fastest plans of routes by the order of their customers.
 
 ghost use Rattle.std.specs.Prelude.{◌≡◌, ◌∷◌, ◌++◌, [], true, IfOk};
-ghost use Rattle.near_columns.specs.Inner.{AreInner};
+ghost use Rattle.gap_search.specs.Inner.{AreInner};
 
 use frvcp_labels::solve_route;
 use instance_reader::Instance;

@@ -5,7 +5,7 @@ use Rattle.std.specs.List.{All}
 use Rattle.std.proofs.lemmas.List.Elements.{All-cons, All-nil}
 use Rattle.ev_model.specs.Network.{Network, node_count}
 use Rattle.ev_model.specs.Route.{IsRoute, Moves}
-use Rattle.near_columns.specs.Inner.{AreInner}
+use Rattle.gap_search.specs.Inner.{AreInner}
 
 -- all of them are known, and so is the depot behind them
 known_behind : (g : Network) (before : ℕ) (nodes : List ℕ) → 0 < node_count g → AreInner g before nodes → All (λ node. node < node_count g) (nodes ++ 0 ∷ [])

@@ -2,8 +2,8 @@ use Rattle.std.proofs.Common.{◌≡◌, ◌<◌, ◌∷◌, ◌++◌, ◌∙◌
 use Rattle.std.proofs.lemmas.Grind.{common_steps}
 use Rattle.ev_model.specs.Network.{node_count}
 use Rattle.ev_model.specs.Route.{IsRoute}
-use Rattle.near_columns.proofs.Inner.{is_route}
-use Rattle.near_columns.proofs.trips.fastest_plan.Goals as goal
+use Rattle.gap_search.proofs.Inner.{is_route}
+use Rattle.gap_search.proofs.trips.fastest_plan.Goals as goal
 
 pub solve_route-requires-clause-route : goal.solve_route-requires-clause-route
 solve_route-requires-clause-route c =

@@ -1,0 +1,94 @@
+//! The search for a proof of a bound, and for routes of which plans may be made. No clause rests on
+//! this: what it finds is judged.
+
+mod candidates;
+mod pace;
+mod question;
+mod reach;
+mod routes;
+mod sections;
+
+use crate::clock::{Ahead, GapClock};
+use crate::first::FirstPlan;
+use crate::watcher::GapWatcher;
+use candidates::{candidates, candidates_of_none};
+use instance_reader::Instance;
+use near_completion::Ground;
+use near_prices::PriceSearch;
+use pace::Pace;
+pub(crate) use pace::bound_milliseconds;
+use question::question;
+use reach::section_of_nobody;
+use route_improve::Improved;
+pub(crate) use routes::NearOrder;
+use routes::{dives, orders};
+use std::alloc::{AllocError, Global};
+use tree_text::BoundProof;
+
+/// The first rounds go on until the clock was asked so often, as prices aren't worth much before.
+const FIRST_LOOKS: u32 = 400;
+
+/// What a search for a bound found. Nothing is promised of it.
+#[derive(Drop)]
+pub(crate) struct BoundFound {
+    /// Proofs that may be accepted, the best first.
+    pub(crate) candidates: Vec<BoundProof>,
+    /// The price of each customer, by number, in scaled time; none where nothing was priced.
+    pub(crate) prices: Vec<i64>,
+    /// Routes of which plans may be made.
+    pub(crate) orders: Vec<NearOrder>,
+    /// Routes that may make plans together, plan by plan: no two of a plan serve the same customer.
+    pub(crate) dives: Vec<Vec<NearOrder>>,
+}
+
+/// Looks for a proof of a high bound, and for routes of which a good plan may be made.
+///
+/// Where no plan is held, it is looked first whether some customer is on no route at all. Then prices
+/// of the linear optimum over near routes are found, which begin with the routes that are known, and
+/// closed labels are made for them. The only `Err` is want of memory.
+///
+/// The clock stops the rounds of the search for prices but the first, some time before it is up, and
+/// the search for routes for plans. What makes a proof of the prices at hand goes on.
+pub(crate) fn search_bound<C: GapClock, W: GapWatcher>(
+    alloc: Global,
+    inst: &Instance,
+    first: &FirstPlan,
+    clock: &mut C,
+    watcher: &mut W,
+) -> Result<BoundFound, AllocError> {
+    let ground = Ground::new(alloc, inst)?;
+    if let Improved::Alone(_) = &first.plan {
+        if let Some(section) = section_of_nobody(alloc, inst, &ground)? {
+            return Ok(only(alloc, candidates_of_none(alloc, inst, section)?));
+        }
+    }
+    let pace = Pace::of(ground.customers(), clock);
+    let asked = question(alloc, inst, &ground, first, pace)?;
+    let mut search = PriceSearch::new(alloc, inst, &ground, asked)?;
+    let mut ahead = Ahead {
+        milliseconds: pace.kept_back(ground.customers()),
+        looks: FIRST_LOOKS,
+        clock,
+    };
+    let end = search.run(alloc, &mut ahead, watcher)?;
+    let found = search.finish(alloc, end)?;
+    let candidates = candidates(alloc, inst, &ground, &found, clock)?;
+    let orders = orders(alloc, &ground, &found.routes)?;
+    let dives = dives(alloc, &ground, &mut search, clock)?;
+    Ok(BoundFound {
+        candidates,
+        prices: found.prices,
+        orders,
+        dives,
+    })
+}
+
+/// Candidates alone.
+fn only(alloc: Global, candidates: Vec<BoundProof>) -> BoundFound {
+    BoundFound {
+        candidates,
+        prices: Vec::new(alloc),
+        orders: Vec::new(alloc),
+        dives: Vec::new(alloc),
+    }
+}

@@ -1,0 +1,61 @@
+//! How a search for a bound is cut to its time. No clause rests on this.
+
+use super::sections::list_milliseconds;
+use crate::clock::GapClock;
+
+/// How a search for a bound is cut to its time.
+#[derive(Clone, Copy, Debug, PartialEq, Eq)]
+pub(crate) enum Pace {
+    /// There is time for all of it.
+    Whole,
+    /// No near set grows.
+    Short,
+    /// Each customer remembers himself alone: searches and lists are short then, and bounds low.
+    Haste,
+}
+
+impl Pace {
+    /// That for so many customers, by the time that is left.
+    pub(crate) fn of<C: GapClock>(customers: usize, clock: &mut C) -> Pace {
+        let list = list_milliseconds(customers);
+        if clock.is_up_in(list / 2) {
+            Pace::Haste
+        } else if clock.is_up_in(list.saturating_mul(3)) {
+            Pace::Short
+        } else {
+            Pace::Whole
+        }
+    }
+
+    /// So many milliseconds are kept back for a list of so many customers.
+    pub(crate) fn kept_back(self, customers: usize) -> u64 {
+        let list = list_milliseconds(customers);
+        match self {
+            Pace::Whole => list,
+            Pace::Short => list - list / 4,
+            Pace::Haste => list / 8,
+        }
+    }
+
+    /// So many layers the tables have.
+    pub(crate) fn layers(self) -> usize {
+        match self {
+            Pace::Whole | Pace::Short => 240,
+            Pace::Haste => 60,
+        }
+    }
+
+    /// So often near sets grow at the most.
+    pub(crate) fn most_growths(self) -> usize {
+        match self {
+            Pace::Whole => 60,
+            Pace::Short | Pace::Haste => 0,
+        }
+    }
+}
+
+/// So many milliseconds a search for a bound for so many customers takes at the least, so that it is
+/// cut little.
+pub(crate) fn bound_milliseconds(customers: usize) -> u64 {
+    list_milliseconds(customers).saturating_mul(4)
+}
