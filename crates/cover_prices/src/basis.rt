@@ -97,6 +97,57 @@ impl Basis {
         }
     }
 
+    /// The basis with a further row, in which its members count so often, and whose room is a member:
+    /// what may be added there, or what may be taken.
+    pub(crate) fn widened(
+        &self,
+        alloc: Global,
+        counts: &[i64],
+        is_most: bool,
+    ) -> Result<Basis, AllocError> {
+        let place = self.members.len();
+        let width = place.saturating_add(1);
+        let sign = if is_most { 1 } else { -1 };
+        let mut rows = Vec::with_capacity(alloc, width)?;
+        for row in &self.rows {
+            rows.push(longer(alloc, row, 0)?)?;
+        }
+        let last = self.combined(alloc, counts, sign)?;
+        rows.push(longer(alloc, &last, ONE.saturating_mul(sign))?)?;
+        let mut members = self.members.clone()?;
+        members.push(if is_most {
+            Member::Slack(place)
+        } else {
+            Member::Surplus(place)
+        })?;
+        Ok(Basis {
+            firsts: members.clone()?,
+            members,
+            rows,
+            pivot_row: Vec::with_capacity(alloc, width)?,
+            sums: vec![in alloc; 0; width]?,
+        })
+    }
+
+    /// The sum over the rows of a count, times a sign the other way round.
+    fn combined(&self, alloc: Global, counts: &[i64], sign: i64) -> Result<Vec<i64>, AllocError> {
+        let mut sums = vec![in alloc; 0; self.members.len()]?;
+        for (count, row) in counts.iter().zip(self.rows.iter()) {
+            if *count != 0 {
+                let factor = count.saturating_mul(sign).saturating_neg();
+                add_times(&mut sums, row, factor);
+            }
+        }
+        Ok(sums)
+    }
+
+    /// Adds a count times the column of the inverse at a place to entries, by row.
+    pub(crate) fn add_entries(&self, place: usize, count: i64, entries: &mut [i64]) {
+        for (entry, row) in entries.iter_mut().zip(self.rows.iter()) {
+            *entry = entry.saturating_add(at(row, place).saturating_mul(count));
+        }
+    }
+
     /// Lets a column with these entries take the place of a member. Whether all entries of the
     /// inverse are as wide as they need be.
     pub(crate) fn exchange(
@@ -352,6 +403,21 @@ fn subtract(row: &mut [i64], other: &[i64], factor: i64) -> bool {
         }
     }
     fits
+}
+
+/// A row with a further entry.
+fn longer(alloc: Global, row: &[i64], entry: i64) -> Result<Vec<i64>, AllocError> {
+    let mut own = Vec::with_capacity(alloc, row.len().saturating_add(1))?;
+    own.extend_from_slice(row)?;
+    own.push(entry)?;
+    Ok(own)
+}
+
+/// Adds a row times a whole factor to sums.
+fn add_times(sums: &mut [i64], row: &[i64], factor: i64) {
+    for (sum, entry) in sums.iter_mut().zip(row) {
+        *sum = sum.saturating_add(entry.saturating_mul(factor));
+    }
 }
 
 /// Adds a row times a weight to sums.

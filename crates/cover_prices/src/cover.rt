@@ -1,6 +1,7 @@
 //! The master problem.
 
 use crate::columns::{Column, Service, Standing};
+use crate::fixed::product;
 use crate::repair::{fit, lower};
 use crate::rows::{Row, copied_rows, served_rows};
 use crate::simplex::Simplex;
@@ -25,7 +26,7 @@ const MOST_PARTS: u64 = 1 << 24;
 #[derive(Drop)]
 pub struct Cover {
     pub(crate) columns: Vec<Column>,
-    rows: Vec<Row>,
+    pub(crate) rows: Vec<Row>,
     /// How many parts a unit of cost has here.
     pub(crate) parts: u64,
     /// What it costs to cover a row once without a column, in parts, as all costs below.
@@ -147,6 +148,15 @@ impl Cover {
     /// The prices of the rows, by number, each as its row may have it.
     pub fn prices(&self) -> &[i64] {
         &self.prices
+    }
+
+    /// What the last prices of the simplex method are worth: the least cost, where it came to its end.
+    pub fn worth(&self) -> i128 {
+        let mut sum: i128 = 0;
+        for (price, row) in self.simplex.prices().iter().zip(&self.rows) {
+            sum = sum.saturating_add(product(*price, row.wanted()));
+        }
+        sum.checked_div_euclid(i128::from(self.parts)).unwrap_or(0)
     }
 
     /// To which amounts the columns are taken, by place, in units of 2^-32.

@@ -8,7 +8,7 @@ use std::alloc::{AllocError, Global};
 /// Lets prices be such as their rows may have.
 pub(crate) fn fit(rows: &[Row], dearest: i64, prices: &mut [i64]) {
     for (price, row) in prices.iter_mut().zip(rows) {
-        *price = row.fitted(*price, dearest);
+        *price = row.allowed(*price, dearest);
     }
 }
 

@@ -21,6 +21,9 @@ pub struct Row {
     pub count: i64,
 }
 
+/// No price is lower.
+const LOWEST: i64 = -(1 << 60);
+
 /// No row is to be covered more often.
 const MOST_COUNT: i64 = 1_000;
 
@@ -54,7 +57,16 @@ impl Row {
         }
     }
 
-    /// A price, or the nearest one that the row may have.
+    /// A price, or the nearest one that the row may have; of those below 0 it may have any, if one.
+    pub(crate) fn allowed(self, price: i64, dearest: i64) -> i64 {
+        let price = price.min(self.greatest_price(dearest));
+        match self.sense {
+            Sense::AtLeast => price.max(0),
+            Sense::Exactly | Sense::AtMost => price.max(LOWEST),
+        }
+    }
+
+    /// A price, or the nearest one that the row may have, none below the negative of the dearest.
     pub(crate) fn fitted(self, price: i64, dearest: i64) -> i64 {
         price
             .min(self.greatest_price(dearest))

@@ -14,10 +14,10 @@ const ENTRY: i64 = -16;
 const MOST_RESIDUAL: i64 = 128;
 
 /// A member leaves only where the entry of the entering column is greater.
-const LEAST_ENTRY: i64 = 1 << 18;
+pub(crate) const LEAST_ENTRY: i64 = 1 << 18;
 
 /// By so much an amount may come below 0.
-const SLACK: i64 = 1 << 8;
+pub(crate) const SLACK: i64 = 1 << 8;
 
 /// After so many pivots the inverse is worked out anew.
 const PIVOTS: usize = 100;
@@ -31,7 +31,7 @@ const RESETS: usize = 2;
 /// The state of the method, which stays from one call to the next.
 #[derive(Drop)]
 pub(crate) struct Simplex {
-    basis: Basis,
+    pub(crate) basis: Basis,
     /// Whether each column of the pool is in the basis.
     is_basic: Vec<bool>,
     /// What is to be covered of each row: a little more than is wanted.
@@ -39,7 +39,7 @@ pub(crate) struct Simplex {
     /// What is wanted of each row.
     wanted: Vec<i64>,
     /// The amounts of the members, by row.
-    amounts: Vec<i64>,
+    pub(crate) amounts: Vec<i64>,
     prices: Vec<i64>,
     /// The entries of the entering column, by row.
     entries: Vec<i64>,
@@ -382,9 +382,11 @@ fn wanted_sides(alloc: Global, rows: &[Row]) -> Result<Vec<i64>, AllocError> {
 }
 
 /// What is to be covered of each row: what is wanted, and a little more by chance, so that few
-/// pivots leave the cost as it is.
+/// pivots leave the cost as it is. Where rows are covered just so often nothing more is, since no
+/// columns may be left then that do it.
 fn right_sides(alloc: Global, rows: &[Row]) -> Result<Vec<i64>, AllocError> {
     let mut state: u64 = 88_172_645_463_325_252;
+    let is_just = rows.iter().any(|row| row.sense == Sense::Exactly);
     let mut right = Vec::with_capacity(alloc, rows.len())?;
     for row in rows {
         state ^= state << 13;
@@ -392,7 +394,8 @@ fn right_sides(alloc: Global, rows: &[Row]) -> Result<Vec<i64>, AllocError> {
         state ^= state << 17;
         let chance = (state % (1 << 20)) as i64;
         let wanted = ONE.saturating_mul(row.wanted());
-        right.push(wanted.saturating_add((1 << 17) + chance))?;
+        let more = if is_just { 0 } else { (1 << 17) + chance };
+        right.push(wanted.saturating_add(more))?;
     }
     Ok(right)
 }

@@ -25,9 +25,6 @@ use routes::{dives, orders};
 use std::alloc::{AllocError, Global};
 use tree_text::BoundProof;
 
-/// The first rounds go on until the clock was asked so often, as prices aren't worth much before.
-const FIRST_LOOKS: u32 = 400;
-
 /// What a search for a bound found. Nothing is promised of it.
 #[derive(Drop)]
 pub(crate) struct BoundFound {
@@ -65,9 +62,9 @@ pub(crate) fn search_bound<C: GapClock, W: GapWatcher>(
     let pace = Pace::of(ground.customers(), clock);
     let asked = question(alloc, inst, &ground, first, pace)?;
     let mut search = PriceSearch::new(alloc, inst, &ground, asked)?;
+    search.set_effort(pace.effort());
     let mut ahead = Ahead {
         milliseconds: pace.kept_back(ground.customers()),
-        looks: FIRST_LOOKS,
         clock,
     };
     let end = search.run(alloc, &mut ahead, watcher)?;

@@ -9,21 +9,15 @@ pub trait GapClock: SearchClock {
     fn is_up_in(&mut self, milliseconds: u64) -> bool;
 }
 
-/// A clock that is up so many milliseconds before another, but not before it was asked so often.
+/// A clock that is up so many milliseconds before another.
 #[derive(Drop)]
 pub(crate) struct Ahead<'c, C: GapClock> {
     pub(crate) clock: &'c mut C,
     pub(crate) milliseconds: u64,
-    /// So often it isn't up yet, whatever the other one says.
-    pub(crate) looks: u32,
 }
 
 impl<'c, C: GapClock> SearchClock for Ahead<'c, C> {
     fn is_up(&mut self) -> bool {
-        if self.looks > 0 {
-            self.looks -= 1;
-            return false;
-        }
         self.clock.is_up_in(self.milliseconds)
     }
 }

@@ -13,39 +13,55 @@ pub(crate) struct Cell {
     /// That of ways without `known`.
     pub(crate) second: i32,
     /// The first customer of a best way.
-    pub(crate) known: Option<u16>,
+    pub(crate) known: Whom,
     /// The first customers of the best way and of the second, where they came by further stations.
-    first: Option<u16>,
-    next: Option<u16>,
+    first: Whom,
+    next: Whom,
 }
 
-/// What the ways by an arc take.
-#[derive(Clone, Copy)]
-pub(crate) struct Way {
-    /// That of ways that don't go back to the customer where the arc begins.
-    pub(crate) bound: i32,
-    /// That of ways without `known`.
-    second: i32,
-    known: Option<u16>,
-    /// The first customers of both.
-    first: Option<u16>,
-    next: Option<u16>,
+/// A customer in few bits, or nobody.
+#[derive(Clone, Copy, Debug, PartialEq, Eq)]
+pub(crate) struct Whom {
+    number: u16,
 }
 
 /// There is no way.
-pub(crate) const NO_WAY: Way = Way {
-    bound: i32::MAX,
-    second: i32::MAX,
-    known: None,
-    first: None,
-    next: None,
-};
+pub(crate) const NO_WAY: i32 = i32::MAX;
 
 /// The least of some ways, and the first customer of one that takes that.
 #[derive(Clone, Copy)]
 struct Least {
     bound: i32,
-    first: Option<u16>,
+    first: Whom,
+}
+
+impl Whom {
+    /// Nobody.
+    const NOBODY: Whom = Whom { number: u16::MAX };
+
+    /// The customer with a number, nobody where it doesn't fit.
+    fn of(customer: Option<usize>) -> Whom {
+        match customer {
+            Some(customer) => Whom {
+                number: u16::try_from(customer).unwrap_or(u16::MAX),
+            },
+            None => Whom::NOBODY,
+        }
+    }
+
+    /// Whether it is a customer, and another one is the same.
+    fn is_also(self, other: Whom) -> bool {
+        self.number != u16::MAX && self.number == other.number
+    }
+
+    /// His number, if it is a customer.
+    pub(crate) fn number(self) -> Option<usize> {
+        if self.number == u16::MAX {
+            None
+        } else {
+            Some(usize::from(self.number))
+        }
+    }
 }
 
 /// A number in 32 bits, the nearest of those where it doesn't fit.
@@ -58,122 +74,55 @@ fn sum(one: i32, other: i32) -> i32 {
     (i64::from(one) + i64::from(other)).clamp(-2_147_483_648, 2_147_483_647) as i32
 }
 
-/// What is known of ways that begin at a customer, or at a station, in a layer.
+/// What is known of ways that begin at a customer, or at a station, in the layers below.
 #[derive(Clone, Copy)]
 pub(crate) struct Ahead<'c> {
     pub(crate) customers: &'c [Vec<Cell>],
     pub(crate) stations: &'c [Vec<Cell>],
 }
 
-impl Ahead<'_> {
-    /// Reckons the ways by all arcs from a place in a layer, in the order of the places.
-    pub(crate) fn reckon(&self, terms: &NearTerms, legs: &Legs, layer: usize, ways: &mut Ways<'_>) {
-        let own = number_of(legs.own);
-        for (customer, way) in ways.customers.iter_mut().enumerate() {
-            *way = self.to_customer(terms, legs, layer, own, customer);
-        }
-        for (station, way) in ways.stations.iter_mut().enumerate() {
-            *way = self.to_station(legs, layer, own, station);
-        }
-    }
+/// The least of the ways by each arc from a place that don't go back to the customer there: to
+/// customers, by number, and to stations, in order.
+#[derive(Drop)]
+pub(crate) struct Bounds<'w> {
+    pub(crate) customers: &'w mut [i32],
+    pub(crate) stations: &'w mut [i32],
+}
 
-    /// The ways by the arc to a customer.
-    fn to_customer(
+impl Ahead<'_> {
+    /// Reckons the ways by all arcs from a place in a layer, and its cell. `stranded` is what a
+    /// vehicle takes that has none.
+    pub(crate) fn cell(
         &self,
         terms: &NearTerms,
         legs: &Legs,
         layer: usize,
-        own: Option<u16>,
-        customer: usize,
-    ) -> Way {
-        let Some((leg, cell)) = behind(&legs.customers, self.customers, layer, customer) else {
-            return NO_WAY;
-        };
-        let second = sum(leg.cost, cell.second);
-        let keeps_own = own.is_some() && cell.known == own && remembers(terms, customer, own);
-        let number = number_of(Some(customer));
-        Way {
-            bound: if keeps_own {
-                second
-            } else {
-                sum(leg.cost, cell.best)
-            },
-            second,
-            known: cell.known,
-            first: number,
-            next: number,
-        }
-    }
-
-    /// The ways by the arc to a station, where whom one remembers stays.
-    fn to_station(&self, legs: &Legs, layer: usize, own: Option<u16>, station: usize) -> Way {
-        let Some((leg, cell)) = behind(&legs.stations, self.stations, layer, station) else {
-            return NO_WAY;
-        };
-        let second = sum(leg.cost, cell.second);
-        let keeps_own = own.is_some() && cell.known == own;
-        Way {
-            bound: if keeps_own {
-                second
-            } else {
-                sum(leg.cost, cell.best)
-            },
-            second,
-            known: cell.known,
-            first: if keeps_own { cell.next } else { cell.first },
-            next: cell.next,
-        }
-    }
-}
-
-/// The arc to a place, and what is known of the ways that begin there in the layer that it leads
-/// to. There is nothing where it may not be taken, or that layer isn't made yet.
-fn behind(legs: &[Leg], cells: &[Vec<Cell>], layer: usize, to: usize) -> Option<(Leg, Cell)> {
-    let leg = legs.get(to)?;
-    let left = layer.checked_sub(leg.down)?;
-    let cell = cells.get(to)?.get(left)?;
-    Some((*leg, *cell))
-}
-
-/// Whether a vehicle that serves a customer goes on to remember another one.
-fn remembers(terms: &NearTerms, customer: usize, other: Option<u16>) -> bool {
-    match other {
-        Some(other) => is_in(terms.near(customer), usize::from(other)),
-        None => false,
-    }
-}
-
-/// A customer's number in few bits.
-fn number_of(customer: Option<usize>) -> Option<u16> {
-    u16::try_from(customer?).ok()
-}
-
-/// The ways by all arcs from a place: to customers, by number, and to stations, in order.
-#[derive(Drop)]
-pub(crate) struct Ways<'w> {
-    pub(crate) customers: &'w mut [Way],
-    pub(crate) stations: &'w mut [Way],
-}
-
-impl Ways<'_> {
-    /// The cell of a place in a layer, by all ways on from there. `stranded` is what a vehicle takes
-    /// that has none.
-    pub(crate) fn cell(&self, terms: &NearTerms, legs: &Legs, layer: usize, stranded: i32) -> Cell {
+        stranded: i32,
+        bounds: &mut Bounds<'_>,
+    ) -> Cell {
         let start = Least {
             bound: if legs.home.down <= layer {
                 stranded.min(legs.home.cost)
             } else {
                 stranded
             },
-            first: None,
+            first: Whom::NOBODY,
         };
-        let best = least_of(self.stations, least_of(self.customers, start));
+        let best = self.to_customers(terms, legs, layer, start, bounds.customers);
+        let best = self.to_stations(legs, layer, best, bounds.stations);
         let mut second = start;
-        if let Some(known) = best.first {
-            second = least_customer(self.customers, terms, known, start);
-            second = least_station(self.stations, known, second);
-        } else {
+        if best.first == Whom::NOBODY {
             second.bound = best.bound;
+        } else {
+            second = self.customers_without(
+                terms,
+                legs,
+                layer,
+                best.first,
+                second,
+                bounds.customers,
+            );
+            second = self.stations_without(legs, layer, best.first, second, bounds.stations);
         }
         Cell {
             best: best.bound,
@@ -183,55 +132,147 @@ impl Ways<'_> {
             next: second.first,
         }
     }
+
+    /// Reckons the ways by arcs to customers. The least of them and of what is known.
+    fn to_customers(
+        &self,
+        terms: &NearTerms,
+        legs: &Legs,
+        layer: usize,
+        start: Least,
+        bounds: &mut [i32],
+    ) -> Least {
+        let own = Whom::of(legs.own);
+        let mut least = start;
+        let ways = legs.customers.iter().zip(self.customers);
+        for (customer, ((leg, cells), bound)) in ways.zip(bounds.iter_mut()).enumerate() {
+            *bound = NO_WAY;
+            if let Some(cell) = behind(leg, cells, layer) {
+                let keeps_own = own.is_also(cell.known) && remembers(terms, customer, own);
+                let rest = if keeps_own { cell.second } else { cell.best };
+                *bound = sum(leg.cost, rest);
+                if *bound < least.bound {
+                    least = Least {
+                        bound: *bound,
+                        first: Whom::of(Some(customer)),
+                    };
+                }
+            }
+        }
+        least
+    }
+
+    /// Reckons the ways by arcs to stations, where whom one remembers stays. The least of them and
+    /// of what is known.
+    fn to_stations(&self, legs: &Legs, layer: usize, start: Least, bounds: &mut [i32]) -> Least {
+        let own = Whom::of(legs.own);
+        let mut least = start;
+        let ways = legs.stations.iter().zip(self.stations);
+        for ((leg, cells), bound) in ways.zip(bounds.iter_mut()) {
+            *bound = NO_WAY;
+            if let Some(cell) = behind(leg, cells, layer) {
+                let keeps_own = own.is_also(cell.known);
+                let (rest, first) = without(cell, keeps_own);
+                *bound = sum(leg.cost, rest);
+                if *bound < least.bound {
+                    least = Least {
+                        bound: *bound,
+                        first,
+                    };
+                }
+            }
+        }
+        least
+    }
+
+    /// The least of ways to customers that leave one out, and of what is known.
+    fn customers_without(
+        &self,
+        terms: &NearTerms,
+        legs: &Legs,
+        layer: usize,
+        known: Whom,
+        start: Least,
+        bounds: &[i32],
+    ) -> Least {
+        let mut least = start;
+        for (customer, bound) in bounds.iter().enumerate() {
+            if *bound >= least.bound || known.number() == Some(customer) {
+                continue;
+            }
+            let mut bound = *bound;
+            if let Some((leg, cell)) = arc_to(&legs.customers, self.customers, layer, customer) {
+                if known.is_also(cell.known) && remembers(terms, customer, known) {
+                    bound = sum(leg.cost, cell.second);
+                }
+            }
+            if bound < least.bound {
+                least = Least {
+                    bound,
+                    first: Whom::of(Some(customer)),
+                };
+            }
+        }
+        least
+    }
+
+    /// The least of ways to stations that leave a customer out, and of what is known.
+    fn stations_without(
+        &self,
+        legs: &Legs,
+        layer: usize,
+        known: Whom,
+        start: Least,
+        bounds: &[i32],
+    ) -> Least {
+        let own = Whom::of(legs.own);
+        let mut least = start;
+        for (station, bound) in bounds.iter().enumerate() {
+            if *bound >= least.bound {
+                continue;
+            }
+            if let Some((leg, cell)) = arc_to(&legs.stations, self.stations, layer, station) {
+                let keeps = known.is_also(cell.known) || own.is_also(cell.known);
+                let (rest, first) = without(&cell, keeps);
+                let bound = sum(leg.cost, rest);
+                if bound < least.bound {
+                    least = Least { bound, first };
+                }
+            }
+        }
+        least
+    }
 }
 
-/// The least of ways and of what is known.
-fn least_of(ways: &[Way], start: Least) -> Least {
-    let mut least = start;
-    for way in ways {
-        if way.bound < least.bound {
-            least = Least {
-                bound: way.bound,
-                first: way.first,
-            };
-        }
-    }
-    least
+/// What is known of the ways that begin where an arc leads to, in the layer there. There is nothing
+/// where it may not be taken, or that layer isn't made yet.
+fn behind<'c>(leg: &Leg, cells: &'c [Cell], layer: usize) -> Option<&'c Cell> {
+    cells.get(layer.checked_sub(leg.down)?)
 }
 
-/// The least of ways to customers that leave one out, and of what is known.
-fn least_customer(ways: &[Way], terms: &NearTerms, known: u16, start: Least) -> Least {
-    let mut least = start;
-    for (customer, way) in ways.iter().enumerate() {
-        if customer == usize::from(known) {
-            continue;
-        }
-        let keeps = way.known == Some(known) && remembers(terms, customer, Some(known));
-        let bound = if keeps { way.second } else { way.bound };
-        if bound < least.bound {
-            least = Least {
-                bound,
-                first: way.first,
-            };
-        }
-    }
-    least
+/// The arc to a place, and what is known of the ways that begin there.
+fn arc_to(legs: &[Leg], cells: &[Vec<Cell>], layer: usize, to: usize) -> Option<(Leg, Cell)> {
+    let leg = legs.get(to)?;
+    let cell = behind(leg, cells.get(to)?, layer)?;
+    Some((*leg, *cell))
 }
 
-/// The least of ways to stations that leave a customer out, and of what is known.
-fn least_station(ways: &[Way], known: u16, start: Least) -> Least {
-    let mut least = start;
-    for way in ways {
-        let keeps = way.known == Some(known);
-        let bound = if keeps { way.second } else { way.bound };
-        if bound < least.bound {
-            least = Least {
-                bound,
-                first: if keeps { way.next } else { way.first },
-            };
-        }
+/// The least of the ways from a cell, without the customer that it knows or with him, and their first
+/// customer.
+fn without(cell: &Cell, is_without: bool) -> (i32, Whom) {
+    if is_without {
+        (cell.second, cell.next)
+    } else {
+        (cell.best, cell.first)
     }
-    least
+}
+
+/// Whether a vehicle that serves a customer goes on to remember another one.
+fn remembers(terms: &NearTerms, customer: usize, other: Whom) -> bool {
+    match other.number() {
+        Some(other) => is_in(terms.near(customer), other),
+        None => false,
+    }
 }
 
 /// Lets the cells of stations in a layer reckon with ways by arcs to each other within the layer,
@@ -273,11 +314,12 @@ fn lowered(own: Cell, leg: Leg, cell: Cell) -> Cell {
         after.best = best;
         after.first = cell.first;
     }
-    let keeps = cell.known.is_some() && cell.known == own.known;
-    let second = sum(leg.cost, if keeps { cell.second } else { cell.best });
+    let keeps = own.known.is_also(cell.known);
+    let (rest, first) = without(&cell, keeps);
+    let second = sum(leg.cost, rest);
     if second < own.second {
         after.second = second;
-        after.next = if keeps { cell.next } else { cell.first };
+        after.next = first;
     }
     after
 }
@@ -285,10 +327,8 @@ fn lowered(own: Cell, leg: Leg, cell: Cell) -> Cell {
 impl Cell {
     /// The least of ways without those in a memory, or less; and whom of them it leaves out.
     pub(crate) fn without(&self, memory: LargeSet) -> (i32, Option<usize>) {
-        match self.known {
-            Some(known) if is_in(memory, usize::from(known)) => {
-                (self.second, Some(usize::from(known)))
-            }
+        match self.known.number() {
+            Some(known) if is_in(memory, known) => (self.second, Some(known)),
             _ => (self.best, None),
         }
     }

@@ -1,6 +1,6 @@
 //! The table of what ways home can still earn. No clause rests on this.
 
-use crate::cells::{Ahead, Cell, NO_WAY, Way, Ways, settle};
+use crate::cells::{Ahead, Bounds, Cell, NO_WAY, settle};
 use crate::ground::Ground;
 use crate::legs::{AllLegs, Legs};
 use crate::plan::{Layers, Stranded};
@@ -45,9 +45,9 @@ struct Making<'t> {
     legs: &'t AllLegs,
     stranded: Stranded,
     has_rows: bool,
-    /// The ways from a place, while they are reckoned.
-    to_customers: Vec<Way>,
-    to_stations: Vec<Way>,
+    /// The bounds by the first step from a place, while they are reckoned.
+    to_customers: Vec<i32>,
+    to_stations: Vec<i32>,
 }
 
 impl WayTable {
@@ -183,7 +183,7 @@ impl WayTable {
         layer: u32,
     ) -> Result<(), AllocError> {
         for (station, legs) in rows.iter().enumerate() {
-            self.reckon(making, legs, class, layer);
+            self.cell(making, legs, class, layer);
             let bounds = making.bounds(alloc)?;
             if let Some(stations) = self.from_stations.get_mut(class) {
                 if let Some(row) = stations.get_mut(station) {
@@ -217,8 +217,8 @@ impl WayTable {
         Ok(())
     }
 
-    /// Reckons the ways on from a place in a layer.
-    fn reckon(&self, making: &mut Making<'_>, legs: &Legs, class: usize, layer: u32) {
+    /// The cell of a place in a layer; the bounds by the first step are reckoned for it.
+    fn cell(&self, making: &mut Making<'_>, legs: &Legs, class: usize, layer: u32) -> Cell {
         let ahead = Ahead {
             customers: self.at_customers.as_slice(),
             stations: match self.at_stations.get(class) {
@@ -226,22 +226,12 @@ impl WayTable {
                 None => &[],
             },
         };
-        let mut ways = Ways {
-            customers: making.to_customers.as_mut_slice(),
-            stations: making.to_stations.as_mut_slice(),
-        };
-        ahead.reckon(making.terms, legs, layer as usize, &mut ways);
-    }
-
-    /// The cell of a place in a layer.
-    fn cell(&self, making: &mut Making<'_>, legs: &Legs, class: usize, layer: u32) -> Cell {
-        self.reckon(making, legs, class, layer);
         let stranded = making.stranded.at(layer);
-        let ways = Ways {
+        let mut bounds = Bounds {
             customers: making.to_customers.as_mut_slice(),
             stations: making.to_stations.as_mut_slice(),
         };
-        ways.cell(making.terms, legs, layer as usize, stranded)
+        ahead.cell(making.terms, legs, layer as usize, stranded, &mut bounds)
     }
 
     /// Whether all ways home are reckoned with that the limit allows.
@@ -318,15 +308,15 @@ impl WayTable {
 }
 
 impl Making<'_> {
-    /// The bounds of the ways that were reckoned, by place.
+    /// The bounds that were reckoned, by place.
     fn bounds(&self, alloc: Global) -> Result<Vec<i32>, AllocError> {
-        let mut bounds = Vec::with_capacity(alloc, self.to_customers.len())?;
-        for way in &self.to_customers {
-            bounds.push(way.bound)?;
-        }
-        for way in &self.to_stations {
-            bounds.push(way.bound)?;
-        }
+        let places = self
+            .to_customers
+            .len()
+            .saturating_add(self.to_stations.len());
+        let mut bounds = Vec::with_capacity(alloc, places)?;
+        bounds.extend_from_slice(&self.to_customers)?;
+        bounds.extend_from_slice(&self.to_stations)?;
         Ok(bounds)
     }
 }

@@ -17,15 +17,8 @@ const TESTS: usize = 50;
 /// So many labels are made in these tests.
 const TEST_LABELS: usize = 20_000_000;
 
-/// So many labels are made to close prices where rounds were stopped; making a table counts as
-/// some.
-const CLOSE_LABELS: usize = 4_000_000;
-
-/// As a part of the work of the rounds, so many are made to raise them then.
+/// As a part of the work of the rounds, so many labels are made to raise prices that were closed.
 const RAISE_PART: usize = 3;
-
-/// So many at the least, and at the most.
-const RAISE_LABELS: (usize, usize) = (500_000, 10_000_000);
 
 /// A route that is known, at the end.
 #[derive(Drop)]
@@ -66,6 +59,19 @@ pub struct NearPrices {
     pub rounds: u64,
 }
 
+/// Prices by which no near route earns, as far as the search knows.
+#[derive(Drop)]
+pub struct ClosedPrices {
+    /// What serving each customer earns, by number.
+    pub prices: Vec<i64>,
+    /// What entering each counted set earns.
+    pub entry_prices: Vec<i64>,
+    /// The near sets, by customer.
+    pub near: Vec<LargeSet>,
+    /// The sum of the prices, with what entries earn at the least.
+    pub bound: i128,
+}
+
 /// Finds prices. The clock stops rounds, but not what makes closed prices of those at hand, for
 /// which it takes a budget of labels. The only `Err` is want of memory.
 pub fn find_prices<C: SearchClock, W: PricesWatcher>(
@@ -84,6 +90,12 @@ pub fn find_prices<C: SearchClock, W: PricesWatcher>(
 impl PriceSearch<'_> {
     /// The prices at the end of rounds, made whole.
     pub fn finish(&mut self, alloc: Global, end: RoundsEnd) -> Result<NearPrices, AllocError> {
+        self.end(alloc, end)?;
+        self.answer(alloc, end)
+    }
+
+    /// Makes the prices whole at the end of rounds.
+    fn end(&mut self, alloc: Global, end: RoundsEnd) -> Result<(), AllocError> {
         let is_closed = match end {
             RoundsEnd::Closed => true,
             RoundsEnd::Near => self.settle_last(alloc)?,
@@ -92,7 +104,7 @@ impl PriceSearch<'_> {
         if !is_closed {
             self.close(alloc)?;
         }
-        self.answer(alloc, end)
+        Ok(())
     }
 
     /// Settles the last prices. Whether no route earns by them.
@@ -101,28 +113,47 @@ impl PriceSearch<'_> {
         self.settle(alloc, &base, TESTS, &mut Budget::of(TEST_LABELS))
     }
 
-    /// Closes the best prices so far: they are lowered in proportion, and then raised, where that
-    /// helps.
+    /// Closes the best prices so far: they are lowered toward the floor, and then raised, where that
+    /// helps; where the budget doesn't reach, those of the floor are taken.
     fn close(&mut self, alloc: Global) -> Result<(), AllocError> {
         let mut best = if self.kept.is_any() {
             self.kept.prices.clone()?
         } else {
             copy_of(alloc, self.pool.cover.prices())?
         };
-        if self.scale(alloc, &mut best, &mut Budget::of(CLOSE_LABELS))? {
+        if self.scale(alloc, &mut best, &mut Budget::of(self.effort.closing))? {
             self.raise(alloc, &mut best, self.raise_budget())?;
         } else {
-            for price in best.iter_mut() {
-                *price = 0;
-            }
+            best = copy_of(alloc, &self.floor.prices)?;
         }
         self.pricing.take_prices(alloc, &best)
     }
 
     /// What it may take to raise prices: more where rounds took more.
     fn raise_budget(&self) -> Budget {
-        let (least, most) = RAISE_LABELS;
+        let (least, most) = self.effort.raising;
         Budget::of((self.work / RAISE_PART).max(least).min(most))
+    }
+
+    /// The prices alone at the end of rounds, made whole.
+    pub fn closed_prices(
+        &mut self,
+        alloc: Global,
+        end: RoundsEnd,
+    ) -> Result<ClosedPrices, AllocError> {
+        self.end(alloc, end)?;
+        let mut found = ClosedPrices {
+            prices: Vec::new(alloc),
+            entry_prices: Vec::new(alloc),
+            near: Vec::new(alloc),
+            bound: self.bound_of(&self.pricing.prices),
+        };
+        for customer in 0..self.pool.customers {
+            found.prices.push(self.pricing.terms.price(customer))?;
+            found.near.push(self.pricing.terms.near(customer))?;
+        }
+        self.push_entry_prices(&mut found.entry_prices)?;
+        Ok(found)
     }
 
     /// What is answered, by the prices at hand.

@@ -2,6 +2,30 @@
 
 use near_search::{Aim, Care, Order};
 
+/// How much work a search for prices does beside its rounds, in labels; making a table counts as
+/// some.
+#[derive(Clone, Copy, Debug, PartialEq, Eq)]
+pub struct PriceEffort {
+    /// So many before the clock is asked for the first time.
+    pub first: usize,
+    /// So many at the most to close prices where rounds were stopped.
+    pub closing: usize,
+    /// So many to raise them then, at the least and at the most; a third of the work of the rounds
+    /// in between.
+    pub raising: (usize, usize),
+}
+
+impl PriceEffort {
+    /// That where time doesn't press: the clock is asked at once.
+    pub fn usual() -> PriceEffort {
+        PriceEffort {
+            first: 0,
+            closing: 4_000_000,
+            raising: (500_000, 10_000_000),
+        }
+    }
+}
+
 /// How many labels may be made.
 #[derive(Clone, Copy)]
 pub(crate) struct Budget {

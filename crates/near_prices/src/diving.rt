@@ -3,6 +3,7 @@
 
 use crate::numbers::{copy_of, is_in, put, signed, with};
 use crate::pool::ban;
+use crate::pricing::Grain;
 use crate::question::KnownRoute;
 use crate::routes::{Route, Standing};
 use crate::search::PriceSearch;
@@ -17,16 +18,26 @@ const MOST_ROUNDS: usize = 10;
 const NEARLY_WHOLE: i64 = 3 << 30;
 
 impl PriceSearch<'_> {
-    /// What the prices of the master problem bound after so many quick rounds: an estimate.
+    /// What the optimum of the master problem costs after so many quick rounds, weighted: an estimate.
     pub fn estimate<C: SearchClock>(
         &mut self,
         alloc: Global,
         rounds: usize,
         clock: &mut C,
     ) -> Result<i128, AllocError> {
-        self.pool.cover.refine();
-        self.price_again(alloc, rounds, clock)?;
-        Ok(self.bound_of(self.pool.cover.prices()))
+        self.refine();
+        self.solve_known(alloc)?;
+        for _ in 0..rounds {
+            if clock.is_up() {
+                break;
+            }
+            self.set_prices_of_rest(alloc)?;
+            if self.seek(alloc, Care::LevelsAlone, clock)?.added == 0 {
+                break;
+            }
+            self.solve_known(alloc)?;
+        }
+        Ok(self.worth())
     }
 
     /// Makes a plan by diving: first the route of the optimum is taken whose amount has a rank,
@@ -99,7 +110,7 @@ impl PriceSearch<'_> {
                 );
             }
         }
-        self.pricing.set_prices(alloc, &prices)?;
+        self.pricing.set_prices(alloc, &prices, Grain::Fine)?;
         Ok(())
     }
 

@@ -1,8 +1,6 @@
 //! The best prices so far, by what they are worth when they are lowered until no route earns.
 
-use crate::numbers::narrow;
-
-/// What a route takes, and what it earns.
+/// What a route takes, and what it earns, both beyond what it earns by the floor of prices.
 #[derive(Clone, Copy, Debug, PartialEq, Eq)]
 pub(crate) struct Ratio {
     pub(crate) time: i128,
@@ -15,9 +13,9 @@ impl Ratio {
         Ratio { time: 1, earned: 1 }
     }
 
-    /// That of a route, by its reduced cost.
-    pub(crate) fn of(time: u64, reduced: i64) -> Ratio {
-        let time = i128::from(time);
+    /// That of a route, by its weighted time, its reduced cost and what it earns by the floor.
+    pub(crate) fn of(cost: u64, reduced: i64, floor: i128) -> Ratio {
+        let time = i128::from(cost).saturating_sub(floor).max(0);
         Ratio {
             time,
             earned: time.saturating_sub(i128::from(reduced)),
@@ -35,13 +33,6 @@ impl Ratio {
     pub(crate) fn part_of(self, number: i128) -> i128 {
         let over = number.saturating_mul(self.time);
         over.checked_div_euclid(self.earned).unwrap_or(0)
-    }
-
-    /// Lowers prices in proportion.
-    pub(crate) fn scale(self, prices: &mut [i64]) {
-        for price in prices.iter_mut() {
-            *price = narrow(self.part_of(i128::from(*price)));
-        }
     }
 }
 

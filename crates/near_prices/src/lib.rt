@@ -5,13 +5,17 @@
 #![tactic(auto)]
 
 mod answer;
+mod branching;
 mod budget;
 mod choice;
 mod diving;
 mod fitting;
+mod floor;
 mod growing;
+mod handing;
 mod kept;
 mod numbers;
+mod patience;
 mod pool;
 mod pricing;
 mod question;
@@ -22,7 +26,10 @@ mod search;
 mod settling;
 mod watcher;
 
-pub use answer::{NearPrices, PricedRoute, find_prices};
-pub use question::{EntryRange, KnownRoute, PriceQuestion};
+pub use answer::{ClosedPrices, NearPrices, PricedRoute, find_prices};
+pub use branching::{RowTrial, Tally, UsedRoute};
+pub use budget::PriceEffort;
+pub use cover_prices::{Row, Sense};
+pub use question::{EntryRange, Handed, KnownRoute, PriceQuestion};
 pub use search::{PriceSearch, RoundsEnd};
 pub use watcher::{PricesProgress, PricesWatcher};

@@ -2,7 +2,7 @@
 
 use crate::choice::Choice;
 use crate::numbers::at;
-use crate::question::EntryRange;
+use crate::question::{EntryRange, KnownRoute};
 use crate::routes::{Route, Standing};
 use cover_prices::{Cover, Row, Sense};
 use near_completion::{Follow, NearTerms};
@@ -18,8 +18,10 @@ pub(crate) struct Pool {
     pub(crate) entries: Vec<EntryRange>,
     /// How often a customer is served.
     pub(crate) sense: Sense,
-    /// What it costs to cover a row once without a route.
+    /// What it costs to cover a row once without a route, weighted.
     pub(crate) dearest: u64,
+    /// The weight of a unit of scaled time.
+    pub(crate) weight: u32,
     pub(crate) routes: Vec<Route>,
     pub(crate) cover: Cover,
     /// How many columns there are.
@@ -27,13 +29,14 @@ pub(crate) struct Pool {
 }
 
 impl Pool {
-    /// No route is known. Covering a row once without one costs so much.
+    /// No route is known. Covering a row once without one costs so much, weighted.
     pub(crate) fn new(
         alloc: Global,
         customers: usize,
         entries: Vec<EntryRange>,
         sense: Sense,
         dearest: u64,
+        weight: u32,
     ) -> Result<Pool, AllocError> {
         let rows = all_rows(alloc, customers, &entries, sense)?;
         Ok(Pool {
@@ -41,10 +44,28 @@ impl Pool {
             entries,
             sense,
             dearest,
+            weight,
             routes: Vec::new(alloc),
             cover: Cover::with_rows(alloc, &rows, dearest)?,
             columns: 0,
         })
+    }
+
+    /// A route that waits.
+    pub(crate) fn route(
+        &self,
+        alloc: Global,
+        order: Vec<usize>,
+        time: u64,
+    ) -> Result<Route, AllocError> {
+        Route::new(
+            alloc,
+            self.customers,
+            &self.entries,
+            order,
+            time,
+            self.weight,
+        )
     }
 
     /// Lets all routes be taken again: those that are columns stay so, others wait.
@@ -73,6 +94,30 @@ impl Pool {
         }
     }
 
+    /// The routes that are known.
+    pub(crate) fn into_routes(self, alloc: Global) -> Result<Vec<KnownRoute>, AllocError> {
+        let Pool {
+            customers: _,
+            entries: _,
+            sense: _,
+            dearest: _,
+            weight: _,
+            routes,
+            cover: _,
+            columns: _,
+        } = self;
+        let mut known = Vec::with_capacity(alloc, routes.len())?;
+        for route in routes {
+            known.push(route.into_known())?;
+        }
+        Ok(known)
+    }
+
+    /// How many columns there are.
+    pub(crate) fn columns(&self) -> usize {
+        self.columns
+    }
+
     /// Lets a route wait.
     pub(crate) fn put(&mut self, route: Route) -> Result<(), AllocError> {
         self.routes.push(route)?;
@@ -89,7 +134,7 @@ impl Pool {
     /// Lets the route at a place be a column.
     fn enter(&mut self, alloc: Global, place: usize) -> Result<(), AllocError> {
         if let Some(route) = self.routes.get_mut(place) {
-            self.cover.add_column(alloc, &route.services, route.time)?;
+            self.cover.add_column(alloc, &route.services, route.cost)?;
             route.standing = Standing::Column(self.columns);
             self.columns = self.columns.saturating_add(1);
         }

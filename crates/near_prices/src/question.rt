@@ -42,4 +42,24 @@ pub struct PriceQuestion {
     pub layers: usize,
     /// So often near sets grow at the most.
     pub most_growths: usize,
+    /// The weight of a unit of scaled time: prices are whole in so small parts of one. Where it is 0
+    /// routes cost nothing, and prices bound more than 0 only where no plan is left.
+    pub weight: u32,
+    /// What it costs to serve a customer once without a route, in scaled time; where it isn't told,
+    /// more than the plan that is held, if there is one, or as much as the longest route.
+    pub dearest: Option<u64>,
+    /// Whether rounds go on until no route earns at all, however little.
+    pub is_exact: bool,
+}
+
+/// Routes that are known from other searches, and which of them are columns at once: those whose
+/// reduced cost by these prices is at most the bar.
+#[derive(Drop)]
+pub struct Handed {
+    pub routes: Vec<KnownRoute>,
+    /// What serving each customer earns, by number.
+    pub prices: Vec<i64>,
+    /// What entering each counted set earns; 0 where it isn't told.
+    pub entry_prices: Vec<i64>,
+    pub bar: i64,
 }

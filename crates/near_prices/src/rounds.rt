@@ -6,8 +6,9 @@ use crate::fitting::fitted;
 use crate::growing::grow;
 use crate::kept::Ratio;
 use crate::numbers::copy_of;
+use crate::patience::Patient;
 use crate::pool::Pool;
-use crate::routes::Route;
+use crate::pricing::Grain;
 use crate::search::{PriceSearch, RoundsEnd};
 use crate::watcher::{PricesProgress, PricesWatcher};
 use near_completion::NearTerms;
@@ -41,7 +42,7 @@ pub(crate) struct Sought {
     pub(crate) seen: usize,
     /// The least reduced cost, 0 where there were none.
     pub(crate) least: i64,
-    /// What the dearest one took of what it earned.
+    /// How far prices would have to be lowered so that none of them earns.
     pub(crate) ratio: Ratio,
     pub(crate) end: SearchEnd,
 }
@@ -65,12 +66,18 @@ impl PriceSearch<'_> {
         watcher: &mut W,
     ) -> Result<RoundsEnd, AllocError> {
         for _ in 0..MOST_ROUNDS {
-            match self.round(alloc, clock, watcher)? {
+            let mut patient = Patient::new(self.first_labels(), clock);
+            match self.round(alloc, &mut patient, watcher)? {
                 Round::End(end) => return Ok(end),
                 _ => {}
             }
         }
         Ok(RoundsEnd::Stopped)
+    }
+
+    /// So many labels are left for which the clock isn't asked.
+    fn first_labels(&self) -> usize {
+        self.effort.first.saturating_sub(self.work)
     }
 
     /// Makes a round.
@@ -88,12 +95,25 @@ impl PriceSearch<'_> {
         if clock.is_up() {
             return Ok(Round::End(RoundsEnd::Stopped));
         }
-        let table = self.pricing.set_prices(alloc, self.pool.cover.prices())?;
-        self.work = self.work.saturating_add(table);
+        self.make_table(alloc)?;
         match self.look_quickly(alloc, clock)? {
             Round::Quiet => self.look_exactly(alloc, clock),
             other => Ok(other),
         }
+    }
+
+    /// Makes the table by the prices of the master problem: a coarse one while routes are looked for by
+    /// times alone.
+    fn make_table(&mut self, alloc: Global) -> Result<(), AllocError> {
+        let grain = if self.is_coarse {
+            Grain::Coarse
+        } else {
+            Grain::Fine
+        };
+        let prices = self.pool.cover.prices();
+        let table = self.pricing.set_prices(alloc, prices, grain)?;
+        self.work = self.work.saturating_add(table);
+        Ok(())
     }
 
     /// Tells how far the rounds are.
@@ -119,6 +139,7 @@ impl PriceSearch<'_> {
                 return Ok(Round::GoOn);
             }
             self.is_coarse = false;
+            self.make_table(alloc)?;
         }
         let sought = self.seek(alloc, Care::LevelsAlone, clock)?;
         if sought.end == SearchEnd::Stopped {
@@ -152,7 +173,9 @@ impl PriceSearch<'_> {
 
     /// Keeps the prices, where they are worth more than those that are kept.
     fn keep(&mut self, sought: &Sought) {
-        let worth = sought.ratio.part_of(self.bound_of(&self.pricing.prices));
+        let floor = self.bound_of(&self.floor.prices);
+        let above = self.bound_of(&self.pricing.prices).saturating_sub(floor);
+        let worth = sought.ratio.part_of(above).saturating_add(floor);
         self.kept.consider(&self.pricing.prices, worth);
     }
 
@@ -167,7 +190,7 @@ impl PriceSearch<'_> {
         }
         let base = copy_of(alloc, self.pool.cover.prices())?;
         let prices = fitted(alloc, &self.pool, &base)?;
-        self.pricing.set_prices(alloc, &prices)?;
+        self.pricing.set_prices(alloc, &prices, Grain::Fine)?;
         let sought = self.seek(alloc, Care::Exact, clock)?;
         Ok(self.judge(&sought))
     }
@@ -189,7 +212,8 @@ impl PriceSearch<'_> {
         if sought.added == 0 {
             return Round::End(RoundsEnd::Near);
         }
-        if is_whole && self.is_tiny(sought.least) && !self.grow_sets() {
+        let is_near = is_whole && !self.is_exact && self.is_tiny(sought.least);
+        if is_near && !self.grow_sets() {
             return Round::End(RoundsEnd::Near);
         }
         self.is_coarse = sought.added >= FEW;
@@ -224,21 +248,20 @@ impl PriceSearch<'_> {
             added,
             seen: found.routes.len(),
             least: found.routes.first().map_or(0, |route| route.reduced),
-            ratio: worst_of(&found),
+            ratio: self.floor.worst_of(&self.pricing, &found),
             end: found.end,
         })
     }
 
     /// Takes routes that were found, those of least reduced cost first. How many.
     fn take_some(&mut self, alloc: Global, found: &NearFound) -> Result<usize, AllocError> {
-        let customers = self.pool.customers;
-        let mut choice = Choice::new(alloc, customers)?;
+        let mut choice = Choice::new(alloc, self.pool.customers)?;
         for one in &found.routes {
             if choice.is_full() {
                 break;
             }
             let order = one.customers(alloc, self.pricing.ground)?;
-            let route = Route::new(alloc, customers, &self.pool.entries, order, one.time)?;
+            let route = self.pool.route(alloc, order, one.time)?;
             if choice.take(&route)? {
                 self.pool.put_column(alloc, route)?;
             }
@@ -270,13 +293,4 @@ fn grow_by(pool: &Pool, terms: &mut NearTerms) -> usize {
         }
     }
     grown
-}
-
-/// What the dearest route took of what it earned.
-pub(crate) fn worst_of(found: &NearFound) -> Ratio {
-    let mut worst = Ratio::whole();
-    for route in &found.routes {
-        worst = worst.least(Ratio::of(route.time, route.reduced));
-    }
-    worst
 }

@@ -1,7 +1,7 @@
 //! Near routes as columns.
 
 use crate::numbers::{at, is_in, signed, with};
-use crate::question::EntryRange;
+use crate::question::{EntryRange, KnownRoute};
 use cover_prices::Service;
 use customer_sets::LargeSet;
 use near_completion::{Follow, NearTerms};
@@ -25,6 +25,8 @@ pub(crate) struct Route {
     pub(crate) order: Vec<usize>,
     /// What it takes, in scaled time.
     pub(crate) time: u64,
+    /// The same, weighted.
+    pub(crate) cost: u64,
     /// How often it serves each customer, and counts in further rows.
     pub(crate) services: Vec<Service>,
     /// Whom it serves.
@@ -40,6 +42,7 @@ impl Route {
         entries: &[EntryRange],
         order: Vec<usize>,
         time: u64,
+        weight: u32,
     ) -> Result<Route, AllocError> {
         let mut services = Vec::new(alloc);
         let mut served = LargeSet::empty();
@@ -51,6 +54,7 @@ impl Route {
         Ok(Route {
             order,
             time,
+            cost: time.saturating_mul(u64::from(weight)),
             services,
             served,
             standing: Standing::Waiting,
@@ -59,12 +63,25 @@ impl Route {
 
     /// What it takes beyond what it earns by the prices of the rows.
     pub(crate) fn reduced_cost(&self, prices: &[i64]) -> i64 {
-        let mut cost = signed(self.time);
+        let mut cost = signed(self.cost);
         for service in &self.services {
             let part = at(prices, service.customer).saturating_mul(service.count);
             cost = cost.saturating_sub(part);
         }
         cost
+    }
+
+    /// Its order and what it takes.
+    pub(crate) fn into_known(self) -> KnownRoute {
+        let Route {
+            order,
+            time,
+            cost: _,
+            services: _,
+            served: _,
+            standing: _,
+        } = self;
+        KnownRoute { order, time }
     }
 
     /// How often it serves a customer, or counts in another row.
@@ -152,7 +169,7 @@ fn push_service(
 }
 
 /// How often an order enters a set.
-fn entries_of(order: &[usize], set: LargeSet) -> i64 {
+pub(crate) fn entries_of(order: &[usize], set: LargeSet) -> i64 {
     let mut count: i64 = 0;
     let mut was_in = false;
     for customer in order {

@@ -1,8 +1,8 @@
-//! Prices that are lowered in proportion until no near route earns by them.
+//! Prices that are lowered toward their floor until no near route earns by them.
 
 use crate::budget::{Budget, aim_of};
 use crate::kept::Ratio;
-use crate::rounds::worst_of;
+use crate::pricing::Grain;
 use crate::search::PriceSearch;
 use near_search::{Care, SearchEnd};
 use std::alloc::{AllocError, Global};
@@ -16,7 +16,7 @@ const MOST_TESTS: usize = 60;
 /// So many routes that earn are enough.
 const ENOUGH: usize = 300;
 
-/// So much of prices is left where it isn't known whether a route earns.
+/// So much of prices above the floor is left where it isn't known whether a route earns.
 const LESS: Ratio = Ratio { time: 7, earned: 8 };
 
 /// No search makes fewer labels at the most.
@@ -24,8 +24,8 @@ const LEAST_LABELS: usize = 20_000;
 
 impl PriceSearch<'_> {
     /// Raises prices by which no route earns, as far as known routes let them, until no other route
-    /// earns by those either; where the budget doesn't reach, they are lowered again in proportion.
-    /// Prices stay that can't be made better so.
+    /// earns by those either; where the budget doesn't reach, they are lowered again. Prices stay that
+    /// can't be made better so.
     pub(crate) fn raise(
         &mut self,
         alloc: Global,
@@ -42,15 +42,15 @@ impl PriceSearch<'_> {
         Ok(())
     }
 
-    /// Lowers prices in proportion until no near route earns by them, at one level of comparing
-    /// labels after the other. Whether none does; else the budget didn't reach.
+    /// Lowers prices toward the floor, all by the same part, until no near route earns by them, at one
+    /// level of comparing labels after the other. Whether none does; else the budget didn't reach.
     pub(crate) fn scale(
         &mut self,
         alloc: Global,
         prices: &mut [i64],
         budget: &mut Budget,
     ) -> Result<bool, AllocError> {
-        self.worst_known(prices).scale(prices);
+        self.floor.lower(self.worst_known(prices), prices);
         for care in [Care::TimesAlone, Care::LevelsAlone, Care::Exact] {
             if !self.scale_at(alloc, prices, care, budget)? {
                 return Ok(false);
@@ -59,13 +59,13 @@ impl PriceSearch<'_> {
         Ok(true)
     }
 
-    /// What the dearest known route takes of what it earns.
+    /// How far prices have to be lowered so that no known route earns.
     fn worst_known(&self, prices: &[i64]) -> Ratio {
         let mut worst = Ratio::whole();
         for route in &self.pool.routes {
             let reduced = route.reduced_cost(prices);
             if route.is_open() && reduced < 0 {
-                worst = worst.least(Ratio::of(route.time, reduced));
+                worst = worst.least(self.floor.ratio_of(route, reduced));
             }
         }
         worst
@@ -83,18 +83,27 @@ impl PriceSearch<'_> {
             if budget.is_spent() {
                 return Ok(false);
             }
-            budget.spend(self.pricing.set_prices(alloc, prices)?);
+            budget.spend(self.pricing.set_prices(alloc, prices, grain_for(care))?);
             let labels = (budget.left() / 2).max(LEAST_LABELS);
             let found = self.look(alloc, aim_of(care, ENOUGH, labels), budget)?;
             if !found.routes.is_empty() {
-                worst_of(&found).scale(prices);
+                let ratio = self.floor.worst_of(&self.pricing, &found);
+                self.floor.lower(ratio, prices);
                 self.learn(alloc, &found)?;
             } else if found.end == SearchEnd::Whole {
                 return Ok(true);
             } else {
-                LESS.scale(prices);
+                self.floor.lower(LESS, prices);
             }
         }
         Ok(false)
+    }
+}
+
+/// How fine the table is for a search at a level of comparing labels.
+fn grain_for(care: Care) -> Grain {
+    match care {
+        Care::TimesAlone => Grain::Coarse,
+        _ => Grain::Fine,
     }
 }

@@ -1,11 +1,12 @@
 //! The search for prices: what is known, and what is sought.
 
+use crate::budget::PriceEffort;
+use crate::floor::Floor;
 use crate::kept::Kept;
 use crate::numbers::is_in;
 use crate::pool::Pool;
 use crate::pricing::Pricing;
 use crate::question::{EntryRange, KnownRoute, PriceQuestion};
-use crate::routes::Route;
 use cover_prices::Sense;
 use customer_sets::LargeSet;
 use instance_reader::Instance;
@@ -32,14 +33,18 @@ pub struct PriceSearch<'a> {
     pub(crate) pricing: Pricing<'a>,
     pub(crate) pool: Pool,
     pub(crate) kept: Kept,
+    pub(crate) floor: Floor,
     /// How many rounds were made.
     pub(crate) rounds: u64,
     /// How much work they were, in labels.
     pub(crate) work: usize,
+    pub(crate) effort: PriceEffort,
     /// How often near sets may grow yet.
     pub(crate) growths: usize,
     /// Whether routes are looked for by times alone first.
     pub(crate) is_coarse: bool,
+    /// Whether rounds go on until no route earns, however little.
+    pub(crate) is_exact: bool,
     /// Who isn't served any more.
     pub(crate) settled: LargeSet,
 }
@@ -62,30 +67,50 @@ impl<'a> PriceSearch<'a> {
             seen,
             layers,
             most_growths,
+            weight,
+            dearest: _,
+            is_exact,
         } = question;
         let pool_entries = entries.clone()?;
-        let pricing = Pricing::new(alloc, inst, ground, follow, entries, layers)?;
+        let pricing = Pricing::new(alloc, inst, ground, follow, entries, layers, weight)?;
         let sense = if serves_once {
             Sense::Exactly
         } else {
             Sense::AtLeast
         };
-        let pool = Pool::new(alloc, ground.customers(), pool_entries, sense, dearest)?;
+        let dearest = dearest.max(1).saturating_mul(u64::from(weight.max(1)));
+        let pool = Pool::new(
+            alloc,
+            ground.customers(),
+            pool_entries,
+            sense,
+            dearest,
+            weight,
+        )?;
         let rows = vec![in alloc; 0; pricing.prices.len()]?;
+        let floor = Floor::new(alloc, ground, rows.len(), weight)?;
         let mut search = PriceSearch {
             pricing,
             pool,
             kept: Kept::new(rows),
+            floor,
             rounds: 0,
             work: 0,
+            effort: PriceEffort::usual(),
             growths: most_growths,
             is_coarse: true,
+            is_exact,
             settled: LargeSet::empty(),
         };
         search.set_near(alloc, &near)?;
         search.put_known(alloc, plan, true)?;
         search.put_known(alloc, seen, false)?;
         Ok(search)
+    }
+
+    /// Takes other measures of work than the usual ones.
+    pub fn set_effort(&mut self, effort: PriceEffort) {
+        self.effort = effort;
     }
 
     /// Takes near sets to begin with.
@@ -107,13 +132,12 @@ impl<'a> PriceSearch<'a> {
         known: Vec<KnownRoute>,
         are_columns: bool,
     ) -> Result<(), AllocError> {
-        let customers = self.pool.customers;
         for one in known {
             let KnownRoute { order, time } = one;
-            if !is_order(&order, customers) {
+            if !is_order(&order, self.pool.customers) {
                 continue;
             }
-            let route = Route::new(alloc, customers, &self.pool.entries, order, time)?;
+            let route = self.pool.route(alloc, order, time)?;
             let is_near = route.is_near(&self.pricing.terms);
             if is_near && route.is_allowed(&self.pricing.follow) {
                 if are_columns {
@@ -161,7 +185,7 @@ fn least_earned(price: i64, entry: EntryRange) -> i128 {
 }
 
 /// Whether an order has a customer, and none that isn't there.
-fn is_order(order: &[usize], customers: usize) -> bool {
+pub(crate) fn is_order(order: &[usize], customers: usize) -> bool {
     for customer in order {
         if *customer >= customers {
             return false;
@@ -173,6 +197,9 @@ fn is_order(order: &[usize], customers: usize) -> bool {
 /// What it costs to cover a customer without a route: more than the plan that is held, if there is
 /// one, or as much as the longest route, where that is enough.
 fn dearest(ground: &Ground, question: &PriceQuestion) -> u64 {
+    if let Some(dearest) = question.dearest {
+        return dearest;
+    }
     if question.plan.is_empty() {
         return ground.limit();
     }

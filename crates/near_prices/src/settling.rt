@@ -2,7 +2,7 @@
 
 use crate::budget::{Budget, aim_of};
 use crate::fitting::fitted;
-use crate::routes::Route;
+use crate::pricing::Grain;
 use crate::search::PriceSearch;
 use near_search::{Aim, Care, NearFound, NoClock, SearchEnd};
 use std::alloc::{AllocError, Global};
@@ -37,7 +37,7 @@ impl PriceSearch<'_> {
                 return Ok(false);
             }
             let prices = fitted(alloc, &self.pool, base)?;
-            budget.spend(self.pricing.set_prices(alloc, &prices)?);
+            budget.spend(self.pricing.set_prices(alloc, &prices, Grain::Fine)?);
             match self.test(alloc, budget)? {
                 Tested::Closed => return Ok(true),
                 Tested::Earning => {}
@@ -78,8 +78,7 @@ impl PriceSearch<'_> {
     pub(crate) fn learn(&mut self, alloc: Global, found: &NearFound) -> Result<(), AllocError> {
         for one in &found.routes {
             let order = one.customers(alloc, self.pricing.ground)?;
-            let customers = self.pool.customers;
-            let route = Route::new(alloc, customers, &self.pool.entries, order, one.time)?;
+            let route = self.pool.route(alloc, order, one.time)?;
             self.pool.put(route)?;
         }
         Ok(())

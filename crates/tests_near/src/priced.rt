@@ -47,6 +47,9 @@ fn question(alloc: Global, ground: &Ground) -> Result<PriceQuestion, AllocError>
         seen: Vec::new(alloc),
         layers: 20,
         most_growths: 9,
+        weight: 1,
+        dearest: None,
+        is_exact: false,
     })
 }
 

@@ -2,6 +2,19 @@
 
 use super::sections::list_milliseconds;
 use crate::clock::GapClock;
+use near_prices::PriceEffort;
+
+/// So many labels are made before the clock is asked.
+const FIRST_LABELS: usize = 400_000;
+
+/// So many are enough to close prices where time is short.
+const SHORT_LABELS: usize = 2_000_000;
+
+/// So many in haste.
+const HASTY_LABELS: usize = 300_000;
+
+/// A list takes so many times shorter where no near set grows.
+const SHORTER: u64 = 3;
 
 /// How a search for a bound is cut to its time.
 #[derive(Clone, Copy, Debug, PartialEq, Eq)]
@@ -18,7 +31,7 @@ impl Pace {
     /// That for so many customers, by the time that is left.
     pub(crate) fn of<C: GapClock>(customers: usize, clock: &mut C) -> Pace {
         let list = list_milliseconds(customers);
-        if clock.is_up_in(list / 2) {
+        if clock.is_up_in(list / SHORTER / 2) {
             Pace::Haste
         } else if clock.is_up_in(list.saturating_mul(3)) {
             Pace::Short
@@ -32,8 +45,8 @@ impl Pace {
         let list = list_milliseconds(customers);
         match self {
             Pace::Whole => list,
-            Pace::Short => list - list / 4,
-            Pace::Haste => list / 8,
+            Pace::Short => list / SHORTER,
+            Pace::Haste => list / SHORTER / 4,
         }
     }
 
@@ -42,6 +55,27 @@ impl Pace {
         match self {
             Pace::Whole | Pace::Short => 240,
             Pace::Haste => 60,
+        }
+    }
+
+    /// How much work is done whatever the clock says: prices aren't worth much before some rounds
+    /// were made.
+    pub(crate) fn effort(self) -> PriceEffort {
+        match self {
+            Pace::Whole => PriceEffort {
+                first: FIRST_LABELS,
+                ..PriceEffort::usual()
+            },
+            Pace::Short => PriceEffort {
+                first: FIRST_LABELS,
+                closing: SHORT_LABELS,
+                raising: (SHORT_LABELS / 10, SHORT_LABELS),
+            },
+            Pace::Haste => PriceEffort {
+                first: HASTY_LABELS / 2,
+                closing: HASTY_LABELS,
+                raising: (0, HASTY_LABELS / 4),
+            },
         }
     }
 

@@ -36,6 +36,9 @@ pub(crate) fn question(
         seen: other_routes(alloc, inst, ground, first)?,
         layers: pace.layers(),
         most_growths: pace.most_growths(),
+        weight: 1,
+        dearest: None,
+        is_exact: false,
     })
 }
 
