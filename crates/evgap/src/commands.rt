@@ -41,13 +41,22 @@ const EFFORT: CommandOption = CommandOption {
     is_required: false,
 };
 
+const NODES: CommandOption = CommandOption {
+    word: "--nodes",
+    value: OptionValue::Number {
+        least: 1,
+        most: 1_000_000_000_000_000_000,
+    },
+    is_required: false,
+};
+
 /// The commands.
 pub(crate) const COMMANDS: &[Command] = &[
     Command {
         word: "plan",
         names: &["FILE", "PLAN", "PROOF"],
         more: 0,
-        options: &[LIMIT, SECONDS, START, SEED, EFFORT],
+        options: &[LIMIT, SECONDS, START, SEED, EFFORT, NODES],
     },
     Command {
         word: "check",

@@ -1,6 +1,6 @@
 //! When a search has had its time.
 
-use evgap_run::{GapClock, JobClock, SearchClock};
+use evgap_run::{BranchClock, JobClock, SearchClock};
 use std::rt::Clock;
 use std::time::Duration;
 
@@ -26,7 +26,7 @@ impl<'a, R: Clock> SearchClock for Deadline<'a, R> {
     }
 }
 
-impl<'a, R: Clock> GapClock for Deadline<'a, R> {
+impl<'a, R: Clock> BranchClock for Deadline<'a, R> {
     fn is_up_in(&mut self, milliseconds: u64) -> bool {
         let Some(until) = self.until else {
             return false;

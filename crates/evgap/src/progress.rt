@@ -1,8 +1,9 @@
 //! Who tells people how far a search is.
 
 use evgap_run::{
-    Cause, CauseListener, GapProgress, GapWatcher, JobWatcher, MoveProgress, MoveWatcher,
-    PricesProgress, PricesWatcher, RecreateProgress, RecreateWatcher, ScaleWatcher,
+    BranchProgress, BranchWatcher, Cause, CauseListener, GapProgress, GapWatcher, JobWatcher,
+    MoveProgress, MoveWatcher, PricesProgress, PricesWatcher, RecreateProgress, RecreateWatcher,
+    ScaleWatcher,
 };
 use job_listeners::Pace;
 use std::fmt::{self, Display, Formatter};
@@ -20,6 +21,8 @@ pub(crate) struct ToldGap<'a, R: Clock + Eprint> {
     denominator: u64,
     /// What is held, once a plan is.
     held: Option<GapProgress>,
+    /// How far a tree is, once one is grown.
+    tree: Option<BranchProgress>,
     /// What the first line of the answer tells, where it isn't what was asked for.
     cause: Option<Cause>,
 }
@@ -36,6 +39,7 @@ impl<'a, R: Clock + Eprint> ToldGap<'a, R> {
             pace,
             denominator: 1,
             held: None,
+            tree: None,
             cause: None,
         }
     }
@@ -63,6 +67,29 @@ impl<'a, R: Clock + Eprint> ToldGap<'a, R> {
             denominator: self.denominator,
         }
     }
+
+    /// Tells how far the rounds are in which routes are sought.
+    fn tell_rounds(&self, progress: PricesProgress) {
+        let PricesProgress {
+            rounds,
+            routes,
+            prices,
+        } = progress;
+        let denominator = self.denominator;
+        let held = self.held();
+        let _ = eprintln!(self.rt;
+            "evgap: rounds {rounds}, routes {routes}, prices {prices}/{denominator}{held}"
+        );
+    }
+
+    /// Tells how far a tree is.
+    fn tell_tree(&self, tree: BranchProgress) {
+        let tree = TreeWords {
+            tree,
+            denominator: self.denominator,
+        };
+        let _ = eprintln!(self.rt; "evgap: {tree}");
+    }
 }
 
 impl<'a, R: Clock + Eprint> MoveWatcher for ToldGap<'a, R> {
@@ -79,16 +106,20 @@ impl<'a, R: Clock + Eprint> MoveWatcher for ToldGap<'a, R> {
 impl<'a, R: Clock + Eprint> PricesWatcher for ToldGap<'a, R> {
     fn watch_prices(&mut self, progress: PricesProgress) {
         if self.is_due() {
-            let PricesProgress {
-                rounds,
-                routes,
-                prices,
-            } = progress;
-            let denominator = self.denominator;
-            let held = self.held();
-            let _ = eprintln!(self.rt;
-                "evgap: rounds {rounds}, routes {routes}, prices {prices}/{denominator}{held}"
-            );
+            // The rounds of a tree are those of one node after another.
+            match self.tree {
+                Some(tree) => self.tell_tree(tree),
+                None => self.tell_rounds(progress),
+            }
+        }
+    }
+}
+
+impl<'a, R: Clock + Eprint> BranchWatcher for ToldGap<'a, R> {
+    fn watch_branch(&mut self, progress: BranchProgress) {
+        self.tree = Some(progress);
+        if self.is_due() {
+            self.tell_tree(progress);
         }
     }
 }
@@ -158,6 +189,38 @@ impl Display for HeldWords {
             Some(gap) => write!(f, ", gap {}.{:02} %", gap / 100, gap % 100),
             None => Ok(()),
         }
+    }
+}
+
+/// How far a tree is: the nodes that were priced, the open ones, and what is held.
+#[derive(Clone, Copy, Drop)]
+struct TreeWords {
+    tree: BranchProgress,
+    denominator: u64,
+}
+
+impl Display for TreeWords {
+    fn fmt<W: fmt::Write>(&self, f: &mut Formatter<W>) -> fmt::Result {
+        let BranchProgress {
+            nodes,
+            open,
+            bound,
+            cost,
+        } = self.tree;
+        let denominator = self.denominator;
+        write!(f, "nodes {nodes}, open {open}")?;
+        let Some(cost) = cost else {
+            return write!(f, ", bound {bound}/{denominator}, no plan held");
+        };
+        let bound = u128::try_from(bound).unwrap_or(0);
+        let held = HeldWords {
+            held: Some(GapProgress {
+                cost,
+                bound: Some(bound),
+            }),
+            denominator,
+        };
+        write!(f, "{held}")
     }
 }
 

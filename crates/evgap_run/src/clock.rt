@@ -2,11 +2,11 @@
 
 ghost use Rattle.std.specs.Prelude.{Option, ℕ};
 
-use gap_search::{GapClock, SearchClock};
+use gap_search::{BranchClock, SearchClock};
 
 /// A clock that begins once the words are read. When it is up isn't promised: that changes what a
 /// search finds, and nothing of what is true of that.
-pub trait JobClock: GapClock {
+pub trait JobClock: BranchClock {
     // It was begun last with so many seconds, or with none.
     ghost Begun: { Self → Option ℕ → Type 0 } = { λ _ _. Unit {0} };
 
@@ -25,7 +25,7 @@ impl SearchClock for Never {
     }
 }
 
-impl GapClock for Never {
+impl BranchClock for Never {
     fn is_up_in(&mut self, _milliseconds: u64) -> bool {
         false
     }
@@ -45,7 +45,7 @@ impl SearchClock for AtOnce {
     }
 }
 
-impl GapClock for AtOnce {
+impl BranchClock for AtOnce {
     fn is_up_in(&mut self, _milliseconds: u64) -> bool {
         true
     }

@@ -16,7 +16,7 @@ use crate::clock::JobClock;
 use crate::planning::plan_all;
 use ev_outside::{Shelf, ShelfFault};
 use fleet_steps::{cost_of, plan_of, reject};
-use gap_search::{GapClock, GapWatcher, Recreation};
+use gap_search::{BranchClock, GapOptions, GapWatcher, Recreation};
 use gap_words::PlanWords;
 use instance_reader::Instance;
 use job_frame::{Ended, Found, MOST_BYTES, ScaleWatcher, limited_instance, read_file, refuse_job};
@@ -77,7 +77,7 @@ fn plan_on<S: Shelf, C: JobClock, W: GapWatcher>(
 }
 
 /// What `plan` finds where the file of the plan to begin with has this name.
-fn plan_from_file<S: Shelf, C: GapClock, W: GapWatcher>(
+fn plan_from_file<S: Shelf, C: BranchClock, W: GapWatcher>(
     alloc: Global,
     inst: &Instance,
     name: &str,
@@ -102,7 +102,7 @@ fn plan_from_file<S: Shelf, C: GapClock, W: GapWatcher>(
 }
 
 /// What is found where no file with a plan to begin with is named.
-fn plan_from_none<C: GapClock, W: GapWatcher>(
+fn plan_from_none<C: BranchClock, W: GapWatcher>(
     alloc: Global,
     inst: &Instance,
     job: &PlanWords,
@@ -126,7 +126,7 @@ fn plan_from_none<C: GapClock, W: GapWatcher>(
 
 /// What is found for the bytes of the file of the plan to begin with: it is read, and a fleet is
 /// planned.
-fn plan_from_text<C: GapClock, W: GapWatcher>(
+fn plan_from_text<C: BranchClock, W: GapWatcher>(
     alloc: Global,
     inst: &Instance,
     bytes: &[u8],
@@ -154,7 +154,7 @@ fn plan_from_text<C: GapClock, W: GapWatcher>(
 }
 
 /// What is found with a plan to begin with, or with none: it is judged, and a fleet is planned.
-fn plan_from<C: GapClock, W: GapWatcher>(
+fn plan_from<C: BranchClock, W: GapWatcher>(
     alloc: Global,
     inst: &Instance,
     start: Option<&FleetPlan>,
@@ -179,7 +179,7 @@ fn plan_from<C: GapClock, W: GapWatcher>(
 }
 
 /// What is found with a fleet plan to begin with, or with none.
-fn plan_judged<C: GapClock, W: GapWatcher>(
+fn plan_judged<C: BranchClock, W: GapWatcher>(
     alloc: Global,
     inst: &Instance,
     start: Option<&FleetPlan>,
@@ -196,10 +196,13 @@ fn plan_judged<C: GapClock, W: GapWatcher>(
     ensures heard { IfOk result
         (λ f. plan_heard f.answer.status f.answer.text.items f.answer.cause) }
 {
-    let recreation = Recreation {
-        seed: job.seed,
-        effort: job.effort,
+    let options = GapOptions {
+        recreation: Recreation {
+            seed: job.seed,
+            effort: job.effort,
+        },
+        nodes: job.nodes,
     };
-    let planned = plan_all(alloc, inst, start, recreation, clock, watcher)?;
+    let planned = plan_all(alloc, inst, start, options, clock, watcher)?;
     planned.found(alloc, job.plan.as_str(), job.proof.as_str())
 }

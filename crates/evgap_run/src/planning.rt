@@ -13,7 +13,7 @@ ghost use Rattle.tree_text.specs.BoundProofs.{TakesCustomers, bound_proof_text};
 use crate::cause::Cause;
 use crate::report::push_found;
 use fleet_steps::{cost_of, plan_text};
-use gap_search::{BoundProof, GapClock, GapWatcher, Improved, Recreation, close_gap};
+use gap_search::{BoundProof, BranchClock, GapOptions, GapWatcher, Improved, close_gap};
 use instance_reader::Instance;
 use job_frame::{Answer, Planned, Status};
 use plan_check::LargeFault;
@@ -23,11 +23,11 @@ use tree_text::push_bound_proof;
 
 /// What a search finds that begins with a plan, or with none: the texts of a plan and of a proof,
 /// and the report on both.
-pub fn plan_all<C: GapClock, W: GapWatcher>(
+pub fn plan_all<C: BranchClock, W: GapWatcher>(
     alloc: Global,
     inst: &Instance,
     start: Option<&FleetPlan>,
-    recreation: Recreation,
+    options: GapOptions,
     clock: &mut C,
     watcher: &mut W,
 ) -> Result<Planned<Cause>, AllocError>
@@ -40,7 +40,7 @@ pub fn plan_all<C: GapClock, W: GapWatcher>(
 {
     // That the instance's network is one is told by its calls.
     let _nodes = inst.nodes();
-    let outcome = close_gap(alloc, inst, start, recreation, clock, watcher)?;
+    let outcome = close_gap(alloc, inst, start, options, clock, watcher)?;
     let cost = held_cost(alloc, inst, &outcome.plan)?;
     let answer = report(
         alloc,

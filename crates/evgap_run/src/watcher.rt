@@ -2,8 +2,8 @@
 
 use crate::cause::Cause;
 use gap_search::{
-    GapProgress, GapWatcher, MoveProgress, MoveWatcher, PricesProgress, PricesWatcher,
-    RecreateProgress, RecreateWatcher,
+    BranchProgress, BranchWatcher, GapProgress, GapWatcher, MoveProgress, MoveWatcher,
+    PricesProgress, PricesWatcher, RecreateProgress, RecreateWatcher,
 };
 use job_frame::{CauseListener, ScaleWatcher};
 
@@ -27,6 +27,10 @@ impl Nobody {
 
 impl PricesWatcher for Nobody {
     fn watch_prices(&mut self, _progress: PricesProgress) {}
+}
+
+impl BranchWatcher for Nobody {
+    fn watch_branch(&mut self, _progress: BranchProgress) {}
 }
 
 impl MoveWatcher for Nobody {

@@ -13,8 +13,10 @@ use Rattle.route_plan.specs.declared.plan.RoutePlan.{RoutePlan}
 use Rattle.tree_text.proofs.BoundLaws.{shown_bound}
 use Rattle.tree_text.specs.BoundProofs.{IsBoundShown, bound_of}
 use Rattle.tree_text.specs.declared.bounds.proof.BoundProof.{BoundProof}
-use Rattle.gap_search.specs.After.{IsBegun, IsHeldAfter, IsSettledAfter}
+use Rattle.gap_search.specs.After.{IsBegun, IsGrownAfter, IsHeldAfter, IsSettledAfter}
+use Rattle.gap_search.specs.Candidate.{IsNoWeaker}
 use Rattle.gap_search.specs.Gap.{IsGapOutcome, IsHeld, IsNoDearer, cost_held, plan_held}
+use Rattle.gap_search.proofs.OwnCosts.{no_dearer_alone}
 
 -- what is no dearer than what is no dearer
 still_no_dearer : (g : Network) (start : Option (List RoutePlan)) (before after : ℕ) → after ≤ before → IsNoDearer g start before → IsNoDearer g start after
@@ -29,6 +31,24 @@ still_begun g start (Plan before) (Plan after) is later =
     (later.fleet, still_no_dearer g start (cost_of g 1 (stops_of before.routes)) (cost_of g 1 (stops_of after.routes)) later.no_more is.1)
 still_begun g start (Plan before) (Alone node) is later = absurd later
 still_begun g start (Alone node) after is same = subst (IsBegun g start) (sym same) is
+
+-- and so it is behind a tree, which may find a plan where none was held
+pub still_begun_grown : (g : Network) (start : Option (List RoutePlan)) (before after : Improved) → IsBegun g start before → IsGrownAfter g before after → IsBegun g start after
+still_begun_grown g start (Plan before) (Plan after) is later = still_begun g start (Plan before) (Plan after) is later
+still_begun_grown g start (Plan before) (Alone node) is later = absurd later
+still_begun_grown g None (Alone node) (Plan after) is later = (later, no_dearer_alone g node (cost_of g 1 (stops_of after.routes)) is.1)
+still_begun_grown g (Some from) (Alone node) (Plan after) is later = let bad : Some from ≡ None = is.0 in absurd (cc)
+still_begun_grown g start (Alone node) (Alone other) is same = subst (λ n. IsBegun g start (Alone n)) (sym same) is
+
+-- what is held stays as it is
+pub grown_same : (g : Network) (held : Improved) → IfSome (plan_held held) (λ p. IsFleetPlan g 1 (stops_of p.routes)) → IsGrownAfter g held held
+grown_same g (Plan plan) fleet = record { fleet = fleet; no_more = omega arith }
+grown_same g (Alone node) fleet = refl
+
+-- a bound is no weaker than itself
+pub no_weaker_same : (bound : Option ℕ) → IsNoWeaker bound bound
+no_weaker_same None = tt
+no_weaker_same (Some b) = omega arith
 
 pub is_fleet : (g : Network) (start : Option (List RoutePlan)) (found : Improved) → IsBegun g start found → IfSome (plan_held found) (λ p. IsFleetPlan g 1 (stops_of p.routes))
 is_fleet g start (Plan plan) is = is.0

@@ -1,13 +1,18 @@
 -- What routes for the customers alone cost.
-use Rattle.std.proofs.Common.{◌≡◌, ℕ, ◌+◌, ◌<◌, ◌≤◌, List, [], ◌∷◌, None, drop, length, sum, arith, subst, sym}
-use Rattle.std.specs.Prelude.{slice_index}
+use Rattle.std.proofs.Common.{◌≡◌, ℕ, ◌+◌, ◌<◌, ◌≤◌, List, [], ◌∷◌, None, drop, length, map, sum, arith, inl, inr, subst, sym}
+use Rattle.std.specs.Prelude.{nat_eq, slice_index, if◌then◌else◌}
+use Rattle.std.proofs.lemmas.Bool.{cases_eq, ne_eqb}
 use Rattle.std.proofs.lemmas.List.{drop_more}
 use Rattle.std.proofs.lemmas.List.Sums.{sum_by-cons}
+use Rattle.ev_model.specs.Fleet.{times_in}
 use Rattle.ev_model.specs.Network.{Network}
 use Rattle.instance_reader.specs.Instance.{customer_nodes}
 use Rattle.order_pricing.specs.Orders.{IsLeastTime}
 use Rattle.order_pricing.specs.Pricing.{HasNoTime}
+use Rattle.plan_check.proofs.CustomersOnce.{customer_once}
 use Rattle.route_improve.proofs.Prices.{least_once}
+use Rattle.route_improve.specs.Improved.{HasNoOwn, IsFirstAlone}
+use Rattle.route_improve.specs.Orders.{AreLeastTimes}
 use Rattle.gap_search.specs.Gap.{IsNoDearer, IsNoMoreThanOwn}
 
 -- the first customer's time is taken off
@@ -41,3 +46,21 @@ nothing_owned g nodes k before within lacks =
 -- nothing is left
 pub nothing_left : (g : Network) (nodes : List ℕ) (left : ℕ) → left ≡ 0 → IsNoMoreThanOwn g nodes left
 nothing_left g nodes left none times are = omega (arith, none)
+
+-- where some customer has no route of his own, routes for the customers alone have no least times
+own_lacks : (g : Network) (node : ℕ) (nodes times : List ℕ) → 1 ≤ times_in nodes node → HasNoOwn g node → AreLeastTimes g (map (λ n. n ∷ []) nodes) times → ⊥
+own_lacks g node [] times some none are = absurd (omega (arith, some))
+own_lacks g node (n ∷ nodes) [] some none are = are
+own_lacks g node (n ∷ nodes) (t ∷ ts) some none are = elim (cases_eq n node) [
+  | inl same ↦
+      let least : IsLeastTime g (node ∷ []) t = subst (λ k. IsLeastTime g (k ∷ []) t) same are.0 in
+      none 1 least.0 least.1.feasible least.1.follows
+  | inr apart ↦
+      let later : 1 ≤ times_in nodes node = (let at : 1 ≤ (if nat_eq n node then 1 else 0) + times_in nodes node = some in let out : 1 ≤ 0 + times_in nodes node = rw (ne_eqb n node apart) at at in omega (arith, out)) in
+      own_lacks g node nodes ts later none are.1
+]
+
+-- so no cost is more than theirs
+pub no_dearer_alone : (g : Network) (node cost : ℕ) → IsFirstAlone g node → IsNoDearer g None cost
+no_dearer_alone g node cost is = λ own_cost have.
+    absurd (own_lacks g node (customer_nodes g) have.times (omega (arith, customer_once g node is.customer)) is.none have.least)

@@ -28,6 +28,13 @@ IsHeldAfter g (Plan before) (Plan after) = IsPlanAfter g before after
 IsHeldAfter g (Plan before) (Alone node) = ⊥
 IsHeldAfter g (Alone node) after = after ≡ Alone node
 
+-- a plan that costs no more where one was held; and else a fleet plan, or no plan for the same reason
+abbrev pub IsGrownAfter : Network → Improved → Improved → Type 0
+IsGrownAfter g (Plan before) (Plan after) = IsPlanAfter g before after
+IsGrownAfter g (Plan before) (Alone node) = ⊥
+IsGrownAfter g (Alone node) (Plan after) = IsFleetPlan g 1 (stops_of after.routes)
+IsGrownAfter g (Alone node) (Alone other) = other ≡ node
+
 -- what moves of single customers answer to such a plan, and else no plan for the same reason
 abbrev pub IsSettledAfter : Network → Improved → Improved → Type 0
 IsSettledAfter g (Plan before) after = IsAnswer g (Some before.routes) after

@@ -1,5 +1,5 @@
 -- What is made of candidates for a proof of a bound, of which nothing is known.
-use Rattle.std.specs.Prelude.{◌≡◌, ◌⊎◌, List, [], ◌∷◌, Option, None, Some}
+use Rattle.std.specs.Prelude.{◌≡◌, ◌≤◌, ◌⊎◌, ℕ, List, [], ◌∷◌, Option, None, Some}
 use Rattle.ev_model.specs.Network.{Network}
 use Rattle.near_tree.specs.Zero.{IsZeroTree}
 use Rattle.near_tree.specs.declared.proof.TreeProof.{TreeProof}
@@ -24,6 +24,12 @@ IsLeft g candidate = (p : BoundProof) → IsReadAs g candidate p → IsAcceptedP
 abbrev pub IsJudged : Network → BoundProof → Option BoundProof → Type 0
 IsJudged g candidate (Some p) = IsTaken g candidate p
 IsJudged g candidate None = IsLeft g candidate
+
+-- a bound is at least another; that there is no plan is above each number
+abbrev pub IsNoWeaker : Option ℕ → Option ℕ → Type 0
+IsNoWeaker before None = Unit {0}
+IsNoWeaker None (Some bound) = ⊥
+IsNoWeaker (Some before) (Some bound) = before ≤ bound
 
 -- the tree that each network has
 abbrev pub IsZeroProof : Network → BoundProof → Type 0

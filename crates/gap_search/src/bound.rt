@@ -2,19 +2,22 @@
 //! this: what it finds is judged.
 
 mod candidates;
+mod growing;
 mod pace;
 mod question;
 mod reach;
 mod routes;
 mod sections;
 
-use crate::clock::{Ahead, GapClock};
+use crate::clock::Ahead;
 use crate::first::FirstPlan;
 use crate::watcher::GapWatcher;
 use candidates::{candidates, candidates_of_none};
+pub(crate) use growing::{Root, grow_tree};
 use instance_reader::Instance;
+use near_branch::BranchClock;
 use near_completion::Ground;
-use near_prices::PriceSearch;
+use near_prices::{NearPrices, PriceSearch};
 use pace::Pace;
 pub(crate) use pace::bound_milliseconds;
 use question::question;
@@ -36,6 +39,8 @@ pub(crate) struct BoundFound {
     pub(crate) orders: Vec<NearOrder>,
     /// Routes that may make plans together, plan by plan: no two of a plan serve the same customer.
     pub(crate) dives: Vec<Vec<NearOrder>>,
+    /// What a tree may be grown from.
+    pub(crate) root: Root,
 }
 
 /// Looks for a proof of a high bound, and for routes of which a good plan may be made.
@@ -46,7 +51,7 @@ pub(crate) struct BoundFound {
 ///
 /// The clock stops the rounds of the search for prices but the first, some time before it is up, and
 /// the search for routes for plans. What makes a proof of the prices at hand goes on.
-pub(crate) fn search_bound<C: GapClock, W: GapWatcher>(
+pub(crate) fn search_bound<C: BranchClock, W: GapWatcher>(
     alloc: Global,
     inst: &Instance,
     first: &FirstPlan,
@@ -72,11 +77,18 @@ pub(crate) fn search_bound<C: GapClock, W: GapWatcher>(
     let candidates = candidates(alloc, inst, &ground, &found, clock)?;
     let orders = orders(alloc, &ground, &found.routes)?;
     let dives = dives(alloc, &ground, &mut search, clock)?;
+    let NearPrices {
+        prices,
+        near,
+        routes,
+        ..
+    } = found;
     Ok(BoundFound {
         candidates,
-        prices: found.prices,
+        prices,
         orders,
         dives,
+        root: Root { near, routes },
     })
 }
 
@@ -87,5 +99,9 @@ fn only(alloc: Global, candidates: Vec<BoundProof>) -> BoundFound {
         prices: Vec::new(alloc),
         orders: Vec::new(alloc),
         dives: Vec::new(alloc),
+        root: Root {
+            near: Vec::new(alloc),
+            routes: Vec::new(alloc),
+        },
     }
 }

@@ -7,16 +7,16 @@ ghost use Rattle.plan_check.specs.FleetRules.{stops_of};
 
 use crate::bound::{BoundFound, search_bound};
 use crate::candidate::proof_of_candidates;
-use crate::clock::GapClock;
 use crate::first::{FirstPlan, first_plan};
-use crate::offers::cost_of_plan;
+use crate::grown::with_tree;
+use crate::offers::tell;
+use crate::options::GapOptions;
 use crate::outcome::GapOutcome;
 use crate::plans::{FoundRoutes, cheaper};
-use crate::recreation::Recreation;
 use crate::settling::settled;
-use crate::watcher::{GapProgress, GapWatcher};
+use crate::watcher::GapWatcher;
 use instance_reader::Instance;
-use route_improve::Improved;
+use near_branch::BranchClock;
 use route_plan::FleetPlan;
 use std::alloc::{AllocError, Global};
 
@@ -31,11 +31,11 @@ use std::alloc::{AllocError, Global};
 ///
 /// The clock is asked whether the search stops. Where it is up, what makes a proof of the prices at
 /// hand goes on. The only `Err` is want of memory.
-pub fn close_gap<C: GapClock, W: GapWatcher>(
+pub fn close_gap<C: BranchClock, W: GapWatcher>(
     alloc: Global,
     inst: &Instance,
     start: Option<&FleetPlan>,
-    recreation: Recreation,
+    options: GapOptions,
     clock: &mut C,
     watcher: &mut W,
 ) -> Result<GapOutcome, AllocError>
@@ -43,13 +43,14 @@ pub fn close_gap<C: GapClock, W: GapWatcher>(
     ensures { IfOk result
         (IsGapOutcome inst.now (option_map (λ plan. plan.now.routes) start.entry)) }
 {
-    let first = first_plan(alloc, inst, start, recreation, clock, watcher)?;
-    tell_first(inst, &first.plan, watcher);
+    let first = first_plan(alloc, inst, start, options.recreation, clock, watcher)?;
+    tell(inst, &first.plan, None, watcher);
     let BoundFound {
         candidates,
         prices,
         orders,
         dives,
+        root,
     } = search_bound(alloc, inst, &first, clock, watcher)?;
     let proof = proof_of_candidates(alloc, inst, &candidates)?;
     let found = FoundRoutes {
@@ -60,16 +61,9 @@ pub fn close_gap<C: GapClock, W: GapWatcher>(
     };
     let FirstPlan { plan, seen: _seen } = first;
     let plan = cheaper(alloc, inst, plan, found, clock, watcher)?;
+    let held = GapOutcome { plan, proof };
+    let grown = with_tree(alloc, inst, held, root, options.nodes, clock, watcher)?;
+    let GapOutcome { plan, proof } = grown;
     let plan = settled(alloc, inst, plan, watcher)?;
     Ok(GapOutcome { plan, proof })
-}
-
-/// Tells what the first plan costs, where there is one.
-fn tell_first<W: GapWatcher>(inst: &Instance, first: &Improved, watcher: &mut W) {
-    if let Improved::Plan(plan) = first {
-        watcher.watch_gap(GapProgress {
-            cost: cost_of_plan(inst, plan),
-            bound: None,
-        });
-    }
 }

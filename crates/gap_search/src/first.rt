@@ -9,12 +9,13 @@ ghost use Rattle.route_improve.specs.Improved.{IsOrderly};
 ghost use Rattle.ruin_recreate.specs.Recreated.{IsNoDearer};
 
 use crate::bound::bound_milliseconds;
-use crate::clock::{GapClock, Timed};
+use crate::clock::Timed;
 use crate::own::is_no_more_than_own;
 use crate::plans::cost_of;
 use crate::recreation::{Recreation, Work};
 use crate::watcher::GapWatcher;
 use instance_reader::Instance;
+use near_branch::BranchClock;
 use route_improve::{Improved, improve_watched, improve_within};
 use route_plan::FleetPlan;
 use ruin_recreate::{Effort, RecreateWatcher, Recreated, SeenRoute, recreate};
@@ -34,7 +35,7 @@ pub(crate) struct FirstPlan {
 
 /// The first plan, or why none is held: where work is done for it, by ruin and recreate, which ends
 /// with some moves of single customers, and else by these until none helps.
-pub(crate) fn first_plan<C: GapClock, W: GapWatcher>(
+pub(crate) fn first_plan<C: BranchClock, W: GapWatcher>(
     alloc: Global,
     inst: &Instance,
     start: Option<&FleetPlan>,
@@ -53,7 +54,7 @@ pub(crate) fn first_plan<C: GapClock, W: GapWatcher>(
 
 /// The first plan, or why none is held. The routes that are seen are added.
 #[tactic(auto, using(crate::proofs::Outcomes::begun))]
-fn begun_plan<C: GapClock, W: GapWatcher>(
+fn begun_plan<C: BranchClock, W: GapWatcher>(
     alloc: Global,
     inst: &Instance,
     start: Option<&FleetPlan>,
@@ -85,7 +86,7 @@ fn begun_plan<C: GapClock, W: GapWatcher>(
 
 /// A plan that is made of this one, and no dearer.
 #[tactic(auto, using(crate::proofs::Outcomes::begun_behind))]
-fn from_plan<C: GapClock, W: GapWatcher>(
+fn from_plan<C: BranchClock, W: GapWatcher>(
     alloc: Global,
     inst: &Instance,
     plan: &FleetPlan,
@@ -104,7 +105,7 @@ fn from_plan<C: GapClock, W: GapWatcher>(
 }
 
 /// A plan, or the first customer without a route of his own.
-fn from_none<C: GapClock, W: GapWatcher>(
+fn from_none<C: BranchClock, W: GapWatcher>(
     alloc: Global,
     inst: &Instance,
     work: Work,
@@ -158,7 +159,7 @@ fn recreated<W: RecreateWatcher>(
 
 /// The plan once more work was done, where there is some, no routes are long, and as far as the clock
 /// leaves time for a bound.
-fn more_work<C: GapClock, W: GapWatcher>(
+fn more_work<C: BranchClock, W: GapWatcher>(
     alloc: Global,
     inst: &Instance,
     plan: FleetPlan,

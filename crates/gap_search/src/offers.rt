@@ -1,9 +1,10 @@
 //! Routes of which plans are made.
 
 use crate::bound::NearOrder;
-use crate::watcher::GapProgress;
+use crate::watcher::{GapProgress, GapWatcher};
 use customer_sets::CustSet;
 use instance_reader::Instance;
+use route_improve::Improved;
 use route_plan::{FleetPlan, RoutePlan, walk};
 use std::alloc::{AllocError, Global};
 
@@ -132,6 +133,21 @@ pub(crate) fn customers_of(
         }
     }
     Ok(nodes)
+}
+
+/// Tells what the plan that is held costs, where there is one, and the bound, where it is known.
+pub(crate) fn tell<W: GapWatcher>(
+    inst: &Instance,
+    held: &Improved,
+    bound: Option<u128>,
+    watcher: &mut W,
+) {
+    if let Improved::Plan(plan) = held {
+        watcher.watch_gap(GapProgress {
+            cost: cost_of_plan(inst, plan),
+            bound,
+        });
+    }
 }
 
 /// What a plan costs, for those who watch.

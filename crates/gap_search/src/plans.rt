@@ -7,12 +7,12 @@ ghost use Rattle.gap_search.specs.After.{IsHeldAfter, IsPlanAfter};
 ghost use Rattle.gap_search.specs.Gap.{plan_held};
 
 use crate::bound::NearOrder;
-use crate::clock::GapClock;
 use crate::offers::Offers;
 use crate::trips::fastest_plan;
 use crate::watcher::GapWatcher;
 use ev_list::Listed;
 use instance_reader::{Instance, MOST_CUSTOMERS};
+use near_branch::BranchClock;
 use plan_check::{LargeFault, check_large};
 use route_improve::{Improved, improve_within};
 use route_plan::FleetPlan;
@@ -39,7 +39,7 @@ pub(crate) struct FoundRoutes {
 /// What is held, with a plan that costs no more: of the routes others are made, each is made
 /// cheaper by some moves, and the cheapest is held. Where no plan is held, and for more than 128
 /// customers, none is made. The clock is asked between two of them whether to stop.
-pub(crate) fn cheaper<C: GapClock, W: GapWatcher>(
+pub(crate) fn cheaper<C: BranchClock, W: GapWatcher>(
     alloc: Global,
     inst: &Instance,
     held: Improved,
@@ -61,7 +61,7 @@ pub(crate) fn cheaper<C: GapClock, W: GapWatcher>(
 }
 
 /// A plan that costs no more than the one that is held.
-fn cheaper_plan<C: GapClock, W: GapWatcher>(
+fn cheaper_plan<C: BranchClock, W: GapWatcher>(
     alloc: Global,
     inst: &Instance,
     held: FleetPlan,
@@ -85,7 +85,7 @@ fn cheaper_plan<C: GapClock, W: GapWatcher>(
 }
 
 /// The cheapest of the plan that is held and of those of dives, in which parts are replaced.
-fn with_dives<C: GapClock, W: GapWatcher>(
+fn with_dives<C: BranchClock, W: GapWatcher>(
     alloc: Global,
     inst: &Instance,
     mut held: FleetPlan,
@@ -109,7 +109,7 @@ fn with_dives<C: GapClock, W: GapWatcher>(
 }
 
 /// The cheapest of the plan that is held and of those of choices that cost less than it.
-fn with_choices<C: GapClock, W: GapWatcher>(
+fn with_choices<C: BranchClock, W: GapWatcher>(
     alloc: Global,
     inst: &Instance,
     mut held: FleetPlan,
@@ -146,7 +146,7 @@ fn with_choice<W: GapWatcher>(
     requires { IsFleetPlan inst.now 1 (stops_of held.routes) }
     ensures { IfOk result (IsPlanAfter inst.now held) }
 {
-    let Some(plan) = plan_of(alloc, inst, offers, places)? else {
+    let Some(plan) = plan_of_places(alloc, inst, offers, places)? else {
         return Ok(held);
     };
     let Some(other) = improved(alloc, inst, &plan)? else {
@@ -157,8 +157,26 @@ fn with_choice<W: GapWatcher>(
     Ok(held)
 }
 
+/// The plan of routes in these orders, if each can be driven.
+pub(crate) fn plan_of(
+    alloc: Global,
+    inst: &Instance,
+    orders: &[NearOrder],
+) -> Result<Option<FleetPlan>, AllocError> {
+    let mut plans = Vec::with_capacity(alloc, orders.len())?;
+    for order in orders {
+        let Some(plan) = fastest_plan(alloc, inst, &order.nodes)? else {
+            return Ok(None);
+        };
+        plans.push(plan)?;
+    }
+    Ok(Some(FleetPlan {
+        routes: Listed::from_vec(plans),
+    }))
+}
+
 /// The plan of the routes at these places, if each can be driven.
-fn plan_of(
+fn plan_of_places(
     alloc: Global,
     inst: &Instance,
     offers: &Offers<'_>,
@@ -180,7 +198,7 @@ fn plan_of(
 }
 
 /// The plan, made cheaper by some moves, where it is a fleet plan.
-fn improved(
+pub(crate) fn improved(
     alloc: Global,
     inst: &Instance,
     plan: &FleetPlan,
@@ -197,7 +215,7 @@ fn improved(
 }
 
 /// The cheaper one of two fleet plans.
-fn cheaper_of(
+pub(crate) fn cheaper_of(
     alloc: Global,
     inst: &Instance,
     held: FleetPlan,

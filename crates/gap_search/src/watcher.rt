@@ -1,6 +1,6 @@
 //! Who watches a search for a close gap.
 
-use near_prices::PricesWatcher;
+use near_branch::BranchWatcher;
 use route_improve::MoveWatcher;
 use ruin_recreate::RecreateWatcher;
 
@@ -15,7 +15,7 @@ pub struct GapProgress {
 
 /// Who is told how far a search for a close gap is. Nothing is promised of it, and neither plan nor
 /// proof depends on it.
-pub trait GapWatcher: MoveWatcher + PricesWatcher + RecreateWatcher {
+pub trait GapWatcher: MoveWatcher + BranchWatcher + RecreateWatcher {
     /// Is told what is held, once behind each plan that was made.
     fn watch_gap(&mut self, progress: GapProgress);
 }

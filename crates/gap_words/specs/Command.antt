@@ -1,4 +1,4 @@
--- The command that reads the words of `evgap`: its name, two positionals, and five options of one
+-- The command that reads the words of `evgap`: its name, two positionals, and six options of one
 -- value each. It has no flag for help and none for a version.
 use Rattle.std.specs.Prelude.{codes}
 use Rattle.clap.specs.Words.{App, with_rule}
@@ -14,5 +14,10 @@ abbrev pub with_first : App → App
 with_first app =
     with_rule (with_rule app (option_rule (codes "seed"))) (option_rule (codes "effort"))
 
+abbrev pub with_nodes : App → App
+with_nodes app = with_rule app (option_rule (codes "nodes"))
+
 unfoldable pub evgap : App
-evgap = with_first (with_options (with_positionals (without_arguments (codes "evgap"))))
+evgap =
+    with_nodes
+    (with_first (with_options (with_positionals (without_arguments (codes "evgap")))))

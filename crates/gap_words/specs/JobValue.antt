@@ -11,7 +11,7 @@ use Rattle.gap_words.specs.declared.Job.TheVariants.{Check, Plan}
 abbrev pub plan_value : PlanWords → PlanGap
 plan_value w =
     plan_job_of (string_bytes w.file) (string_bytes w.plan) (string_bytes w.proof)
-    w.limit w.seconds (option_map (λ s. string_bytes s) w.start) w.seed w.effort
+    w.limit w.seconds (option_map (λ s. string_bytes s) w.start) w.seed w.effort w.nodes
 
 -- the job of judging
 abbrev pub check_value : CheckWords → CheckGap

@@ -1,5 +1,5 @@
 -- The job that the words of `evgap` name: a function of what the command finds in them.
-use Rattle.std.specs.Prelude.{ℕ, ◌&&◌, Bool, List, [], ◌∷◌, Option, None, Some, is_none, codes, option_and_then, option_map, if◌then◌else◌}
+use Rattle.std.specs.Prelude.{ℕ, ◌&&◌, Bool, List, [], ◌∷◌, Option, None, Some, is_none, codes, nat_lt, option_and_then, option_map, if◌then◌else◌}
 use Rattle.std.specs.Str.{bytes_eq}
 use Rattle.clap.specs.Words.{Row, Text, fault_of, first_of, matches_of}
 use Rattle.call_words.specs.Matches.{job_unless, limit_in, rest_in}
@@ -9,8 +9,8 @@ use Rattle.gap_words.specs.Command.{evgap}
 
 -- the job of planning a fleet with a close bound: the names of its files, the limit where one is
 -- given, how many seconds the search may take where they are given, the name of the file with the
--- plan to begin with where one is, the seed of the first plan, and the effort for it where it is
--- given
+-- plan to begin with where one is, the seed of the first plan, the effort for it where it is given,
+-- and how many nodes of a tree the search may look at where one is to be grown
 pub record PlanGap : Type 0 where
   pub file : Text
   pub plan : Text
@@ -20,6 +20,7 @@ pub record PlanGap : Type 0 where
   pub start : Option Text
   pub seed : ℕ
   pub effort : Option ℕ
+  pub nodes : Option ℕ
 
 -- the job of judging such a plan and such a proof: the names of their files, and the limit where
 -- one is given
@@ -59,11 +60,23 @@ number_or_one (Some word) = number_of most_value word
 abbrev pub seed_in : List Row → Option ℕ
 seed_in rows = number_or_one (first_of (codes "seed") rows)
 
+-- a number where it is given, which isn't 0
+abbrev pub at_least_one : Option ℕ → Option (Option ℕ)
+at_least_one None = Some None
+at_least_one (Some n) = if nat_lt 0 n then Some (Some n) else None
+
+-- how many nodes of a tree the search may look at, where it is given; none where its value is no
+-- number of them, or 0
+abbrev pub nodes_in : List Row → Option (Option ℕ)
+nodes_in rows =
+    option_and_then at_least_one (optional_number most_value (first_of (codes "nodes") rows))
+
 -- whether nothing is said of how plans are sought
 abbrev pub says_no_search : List Row → Bool
 says_no_search rows =
     is_none (first_of (codes "seconds") rows) && is_none (start_in rows)
     && is_none (first_of (codes "seed") rows) && is_none (first_of (codes "effort") rows)
+    && is_none (first_of (codes "nodes") rows)
 
 -- the names of all files
 abbrev pub all_names : Option Text → List Text → List Text
@@ -72,8 +85,8 @@ all_names (Some start) names = start ∷ names
 
 -- the job of these words
 abbrev pub plan_job_of : Text → Text → Text → Option ℕ → Option ℕ → Option Text → ℕ → Option ℕ →
-    PlanGap
-plan_job_of file plan proof limit seconds start seed effort = record {
+    Option ℕ → PlanGap
+plan_job_of file plan proof limit seconds start seed effort nodes = record {
   file = file;
   plan = plan;
   proof = proof;
@@ -82,20 +95,21 @@ plan_job_of file plan proof limit seconds start seed effort = record {
   start = start;
   seed = seed;
   effort = effort;
+  nodes = nodes;
 }
 
--- `plan FILE PLAN PROOF [--limit N] [--seconds N] [--start PLAN0] [--seed N] [--effort N]`
+-- `plan FILE PLAN PROOF [--limit N] [--seconds N] [--start PLAN0] [--seed N] [--effort N] [--nodes N]`
 abbrev pub plan_with : Text → Text → Text → Option (Option ℕ) → Option (Option ℕ) → Option Text →
-    Option ℕ → Option (Option ℕ) → Option Job
-plan_with file plan proof (Some limit) (Some seconds) start (Some seed) (Some effort) =
-    Some (Planning (plan_job_of file plan proof limit seconds start seed effort))
-plan_with file plan proof limit seconds start seed effort = None
+    Option ℕ → Option (Option ℕ) → Option (Option ℕ) → Option Job
+plan_with file plan proof (Some limit) (Some seconds) start (Some seed) (Some effort) (Some nodes) =
+    Some (Planning (plan_job_of file plan proof limit seconds start seed effort nodes))
+plan_with file plan proof limit seconds start seed effort nodes = None
 
 abbrev pub plan_of : List Text → List Row → Option Job
 plan_of (file ∷ plan ∷ proof ∷ []) rows =
     if are_different (all_names (start_in rows) (file ∷ plan ∷ proof ∷ []))
     then plan_with file plan proof (limit_in rows) (seconds_in rows) (start_in rows)
-    (seed_in rows) (effort_in rows)
+    (seed_in rows) (effort_in rows) (nodes_in rows)
     else None
 plan_of rest rows = None
 

@@ -4,7 +4,7 @@ ghost use Rattle.std.specs.Prelude.{◌≡◌, IfOk};
 ghost use Rattle.clap.specs.Words.{app_of};
 ghost use Rattle.clap.specs.Walk.{texts};
 ghost use Rattle.call_words.specs.Matches.{IsMatched};
-ghost use Rattle.gap_words.specs.Command.{evgap, with_first, with_options};
+ghost use Rattle.gap_words.specs.Command.{evgap, with_first, with_nodes, with_options};
 
 use call_words::{matches_of, with_option, with_positionals, without_arguments};
 use clap::{ArgMatches, Command};
@@ -30,6 +30,13 @@ fn with_first<'a>(alloc: Global, command: Command<'a>) -> Result<Command<'a>, Al
     with_option(alloc, command, "effort")
 }
 
+/// The command and the option for the nodes of a tree.
+fn with_nodes<'a>(alloc: Global, command: Command<'a>) -> Result<Command<'a>, AllocError>
+    ensures { IfOk result (λ c. app_of c ≡ with_nodes (app_of command.entry)) }
+{
+    with_option(alloc, command, "nodes")
+}
+
 /// The command.
 #[tactic(auto, unfolding(crate::specs::Command::evgap))]
 fn evgap<'a>(alloc: Global) -> Result<Command<'a>, AllocError>
@@ -37,7 +44,8 @@ fn evgap<'a>(alloc: Global) -> Result<Command<'a>, AllocError>
 {
     let command = with_positionals(alloc, without_arguments(alloc, PROGRAM))?;
     let command = with_options(alloc, command)?;
-    with_first(alloc, command)
+    let command = with_first(alloc, command)?;
+    with_nodes(alloc, command)
 }
 
 /// What the command finds in the words, of which the first is the program's name; `None` where it

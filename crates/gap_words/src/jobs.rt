@@ -5,7 +5,7 @@ ghost use Rattle.clap.specs.Walk.{texts};
 ghost use Rattle.call_words.specs.Matches.{rows_in};
 ghost use Rattle.call_words.specs.Names.{are_different};
 ghost use Rattle.gap_words.specs.JobValue.{AnswersJob, IsJob};
-ghost use Rattle.gap_words.specs.Words.{all_names, check_of, effort_in, job_in, job_of_command, plan_of, says_no_search, seconds_in, seed_in};
+ghost use Rattle.gap_words.specs.Words.{all_names, check_of, effort_in, job_in, job_of_command, nodes_in, plan_of, says_no_search, seconds_in, seed_in};
 
 use crate::{CheckWords, Job, PlanWords};
 use call_words::{GREATEST_VALUE, are_different, first_of, limit_in, number_of, optional_number};
@@ -39,6 +39,20 @@ fn effort_in(matches: &ArgMatches<'_>) -> Option<Option<u64>>
     optional_number(first_of(matches, "effort"), GREATEST_EFFORT)
 }
 
+/// How many nodes of a tree the search may look at, where it is given; `None` where its value is no
+/// number of them, or 0.
+fn nodes_in(matches: &ArgMatches<'_>) -> Option<Option<u64>>
+    ensures { result ≡ nodes_in (rows_in matches.now) }
+{
+    let Some(nodes) = optional_number(first_of(matches, "nodes"), GREATEST_VALUE) else {
+        return None;
+    };
+    match nodes {
+        Some(0) => None,
+        _ => Some(nodes),
+    }
+}
+
 /// Whether nothing is said of how plans are sought.
 fn says_no_search(matches: &ArgMatches<'_>) -> bool
     ensures { result ≡ says_no_search (rows_in matches.now) }
@@ -47,6 +61,7 @@ fn says_no_search(matches: &ArgMatches<'_>) -> bool
         && first_of(matches, "start").is_none()
         && first_of(matches, "seed").is_none()
         && first_of(matches, "effort").is_none()
+        && first_of(matches, "nodes").is_none()
 }
 
 /// The job of what the command finds.
@@ -104,6 +119,9 @@ fn plan_job(
     let (Some(seed), Some(effort)) = (seed_in(matches), effort_in(matches)) else {
         return Ok(None);
     };
+    let Some(nodes) = nodes_in(matches) else {
+        return Ok(None);
+    };
     Ok(Some(Job::Plan(PlanWords {
         file: String::from_str(alloc, file)?,
         plan: String::from_str(alloc, plan)?,
@@ -113,6 +131,7 @@ fn plan_job(
         start: owned(alloc, start)?,
         seed,
         effort,
+        nodes,
     })))
 }
 

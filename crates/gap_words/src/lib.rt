@@ -17,7 +17,8 @@ use std::alloc::{AllocError, Global};
 /// The words of the job `plan`: the file of the instance, another one into which the plan is
 /// written, a third one for the proof, the limit on the time of each route in place of the
 /// instance's, in units of time, how many seconds the search may take, a fourth file with the plan
-/// to begin with, or that there is none, the seed of the first plan, and the effort for it.
+/// to begin with, or that there is none, the seed of the first plan, the effort for it, and how many
+/// nodes of a tree the search may look at, at least one, where a tree is to be grown.
 #[derive(Drop)]
 pub struct PlanWords {
     pub file: String,
@@ -28,6 +29,7 @@ pub struct PlanWords {
     pub start: Option<String>,
     pub seed: u64,
     pub effort: Option<u64>,
+    pub nodes: Option<u64>,
 }
 
 /// The words of the job `check`: the file of the instance, another one with the plan, a third one
@@ -51,14 +53,14 @@ pub enum Job {
 }
 
 /// The job of the words, which stand behind the program's name, read by one `clap` command: `plan
-/// FILE PLAN PROOF [--limit N] [--seconds N] [--start PLAN0] [--seed N] [--effort N]` or `check
-/// FILE PLAN PROOF [--limit N]`. `None` comes exactly where the words are no such job. Without
+/// FILE PLAN PROOF [--limit N] [--seconds N] [--start PLAN0] [--seed N] [--effort N] [--nodes N]` or
+/// `check FILE PLAN PROOF [--limit N]`. `None` comes exactly where the words are no such job. Without
 /// `--seed` the seed is 1.
 ///
 /// Options stand anywhere before a word `--`, each at most once; the value is the next word or
 /// follows a `=`. A name that begins with `-` and has more behind it is given after `--`. Numbers
-/// are written without leading zeros, and are at most 10^18, that of `--effort` at most 30. The
-/// names of files are different texts. No words at all are no job, and take no memory.
+/// are written without leading zeros, and are at most 10^18, that of `--effort` at most 30, that of
+/// `--nodes` at least 1. The names of files are different texts. No words at all are no job, and take no memory.
 pub fn job_words(alloc: Global, words: &[String]) -> Result<Option<Job>, AllocError>
     ensures job { IfOk result
         (λ job. option_map job_value job ≡ job_of (map string_bytes words.now)) }
@@ -80,6 +82,6 @@ pub fn job_words(alloc: Global, words: &[String]) -> Result<Option<Job>, AllocEr
 pub fn usage() -> &'static str
     ensures { result.now ≡ usage_text }
 {
-    "evgap plan FILE PLAN PROOF [--limit N] [--seconds N] [--start PLAN0] [--seed N] [--effort N]\n\
+    "evgap plan FILE PLAN PROOF [--limit N] [--seconds N] [--start PLAN0] [--seed N] [--effort N] [--nodes N]\n\
      evgap check FILE PLAN PROOF [--limit N]\n"
 }

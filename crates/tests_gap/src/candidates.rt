@@ -1,7 +1,7 @@
 //! The proof that is made of candidates of which some are rejected, or aren't read.
 
 use evgap_run::{Never, Nobody};
-use gap_search::{BoundProof, Recreation, close_gap, proof_of_candidates};
+use gap_search::{BoundProof, GapOptions, Recreation, close_gap, proof_of_candidates};
 use instance_reader::{Instance, read_instance};
 use near_text::read_near;
 use std::alloc::Global;
@@ -44,15 +44,18 @@ fn candidate(alloc: Global, inst: &Instance, kind: Kind) -> Option<BoundProof> {
 
 /// The proof that a search finds; `None` says nothing.
 fn found(alloc: Global, inst: &Instance) -> Option<BoundProof> {
-    let recreation = Recreation {
-        seed: 1,
-        effort: None,
+    let options = GapOptions {
+        recreation: Recreation {
+            seed: 1,
+            effort: None,
+        },
+        nodes: None,
     };
     let outcome = close_gap(
         alloc,
         inst,
         None,
-        recreation,
+        options,
         &mut Never {},
         &mut Nobody::new(),
     )

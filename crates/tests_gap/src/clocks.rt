@@ -2,7 +2,7 @@
 
 use crate::files::{shelf_with, words_of};
 use ev_outside::MemorySink;
-use evgap_run::{Evgap, GapClock, JobClock, Nobody, SearchClock};
+use evgap_run::{BranchClock, Evgap, JobClock, Nobody, SearchClock};
 use std::alloc::Global;
 use worked_instances::ONE_STATION;
 
@@ -18,7 +18,7 @@ impl SearchClock for Noting {
     }
 }
 
-impl GapClock for Noting {
+impl BranchClock for Noting {
     fn is_up_in(&mut self, _milliseconds: u64) -> bool {
         true
     }

@@ -2,7 +2,7 @@
 
 use crate::files::{run_with, shelf_with};
 use evgap_run::{Never, Nobody, Status};
-use gap_search::{GapOutcome, Improved, Recreation, close_gap};
+use gap_search::{GapOptions, GapOutcome, Improved, Recreation, close_gap};
 use instance_reader::{Instance, read_instance};
 use level_table::{instance_text, least_cost};
 use plan_check::check_large;
@@ -34,15 +34,18 @@ fn cost_of(alloc: Global, inst: &Instance, found: &GapOutcome) -> Option<u128> {
 fn compare(alloc: Global, number: u64) -> Option<Compared> {
     let text = instance_text(alloc, number, number % 5 + 1, number / 5 % 3)?;
     let inst = read_instance(alloc, text.as_bytes()).ok()?;
-    let recreation = Recreation {
-        seed: number,
-        effort: None,
+    let options = GapOptions {
+        recreation: Recreation {
+            seed: number,
+            effort: None,
+        },
+        nodes: None,
     };
     let found = close_gap(
         alloc,
         &inst,
         None,
-        recreation,
+        options,
         &mut Never {},
         &mut Nobody::new(),
     )

@@ -2,7 +2,7 @@
 
 use crate::files::{run_with, shelf_with};
 use evgap_run::{Never, Nobody};
-use gap_search::{Recreation, close_gap};
+use gap_search::{GapOptions, Recreation, close_gap};
 use instance_reader::read_instance;
 use std::alloc::Global;
 
@@ -24,15 +24,18 @@ const STAR: &str =
 /// The bound that is found on the instance of a text; `None` says nothing.
 fn bound_on(alloc: Global, text: &str) -> Option<u128> {
     let inst = read_instance(alloc, text.as_bytes()).ok()?;
-    let recreation = Recreation {
-        seed: 1,
-        effort: None,
+    let options = GapOptions {
+        recreation: Recreation {
+            seed: 1,
+            effort: None,
+        },
+        nodes: None,
     };
     let found = close_gap(
         alloc,
         &inst,
         None,
-        recreation,
+        options,
         &mut Never {},
         &mut Nobody::new(),
     )

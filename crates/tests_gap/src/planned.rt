@@ -54,6 +54,20 @@ fn plans_and_bounds_are_put_with_their_gap(rt: HostRuntime) {
             "alone 1\ncost none\nbound 6/1\ngap none\n",
         ),
         (
+            "plan A O C --limit 11 --nodes 20",
+            THREE_CUSTOMERS,
+            NONE,
+            Status::Done,
+            "cost 19/1\nbound 19/1\ngap 0/1\ngap 0.00 %\n",
+        ),
+        (
+            "plan A O C --limit 10 --effort 0 --nodes 20",
+            BEHIND,
+            NONE,
+            Status::Done,
+            "cost 6/1\nbound 6/1\ngap 0/1\ngap 0.00 %\n",
+        ),
+        (
             "plan A O C",
             DEPOT_ALONE,
             NONE,
@@ -93,7 +107,7 @@ fn plans_and_bounds_are_put_with_their_gap(rt: HostRuntime) {
             TWO_CUSTOMERS,
             NONE,
             Status::Words,
-            "evgap plan FILE PLAN PROOF [--limit N] [--seconds N] [--start PLAN0] [--seed N] [--effort N]\nevgap check FILE PLAN PROOF [--limit N]\n",
+            "evgap plan FILE PLAN PROOF [--limit N] [--seconds N] [--start PLAN0] [--seed N] [--effort N] [--nodes N]\nevgap check FILE PLAN PROOF [--limit N]\n",
         ),
     ] {
         let mut shelf = shelf_with(alloc, instance, start, "", &[]).expect(&rt, "memory");

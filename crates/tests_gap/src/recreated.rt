@@ -3,8 +3,9 @@
 use crate::files::{run_with, shelf_with, words_of};
 use ev_outside::{MemoryShelf, MemorySink};
 use evgap_run::{
-    Cause, CauseListener, Evgap, GapProgress, GapWatcher, JobWatcher, MoveProgress, MoveWatcher,
-    Never, PricesProgress, PricesWatcher, RecreateProgress, RecreateWatcher, ScaleWatcher,
+    BranchProgress, BranchWatcher, Cause, CauseListener, Evgap, GapProgress, GapWatcher,
+    JobWatcher, MoveProgress, MoveWatcher, Never, PricesProgress, PricesWatcher, RecreateProgress,
+    RecreateWatcher, ScaleWatcher,
 };
 use level_table::instance_text;
 use std::alloc::{AllocError, Global};
@@ -24,6 +25,10 @@ struct Looks {
 
 impl PricesWatcher for Looks {
     fn watch_prices(&mut self, _progress: PricesProgress) {}
+}
+
+impl BranchWatcher for Looks {
+    fn watch_branch(&mut self, _progress: BranchProgress) {}
 }
 
 impl MoveWatcher for Looks {

@@ -5,7 +5,7 @@ use gap_words::{Job, job_words, usage};
 use std::alloc::Global;
 
 /// What the words of a line name, in short: of `plan` the limit, the seconds, the plan to begin with,
-/// the seed and the effort, of `check` the limit; `None` where they name no job.
+/// the seed, the effort and the nodes, of `check` the limit; `None` where they name no job.
 fn named(alloc: Global, line: &str) -> Option<String> {
     let words = words_of(alloc, line).ok()?;
     let job = job_words(alloc, words.as_slice()).ok()??;
@@ -19,7 +19,8 @@ fn named(alloc: Global, line: &str) -> Option<String> {
             let seconds = words.seconds.unwrap_or(0);
             let seed = words.seed;
             let effort = words.effort.unwrap_or(99);
-            format!(in alloc; "plan {limit} {seconds} {start} {seed} {effort}").ok()
+            let nodes = words.nodes.unwrap_or(0);
+            format!(in alloc; "plan {limit} {seconds} {start} {seed} {effort} {nodes}").ok()
         }
         Job::Check(words) => {
             let limit = words.limit.unwrap_or(0);
@@ -32,11 +33,16 @@ fn named(alloc: Global, line: &str) -> Option<String> {
 fn words_name_a_job_or_none(rt: HostRuntime) {
     let alloc = rt.alloc();
     for &(line, want) in &[
-        ("plan A P Q", "plan 0 0 - 1 99"),
-        ("plan A P Q --limit 5", "plan 5 0 - 1 99"),
-        ("plan --seconds=7 A P Q --start S", "plan 0 7 S 1 99"),
-        ("plan A P Q --seed 8 --effort 30", "plan 0 0 - 8 30"),
-        ("plan A P Q --effort=0", "plan 0 0 - 1 0"),
+        ("plan A P Q", "plan 0 0 - 1 99 0"),
+        ("plan A P Q --limit 5", "plan 5 0 - 1 99 0"),
+        ("plan --seconds=7 A P Q --start S", "plan 0 7 S 1 99 0"),
+        ("plan A P Q --seed 8 --effort 30", "plan 0 0 - 8 30 0"),
+        ("plan A P Q --effort=0", "plan 0 0 - 1 0 0"),
+        ("plan A P Q --nodes 1", "plan 0 0 - 1 99 1"),
+        (
+            "plan A P Q --nodes=1000000000000000000",
+            "plan 0 0 - 1 99 1000000000000000000",
+        ),
         ("check A P Q", "check 0"),
         (
             "check A P Q --limit 1000000000000000000",
@@ -46,6 +52,7 @@ fn words_name_a_job_or_none(rt: HostRuntime) {
         ("check A P Q --start S", ""),
         ("check A P Q --seed 1", ""),
         ("check A P Q --effort 1", ""),
+        ("check A P Q --nodes 1", ""),
         ("plan A P Q --effort 31", ""),
         ("plan A P Q --seed 1000000000000000001", ""),
         ("plan A P Q --seed 01", ""),
@@ -54,7 +61,10 @@ fn words_name_a_job_or_none(rt: HostRuntime) {
         ("plan A P Q --seconds 01", ""),
         ("plan A P P", ""),
         ("plan A P Q --start Q", ""),
-        ("plan A P Q --nodes 3", ""),
+        ("plan A P Q --nodes 0", ""),
+        ("plan A P Q --nodes 03", ""),
+        ("plan A P Q --nodes 1000000000000000001", ""),
+        ("plan A P Q --nodes 2 --nodes 2", ""),
         ("plan A P Q R", ""),
         ("bound A P Q", ""),
         ("--help", ""),

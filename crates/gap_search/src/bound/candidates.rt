@@ -1,11 +1,11 @@
 //! Proofs that may be accepted, of prices and closed labels. No clause rests on this.
 
 use super::sections::section_by;
-use crate::clock::GapClock;
 use crate::trips::fastest_plan;
 use customer_sets::{CustSet, LargeSet};
 use ev_list::Listed;
 use instance_reader::{Instance, MOST_CUSTOMERS};
+use near_branch::BranchClock;
 use near_completion::Ground;
 use near_lists::near_labels;
 use near_prices::{NearPrices, PricedRoute};
@@ -17,7 +17,7 @@ use tree_text::BoundProof;
 
 /// Proofs by these prices that may be accepted: a near proof, for up to 128 customers where each has
 /// a tight route, and a tree of one leaf.
-pub(crate) fn candidates<C: GapClock>(
+pub(crate) fn candidates<C: BranchClock>(
     alloc: Global,
     inst: &Instance,
     ground: &Ground,

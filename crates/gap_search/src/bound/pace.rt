@@ -1,7 +1,7 @@
 //! How a search for a bound is cut to its time. No clause rests on this.
 
 use super::sections::list_milliseconds;
-use crate::clock::GapClock;
+use near_branch::BranchClock;
 use near_prices::PriceEffort;
 
 /// So many labels are made before the clock is asked.
@@ -29,7 +29,7 @@ pub(crate) enum Pace {
 
 impl Pace {
     /// That for so many customers, by the time that is left.
-    pub(crate) fn of<C: GapClock>(customers: usize, clock: &mut C) -> Pace {
+    pub(crate) fn of<C: BranchClock>(customers: usize, clock: &mut C) -> Pace {
         let list = list_milliseconds(customers);
         if clock.is_up_in(list / SHORTER / 2) {
             Pace::Haste

@@ -20,10 +20,6 @@ pub(crate) fn question(
     first: &FirstPlan,
     pace: Pace,
 ) -> Result<PriceQuestion, AllocError> {
-    let plan = match &first.plan {
-        Improved::Plan(plan) => routes_of(alloc, inst, plan)?,
-        Improved::Alone(_) => Vec::new(alloc),
-    };
     Ok(PriceQuestion {
         follow: Follow::new(alloc, ground.customers())?,
         entries: Vec::new(alloc),
@@ -32,7 +28,7 @@ pub(crate) fn question(
             Pace::Whole | Pace::Short => Vec::new(alloc),
             Pace::Haste => nearest_sets(alloc, ground, 0)?,
         },
-        plan,
+        plan: routes_held(alloc, inst, &first.plan)?,
         seen: other_routes(alloc, inst, ground, first)?,
         layers: pace.layers(),
         most_growths: pace.most_growths(),
@@ -40,6 +36,18 @@ pub(crate) fn question(
         dearest: None,
         is_exact: false,
     })
+}
+
+/// The routes of the plan that is held; none where there is none.
+pub(crate) fn routes_held(
+    alloc: Global,
+    inst: &Instance,
+    held: &Improved,
+) -> Result<Vec<KnownRoute>, AllocError> {
+    match held {
+        Improved::Plan(plan) => routes_of(alloc, inst, plan),
+        Improved::Alone(_) => Ok(Vec::new(alloc)),
+    }
 }
 
 /// The routes of a plan.

@@ -1,7 +1,7 @@
 //! Routes of which plans may be made. No clause rests on this.
 
-use crate::clock::GapClock;
 use instance_reader::MOST_CUSTOMERS;
+use near_branch::BranchClock;
 use near_completion::Ground;
 use near_prices::{KnownRoute, PriceSearch, PricedRoute};
 use std::alloc::{AllocError, Global};
@@ -48,6 +48,26 @@ pub(crate) fn orders(
     Ok(orders)
 }
 
+/// The known routes that take least beyond what they earn.
+pub(crate) fn known_routes(
+    alloc: Global,
+    routes: &[PricedRoute],
+) -> Result<Vec<KnownRoute>, AllocError> {
+    let mut known = Vec::new(alloc);
+    for place in ranked(alloc, routes)? {
+        if known.len() >= MOST_ORDERS {
+            break;
+        }
+        if let Some(route) = routes.get(place) {
+            known.push(KnownRoute {
+                order: route.order.clone()?,
+                time: route.time,
+            })?;
+        }
+    }
+    Ok(known)
+}
+
 /// The places of routes, by what they take beyond what they earn.
 fn ranked(alloc: Global, routes: &[PricedRoute]) -> Result<Vec<usize>, AllocError> {
     let mut keyed = Vec::with_capacity(alloc, routes.len())?;
@@ -88,7 +108,7 @@ fn order_of(
 
 /// Plans by diving, for up to 128 customers, each of which begins with another route of the optimum;
 /// for more none. The prices of the search are others then.
-pub(crate) fn dives<C: GapClock>(
+pub(crate) fn dives<C: BranchClock>(
     alloc: Global,
     ground: &Ground,
     search: &mut PriceSearch<'_>,
@@ -114,7 +134,7 @@ fn dive_count(customers: usize) -> usize {
 }
 
 /// The orders of routes.
-fn orders_of(
+pub(crate) fn orders_of(
     alloc: Global,
     ground: &Ground,
     routes: &[KnownRoute],

@@ -1,7 +1,7 @@
 //! Sections of closed labels. No clause rests on this.
 
-use crate::clock::GapClock;
 use instance_reader::Instance;
+use near_branch::BranchClock;
 use near_completion::{Follow, Ground, NearTerms};
 use near_lists::{ListPlan, ListTask, closed_section};
 use near_prices::NearPrices;
@@ -13,7 +13,7 @@ use std::alloc::{AllocError, Global};
 const MOST_TIMES: usize = 20;
 
 /// A section of closed labels by these prices; by lower ones where those have none.
-pub(crate) fn section_by<C: GapClock>(
+pub(crate) fn section_by<C: BranchClock>(
     alloc: Global,
     inst: &Instance,
     ground: &Ground,
@@ -70,7 +70,7 @@ fn lower(terms: &mut NearTerms) {
 }
 
 /// A short list where there is time for it, and else one that is made quickly.
-fn plan_for<C: GapClock>(customers: usize, clock: &mut C) -> ListPlan {
+fn plan_for<C: BranchClock>(customers: usize, clock: &mut C) -> ListPlan {
     if clock.is_up_in(list_milliseconds(customers)) {
         ListPlan::quick()
     } else {

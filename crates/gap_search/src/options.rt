@@ -1,0 +1,13 @@
+//! How a plan and a bound are sought.
+
+use crate::recreation::Recreation;
+
+/// How a plan and a bound are sought.
+#[derive(Clone, Copy, Debug, Drop, PartialEq, Eq)]
+pub struct GapOptions {
+    /// How the first plan is sought.
+    pub recreation: Recreation,
+    /// So many nodes of a tree are priced at the most, which is grown where a gap is left without
+    /// it. `None`: none is grown.
+    pub nodes: Option<u64>,
+}

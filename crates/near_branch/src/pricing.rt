@@ -1,0 +1,203 @@
+//! Prices of nodes.
+
+use crate::clock::{BranchClock, Early};
+use crate::fork::Turn;
+use crate::growth::Growth;
+use crate::prices::{LeafPrices, Worth};
+use crate::site::{copied, site_of};
+use near_prices::{
+    EntryRange, Handed, KnownRoute, PriceQuestion, PriceSearch, PricesWatcher, RoundsEnd,
+};
+use std::alloc::{AllocError, Global};
+use std::mem;
+
+/// About so many layers the tables have, and a fourth of it where routes are looked for quickly.
+const LAYERS: usize = 120;
+
+/// So many where nodes are only estimated.
+pub(crate) const FEW_LAYERS: usize = 60;
+
+/// So often near sets grow at the most at a node.
+const GROWTHS: usize = 60;
+
+/// What it costs to serve a customer without a route, where routes cost nothing.
+const HELP: u64 = 1 << 30;
+
+/// What comes of pricing a node.
+#[derive(Drop)]
+pub(crate) struct Priced {
+    /// `None` where the time was up.
+    prices: Option<LeafPrices>,
+    /// Whether customers or sets are left to cover without routes.
+    lacks: bool,
+}
+
+impl<'a> Growth<'a> {
+    /// Prices by which no route earns that goes to the end of these turns: those found, or those of
+    /// the node above where they are worth more.
+    pub(crate) fn price<C: BranchClock, W: PricesWatcher>(
+        &mut self,
+        alloc: Global,
+        turns: &[Turn],
+        above: Option<&LeafPrices>,
+        clock: &mut Early<'_, C>,
+        watcher: &mut W,
+    ) -> Result<LeafPrices, AllocError> {
+        let entries = copied(
+            alloc,
+            &site_of(alloc, self.ground.customers(), turns)?.entries,
+        )?;
+        clock.looks = self.patience;
+        let priced = self.search(alloc, turns, above, self.weight, clock, watcher)?;
+        self.priced = self.priced.saturating_add(1);
+        let Priced { prices, lacks } = priced;
+        let best = self.better(alloc, &entries, above, prices)?;
+        if !lacks || best.worth().reaches(self.held.cost) {
+            return Ok(best);
+        }
+        clock.looks = self.patience;
+        let Priced { prices, lacks: _ } = self.search(alloc, turns, None, 0, clock, watcher)?;
+        match prices {
+            Some(of_none) if of_none.worth() == Worth::NoPlan => Ok(of_none),
+            _ => Ok(best),
+        }
+    }
+
+    /// The prices that were found, or those of the node above where they are worth more; where there
+    /// are none, prices of 0.
+    fn better(
+        &self,
+        alloc: Global,
+        entries: &[EntryRange],
+        above: Option<&LeafPrices>,
+        found: Option<LeafPrices>,
+    ) -> Result<LeafPrices, AllocError> {
+        let known = match above {
+            Some(prices) => prices.at(alloc, entries)?,
+            None => self.no_prices(alloc)?,
+        };
+        match found {
+            Some(own) if own.worth().rank() >= known.worth().rank() => Ok(own),
+            _ => Ok(known),
+        }
+    }
+
+    /// Prices of 0.
+    fn no_prices(&self, alloc: Global) -> Result<LeafPrices, AllocError> {
+        Ok(LeafPrices {
+            weight: self.weight,
+            prices: vec![in alloc; 0; self.ground.customers()]?,
+            entry_prices: Vec::new(alloc),
+            near: self.near.clone()?,
+            sum: 0,
+        })
+    }
+
+    /// Looks for prices by a weight of time.
+    fn search<C: BranchClock, W: PricesWatcher>(
+        &mut self,
+        alloc: Global,
+        turns: &[Turn],
+        above: Option<&LeafPrices>,
+        weight: u32,
+        clock: &mut Early<'_, C>,
+        watcher: &mut W,
+    ) -> Result<Priced, AllocError> {
+        let mut search = self.begin(alloc, turns, above, weight, LAYERS)?;
+        let end = search.run(alloc, clock, watcher)?;
+        let mut priced = Priced {
+            prices: None,
+            lacks: false,
+        };
+        if end != RoundsEnd::Stopped {
+            if weight > 0 {
+                if let Some(plan) = search.whole_plan(alloc)? {
+                    self.hold(plan);
+                }
+            }
+            priced.lacks = search.lacks();
+            priced.prices = Some(self.closed(alloc, &mut search, end, weight)?);
+        }
+        self.pool = search.into_routes(alloc)?;
+        Ok(priced)
+    }
+
+    /// The prices at the end of rounds, made whole.
+    fn closed(
+        &mut self,
+        alloc: Global,
+        search: &mut PriceSearch<'a>,
+        end: RoundsEnd,
+        weight: u32,
+    ) -> Result<LeafPrices, AllocError> {
+        let found = search.closed_prices(alloc, end)?;
+        self.near = found.near.clone()?;
+        Ok(LeafPrices {
+            weight,
+            prices: found.prices,
+            entry_prices: found.entry_prices,
+            near: found.near,
+            sum: found.bound,
+        })
+    }
+
+    /// A search for prices at the end of these turns, which takes the routes over that are known;
+    /// where the prices above are told, those are columns at once that cost little more than they
+    /// earn by these.
+    pub(crate) fn begin(
+        &mut self,
+        alloc: Global,
+        turns: &[Turn],
+        above: Option<&LeafPrices>,
+        weight: u32,
+        layers: usize,
+    ) -> Result<PriceSearch<'a>, AllocError> {
+        let site = site_of(alloc, self.ground.customers(), turns)?;
+        let question = PriceQuestion {
+            follow: site.follow,
+            entries: site.entries,
+            serves_once: true,
+            near: self.near.clone()?,
+            plan: Vec::new(alloc),
+            seen: Vec::new(alloc),
+            layers,
+            most_growths: GROWTHS,
+            weight,
+            dearest: Some(if weight == 0 { HELP } else { self.dearest() }),
+            is_exact: true,
+        };
+        let mut search = PriceSearch::new(alloc, self.inst, self.ground, question)?;
+        let routes = mem::replace(&mut self.pool, Vec::new(alloc));
+        search.take_over(alloc, self.handed(alloc, routes, above, weight)?)?;
+        if above.is_some() || weight == 0 {
+            search.refine();
+        }
+        Ok(search)
+    }
+
+    /// Routes, and which of them are columns at once.
+    fn handed(
+        &self,
+        alloc: Global,
+        routes: Vec<KnownRoute>,
+        above: Option<&LeafPrices>,
+        weight: u32,
+    ) -> Result<Handed, AllocError> {
+        let mut handed = Handed {
+            routes,
+            prices: Vec::new(alloc),
+            entry_prices: Vec::new(alloc),
+            bar: if weight == 0 { 0 } else { -1 },
+        };
+        if let Some(prices) = above {
+            let gap = self.gap_of(prices.sum);
+            let bar = gap
+                .saturating_add(gap / 2)
+                .saturating_add(u64::from(weight).saturating_mul(100));
+            handed.prices = prices.prices.clone()?;
+            handed.entry_prices = prices.entry_prices.clone()?;
+            handed.bar = i64::try_from(bar).unwrap_or(i64::MAX);
+        }
+        Ok(handed)
+    }
+}
