@@ -122,4 +122,30 @@ impl<S: Storage> Shelf for StorageShelf<S> {
         self.storage.close();
         Ok(answer?)
     }
+
+    fn ask_to_write(&mut self, name: &str) -> Result<(), ShelfFault>
+        ensures files { files_of (S.told self.new.storage) ≡ files_of (S.told self.old.storage) }
+        ensures failed { IsErrOf result ShelfFault.Failed →
+            Rose (S.failed self.old.storage) (S.failed self.new.storage) }
+        ensures falls { CountsNeverFall
+            (shelf_of (S.told self.old.storage) (S.failed self.old.storage)
+            (S.asked self.old.storage))
+            (shelf_of (S.told self.new.storage) (S.failed self.new.storage)
+            (S.asked self.new.storage)) }
+        ensures stays { (IsErrOf result ShelfFault.Failed → ⊥) → CountsStay
+            (shelf_of (S.told self.old.storage) (S.failed self.old.storage)
+            (S.asked self.old.storage))
+            (shelf_of (S.told self.new.storage) (S.failed self.new.storage)
+            (S.asked self.new.storage)) }
+        ensures asked { HasAsked name.now (S.asked self.new.storage) }
+
+        // `Failed` comes exactly where the call of the storage failed.
+        ensures counted { IsErrOf result ShelfFault.Failed →
+            CountsOne (S.failed self.old.storage) (S.failed self.new.storage) }
+        ensures uncounted { (IsErrOf result ShelfFault.Failed → ⊥) →
+            S.failed self.new.storage ≡ S.failed self.old.storage }
+        ensures never_memory { IsErrOf result ShelfFault.Memory → ⊥ }
+    {
+        Ok(self.storage.ask_to_write(name)?)
+    }
 }

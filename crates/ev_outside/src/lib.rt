@@ -8,6 +8,7 @@
 #![tactic(auto)]
 
 mod answers;
+mod asking;
 mod failure;
 mod files;
 mod folder;
@@ -25,6 +26,7 @@ mod sure_shelf;
 mod sure_sink;
 mod system;
 
+pub use asking::ask_to_write;
 pub use failure::Failure;
 pub use files::{FileShelf, StorageShelf};
 pub use memory_shelf::MemoryShelf;

@@ -11,8 +11,8 @@ use std::collections::BTreeMap;
 /// Named files in memory, whose calls fail where they are told to, and where a name that isn't
 /// there is read.
 ///
-/// Its calls of `read` and of `write` are numbered together from 0; a call that was refused memory
-/// isn't counted. The count stops at its last value, 2^64 - 1.
+/// Its calls of `read`, `write` and `ask_to_write` are numbered together from 0; a call that was
+/// refused memory isn't counted. The count stops at its last value, 2^64 - 1.
 #[derive(Drop)]
 pub struct MemoryShelf {
     files: BTreeMap<String, Vec<u8>>,
@@ -206,5 +206,29 @@ impl Shelf for MemoryShelf {
             }
             Err(_) => Err(ShelfFault::Memory),
         }
+    }
+
+    fn ask_to_write(&mut self, name: &str) -> Result<(), ShelfFault>
+        ensures files { (told_by self.new).files ≡ (told_by self.old).files }
+        ensures failed { IsErrOf result ShelfFault.Failed
+            → Rose ((told_by self.old).failed_writes name.now)
+            ((told_by self.new).failed_writes name.now) }
+        ensures falls { CountsNeverFall (told_by self.old) (told_by self.new) }
+        ensures stays { (IsErrOf result ShelfFault.Failed → ⊥)
+            → CountsStay (told_by self.old) (told_by self.new) }
+
+        // Exactly when this shelf refuses, and what it counts.
+        ensures answered { OnOk result ((IsNextToFail (state_of self.old) → ⊥)
+            × (state_of self.new ≡ one_call_more (state_of self.old))) }
+        ensures refused { IsErrOf result ShelfFault.Failed → IsNextToFail (state_of self.old)
+            × (state_of self.new ≡ write_failed name.now (state_of self.old)) }
+        ensures unchanged { IsErrOf result ShelfFault.Memory
+            → state_of self.new ≡ state_of self.old }
+    {
+        if self.fails.contains(&self.calls) {
+            return Err(self.refuse_write(name));
+        }
+        self.calls = self.calls.saturating_add(1);
+        Ok(())
     }
 }

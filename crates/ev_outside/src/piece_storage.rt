@@ -209,6 +209,13 @@ impl Storage for PieceStorage {
         Ok(())
     }
 
+    fn ask_to_write(&mut self, _name: &str) -> Result<(), CallFailed> {
+        if self.is_to_fail() {
+            return Err(self.fail());
+        }
+        Ok(())
+    }
+
     fn close(&mut self) {
         self.opened = false;
     }

@@ -70,4 +70,18 @@ pub trait Shelf {
             → CountsStay (state self.old) (state self.new) }
         ensures asked { HasAsked name.now (state self.new).asked }
         ensures takes_memory { IsErrOf result ShelfFault.Memory → writes_take_memory ≡ true };
+
+    /// Asks whether the file can be written, before it is. No file changes for it. `Failed` counts
+    /// as a write that failed; no count rises otherwise. That a file can be written promises
+    /// nothing of a write that comes later.
+    fn ask_to_write(&mut self, name: &str) -> Result<(), ShelfFault>
+        ensures files { (state self.new).files ≡ (state self.old).files }
+        ensures failed { IsErrOf result ShelfFault.Failed
+            → Rose ((state self.old).failed_writes name.now)
+            ((state self.new).failed_writes name.now) }
+        ensures falls { CountsNeverFall (state self.old) (state self.new) }
+        ensures stays { (IsErrOf result ShelfFault.Failed → ⊥)
+            → CountsStay (state self.old) (state self.new) }
+        ensures asked { HasAsked name.now (state self.new).asked }
+        ensures takes_memory { IsErrOf result ShelfFault.Memory → writes_take_memory ≡ true };
 }

@@ -99,6 +99,14 @@ pub trait Storage: Stream {
         ensures counts { IsCounted result (Self.failed self.old) (Self.failed self.new) }
         ensures asked { Self.asked self.new ≡ Self.asked self.old };
 
+    /// Asks whether a file can be written under this name. No bytes of any file change for it, and
+    /// no file is made.
+    fn ask_to_write(&mut self, name: &str) -> Result<(), CallFailed>
+        ensures kept { is_kept self.new ≡ true → is_kept self.old ≡ true }
+        ensures files { files_of (told self.new) ≡ files_of (told self.old) }
+        ensures counts { IsCounted result (Self.failed self.old) (Self.failed self.new) }
+        ensures asked { HasAsked name.now (Self.asked self.new) };
+
     /// Closes the file that is open, if one is. No bytes of any file change.
     fn close(&mut self)
         ensures closed { is_open self.new ≡ false }

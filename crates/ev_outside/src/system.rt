@@ -10,6 +10,7 @@ ghost use Rattle.ev_outside.specs.Storage.{Creates, Opens, files_of, rest_of};
 ghost use Rattle.ev_outside.specs.SystemName.{asked_by};
 
 use super::answers::{read_piece, write_piece};
+use super::asking::ask_to_write;
 use super::failure::Failure;
 use super::folder::folder_of;
 use super::kept::{Emptied, Kept, empty, keep};
@@ -47,6 +48,8 @@ pub struct SystemFiles<'a, R: Files> {
     /// Whether the file that was asked for last was opened to be written, so that it may hold a
     /// part.
     is_changed: bool,
+    /// Whether it was only asked whether that file can be written.
+    is_question: bool,
     /// Whether standard error goes to it.
     is_standard_error: bool,
     /// The name that was asked for last, where there was memory for it.
@@ -73,6 +76,7 @@ impl<'a, R: Files> SystemFiles<'a, R> {
             kept: None,
             known: KnownFiles::new(alloc),
             is_changed: false,
+            is_question: false,
             is_standard_error: false,
             name: None,
             cause: None,
@@ -112,6 +116,13 @@ impl<'a, R: Files> SystemFiles<'a, R> {
         self.is_changed
     }
 
+    /// Whether it was only asked whether the file that was asked for last can be written.
+    pub fn is_question(&self) -> bool
+        ensures { result ≡ self.now.is_question }
+    {
+        self.is_question
+    }
+
     /// Begins with another file: keeps its name, where there is memory for it, and forgets why
     /// calls on the one before failed.
     #[tactic(auto, using(crate::proofs::SystemNames::has_asked))]
@@ -121,10 +132,12 @@ impl<'a, R: Files> SystemFiles<'a, R> {
         ensures failed { self.new.failed ≡ self.old.failed }
         ensures cause { IsNone self.new.cause }
         ensures kept { IsNone self.new.kept }
+        ensures file { self.new.file ≡ self.old.file }
     {
         self.name = String::from_str(self.alloc, name).ok();
         self.cause = None;
         self.is_changed = false;
+        self.is_question = false;
         self.is_standard_error = false;
         self.folder = None;
         self.emptied = None;
@@ -196,28 +209,57 @@ impl<'a, R: Files> SystemFiles<'a, R> {
         ensures file { self.new.file ≡ self.old.file }
     {
         let id = FileId::of(found);
-        self.is_standard_error = goes_to(self.rt, STANDARD_ERROR, id);
+        self.spare_outputs(id)?;
 
         // An empty file has nothing to lose. One that was just made may have the number of a
         // file that was read and then deleted.
         if found.len() > 0 && !self.known.is_only_here(name, id) {
             return self.leave("this job read or wrote the same file under another name");
         }
+        self.known.add(name, id)?;
+        self.folder = folder_of(self.rt, self.alloc, name)?;
+        Ok(())
+    }
+
+    /// Sees that neither standard output nor standard error goes to this file.
+    fn spare_outputs(&mut self, id: FileId) -> io::Result<()>
+        ensures kept { self.new.kept ≡ self.old.kept }
+        ensures failed { self.new.failed ≡ self.old.failed }
+        ensures cause { self.new.cause ≡ self.old.cause }
+        ensures name { self.new.name ≡ self.old.name }
+        ensures file { self.new.file ≡ self.old.file }
+        ensures question { self.new.is_question ≡ self.old.is_question }
+    {
+        self.is_standard_error = goes_to(self.rt, STANDARD_ERROR, id);
         if goes_to(self.rt, STANDARD_OUTPUT, id) {
             return self.leave("standard output goes to this file");
         }
         if self.is_standard_error {
             return self.leave("standard error goes to this file");
         }
-        self.known.add(name, id)?;
-        self.folder = folder_of(self.rt, self.alloc, name)?;
         Ok(())
+    }
+
+    /// Asks whether a file can be written under this name, to which no output may go.
+    fn ask(&mut self, name: &str) -> io::Result<()>
+        ensures kept { self.new.kept ≡ self.old.kept }
+        ensures failed { self.new.failed ≡ self.old.failed }
+        ensures cause { self.new.cause ≡ self.old.cause }
+        ensures name { self.new.name ≡ self.old.name }
+        ensures file { self.new.file ≡ self.old.file }
+        ensures question { self.new.is_question ≡ self.old.is_question }
+    {
+        if let Some(id) = regular_file(self.rt, name) {
+            self.spare_outputs(id)?;
+        }
+        ask_to_write(self.rt, name)
     }
 
     /// The file that is open isn't written, for this reason.
     fn leave(&mut self, why: &'static str) -> io::Result<()>
         ensures refused { IsErr result }
         ensures told { self.new.is_changed ≡ false }
+        ensures question { self.new.is_question ≡ self.old.is_question }
         ensures kept { self.new.kept ≡ self.old.kept }
         ensures failed { self.new.failed ≡ self.old.failed }
         ensures cause { self.new.cause ≡ self.old.cause }
@@ -235,6 +277,7 @@ impl<'a, R: Files> SystemFiles<'a, R> {
         ensures kept { self.new.kept ≡ self.old.kept }
         ensures name { self.new.name ≡ self.old.name }
         ensures file { self.new.file ≡ self.old.file }
+        ensures question { self.new.is_question ≡ self.old.is_question }
     {
         self.cause = Some(cause);
         self.failed = self.failed.saturating_add(1);
@@ -258,6 +301,14 @@ fn metadata_of<F: OpenFile>(file: &Option<F>) -> io::Result<Metadata> {
     match file {
         Some(file) => file.metadata(),
         None => Err(no_file()),
+    }
+}
+
+/// The regular file that has this name, where one has.
+fn regular_file<R: Files>(rt: &R, name: &str) -> Option<FileId> {
+    match fs::metadata(rt, name) {
+        Ok(found) if found.is_file() => Some(FileId::of(&found)),
+        _ => None,
     }
 }
 
@@ -414,6 +465,25 @@ impl<'a, R: Files> Storage for SystemFiles<'a, R> {
             None => Err(no_file()),
         };
         match kept {
+            Ok(()) => Ok(()),
+            Err(cause) => Err(self.fail(cause)),
+        }
+    }
+
+    fn ask_to_write(&mut self, name: &str) -> Result<(), CallFailed>
+        ensures kept { is_some self.new.kept ≡ true → is_some self.old.kept ≡ true }
+        ensures files { files_of None ≡ files_of None }
+        ensures counts { IsCounted result self.old.failed self.new.failed }
+        ensures asked { HasAsked name.now (asked_by self.new.name) }
+        ensures question { self.new.is_question ≡ true }
+        ensures unopened { self.new.file ≡ self.old.file }
+        ensures cause { MatchResult result (λ _. IsNone self.new.cause)
+            (λ _. IsSome self.new.cause) }
+        ensures name { IfSome self.new.name (λ kept. string_bytes kept ≡ name.now) }
+    {
+        self.begin(name);
+        self.is_question = true;
+        match self.ask(name) {
             Ok(()) => Ok(()),
             Err(cause) => Err(self.fail(cause)),
         }

@@ -81,9 +81,11 @@ fn tell_left(
         if failure.is_standard_error {
             return;
         }
-        let failed = match shelf.storage().is_changed() {
-            true => Failed::File(failure.name),
-            false => Failed::Unchanged(failure.name),
+        let files = shelf.storage();
+        let failed = match (files.is_question(), files.is_changed()) {
+            (true, _) => Failed::Asked,
+            (false, true) => Failed::File(failure.name),
+            (false, false) => Failed::Unchanged(failure.name),
         };
         tell(rt, told_left(alloc, job, cause, failed));
     }

@@ -125,6 +125,7 @@ check_task job = record {
   goes_on = check_goes_on job;
   answers = check_answers job;
   heard = check_heard;
+  asks = λ name. ⊥;
   writes_first = λ ws. ⊥;
   is_open = ⊥;
   has_budget = ⊥;

@@ -201,13 +201,15 @@ abbrev pub start_reads : Option (List ℕ) → List Read
 start_reads None = []
 start_reads (Some name) = file_read name ∷ []
 
--- what a search finds is left open, and it may leave a gap
+-- it asks before whether both files can be written; what a search finds is left open, and it may
+-- leave a gap
 abbrev pub plan_task : PlanGap → Task Cause
 plan_task job = record {
   reads = file_read job.file ∷ start_reads job.start;
   goes_on = plan_goes_on job;
   answers = plan_answers job;
   heard = plan_heard;
+  asks = λ name. (name ≡ job.plan) ⊎ (name ≡ job.proof);
   writes_first = λ ws. ⊥;
   is_open = Unit {0};
   has_budget = Unit {0};

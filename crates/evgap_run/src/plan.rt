@@ -5,6 +5,7 @@ ghost use Rattle.std.specs.Prelude.{◌≡◌, ◌∷◌, [], IfErr, IfOk, IfSom
 ghost use Rattle.ev_model.specs.Fleet.{IsFleetPlan};
 ghost use Rattle.evgap_run.specs.PlanAnswer.{HasPlanJob, PlanAnswers, plan_heard, plan_task};
 ghost use Rattle.gap_words.specs.JobValue.{IsPlanJob, plan_value};
+ghost use Rattle.job_frame.specs.Asks.{Asks};
 ghost use Rattle.job_frame.specs.Finds.{Finds, written_by};
 ghost use Rattle.job_frame.specs.LimitedNetwork.{HasNetwork};
 ghost use Rattle.job_frame.specs.Task.{AreReadUpTo};
@@ -19,14 +20,46 @@ use fleet_steps::{cost_of, plan_of, reject};
 use gap_search::{BranchClock, GapOptions, GapWatcher, Recreation};
 use gap_words::PlanWords;
 use instance_reader::Instance;
-use job_frame::{Ended, Found, MOST_BYTES, ScaleWatcher, limited_instance, read_file, refuse_job};
+use job_frame::{
+    Ended, Found, MOST_BYTES, ScaleWatcher, ask_file, limited_instance, read_file, refuse_job,
+};
 use plan_check::LargeFault;
 use route_plan::FleetPlan;
 use std::alloc::{AllocError, Global};
 
-/// What `plan` finds: the instance is read, then the plan to begin with where a file is named; then
-/// a fleet is planned, and its plan and a proof of a bound on its cost are written.
+/// What `plan` finds: it is asked whether both files can be written, and the instance is read, then
+/// the plan to begin with where a file is named; then a fleet is planned, and its plan and a proof
+/// of a bound on its cost are written.
 pub fn plan<S: Shelf, C: JobClock, W: GapWatcher + ScaleWatcher>(
+    alloc: Global,
+    job: &PlanWords,
+    shelf: &mut S,
+    clock: &mut C,
+    watcher: &mut W,
+) -> Result<Found<Cause>, ShelfFault>
+    requires { IsPlanJob job.now }
+    ensures { Finds (plan_task (plan_value job.now))
+        (S.state shelf.old) (S.state shelf.new) result }
+{
+    match ask_both(job, shelf) {
+        Ok(()) => plan_asked(alloc, job, shelf, clock, watcher),
+        Err(fault) => Err(fault),
+    }
+}
+
+/// Asks whether the files of the plan and of the proof can be written.
+fn ask_both<S: Shelf>(job: &PlanWords, shelf: &mut S) -> Result<(), ShelfFault>
+    ensures { Asks (plan_task (plan_value job.now)).asks
+        (S.state shelf.old) (S.state shelf.new) result }
+{
+    match ask_file(job.plan.as_str(), shelf) {
+        Ok(()) => ask_file(job.proof.as_str(), shelf),
+        Err(fault) => Err(fault),
+    }
+}
+
+/// What `plan` finds behind the question whether its files can be written.
+fn plan_asked<S: Shelf, C: JobClock, W: GapWatcher + ScaleWatcher>(
     alloc: Global,
     job: &PlanWords,
     shelf: &mut S,

@@ -79,6 +79,7 @@ bound_task job = record {
   goes_on = λ before. Unit {0};
   answers = bound_answers job;
   heard = HearsSearch;
+  asks = λ name. ⊥;
   writes_first = λ ws. ⊥;
   is_open = ⊥;
   has_budget = ⊥;

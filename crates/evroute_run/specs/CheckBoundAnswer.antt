@@ -115,6 +115,7 @@ check_bound_task job = record {
   goes_on = check_bound_goes_on job;
   answers = check_bound_answers job;
   heard = check_bound_heard;
+  asks = λ name. ⊥;
   writes_first = λ ws. ⊥;
   is_open = ⊥;
   has_budget = ⊥;

@@ -125,6 +125,7 @@ check_route_task job = record {
   goes_on = check_route_goes_on job;
   answers = check_route_answers job;
   heard = check_route_heard;
+  asks = λ name. ⊥;
   writes_first = λ ws. ⊥;
   is_open = ⊥;
   has_budget = ⊥;

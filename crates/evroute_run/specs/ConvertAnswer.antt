@@ -59,6 +59,7 @@ convert_task job = record {
   goes_on = λ before. Unit {0};
   answers = convert_answers job;
   heard = HearsRefusals;
+  asks = λ name. ⊥;
   writes_first = λ ws. ⊥;
   is_open = ⊥;
   has_budget = ⊥;

@@ -96,6 +96,7 @@ fixed_task job = record {
   goes_on = λ before. Unit {0};
   answers = fixed_answers job;
   heard = HearsRefusals;
+  asks = λ name. ⊥;
   writes_first = λ ws. ⊥;
   is_open = ⊥;
   has_budget = ⊥;

@@ -147,6 +147,7 @@ fleet_task job = record {
   goes_on = λ before. Unit {0};
   answers = fleet_answers job;
   heard = HearsSearch;
+  asks = λ name. ⊥;
   writes_first = λ ws. ⊥;
   is_open = Unit {0};
   has_budget = job.nodes ≢ None;

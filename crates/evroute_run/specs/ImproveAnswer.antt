@@ -114,6 +114,7 @@ improve_task job = record {
   goes_on = improve_goes_on job;
   answers = improve_answers job;
   heard = improve_heard;
+  asks = λ name. ⊥;
   writes_first = λ ws. ⊥;
   is_open = ⊥;
   has_budget = ⊥;

@@ -91,6 +91,7 @@ make_task job = record {
   goes_on = λ before. ⊥;
   answers = make_answers job;
   heard = HearsRefusals;
+  asks = λ name. ⊥;
   writes_first = λ ws. (HasNoInstance job → ⊥) × (ws ≡ made_file job ∷ []);
   is_open = ⊥;
   has_budget = ⊥;

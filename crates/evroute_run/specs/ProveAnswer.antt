@@ -95,6 +95,7 @@ prove_task job = record {
   goes_on = λ before. Unit {0};
   answers = prove_answers job;
   heard = HearsRefusals;
+  asks = λ name. ⊥;
   writes_first = λ ws. ⊥;
   is_open = ⊥;
   has_budget = ⊥;

@@ -269,12 +269,20 @@ abbrev pub places_read : Option (List ℕ) → List Read
 places_read None = []
 places_read (Some name) = file_read name ∷ []
 
+-- a file of this name will be written
+abbrev pub IsOut : ViewPlan → List ℕ → Type 0
+IsOut job name =
+    (job.svg ≡ Some name) ⊎ (job.json ≡ Some name) ⊎ (job.csv ≡ Some name)
+    ⊎ (job.map ≡ Some name)
+
+-- it is asked before whether the files can be written
 abbrev pub view_task : ViewPlan → Task Cause
 view_task job = record {
   reads = file_read job.file ∷ file_read job.plan ∷ places_read job.places;
   goes_on = view_goes_on job;
   answers = view_answers job;
   heard = view_heard;
+  asks = IsOut job;
   writes_first = λ ws. ⊥;
   is_open = ⊥;
   has_budget = ⊥;

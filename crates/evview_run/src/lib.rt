@@ -1,6 +1,7 @@
 //! What `evview` does: its words become a job, which is done over any files and any output.
 #![tactic(auto)]
 
+mod asking;
 mod cause;
 mod command;
 mod showing;

@@ -11,6 +11,7 @@ ghost use Rattle.job_frame.specs.LimitedNetwork.{HasNetwork};
 ghost use Rattle.route_plan.specs.PlanTexts.{FitsFile};
 ghost use Rattle.view_words.specs.JobValue.{IsJob, job_value};
 
+use crate::asking::ask_files;
 use crate::cause::Cause;
 use crate::showing::show;
 use ev_outside::{Shelf, ShelfFault};
@@ -26,9 +27,20 @@ use route_plan::FleetPlan;
 use std::alloc::{AllocError, Global};
 use view_words::Job;
 
-/// What is found for the words: the instance is read, then the plan, and the places where they are
-/// given; and then the plan is judged and shown.
+/// What is found for the words: it is asked whether the files can be written, and the instance is
+/// read, then the plan, and the places where they are given; and then the plan is judged and shown.
 pub fn view<S: Shelf>(alloc: Global, job: &Job, shelf: &mut S) -> Result<Found<Cause>, ShelfFault>
+    requires { IsJob job.now }
+    ensures { Finds (view_task (job_value job.now)) (S.state shelf.old) (S.state shelf.new) result }
+{
+    match ask_files(job, shelf) {
+        Ok(()) => view_asked(alloc, job, shelf),
+        Err(fault) => Err(fault),
+    }
+}
+
+/// What is found behind the question whether the files can be written.
+fn view_asked<S: Shelf>(alloc: Global, job: &Job, shelf: &mut S) -> Result<Found<Cause>, ShelfFault>
     requires { IsJob job.now }
     ensures { Finds (view_task (job_value job.now)) (S.state shelf.old) (S.state shelf.new) result }
 {

@@ -1,11 +1,11 @@
 -- Files that are read one after another, and what a command finds behind a read.
-use Rattle.std.proofs.Common.{◌≡◌, ◌∙◌, ℕ, List, [], ◌∷◌, take, Option, None, Some, Result, Ok, Err, IfOk, IfErr, IsErrOf, ap, ap₂, map, arith, refl, subst, sym}
+use Rattle.std.proofs.Common.{◌≡◌, ◌∙◌, ℕ, List, [], ◌∷◌, take, Option, None, Some, Result, Ok, Err, IfOk, IfErr, IsErrOf, ap, ap₂, map, arith, inl, inr, refl, subst, sym}
 use Rattle.ev_outside.specs.Counts.{Rose}
 use Rattle.ev_outside.specs.Shelf.{CountsNeverFall, CountsStay, Files, ShelfState, bytes_under}
 use Rattle.ev_outside.specs.declared.shelf.ShelfFault.{ShelfFault}
 use Rattle.ev_outside.specs.declared.shelf.ShelfFault.TheVariants.{Failed, Memory}
-use Rattle.job_frame.proofs.FileWrites.{counts_since}
-use Rattle.job_frame.specs.Faults.{FailsReading, HasFailedRead}
+use Rattle.job_frame.proofs.FileWrites.{counts_since, failed_since}
+use Rattle.job_frame.specs.Faults.{FailsReading, FailsToSeek, HasFailedRead}
 use Rattle.job_frame.specs.Finds.{Finds, Hears, outcome_of, written_by}
 use Rattle.job_frame.specs.Task.{Answers, AreRead, AreReadUpTo, IsAnswered, Outcome, Read, Task, Tells}
 use Rattle.job_frame.specs.Writes.{AreDifferent, Written}
@@ -61,7 +61,7 @@ nothing_fails shelf = record { reads = λ name. refl; writes = λ name. refl }
 pub nothing_falls : (shelf : ShelfState) → CountsNeverFall shelf shelf
 nothing_falls shelf = record { reads = λ name. omega arith; writes = λ name. omega arith }
 
-never_fall_since : (before later after : ShelfState) → CountsNeverFall before later → CountsNeverFall later after → CountsNeverFall before after
+pub never_fall_since : (before later after : ShelfState) → CountsNeverFall before later → CountsNeverFall later after → CountsNeverFall before after
 never_fall_since before later after p q = record {
   reads = λ name. omega (arith, p.reads name, q.reads name);
   writes = λ name. omega (arith, p.writes name, q.writes name);
@@ -115,12 +115,12 @@ pub finds_alone : {C : Type 0} (task : Task C) (before after : ShelfState) (answ
 finds_alone {C} task before after answered text found answers is heard status text_is none memory stays falls files =
     finds_as task before after (record { status = answered; writes = []; text = text }) found answers is heard tt status (no_files found none) text_is memory stays falls files
 
--- the next file that is read failed, or memory was refused
-pub finds_none : {C : Type 0} {A : Type 0} (task : Task C) (before after : ShelfState) (fault : ShelfFault)
-    → (◌≡◌ {A = Result A ShelfFault} (Err fault) (Err Failed) → FailsReading task before after)
+-- why nothing is found: no answer was sought, or memory was refused
+pub finds_unsought : {C : Type 0} {A : Type 0} (task : Task C) (before after : ShelfState) (fault : ShelfFault)
+    → (◌≡◌ {A = Result A ShelfFault} (Err fault) (Err Failed) → FailsToSeek task before after)
     → ((◌≡◌ {A = Result A ShelfFault} (Err fault) (Err Failed) → ⊥) → CountsStay before after)
     → CountsNeverFall before after → after.files ≡ before.files → Finds task before after (Err fault)
-finds_none {C} {A} task before after fault failed stays falls files = record {
+finds_unsought {C} {A} task before after fault failed stays falls files = record {
   answered = tt;
   answers = tt;
   heard = tt;
@@ -131,9 +131,16 @@ finds_none {C} {A} task before after fault failed stays falls files = record {
   files = files;
 }
 
+-- the next file that is read failed, or memory was refused
+pub finds_none : {C : Type 0} {A : Type 0} (task : Task C) (before after : ShelfState) (fault : ShelfFault)
+    → (◌≡◌ {A = Result A ShelfFault} (Err fault) (Err Failed) → FailsReading task before after)
+    → ((◌≡◌ {A = Result A ShelfFault} (Err fault) (Err Failed) → ⊥) → CountsStay before after)
+    → CountsNeverFall before after → after.files ≡ before.files → Finds task before after (Err fault)
+finds_none {C} {A} task before after fault failed stays falls files = finds_unsought {A = A} task before after fault (λ is. inl (failed is)) stays falls files
+
 -- from an earlier state of the shelf on, from which its files and its counts stayed
-fails_since : {C : Type 0} (task : Task C) (before later after : ShelfState) → later.files ≡ before.files → CountsStay before later → FailsReading task later after → FailsReading task before after
-fails_since {C} task before later after same stays fails = record {
+reading_since : {C : Type 0} (task : Task C) (before later after : ShelfState) → later.files ≡ before.files → CountsStay before later → FailsReading task later after → FailsReading task before after
+reading_since {C} task before later after same stays fails = record {
   first = fails.first;
   read = fails.read;
   rest = fails.rest;
@@ -143,6 +150,14 @@ fails_since {C} task before later after same stays fails = record {
   goes_on = fails.goes_on;
   failed = (subst (λ (n : ℕ). Rose n (after.failed_reads fails.read.name)) (stays.reads fails.read.name) fails.failed.0, fails.failed.1);
 }
+
+fails_since : {C : Type 0} (task : Task C) (before later after : ShelfState) → later.files ≡ before.files → CountsStay before later → FailsToSeek task later after → FailsToSeek task before after
+fails_since {C} task before later after same stays (inl fails) = inl (reading_since task before later after same stays fails)
+fails_since {C} task before later after same stays (inr fails) = inr (record {
+  name = fails.name;
+  is_asked = fails.is_asked;
+  failed = failed_since before later after fails.name stays fails.failed;
+})
 
 answers_since : {C : Type 0} (task : Task C) (files later : Option Files) (o : Outcome) → later ≡ files → Answers task later o → Answers task files o
 answers_since {C} task files later o same answers = record {

@@ -56,7 +56,7 @@ leaves_first w ws old mid new holds keeps none leaves =
     let held = leaves_held ws mid new leaves in
     ((holds_still mid new w.name w.bytes ws holds held.1 none, held.0), keeps_more w ws old mid new keeps held.1)
 
-failed_since : (before mid after : ShelfState) (name : List ℕ) → CountsStay before mid → HasFailedWrite mid after name → HasFailedWrite before after name
+pub failed_since : (before mid after : ShelfState) (name : List ℕ) → CountsStay before mid → HasFailedWrite mid after name → HasFailedWrite before after name
 failed_since before mid after name stays failed = (subst (λ (n : ℕ). Rose n (after.failed_writes name)) (stays.writes name) failed.0, failed.1)
 
 fails_first : (w : Written) (ws : List Written) (before after : ShelfState) → HasFailedWrite before after w.name → KeepsOthers w.name before.files after.files → FailsWriting (w ∷ ws) before after

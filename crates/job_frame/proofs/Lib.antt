@@ -1,5 +1,6 @@
 pub mod FileWrites
 pub mod FileReads
+pub mod AskedFiles
 pub mod BehindReads
 pub mod Performed
 pub mod OneStatus

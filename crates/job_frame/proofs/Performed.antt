@@ -6,7 +6,7 @@ use Rattle.ev_outside.specs.Sink.{Adds, AddsPrefix, SinkState}
 use Rattle.ev_outside.specs.Sure.{sure_output, without_faults}
 use Rattle.job_frame.proofs.FileReads.{nothing_fails, one_reading}
 use Rattle.job_frame.proofs.FileWrites.{leaves_held}
-use Rattle.job_frame.specs.Faults.{ComesToPut, Concludes, FailsReading, FailsToAnswer, FailsWriting, PutsPartOf, StopsToAnswer}
+use Rattle.job_frame.specs.Faults.{ComesToPut, Concludes, FailsToAnswer, FailsToSeek, FailsWriting, PutsPartOf, StopsToAnswer}
 use Rattle.job_frame.specs.Lawful.{AreWrittenAlike, IsLawful}
 use Rattle.job_frame.specs.Performs.{BreakNoRule, EndsUnlessHindered, HasFaultCause, IsCutOff, Performs, PutsAnswer, PutsPart}
 use Rattle.job_frame.specs.Task.{Answers, IsAnswered, Outcome, Task, Tells}
@@ -113,8 +113,8 @@ performs_concluded {C} task lawful before later after old new o ended is same st
     (λ fault. inr (inl (o, is, fault_since o before later after old new same stays (concludes.fault fault))))
     (λ memory. inr (inl (o, is, stops_since o before.files later.files after.files old new same (concludes.memory memory))))
 
--- a file couldn't be read
-pub performs_fault : {C : Type 0} (task : Task C) → IsLawful task → (before after : ShelfState) (old : SinkState) → FailsReading task before after → after.files ≡ before.files → Performs task before after old old status.Fault
+-- a file couldn't be read, or one can't be written
+pub performs_fault : {C : Type 0} (task : Task C) → IsLawful task → (before after : ShelfState) (old : SinkState) → FailsToSeek task before after → after.files ≡ before.files → Performs task before after old old status.Fault
 performs_fault {C} task lawful before after old fails same =
     performs task lawful before after old old status.Fault (λ is. cc) (λ none. absurd none) (inl refl) (λ is. inl (fails, same, refl)) (λ is. cc)
 
@@ -170,6 +170,7 @@ answers_surely o files left old new (inl (fails, unput)) = never_rose fails.fail
 answers_surely o files left old new (inr (comes, rose)) = never_rose rose
 
 pub never_fails : {C : Type 0} (task : Task C) (files left : Files) (old new : List ℕ) → HasFaultCause task (without_faults files) (without_faults left) (sure_output old) (sure_output new) → ⊥
-never_fails {C} task files left old new (inl (fails, same, unput)) = never_rose fails.failed.0
+never_fails {C} task files left old new (inl (inl fails, same, unput)) = never_rose fails.failed.0
+never_fails {C} task files left old new (inl (inr fails, same, unput)) = never_rose fails.failed.0
 never_fails {C} task files left old new (inr (inl (o, is, fails))) = answers_surely o files left old new fails
 never_fails {C} task files left old new (inr (inr (ws, first, fails, unput))) = never_rose fails.failed.0

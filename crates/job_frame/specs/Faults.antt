@@ -29,6 +29,17 @@ pub record FailsReading {C : Type 0} (task : Task C) (before after : ShelfState)
   pub goes_on : task.goes_on bytes
   pub failed : HasFailedRead before after read.name
 
+-- one of these files can't be written, as was asked
+pub record FailsAsking (IsAsked : List ℕ → Type 0) (before after : ShelfState) : Type 0 where
+  pub name : List ℕ
+  pub is_asked : IsAsked name
+  pub failed : HasFailedWrite before after name
+
+-- why no answer was sought: a file that is read failed, or one that will be written can't be
+abbrev pub FailsToSeek : {C : Type 0} → Task C → ShelfState → ShelfState → Type 0
+FailsToSeek {C} task before after =
+    FailsReading task before after ⊎ FailsAsking task.asks before after
+
 -- One of these files couldn't be written when its turn came: those before it hold their bytes,
 -- and nothing is known of the bytes of this one alone.
 pub record FailsWriting (ws : List Written) (before after : ShelfState) : Type 0 where

@@ -2,6 +2,7 @@ pub mod Codes
 pub mod Writes
 pub mod Task
 pub mod Faults
+pub mod Asks
 pub mod Finds
 pub mod Performs
 pub mod Lawful

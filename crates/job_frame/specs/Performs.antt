@@ -2,7 +2,7 @@
 use Rattle.std.specs.Prelude.{◌≡◌, ◌≢◌, ℕ, ◌⊎◌, Bool, false, IfSome, List, Option, Some}
 use Rattle.ev_outside.specs.Shelf.{CountsStay, Files, ShelfState}
 use Rattle.ev_outside.specs.Sink.{Adds, SinkState}
-use Rattle.job_frame.specs.Faults.{FailsReading, FailsToAnswer, FailsWriting, PutsPartOf, StopsToAnswer}
+use Rattle.job_frame.specs.Faults.{FailsToAnswer, FailsToSeek, FailsWriting, PutsPartOf, StopsToAnswer}
 use Rattle.job_frame.specs.Task.{Answers, IsAnswered, Outcome, Task, Tells}
 use Rattle.job_frame.specs.Writes.{Leaves, StandIn, Written}
 use Rattle.job_frame.specs.declared.status.Status.{Status}
@@ -30,11 +30,12 @@ abbrev pub PutsPart : {C : Type 0} → Task C → Option Files → Option Files 
 PutsPart {C} task files left old new =
     (new ≡ old) ⊎ ((o : Outcome) × Answers task files o × PutsPartOf o files left old new)
 
--- a file or the output failed when its turn came: a file that is read; one of an answer, or the
--- output behind them; or one of those that are written before an answer is sought
+-- a file or the output failed when its turn came: a file that is read, or asked whether it can be
+-- written; one of an answer, or the output behind them; or one of those that are written before an
+-- answer is sought
 abbrev pub HasFaultCause : {C : Type 0} → Task C → ShelfState → ShelfState → SinkState → SinkState → Type 0
 HasFaultCause {C} task before after old new =
-    (FailsReading task before after × (after.files ≡ before.files) × (new ≡ old))
+    (FailsToSeek task before after × (after.files ≡ before.files) × (new ≡ old))
     ⊎ ((o : Outcome) × Answers task before.files o × FailsToAnswer o before after old new)
     ⊎ ((ws : List Written) × task.writes_first ws × FailsWriting ws before after × (new ≡ old))
 

@@ -26,6 +26,8 @@ pub record Task (C : Type 0) : Type 1 where
   pub answers : List (List ℕ) → Outcome → Type 0
   -- what is heard of an answer with this status and this text, if anything is
   pub heard : Status → List ℕ → Option C → Type 0
+  -- of the file of this name it is asked, before any is read, whether it can be written
+  pub asks : List ℕ → Type 0
   -- these files are written before an answer is sought
   pub writes_first : List Written → Type 0
   -- these bytes leave open what is found, and so the status: the written files tell it

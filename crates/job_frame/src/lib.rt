@@ -15,6 +15,7 @@
 #![tactic(auto)]
 
 mod answer;
+mod asking;
 mod caps;
 mod cause;
 mod concluding;
@@ -26,6 +27,7 @@ mod scale;
 mod status;
 
 pub use answer::{Ended, refuse, refuse_job};
+pub use asking::ask_file;
 pub use caps::{MOST_BYTES, MOST_CERTIFICATE_BYTES};
 pub use cause::{CauseListener, JobCause};
 pub use concluding::{conclude, put_answer};

@@ -123,7 +123,7 @@ stopped_finds {A} task limit names Refuses before after halt shelf.Failed is hal
   answers = tt;
   heard = tt;
   different = tt;
-  fault = λ failed. fails halted;
+  fault = λ failed. inl (fails halted);
   stays = λ none. absurd (none refl);
   falls = falls;
   files = files;

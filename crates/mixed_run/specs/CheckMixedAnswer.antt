@@ -226,6 +226,7 @@ check_mixed_task job = record {
   goes_on = λ bytes. AmongFiles job bytes ⊎ BehindFiles job bytes ⊎ BehindPlan job bytes;
   answers = AnswersCheckMixed job;
   heard = check_mixed_heard;
+  asks = λ name. ⊥;
   writes_first = λ ws. ⊥;
   is_open = ⊥;
   has_budget = ⊥;

@@ -131,6 +131,7 @@ mixed_task job = record {
   goes_on = λ bytes. (kinds : List Network) × HaveNetworks job.limit bytes kinds;
   answers = λ bytes o. MixedAnswers job bytes o.status o.writes o.text;
   heard = mixed_heard;
+  asks = λ name. ⊥;
   writes_first = λ ws. ⊥;
   is_open = Unit {0};
   has_budget = ⊥;

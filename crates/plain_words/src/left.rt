@@ -12,6 +12,8 @@ pub enum Failed<'a> {
     File(&'a str),
     /// A file that wasn't opened, or was left as it was, by its name.
     Unchanged(&'a str),
+    /// A file of which it was asked, before anything was done, whether it can be written.
+    Asked,
 }
 
 /// What stands in the files that a job writes, once a file or the output failed: those before it
@@ -31,6 +33,9 @@ pub fn left_in(
     files: &[Option<&str>],
     failed: Failed<'_>,
 ) -> Result<Option<String>, AllocError> {
+    if let Failed::Asked = failed {
+        return Ok(Some(String::from_str(alloc, "no file was written")?));
+    }
     match place_of(files, failed) {
         Some(at) => told_of(alloc, files, at, left_of(failed)),
         None => Ok(None),
@@ -44,6 +49,7 @@ fn place_of(files: &[Option<&str>], failed: Failed<'_>) -> Option<usize> {
         Failed::File(name) | Failed::Unchanged(name) => {
             files.iter().position(|file| *file == Some(name))
         }
+        Failed::Asked => None,
     }
 }
 

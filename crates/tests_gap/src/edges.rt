@@ -7,7 +7,8 @@ use worked_instances::ONE_STATION;
 #[test]
 fn a_call_that_fails_is_a_fault(rt: HostRuntime) {
     let alloc = rt.alloc();
-    for &(line, calls) in &[("plan A O C", 3), ("check A P Q", 1)] {
+    // Of both files of `plan` it is asked first whether they can be written.
+    for &(line, calls) in &[("plan A O C", 5), ("check A P Q", 1)] {
         for failing in 0..calls {
             let mut shelf = shelf_with(alloc, ONE_STATION, "", "", &[failing]).expect(
                 &rt, "memory",
@@ -15,6 +16,7 @@ fn a_call_that_fails_is_a_fault(rt: HostRuntime) {
             let ended = run_with(alloc, line, &mut shelf, &[]).expect(&rt, "memory");
             assert_eq!(rt; ended.0, Status::Fault, "{line} {failing}");
             assert!(rt; ended.1.is_empty(), "{line} {failing}");
+            assert!(rt; shelf.get("C").is_none(), "{line} {failing}");
         }
     }
 }

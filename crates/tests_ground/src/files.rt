@@ -71,6 +71,34 @@ fn a_long_file_is_read_up_to_a_byte(rt: HostRuntime) {
     fs::remove_file(&rt, name).expect(&rt, "a file that is removed");
 }
 
+/// Whether a file can be written is asked without a change: a folder can't be, nor a file in a
+/// folder that isn't there or is a file; and none is made or cut.
+#[test]
+fn a_question_whether_a_file_can_be_written_changes_nothing(rt: HostRuntime) {
+    let alloc = rt.alloc();
+    let (name, none) = ("ev_outside_asked_file", "ev_outside_no_file");
+    let mut shelf = FileShelf::new(alloc, &rt);
+    write_to(&mut shelf, name, b"text").expect(&rt, "a write");
+    for &(asked, want) in &[
+        (name, true),
+        (none, true),
+        (".", false),
+        ("ev_outside_no_folder/file", false),
+        ("ev_outside_asked_file/file", false),
+        ("", false),
+    ] {
+        assert_eq!(rt; can_be_written(&mut shelf, asked), want, "{asked}");
+    }
+    assert_read(&rt, alloc, &mut shelf, name, 100, b"text");
+    assert!(rt; fs::metadata(&rt, none).is_err());
+    fs::remove_file(&rt, name).expect(&rt, "a file that is removed");
+}
+
+/// Whether a shelf tells that a file can be written.
+fn can_be_written<S: Shelf>(shelf: &mut S, name: &str) -> bool {
+    shelf.ask_to_write(name).is_ok()
+}
+
 /// A shelf of one file over a storage that takes `piece` bytes at a time.
 fn shelf_in_pieces(rt: &impl Abort, alloc: Global, piece: usize) -> StorageShelf<PieceStorage> {
     let mut files = MemoryShelf::new(alloc, Vec::new(alloc));
@@ -84,6 +112,7 @@ fn files_are_read_and_written_whole_in_pieces_of_any_length(rt: HostRuntime) {
     for &piece in &[1, 2, 1000] {
         let mut shelf = shelf_in_pieces(&rt, alloc, piece);
         assert_read(&rt, alloc, &mut shelf, "plan", 100, b"five!");
+        assert!(rt; can_be_written(&mut shelf, "copy"));
         write_to(&mut shelf, "copy", b"copy!").expect(&rt, "a write");
         assert_read(&rt, alloc, &mut shelf, "copy", 4, b"copy");
     }
@@ -94,6 +123,7 @@ fn sure_files_never_fail(rt: HostRuntime) {
     let alloc = rt.alloc();
     let mut shelf = SureShelf::new(alloc);
     assert_read(&rt, alloc, &mut shelf, "plan", 100, b"");
+    assert!(rt; can_be_written(&mut shelf, "plan"));
     write_to(&mut shelf, "plan", b"text").expect(&rt, "a write");
     assert_read(&rt, alloc, &mut shelf, "plan", 3, b"tex");
     shelf.set("plan", b"other").expect(&rt, "memory");

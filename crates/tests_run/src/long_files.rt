@@ -43,6 +43,10 @@ impl Shelf for LongFiles {
     fn write(&mut self, _name: &str, _bytes: &[u8]) -> Result<(), ShelfFault> {
         Ok(())
     }
+
+    fn ask_to_write(&mut self, _name: &str) -> Result<(), ShelfFault> {
+        Ok(())
+    }
 }
 
 /// Appends as many spaces as are asked for.

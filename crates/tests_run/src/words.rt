@@ -461,6 +461,7 @@ fn what_a_failed_file_leaves_is_told(rt: HostRuntime) {
             Some("b may hold a part, and is to be written again"),
         ),
         ("check a b c", Failed::File("b"), None),
+        ("fleet a b c", Failed::Asked, Some("no file was written")),
     ] {
         let job = job_of(alloc, words).expect(&rt, "memory");
         assert_left(&rt, words, left_by_file(alloc, job.as_ref(), failed), want);

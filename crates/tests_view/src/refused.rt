@@ -173,13 +173,16 @@ fn the_first_broken_rule_is_put_and_nothing_is_written(rt: HostRuntime) {
 #[test]
 fn a_call_that_fails_is_a_fault(rt: HostRuntime) {
     let alloc = rt.alloc();
-    // the calls of the files and of the output that fail, and whether that is behind both files
+    // the calls of the files and of the output that fail, and whether that is behind both files, of
+    // which it is asked first whether they can be written
     for &(call, put, behind_both) in &[
         (0, 1, false),
         (1, 1, false),
         (2, 1, false),
         (3, 1, false),
-        (4, 0, true),
+        (4, 1, false),
+        (5, 1, false),
+        (6, 0, true),
     ] {
         let mut shelf = shelf_with(alloc, ONE_STATION, BY_STATION, &[call]).expect(&rt, "memory");
         let line = "A P --svg S --json J";
