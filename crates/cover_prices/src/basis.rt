@@ -97,8 +97,8 @@ impl Basis {
         }
     }
 
-    /// The basis with a further row, in which its members count so often, and whose room is a member:
-    /// what may be added there, or what may be taken.
+    /// The basis with a further row, in which its members count so often, and whose room is a
+    /// member: what may be added there, or what may be taken.
     pub(crate) fn widened(
         &self,
         alloc: Global,

@@ -150,7 +150,8 @@ impl Cover {
         &self.prices
     }
 
-    /// What the last prices of the simplex method are worth: the least cost, where it came to its end.
+    /// What the last prices of the simplex method are worth: the least cost, where it came to its
+    /// end.
     pub fn worth(&self) -> i128 {
         let mut sum: i128 = 0;
         for (price, row) in self.simplex.prices().iter().zip(&self.rows) {

@@ -40,8 +40,8 @@ impl Cover {
 }
 
 impl Trial<'_> {
-    /// By how much the optimum costs more with a row in which each column counts so often, by place:
-    /// at the least, as far as some pivots show it, and no more than so much.
+    /// By how much the optimum costs more with a row in which each column counts so often, by
+    /// place: at the least, as far as some pivots show it, and no more than so much.
     pub fn gain(
         &self,
         alloc: Global,

@@ -21,11 +21,11 @@ use std::alloc::{AllocError, Global};
 /// The program: its words after its name, the files and the output.
 ///
 /// `plan FILE PLAN PROOF [--limit N] [--seconds N] [--start PLAN0] [--seed N] [--effort N] [--nodes
-/// N]` reads FILE as an instance, and PLAN0 as a fleet plan or none; it writes a fleet plan, or that
-/// none is held, into PLAN, and a proof of what no fleet plan costs less than into PROOF, and puts
-/// cost, bound and gap. Cost and bound are equal ([`Status::Done`]), or there is no fleet plan ([`Status::Negative`]), or a gap
-/// is left, or no plan is held beside a bound ([`Status::Stopped`]). Where PLAN0 breaks a rule, the
-/// first one is put ([`Status::Negative`]).
+/// N]` reads FILE as an instance, and PLAN0 as a fleet plan or none; it writes a fleet plan, or
+/// that none is held, into PLAN, and a proof of what no fleet plan costs less than into PROOF, and
+/// puts cost, bound and gap. Cost and bound are equal ([`Status::Done`]), or there is no fleet plan
+/// ([`Status::Negative`]), or a gap is left, or no plan is held beside a bound
+/// ([`Status::Stopped`]). Where PLAN0 breaks a rule, the first one is put ([`Status::Negative`]).
 ///
 /// `check FILE PLAN PROOF [--limit N]` reads PLAN as a fleet plan, or as none, and PROOF as such a
 /// proof on the instance of FILE, and puts that they are accepted, with cost, bound and gap

@@ -140,8 +140,8 @@ fn view_text(
     }
 }
 
-/// The places that the bytes of a file mean, which say where they are if `points_needed`; none where
-/// it isn't given.
+/// The places that the bytes of a file mean, which say where they are if `points_needed`; none
+/// where it isn't given.
 fn places_of(
     alloc: Global,
     inst: &Instance,

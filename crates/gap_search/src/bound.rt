@@ -45,12 +45,12 @@ pub(crate) struct BoundFound {
 
 /// Looks for a proof of a high bound, and for routes of which a good plan may be made.
 ///
-/// Where no plan is held, it is looked first whether some customer is on no route at all. Then prices
-/// of the linear optimum over near routes are found, which begin with the routes that are known, and
-/// closed labels are made for them. The only `Err` is want of memory.
+/// Where no plan is held, it is looked first whether some customer is on no route at all. Then
+/// prices of the linear optimum over near routes are found, which begin with the routes that are
+/// known, and closed labels are made for them. The only `Err` is want of memory.
 ///
-/// The clock stops the rounds of the search for prices but the first, some time before it is up, and
-/// the search for routes for plans. What makes a proof of the prices at hand goes on.
+/// The clock stops the rounds of the search for prices but the first, some time before it is up,
+/// and the search for routes for plans. What makes a proof of the prices at hand goes on.
 pub(crate) fn search_bound<C: BranchClock, W: GapWatcher>(
     alloc: Global,
     inst: &Instance,

@@ -157,8 +157,8 @@ fn recreated<W: RecreateWatcher>(
     }
 }
 
-/// The plan once more work was done, where there is some, no routes are long, and as far as the clock
-/// leaves time for a bound.
+/// The plan once more work was done, where there is some, no routes are long, and as far as the
+/// clock leaves time for a bound.
 fn more_work<C: BranchClock, W: GapWatcher>(
     alloc: Global,
     inst: &Instance,

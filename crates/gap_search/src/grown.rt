@@ -20,8 +20,8 @@ use route_improve::Improved;
 use std::alloc::{AllocError, Global};
 use tree_text::BoundProof;
 
-/// A plan, or why none is held, and an accepted proof, once a tree was grown from what is known at its
-/// root, where nodes for one are asked for and a gap is left.
+/// A plan, or why none is held, and an accepted proof, once a tree was grown from what is known at
+/// its root, where nodes for one are asked for and a gap is left.
 #[tactic(auto, using(crate::proofs::Outcomes::grown_same, crate::proofs::Outcomes::no_weaker_same))]
 pub(crate) fn with_tree<C: BranchClock, W: GapWatcher>(
     alloc: Global,
@@ -81,8 +81,8 @@ fn with_orders(
     }
 }
 
-/// The stronger one of an accepted proof and of a candidate, of which nothing is known: that one, as
-/// it is read, where it is accepted and its bound is greater.
+/// The stronger one of an accepted proof and of a candidate, of which nothing is known: that one,
+/// as it is read, where it is accepted and its bound is greater.
 #[tactic(auto, using(crate::proofs::Outcomes::no_weaker_same))]
 fn stronger(
     alloc: Global,

@@ -17,8 +17,8 @@ use std::alloc::{AllocError, Global};
 /// The words of the job `plan`: the file of the instance, another one into which the plan is
 /// written, a third one for the proof, the limit on the time of each route in place of the
 /// instance's, in units of time, how many seconds the search may take, a fourth file with the plan
-/// to begin with, or that there is none, the seed of the first plan, the effort for it, and how many
-/// nodes of a tree the search may look at, at least one, where a tree is to be grown.
+/// to begin with, or that there is none, the seed of the first plan, the effort for it, and how
+/// many nodes of a tree the search may look at, at least one, where a tree is to be grown.
 #[derive(Drop)]
 pub struct PlanWords {
     pub file: String,
@@ -53,14 +53,15 @@ pub enum Job {
 }
 
 /// The job of the words, which stand behind the program's name, read by one `clap` command: `plan
-/// FILE PLAN PROOF [--limit N] [--seconds N] [--start PLAN0] [--seed N] [--effort N] [--nodes N]` or
-/// `check FILE PLAN PROOF [--limit N]`. `None` comes exactly where the words are no such job. Without
-/// `--seed` the seed is 1.
+/// FILE PLAN PROOF [--limit N] [--seconds N] [--start PLAN0] [--seed N] [--effort N] [--nodes N]`
+/// or `check FILE PLAN PROOF [--limit N]`. `None` comes exactly where the words are no such job.
+/// Without `--seed` the seed is 1.
 ///
 /// Options stand anywhere before a word `--`, each at most once; the value is the next word or
 /// follows a `=`. A name that begins with `-` and has more behind it is given after `--`. Numbers
 /// are written without leading zeros, and are at most 10^18, that of `--effort` at most 30, that of
-/// `--nodes` at least 1. The names of files are different texts. No words at all are no job, and take no memory.
+/// `--nodes` at least 1. The names of files are different texts. No words at all are no job, and
+/// take no memory.
 pub fn job_words(alloc: Global, words: &[String]) -> Result<Option<Job>, AllocError>
     ensures job { IfOk result
         (λ job. option_map job_value job ≡ job_of (map string_bytes words.now)) }

@@ -8,8 +8,8 @@ pub trait BranchClock: SearchClock {
     fn is_up_in(&mut self, milliseconds: u64) -> bool;
 }
 
-/// A clock that is up so many milliseconds before another, or once it was asked too often: searches ask
-/// it the oftener the longer they take.
+/// A clock that is up so many milliseconds before another, or once it was asked too often: searches
+/// ask it the oftener the longer they take.
 #[derive(Drop)]
 pub(crate) struct Early<'c, C: BranchClock> {
     pub(crate) clock: &'c mut C,

@@ -21,8 +21,9 @@ const PATIENCE: u64 = 5;
 /// So often at the least.
 const LEAST_LOOKS: u64 = 20_000;
 
-/// Grows a tree over near routes, until its bound is the cost of the plan that is held, so many nodes
-/// are priced, or the time is up but for the lists of the leaves. The only `Err` is want of memory.
+/// Grows a tree over near routes, until its bound is the cost of the plan that is held, so many
+/// nodes are priced, or the time is up but for the lists of the leaves. The only `Err` is want of
+/// memory.
 pub fn branch<C: BranchClock, W: BranchWatcher>(
     alloc: Global,
     inst: &Instance,

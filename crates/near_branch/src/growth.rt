@@ -93,8 +93,8 @@ impl Growth<'_> {
         u64::try_from(most.saturating_add(1)).unwrap_or(u64::MAX)
     }
 
-    /// Forgets routes that cost so much more than they earn at the root that no plan that is cheaper
-    /// has one.
+    /// Forgets routes that cost so much more than they earn at the root that no plan that is
+    /// cheaper has one.
     pub(crate) fn prune(&mut self) {
         let Some(sum) = self.nodes.first().map(|root| root.prices.sum) else {
             return;
@@ -133,8 +133,8 @@ impl Growth<'_> {
         }
     }
 
-    /// The place of the leaf that is worth least, among those that don't reach the cost; `None` where
-    /// all do.
+    /// The place of the leaf that is worth least, among those that don't reach the cost; `None`
+    /// where all do.
     pub(crate) fn lowest(&self) -> Option<usize> {
         let mut least = None;
         let mut place = None;

@@ -1,7 +1,7 @@
-//! Trees over near routes, grown by branch and price (Barnhart, Johnson, Nemhauser, Savelsbergh, Vance
-//! 1998): nodes are split by who comes next after whom, and by how often routes enter a set of
-//! customers, the leaf of least bound first. No clause rests on this: it promises nothing but to be
-//! safe and to end; what it finds is judged by others.
+//! Trees over near routes, grown by branch and price (Barnhart, Johnson, Nemhauser, Savelsbergh,
+//! Vance 1998): nodes are split by who comes next after whom, and by how often routes enter a set
+//! of customers, the leaf of least bound first. No clause rests on this: it promises nothing but to
+//! be safe and to end; what it finds is judged by others.
 #![tactic(auto)]
 
 mod candidates;

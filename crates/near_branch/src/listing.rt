@@ -14,8 +14,8 @@ use std::alloc::{AllocError, Global};
 const TRIES: u32 = 4;
 
 impl Growth<'_> {
-    /// Makes the list of the node at a place, so that its prices bound so much, or less where no list
-    /// is found for that. Whether one is found.
+    /// Makes the list of the node at a place, so that its prices bound so much, or less where no
+    /// list is found for that. Whether one is found.
     pub(crate) fn list(
         &mut self,
         alloc: Global,

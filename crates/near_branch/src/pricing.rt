@@ -63,8 +63,8 @@ impl<'a> Growth<'a> {
         }
     }
 
-    /// The prices that were found, or those of the node above where they are worth more; where there
-    /// are none, prices of 0.
+    /// The prices that were found, or those of the node above where they are worth more; where
+    /// there are none, prices of 0.
     fn better(
         &self,
         alloc: Global,

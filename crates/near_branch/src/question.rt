@@ -23,8 +23,8 @@ pub struct BranchQuestion {
 /// What was found. Nothing is promised of it.
 #[derive(Drop)]
 pub struct Branched {
-    /// A tree that may be accepted, and whose bound is at most the cost of the plan that is held (or
-    /// of the cheaper one below).
+    /// A tree that may be accepted, and whose bound is at most the cost of the plan that is held
+    /// (or of the cheaper one below).
     pub proof: Option<TreeProof>,
     /// Routes of a cheaper plan that was found, if one was: no two serve the same customer.
     pub plan: Option<Vec<KnownRoute>>,

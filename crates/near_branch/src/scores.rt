@@ -43,8 +43,8 @@ fn product_of(gains: [u64; 2], gap: u64) -> u128 {
     u128::from(one).saturating_mul(u128::from(other))
 }
 
-/// The candidates by what a few pivots show of them, the best first. What they show is more than there
-/// is, since few routes are known: so they are told apart up to some gaps.
+/// The candidates by what a few pivots show of them, the best first. What they show is more than
+/// there is, since few routes are known: so they are told apart up to some gaps.
 pub(crate) fn with_scores(
     alloc: Global,
     search: &PriceSearch<'_>,

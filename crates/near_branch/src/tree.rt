@@ -9,8 +9,8 @@ use near_tree::{TreeNode, TreeProof};
 use std::alloc::{AllocError, Global};
 
 impl Growth<'_> {
-    /// The tree of what has grown. Lists are made for the leaves that have none; where none is found,
-    /// the node above is a leaf.
+    /// The tree of what has grown. Lists are made for the leaves that have none; where none is
+    /// found, the node above is a leaf.
     pub(crate) fn proof(
         &mut self,
         alloc: Global,
@@ -91,8 +91,8 @@ impl Growth<'_> {
         })
     }
 
-    /// The bound of a tree whose leaves are worth so much, no more than the cost of the plan that is
-    /// held.
+    /// The bound of a tree whose leaves are worth so much, no more than the cost of the plan that
+    /// is held.
     fn bound_of(&self, worth: Worth) -> Option<u128> {
         match (worth, self.held.cost) {
             (Worth::Cost(own), Some(cost)) => Some(own.min(cost)),

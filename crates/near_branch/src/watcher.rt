@@ -15,8 +15,8 @@ pub struct BranchProgress {
     pub cost: Option<u128>,
 }
 
-/// Who is told how far a tree has grown. Nothing is promised of it, and what is found doesn't depend
-/// on it.
+/// Who is told how far a tree has grown. Nothing is promised of it, and what is found doesn't
+/// depend on it.
 pub trait BranchWatcher: PricesWatcher {
     /// Is told how far the tree has grown, once behind each node.
     fn watch_branch(&mut self, progress: BranchProgress);

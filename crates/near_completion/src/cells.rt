@@ -257,8 +257,8 @@ fn arc_to(legs: &[Leg], cells: &[Vec<Cell>], layer: usize, to: usize) -> Option<
     Some((*leg, *cell))
 }
 
-/// The least of the ways from a cell, without the customer that it knows or with him, and their first
-/// customer.
+/// The least of the ways from a cell, without the customer that it knows or with him, and their
+/// first customer.
 fn without(cell: &Cell, is_without: bool) -> (i32, Whom) {
     if is_without {
         (cell.second, cell.next)

@@ -113,8 +113,8 @@ impl PriceSearch<'_> {
         self.settle(alloc, &base, TESTS, &mut Budget::of(TEST_LABELS))
     }
 
-    /// Closes the best prices so far: they are lowered toward the floor, and then raised, where that
-    /// helps; where the budget doesn't reach, those of the floor are taken.
+    /// Closes the best prices so far: they are lowered toward the floor, and then raised, where
+    /// that helps; where the budget doesn't reach, those of the floor are taken.
     fn close(&mut self, alloc: Global) -> Result<(), AllocError> {
         let mut best = if self.kept.is_any() {
             self.kept.prices.clone()?

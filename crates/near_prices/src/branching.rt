@@ -71,8 +71,8 @@ impl PriceSearch<'_> {
         Ok(used)
     }
 
-    /// The routes of the optimum, where it is a plan: each of them is taken whole, and each customer
-    /// is served once.
+    /// The routes of the optimum, where it is a plan: each of them is taken whole, and each
+    /// customer is served once.
     pub fn whole_plan(&self, alloc: Global) -> Result<Option<Vec<KnownRoute>>, AllocError> {
         let mut plan = Vec::new(alloc);
         let mut served: usize = 0;
@@ -104,8 +104,8 @@ impl PriceSearch<'_> {
         route.is_plain() && off.saturating_abs() <= TINY
     }
 
-    /// What the optimum would cost with further rows, by the columns whose reduced cost is at most a
-    /// bar, weighted.
+    /// What the optimum would cost with further rows, by the columns whose reduced cost is at most
+    /// a bar, weighted.
     pub fn trial(&self, alloc: Global, bar: u64) -> Result<RowTrial<'_>, AllocError> {
         Ok(RowTrial {
             pool: &self.pool,
@@ -122,8 +122,8 @@ pub struct RowTrial<'a> {
 }
 
 impl RowTrial<'_> {
-    /// By how much it costs more with a row, weighted: so much at the least as a few pivots show, and
-    /// no more than so much.
+    /// By how much it costs more with a row, weighted: so much at the least as a few pivots show,
+    /// and no more than so much.
     pub fn gain(
         &self,
         alloc: Global,

@@ -18,7 +18,8 @@ const MOST_ROUNDS: usize = 10;
 const NEARLY_WHOLE: i64 = 3 << 30;
 
 impl PriceSearch<'_> {
-    /// What the optimum of the master problem costs after so many quick rounds, weighted: an estimate.
+    /// What the optimum of the master problem costs after so many quick rounds, weighted: an
+    /// estimate.
     pub fn estimate<C: SearchClock>(
         &mut self,
         alloc: Global,

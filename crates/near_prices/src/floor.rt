@@ -9,8 +9,8 @@ use near_search::{NearFound, NearRoute};
 use std::alloc::{AllocError, Global};
 
 /// The floor of prices: a customer earns what an arc to him takes at the least, weighted, and an
-/// entry nothing. No route earns by it, so none does by prices in between it and others by which none
-/// does.
+/// entry nothing. No route earns by it, so none does by prices in between it and others by which
+/// none does.
 #[derive(Drop)]
 pub(crate) struct Floor {
     /// The prices of the rows.

@@ -1,7 +1,7 @@
-//! Prices of the linear optimum over near routes, on which a customer may be served again once it is
-//! forgotten (the ng-route relaxation: Baldacci, Mingozzi, Roberti 2011), by column generation. No
-//! clause rests on this: it promises nothing but to be safe and to end; what it finds is judged by
-//! others.
+//! Prices of the linear optimum over near routes, on which a customer may be served again once it
+//! is forgotten (the ng-route relaxation: Baldacci, Mingozzi, Roberti 2011), by column generation.
+//! No clause rests on this: it promises nothing but to be safe and to end; what it finds is judged
+//! by others.
 #![tactic(auto)]
 
 mod answer;

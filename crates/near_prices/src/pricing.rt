@@ -172,8 +172,8 @@ impl<'a> Pricing<'a> {
         self.made = None;
     }
 
-    /// Searches for routes by the prices. Where an exact search finds none, and the table leaves out
-    /// what is past its horizon, they are sought without it, as far as some work goes.
+    /// Searches for routes by the prices. Where an exact search finds none, and the table leaves
+    /// out what is past its horizon, they are sought without it, as far as some work goes.
     pub(crate) fn search<C: SearchClock>(
         &self,
         alloc: Global,

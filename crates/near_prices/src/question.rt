@@ -42,8 +42,8 @@ pub struct PriceQuestion {
     pub layers: usize,
     /// So often near sets grow at the most.
     pub most_growths: usize,
-    /// The weight of a unit of scaled time: prices are whole in so small parts of one. Where it is 0
-    /// routes cost nothing, and prices bound more than 0 only where no plan is left.
+    /// The weight of a unit of scaled time: prices are whole in so small parts of one. Where it is
+    /// 0 routes cost nothing, and prices bound more than 0 only where no plan is left.
     pub weight: u32,
     /// What it costs to serve a customer once without a route, in scaled time; where it isn't told,
     /// more than the plan that is held, if there is one, or as much as the longest route.

@@ -102,8 +102,8 @@ impl PriceSearch<'_> {
         }
     }
 
-    /// Makes the table by the prices of the master problem: a coarse one while routes are looked for by
-    /// times alone.
+    /// Makes the table by the prices of the master problem: a coarse one while routes are looked
+    /// for by times alone.
     fn make_table(&mut self, alloc: Global) -> Result<(), AllocError> {
         let grain = if self.is_coarse {
             Grain::Coarse

@@ -24,8 +24,8 @@ const LEAST_LABELS: usize = 20_000;
 
 impl PriceSearch<'_> {
     /// Raises prices by which no route earns, as far as known routes let them, until no other route
-    /// earns by those either; where the budget doesn't reach, they are lowered again. Prices stay that
-    /// can't be made better so.
+    /// earns by those either; where the budget doesn't reach, they are lowered again. Prices stay
+    /// that can't be made better so.
     pub(crate) fn raise(
         &mut self,
         alloc: Global,
@@ -42,8 +42,9 @@ impl PriceSearch<'_> {
         Ok(())
     }
 
-    /// Lowers prices toward the floor, all by the same part, until no near route earns by them, at one
-    /// level of comparing labels after the other. Whether none does; else the budget didn't reach.
+    /// Lowers prices toward the floor, all by the same part, until no near route earns by them, at
+    /// one level of comparing labels after the other. Whether none does; else the budget didn't
+    /// reach.
     pub(crate) fn scale(
         &mut self,
         alloc: Global,

@@ -23,8 +23,8 @@ pub(crate) enum Tested {
 
 impl PriceSearch<'_> {
     /// Lets prices be such that no near route earns by them and known routes let none be raised: so
-    /// often they are fitted and tested at the most, and what earns joins the routes that are known.
-    /// Whether no route earns.
+    /// often they are fitted and tested at the most, and what earns joins the routes that are
+    /// known. Whether no route earns.
     pub(crate) fn settle(
         &mut self,
         alloc: Global,

@@ -14,7 +14,8 @@ use std::alloc::{AllocError, Global};
 const PAIR: &str =
     r#"{"max_q":3,"css":[{"node_id":3,"cs_type":"fast"}],"breakpoints_by_type":[{"cs_type":"fast","time":[0,3],"charge":[0,3]}],"process_times":[0,0,0,0],"energy_matrix":[[0,1,9,9],[9,0,1,9],[1,9,0,9],[9,9,9,0]],"time_matrix":[[0,1,1,1],[1,0,1,1],[1,1,0,1],[1,1,1,0]]}"#;
 
-/// Counts how often ruin and recreate tells how far it is, and keeps what the best routes cost then.
+/// Counts how often ruin and recreate tells how far it is, and keeps what the best routes cost
+/// then.
 #[derive(Drop)]
 struct Looks {
     count: u64,

@@ -4,8 +4,8 @@ use crate::files::words_of;
 use gap_words::{Job, job_words, usage};
 use std::alloc::Global;
 
-/// What the words of a line name, in short: of `plan` the limit, the seconds, the plan to begin with,
-/// the seed, the effort and the nodes, of `check` the limit; `None` where they name no job.
+/// What the words of a line name, in short: of `plan` the limit, the seconds, the plan to begin
+/// with, the seed, the effort and the nodes, of `check` the limit; `None` where they name no job.
 fn named(alloc: Global, line: &str) -> Option<String> {
     let words = words_of(alloc, line).ok()?;
     let job = job_words(alloc, words.as_slice()).ok()??;

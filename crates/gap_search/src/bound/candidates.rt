@@ -15,8 +15,8 @@ use route_plan::RoutePlan;
 use std::alloc::{AllocError, Global};
 use tree_text::BoundProof;
 
-/// Proofs by these prices that may be accepted: a near proof, for up to 128 customers where each has
-/// a tight route, and a tree of one leaf.
+/// Proofs by these prices that may be accepted: a near proof, for up to 128 customers where each
+/// has a tight route, and a tree of one leaf.
 pub(crate) fn candidates<C: BranchClock>(
     alloc: Global,
     inst: &Instance,
@@ -36,8 +36,8 @@ pub(crate) fn candidates<C: BranchClock>(
     both_kinds(alloc, inst, bound, section, tight)
 }
 
-/// Proofs that there is no plan, by a section of weight 0: a near proof, for up to 128 customers, and
-/// a tree of one leaf.
+/// Proofs that there is no plan, by a section of weight 0: a near proof, for up to 128 customers,
+/// and a tree of one leaf.
 pub(crate) fn candidates_of_none(
     alloc: Global,
     inst: &Instance,
@@ -46,8 +46,8 @@ pub(crate) fn candidates_of_none(
     both_kinds(alloc, inst, None, section, Some(Vec::new(alloc)))
 }
 
-/// A near proof of a section, where there are tight routes for it and few enough customers, and a tree
-/// of that leaf.
+/// A near proof of a section, where there are tight routes for it and few enough customers, and a
+/// tree of that leaf.
 fn both_kinds(
     alloc: Global,
     inst: &Instance,
@@ -93,8 +93,8 @@ fn whole(number: i128) -> u128 {
     u128::try_from(number).unwrap_or(0)
 }
 
-/// The near proof of a section and of tight routes, where there are few enough customers and its labels
-/// are those of a near proof.
+/// The near proof of a section and of tight routes, where there are few enough customers and its
+/// labels are those of a near proof.
 fn near_proof(
     alloc: Global,
     inst: &Instance,

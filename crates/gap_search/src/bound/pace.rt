@@ -88,8 +88,8 @@ impl Pace {
     }
 }
 
-/// So many milliseconds a search for a bound for so many customers takes at the least, so that it is
-/// cut little.
+/// So many milliseconds a search for a bound for so many customers takes at the least, so that it
+/// is cut little.
 pub(crate) fn bound_milliseconds(customers: usize) -> u64 {
     list_milliseconds(customers).saturating_mul(4)
 }

@@ -64,8 +64,8 @@ fn routes_of(
     Ok(known)
 }
 
-/// Other routes that are known: a fastest one for each customer alone, where he has one, and those that
-/// were seen on the way to a plan.
+/// Other routes that are known: a fastest one for each customer alone, where he has one, and those
+/// that were seen on the way to a plan.
 fn other_routes(
     alloc: Global,
     inst: &Instance,

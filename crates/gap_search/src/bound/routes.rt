@@ -106,8 +106,8 @@ fn order_of(
     Ok(NearOrder { nodes, time })
 }
 
-/// Plans by diving, for up to 128 customers, each of which begins with another route of the optimum;
-/// for more none. The prices of the search are others then.
+/// Plans by diving, for up to 128 customers, each of which begins with another route of the
+/// optimum; for more none. The prices of the search are others then.
 pub(crate) fn dives<C: BranchClock>(
     alloc: Global,
     ground: &Ground,
