@@ -22,7 +22,8 @@ pub(crate) fn push_stops(
     visits: &[Visit],
 ) -> Result<(), AllocError>
     requires { IsScale scale }
-    ensures { OnOk result (out.new.items ≡ out.old.items ++ stops_text scale places.now 0 visits.now) }
+    ensures { OnOk result
+        (out.new.items ≡ out.old.items ++ stops_text scale places.now 0 visits.now) }
 {
     for (at, visit) in visits.iter().enumerate() {
         push_stop(alloc, out, scale, places, at, visit)?;
@@ -40,7 +41,8 @@ fn push_stop(
     visit: &Visit,
 ) -> Result<(), AllocError>
     requires { IsScale scale }
-    ensures { OnOk result (out.new.items ≡ out.old.items ++ stop_text scale places.now at visit.now) }
+    ensures { OnOk result
+        (out.new.items ≡ out.old.items ++ stop_text scale places.now at visit.now) }
 {
     let x = x_at(scale, visit.arrival as u128);
     let y = y_at(scale, visit.level);
@@ -119,7 +121,8 @@ fn push_title(
     visit: &Visit,
 ) -> Result<(), AllocError>
     requires { IsScale scale }
-    ensures { OnOk result (out.new.items ≡ out.old.items ++ title_text scale places.now at visit.now) }
+    ensures { OnOk result
+        (out.new.items ≡ out.old.items ++ title_text scale places.now at visit.now) }
 {
     push_numbered(alloc, out, b"<title>stop ", at as u128)?;
     push_place(alloc, out, places, visit)?;
