@@ -1,4 +1,3 @@
 pub mod Elements
 pub mod Ties
 pub mod LiveCoverage
-pub mod Chains

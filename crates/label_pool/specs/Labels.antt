@@ -56,14 +56,3 @@ module _ {V : Type 0} where
       MatchOption found ((j : ℕ) → from ≤ j → IsLive labels bucket j → ⊥)
       (λ i. (from ≤ i) × IsLive labels bucket i ×
       ((j : ℕ) → from ≤ j → IsLive labels bucket j → i ≤ j))
-
-  -- label i has that parent, or none
-  pub record HasParent (labels : List (Label V)) (i : ℕ) (parent : Option ℕ) : Type 0 where
-    pub label : Label V
-    pub here : slice_get labels i ≡ Some label
-    pub is : label.parent ≡ parent
-
-  -- the numbers lead from a label, or from none, to the label `to`, each one's parent the number before it
-  abbrev pub IsChain : List (Label V) → Option ℕ → List ℕ → ℕ → Type 0
-  IsChain labels from [] to = from ≡ Some to
-  IsChain labels from (i ∷ is) to = HasParent labels i from × IsChain labels (Some i) is to

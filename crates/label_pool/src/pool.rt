@@ -1,7 +1,7 @@
 //! The pool.
 ghost use Rattle.std.specs.Prelude.{◌≡◌, ◌↔◌, ℕ, Bool, true, false, ◌+◌, ◌<◌, ◌≤◌, ◌^◌, [], ◌++◌, length, map, set, slice_get, Some, None, IsTrue, IsNone, IfSome, IfOk, OnErr};
 ghost use Rattle.index_links.specs.Lists.{list_at, lists_without};
-ghost use Rattle.label_pool.specs.Labels.{IsChain, IsCovered, IsFirstLive, IsLive, IsNext, NoneWaits, beside, labels_with};
+ghost use Rattle.label_pool.specs.Labels.{IsCovered, IsFirstLive, IsLive, IsNext, NoneWaits, beside, labels_with};
 ghost use Rattle.label_pool.specs.Tied.{AreListed, IsRising, IsTied};
 
 use crate::label::Label;
@@ -191,21 +191,6 @@ impl<V: Covers + Drop> Pool<V> {
         self.live.link_last(bucket, number);
         self.queue.put(number, key);
         Ok(Some(number))
-    }
-
-    /// The numbers from the eldest parent to label `i`.
-    pub fn chain(&self, i: usize) -> Result<Vec<usize>, AllocError>
-        requires { i < length self.now.labels }
-        ensures { IfOk result (λ numbers. IsChain self.now.labels None numbers.items i) }
-    {
-        let mut numbers = Vec::new(*self.labels.allocator());
-        let mut at = Some(i);
-        while let Some(number) = at {
-            numbers.push(number)?;
-            at = self.parent(number);
-        }
-        numbers.reverse();
-        Ok(numbers)
     }
 }
 
