@@ -11,6 +11,7 @@ pub mod Leaves
 pub mod Test
 pub mod OneLeaf
 pub mod Rules
+pub mod OneVerdict
 pub mod Preorder
 pub mod Paths
 pub mod Counting

@@ -1,4 +1,4 @@
--- No rule of an accepted tree is broken; and one place at most is that of the first broken rule.
+-- No rule of an accepted tree is broken.
 use Rattle.std.proofs.Common.{◌≡◌, ℕ, zero, suc, List, [], ◌∷◌, Option, Some, None, ap, subst, arith, inl, inr}
 use Rattle.std.specs.List.{All, Contains}
 use Rattle.std.specs.Prelude.{slice_get}

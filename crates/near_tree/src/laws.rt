@@ -17,7 +17,10 @@ ghost use Rattle.near_tree.specs.Preorder.{IsTreeOf};
 ghost use Rattle.near_tree.specs.Rules.{IsBroken, Place};
 ghost use Rattle.near_tree.specs.Sections.{after, anybody, Last, NearSection};
 ghost use Rattle.near_tree.specs.Trees.{AtSomeLeaf, IsSectionAt, IsTreeAt, NearTree};
+ghost use Rattle.near_tree.specs.Verdicts.{IsVerdict};
 ghost use Rattle.near_tree.specs.declared.proof.TreeNode.{TreeNode};
+ghost use Rattle.near_tree.specs.declared.proof.TreeProof.{TreeProof};
+ghost use Rattle.near_tree.specs.declared.verdict.TreeVerdict.{TreeVerdict};
 ghost use Rattle.near_proof.specs.Truth.{IsTrueNearBound};
 
 /// Where the labels of a leaf are closed, none of whose levels is above full, every near route that
@@ -80,6 +83,12 @@ pub fn a_near_proof_is_a_tree_of_one_leaf()
 pub fn an_accepted_tree_breaks_no_rule()
     ensures { (g : Network) (bound : Option ℕ) (t : NearTree) (at : Place) →
         IsAccepted g bound t → IsBroken g bound t at → ⊥ }
+{}
+
+/// A tree has one verdict: that it is accepted, or the one rule that is the first broken.
+pub fn a_tree_has_one_verdict()
+    ensures { (g : Network) (p : TreeProof) (v w : TreeVerdict) → IsVerdict g p v →
+        IsVerdict g p w → v ≡ w }
 {}
 
 /// Nodes in preorder are those of one tree at most.

@@ -32,7 +32,8 @@ pub use examples::{
 pub use laws::{
     a_fleet_costs_the_bound_of_a_near_tree, a_fleet_costs_the_bound_of_its_leaf,
     a_fleet_goes_to_some_leaf, a_list_of_nodes_is_one_tree, a_near_proof_is_a_tree_of_one_leaf,
-    a_near_route_pays_at_a_leaf, an_accepted_tree_breaks_no_rule, who_stands_for_whom,
+    a_near_route_pays_at_a_leaf, a_tree_has_one_verdict, an_accepted_tree_breaks_no_rule,
+    who_stands_for_whom,
 };
 pub use proof::{LastServed, LeafSection, SectionLabel, TreeNode, TreeProof};
 pub use verdict::TreeVerdict;
