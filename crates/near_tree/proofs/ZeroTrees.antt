@@ -26,7 +26,7 @@ use Rattle.near_tree.specs.Follows.{StandsFor}
 use Rattle.near_tree.specs.OneLeaf.{last_at}
 use Rattle.near_tree.specs.Preorder.{last_of, leaf_label, section_of}
 use Rattle.near_tree.specs.Ranges.{IsFitTree, LastFits, LeafSectionFits, NodeFits, SectionLabelFits, TreeFits}
-use Rattle.near_tree.specs.Sections.{after, anybody, Last, LeafLabel}
+use Rattle.near_tree.specs.Sections.{after, Last, LeafLabel}
 use Rattle.near_tree.specs.Steps.{at_leaf_customer, at_leaf_station, IsLeafCustomerStep, IsLeafStationStep, leaf_at, leaf_start}
 use Rattle.near_tree.specs.Trees.{IsSectionAt, leaf, NearTree}
 use Rattle.near_tree.specs.Verdicts.{IsVerdict}

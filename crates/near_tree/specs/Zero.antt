@@ -1,10 +1,10 @@
 -- The tree that each network has: one leaf at which nothing is earned, so that it shows the bound 0.
-use Rattle.std.specs.Prelude.{◌≡◌, ℕ, zero, suc, pos, ◌≤◌, List, [], ◌∷◌, ◌++◌, Some}
+use Rattle.std.specs.Prelude.{◌≡◌, ℕ, zero, suc, pos, List, [], ◌∷◌, ◌++◌, Some}
 use Rattle.std.specs.List.{All}
 use Rattle.customer_sets.specs.SetBelow.{IsSetBelow}
 use Rattle.ev_model.specs.Network.{Network, node_count}
 use Rattle.near_tree.specs.OneLeaf.{last_at}
-use Rattle.near_tree.specs.Preorder.{leaf_label, section_of}
+use Rattle.near_tree.specs.Preorder.{section_of}
 use Rattle.near_tree.specs.Ranges.{LeafSectionFits, TreeFits}
 use Rattle.near_tree.specs.Sections.{LeafLabel}
 use Rattle.near_tree.specs.Verdicts.{IsVerdict}
