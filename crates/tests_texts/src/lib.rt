@@ -12,6 +12,8 @@ mod proofs;
 #[cfg(test)]
 mod reports;
 #[cfg(test)]
+mod routes;
+#[cfg(test)]
 mod trees;
 #[cfg(test)]
 mod units;

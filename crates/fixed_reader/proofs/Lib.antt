@@ -1,0 +1,4 @@
+pub mod ToEnd
+pub mod FixedReaders
+pub mod FixedLaws
+pub mod LineLoops

@@ -1,0 +1,2 @@
+pub mod FixedReading
+pub mod Spelled
