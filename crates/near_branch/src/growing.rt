@@ -64,7 +64,7 @@ fn begun<'a>(
     Ok(Growth {
         inst,
         ground,
-        weight: weight_for(ground, cost),
+        weight: weight_for(inst, ground, cost),
         nodes: Vec::new(alloc),
         pool: all_of(alloc, &plan, seen)?,
         near: sets,

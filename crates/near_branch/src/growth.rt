@@ -1,5 +1,6 @@
 //! A tree in the making.
 
+use crate::dearest::most_cost;
 use crate::node::{Node, Standing};
 use crate::prices::Worth;
 use crate::watcher::BranchProgress;
@@ -88,7 +89,7 @@ impl Growth<'_> {
     pub(crate) fn dearest(&self) -> u64 {
         let most = match self.held.cost {
             Some(cost) => cost,
-            None => most_cost(self.ground),
+            None => most_cost(self.inst, self.ground),
         };
         u64::try_from(most.saturating_add(1)).unwrap_or(u64::MAX)
     }
@@ -200,17 +201,12 @@ impl Growth<'_> {
 }
 
 /// The weight by which prices are sought, where a plan costs so much.
-pub(crate) fn weight_for(ground: &Ground, cost: Option<u128>) -> u32 {
+pub(crate) fn weight_for(inst: &Instance, ground: &Ground, cost: Option<u128>) -> u32 {
     let most = match cost {
         Some(cost) => cost,
-        None => most_cost(ground),
+        None => most_cost(inst, ground),
     };
     if most <= MOST_FINE { FINE } else { 1 }
-}
-
-/// What no plan costs more than: each customer on the longest route.
-fn most_cost(ground: &Ground) -> u128 {
-    u128::from(ground.limit()).saturating_mul(ground.customers() as u128)
 }
 
 /// What a route takes beyond what it earns by the prices of customers.

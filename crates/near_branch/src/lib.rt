@@ -6,6 +6,7 @@
 
 mod candidates;
 mod clock;
+mod dearest;
 mod fork;
 mod growing;
 mod growth;
