@@ -15,13 +15,61 @@ use std::mem;
 const LAYERS: usize = 120;
 
 /// So many where nodes are only estimated.
-pub(crate) const FEW_LAYERS: usize = 60;
+const FEW_LAYERS: usize = 60;
 
 /// So often near sets grow at the most at a node.
 const GROWTHS: usize = 60;
 
 /// What it costs to serve a customer without a route, where routes cost nothing.
 const HELP: u64 = 1 << 30;
+
+/// Routes are columns at once where a node is priced whose reduced cost is at most so many halves of
+/// the gap. Others wait until they earn, so that fewer are looked through at each pivot.
+const FEW_HALVES: u64 = 1;
+
+/// So many where candidates are scored.
+const HALVES: u64 = 3;
+
+/// How a search at a node begins.
+#[derive(Clone, Copy)]
+pub(crate) struct Start {
+    /// The weight of a unit of scaled time.
+    pub(crate) weight: u32,
+    /// About so many layers the tables have.
+    pub(crate) layers: usize,
+    /// Routes are columns at once whose reduced cost by the prices above is at most so many halves
+    /// of the gap.
+    pub(crate) halves: u64,
+}
+
+impl Start {
+    /// That of a search that is to come to its end.
+    fn whole(weight: u32) -> Start {
+        Start {
+            weight,
+            layers: LAYERS,
+            halves: FEW_HALVES,
+        }
+    }
+
+    /// That of an estimate.
+    pub(crate) fn estimate(weight: u32) -> Start {
+        Start {
+            weight,
+            layers: FEW_LAYERS,
+            halves: FEW_HALVES,
+        }
+    }
+
+    /// That by which candidates are scored, over the routes that are known.
+    pub(crate) fn scoring(weight: u32) -> Start {
+        Start {
+            weight,
+            layers: FEW_LAYERS,
+            halves: HALVES,
+        }
+    }
+}
 
 /// What comes of pricing a node.
 #[derive(Drop)]
@@ -103,7 +151,7 @@ impl<'a> Growth<'a> {
         clock: &mut Early<'_, C>,
         watcher: &mut W,
     ) -> Result<Priced, AllocError> {
-        let mut search = self.begin(alloc, turns, above, weight, LAYERS)?;
+        let mut search = self.begin(alloc, turns, above, Start::whole(weight))?;
         let end = search.run(alloc, clock, watcher)?;
         let mut priced = Priced {
             prices: None,
@@ -149,9 +197,9 @@ impl<'a> Growth<'a> {
         alloc: Global,
         turns: &[Turn],
         above: Option<&LeafPrices>,
-        weight: u32,
-        layers: usize,
+        start: Start,
     ) -> Result<PriceSearch<'a>, AllocError> {
+        let weight = start.weight;
         let site = site_of(alloc, self.ground.customers(), turns)?;
         let question = PriceQuestion {
             follow: site.follow,
@@ -160,7 +208,7 @@ impl<'a> Growth<'a> {
             near: self.near.clone()?,
             plan: Vec::new(alloc),
             seen: Vec::new(alloc),
-            layers,
+            layers: start.layers,
             most_growths: GROWTHS,
             weight,
             dearest: Some(if weight == 0 { HELP } else { self.dearest() }),
@@ -168,7 +216,7 @@ impl<'a> Growth<'a> {
         };
         let mut search = PriceSearch::new(alloc, self.inst, self.ground, question)?;
         let routes = mem::replace(&mut self.pool, Vec::new(alloc));
-        search.take_over(alloc, self.handed(alloc, routes, above, weight)?)?;
+        search.take_over(alloc, self.handed(alloc, routes, above, start)?)?;
         if above.is_some() || weight == 0 {
             search.refine();
         }
@@ -181,8 +229,9 @@ impl<'a> Growth<'a> {
         alloc: Global,
         routes: Vec<KnownRoute>,
         above: Option<&LeafPrices>,
-        weight: u32,
+        start: Start,
     ) -> Result<Handed, AllocError> {
+        let weight = start.weight;
         let mut handed = Handed {
             routes,
             prices: Vec::new(alloc),
@@ -191,8 +240,8 @@ impl<'a> Growth<'a> {
         };
         if let Some(prices) = above {
             let gap = self.gap_of(prices.sum);
-            let bar = gap
-                .saturating_add(gap / 2)
+            let bar = (gap / 2)
+                .saturating_mul(start.halves)
                 .saturating_add(u64::from(weight).saturating_mul(100));
             handed.prices = prices.prices.clone()?;
             handed.entry_prices = prices.entry_prices.clone()?;

@@ -6,7 +6,7 @@ use crate::fork::{Fork, Turn};
 use crate::growth::Growth;
 use crate::node::{Node, Standing, turns_to};
 use crate::prices::LeafPrices;
-use crate::pricing::FEW_LAYERS;
+use crate::pricing::Start;
 use crate::scores::{Above, further, with_scores};
 use crate::site::site_of;
 use crate::watcher::BranchWatcher;
@@ -76,8 +76,7 @@ impl<'a> Growth<'a> {
             alloc,
             above.turns,
             Some(above.prices),
-            self.weight,
-            FEW_LAYERS,
+            Start::scoring(self.weight),
         )?;
         search.solve_known(alloc)?;
         if let Some(plan) = search.whole_plan(alloc)? {
