@@ -61,14 +61,14 @@ goes_to_next g v stops d at within goes =
     rw add-one (goes_to g v (get_or stops at d) (drop (suc at) stops) (subst (λ ss. GoesOn g v ss) (drop-cons stops at d within) goes))
 
 -- a vehicle begins a feasible plan
-pub begins : (g : Network) (stops : List Stop) → IsNetwork g → IsFeasible g 1 g.capacity stops → GoesOn g (start_of g) (behind_first stops)
-begins g [] network feasible = absurd feasible.plan
-begins g (first ∷ stops) network feasible =
+pub begins : (g : Network) (start : ℕ) (stops : List Stop) → IsNetwork g → IsFeasible g 1 start stops → GoesOn g (start_of start) (behind_first stops)
+begins g start [] network feasible = absurd feasible.plan
+begins g start (first ∷ stops) network feasible =
     let at_depot : first.node ≡ 0 = ap (λ (s : Stop). s.node) feasible.plan.1 in
-    let once : 1 * g.capacity ≡ g.capacity = omega arith in
-    let kept : KeepsBatteryFrom g 1 0 (1 * g.capacity) stops = subst (λ n. KeepsBatteryFrom g 1 n (1 * g.capacity) stops) at_depot feasible.battery.0 in
-    let time : time_from g 1 first.node (1 * g.capacity) stops ≡ time_from g 1 0 g.capacity stops =
-    ap (λ n. time_from g 1 n (1 * g.capacity) stops) at_depot ∙ ap (λ l. time_from g 1 0 l stops) once in
+    let once : 1 * start ≡ start = omega arith in
+    let kept : KeepsBatteryFrom g 1 0 (1 * start) stops = subst (λ n. KeepsBatteryFrom g 1 n (1 * start) stops) at_depot feasible.battery.0 in
+    let time : time_from g 1 first.node (1 * start) stops ≡ time_from g 1 0 start stops =
+    ap (λ n. time_from g 1 n (1 * start) stops) at_depot ∙ ap (λ l. time_from g 1 0 l stops) once in
     record {
       known = omega (arith, network.depot);
       stops = subst (λ n. AreStopsFrom g n stops) at_depot feasible.plan.3;

@@ -15,34 +15,34 @@ cut_at : (plans : List RoutePlan) (p : RoutePlan) (i : ℕ) → p ≡ get_or pla
 cut_at plans p i is within = drop-cons plans i p within ∙ ap (λ q. q ∷ drop (suc i) plans) (sym is)
 
 -- each route of those that are left is feasible
-abbrev pub AreFeasible : Network → List RoutePlan → Type 0
-AreFeasible g plans = All (IsFeasible g 1 g.capacity) (stops_of plans)
+abbrev pub AreFeasible : Network → ℕ → List RoutePlan → Type 0
+AreFeasible g start plans = All (IsFeasible g 1 start) (stops_of plans)
 
-pub feasible_here : (g : Network) (plans : List RoutePlan) (p : RoutePlan) (i : ℕ) → p ≡ get_or plans i p → i < length plans → AreFeasible g (drop i plans) → IsFeasible g 1 g.capacity p.stops
-feasible_here g plans p i is within all =
-    All-head (IsFeasible g 1 g.capacity) p.stops (stops_of (drop (suc i) plans)) (subst (λ ps. AreFeasible g ps) (cut_at plans p i is within) all)
+pub feasible_here : (g : Network) (start : ℕ) (plans : List RoutePlan) (p : RoutePlan) (i : ℕ) → p ≡ get_or plans i p → i < length plans → AreFeasible g start (drop i plans) → IsFeasible g 1 start p.stops
+feasible_here g start plans p i is within all =
+    All-head (IsFeasible g 1 start) p.stops (stops_of (drop (suc i) plans)) (subst (λ ps. AreFeasible g start ps) (cut_at plans p i is within) all)
 
-pub feasible_behind : (g : Network) (plans : List RoutePlan) (p : RoutePlan) (i : ℕ) → p ≡ get_or plans i p → i < length plans → AreFeasible g (drop i plans) → AreFeasible g (drop (i + 1) plans)
-feasible_behind g plans p i is within all =
-    rw add-one (All-tail (IsFeasible g 1 g.capacity) p.stops (stops_of (drop (suc i) plans)) (subst (λ ps. AreFeasible g ps) (cut_at plans p i is within) all))
+pub feasible_behind : (g : Network) (start : ℕ) (plans : List RoutePlan) (p : RoutePlan) (i : ℕ) → p ≡ get_or plans i p → i < length plans → AreFeasible g start (drop i plans) → AreFeasible g start (drop (i + 1) plans)
+feasible_behind g start plans p i is within all =
+    rw add-one (All-tail (IsFeasible g 1 start) p.stops (stops_of (drop (suc i) plans)) (subst (λ ps. AreFeasible g start ps) (cut_at plans p i is within) all))
 
 -- one schedule more was made
-pub told_next : (g : Network) (items more : List RouteSchedule) (r : RouteSchedule) (all : List RouteSchedule) (plans : List RoutePlan) (p : RoutePlan) (i : ℕ) → p ≡ get_or plans i p → i < length plans → more ≡ items ++ r ∷ [] → r ≡ route_schedule g i p.stops → items ++ route_schedules g i (stops_of (drop i plans)) ≡ all → more ++ route_schedules g (i + 1) (stops_of (drop (i + 1) plans)) ≡ all
-told_next g items more r all plans p i is within pushed made told =
-    let rest = route_schedules g (i + 1) (stops_of (drop (suc i) plans)) in
-    let told_cut : items ++ (route_schedule g i p.stops ∷ rest) ≡ all = subst (λ ps. items ++ route_schedules g i (stops_of ps) ≡ all) (cut_at plans p i is within) told in
+pub told_next : (g : Network) (start : ℕ) (items more : List RouteSchedule) (r : RouteSchedule) (all : List RouteSchedule) (plans : List RoutePlan) (p : RoutePlan) (i : ℕ) → p ≡ get_or plans i p → i < length plans → more ≡ items ++ r ∷ [] → r ≡ route_schedule g start i p.stops → items ++ route_schedules g start i (stops_of (drop i plans)) ≡ all → more ++ route_schedules g start (i + 1) (stops_of (drop (i + 1) plans)) ≡ all
+told_next g start items more r all plans p i is within pushed made told =
+    let rest = route_schedules g start (i + 1) (stops_of (drop (suc i) plans)) in
+    let told_cut : items ++ (route_schedule g start i p.stops ∷ rest) ≡ all = subst (λ ps. items ++ route_schedules g start i (stops_of ps) ≡ all) (cut_at plans p i is within) told in
     let told_r : items ++ (r ∷ rest) ≡ all = subst (λ (x : RouteSchedule). items ++ (x ∷ rest) ≡ all) (sym made) told_cut in
-    let same : route_schedules g (i + 1) (stops_of (drop (i + 1) plans)) ≡ rest = ap (λ n. route_schedules g (i + 1) (stops_of (drop n plans))) (add-one i) in
+    let same : route_schedules g start (i + 1) (stops_of (drop (i + 1) plans)) ≡ rest = ap (λ n. route_schedules g start (i + 1) (stops_of (drop n plans))) (add-one i) in
     ap (λ xs. more ++ xs) same ∙ ap (λ xs. xs ++ rest) pushed ∙ append_assoc items (r ∷ []) rest ∙ told_r
 
 -- as many schedules as plans
-many_from : (g : Network) (number : ℕ) (plans : List (List Stop)) → length (route_schedules g number plans) ≡ length plans
-many_from g number [] = refl
-many_from g number (stops ∷ plans) = ap suc (many_from g (number + 1) plans)
+many_from : (g : Network) (start : ℕ) (number : ℕ) (plans : List (List Stop)) → length (route_schedules g start number plans) ≡ length plans
+many_from g start number [] = refl
+many_from g start number (stops ∷ plans) = ap suc (many_from g start (number + 1) plans)
 
 as_many_stops : (plans : List RoutePlan) → length (stops_of plans) ≡ length plans
 as_many_stops [] = refl
 as_many_stops (p ∷ plans) = ap suc (as_many_stops plans)
 
-pub as_many : (g : Network) (routes : List RouteSchedule) (plans : List RoutePlan) → routes ≡ route_schedules g 0 (stops_of plans) → length routes ≡ length plans
-as_many g routes plans is = ap (λ rs. length rs) is ∙ many_from g 0 (stops_of plans) ∙ as_many_stops plans
+pub as_many : (g : Network) (start : ℕ) (routes : List RouteSchedule) (plans : List RoutePlan) → routes ≡ route_schedules g start 0 (stops_of plans) → length routes ≡ length plans
+as_many g start routes plans is = ap (λ rs. length rs) is ∙ many_from g start 0 (stops_of plans) ∙ as_many_stops plans

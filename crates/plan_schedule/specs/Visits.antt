@@ -54,21 +54,21 @@ visit_at g before s = record {
   leaving = leaving_at g before s;
 }
 
--- the first visit: the depot is left fully charged at time 0
-abbrev pub start_of : Network → Visit
-start_of g = record {
+-- the first visit: the depot is left at time 0 with this level
+abbrev pub start_of : ℕ → Visit
+start_of start = record {
   node = 0;
   kind = Depot;
   inserted = false;
   energy = 0;
   driving = 0;
   arrival = 0;
-  level = g.capacity;
+  level = start;
   service = 0;
   plugging = 0;
   charging = 0;
   charged = 0;
-  level_left = g.capacity;
+  level_left = start;
   leaving = 0;
 }
 
@@ -77,10 +77,10 @@ abbrev pub visits_behind : Network → Visit → List Stop → List Visit
 visits_behind g before [] = []
 visits_behind g before (s ∷ ss) = visit_at g before s ∷ visits_behind g (visit_at g before s) ss
 
--- the visits of a route that begins at the depot
-abbrev pub visits_of : Network → List Stop → List Visit
-visits_of g [] = []
-visits_of g (first ∷ stops) = start_of g ∷ visits_behind g (start_of g) stops
+-- the visits of a route that begins at the depot with this level
+abbrev pub visits_of : Network → ℕ → List Stop → List Visit
+visits_of g start [] = []
+visits_of g start (first ∷ stops) = start_of start ∷ visits_behind g (start_of start) stops
 
 -- the numbers of a visit are those of a network and of a plan that lasts no longer than is allowed
 pub record IsWithin (g : Network) (v : Visit) : Type 0 where

@@ -17,19 +17,22 @@ use instance_reader::Instance;
 use route_plan::{FleetPlan, RoutePlan};
 use std::alloc::{AllocError, Global};
 
-/// The schedule of a fleet plan whose routes are feasible from full, as those of each plan that
-/// [`plan_check::check_large`] accepts. The only refusal is want of memory.
+/// The schedule of a plan whose routes are feasible from a level at which each vehicle starts, as
+/// those of each plan that [`plan_check::check_large`] accepts are from full. The only refusal is
+/// want of memory.
 pub fn schedule_plan(
     alloc: Global,
     inst: &Instance,
+    start: u64,
     plan: &FleetPlan,
 ) -> Result<Schedule, AllocError>
-    requires feasible { All (IsFeasible inst.now 1 inst.now.capacity) (stops_of plan.now.routes) }
+    requires start { start ≤ inst.now.capacity }
+    requires feasible { All (IsFeasible inst.now 1 start) (stops_of plan.now.routes) }
     requires few { length plan.now.routes ≤ most_routes }
-    ensures value { IfOk result (λ s. s ≡ schedule_of inst.now (stops_of plan.now.routes)) }
+    ensures value { IfOk result (λ s. s ≡ schedule_of inst.now start (stops_of plan.now.routes)) }
     ensures timed { IfOk result IsTimed }
 {
-    let routes = route_schedules(alloc, inst, plan.routes.as_slice())?;
+    let routes = route_schedules(alloc, inst, start, plan.routes.as_slice())?;
     let totals = plan_totals(routes.as_slice());
     Ok(Schedule {
         denominator: inst.denominator(),
@@ -46,34 +49,38 @@ pub fn schedule_plan(
 fn route_schedules(
     alloc: Global,
     inst: &Instance,
+    start: u64,
     plans: &[RoutePlan],
 ) -> Result<Vec<RouteSchedule>, AllocError>
-    requires { All (IsFeasible inst.now 1 inst.now.capacity) (stops_of plans.now) }
+    requires start { start ≤ inst.now.capacity }
+    requires feasible { All (IsFeasible inst.now 1 start) (stops_of plans.now) }
     ensures value { IfOk result
-        (λ v. v.items ≡ route_schedules inst.now 0 (stops_of plans.now)) }
+        (λ v. v.items ≡ route_schedules inst.now start 0 (stops_of plans.now)) }
     ensures small { IfOk result (λ v. All HasSmallTotals v.items) }
 {
     let mut routes = Vec::with_capacity(alloc, plans.len())?;
     for (number, plan) in plans.iter().enumerate() {
-        let route = route_schedule(alloc, inst, number, plan.stops.as_slice())?;
+        let route = route_schedule(alloc, inst, start, number, plan.stops.as_slice())?;
         routes.push(route)?;
     }
     Ok(routes)
 }
 
-/// The schedule of a route that is feasible from full.
+/// The schedule of a route that is feasible from this level.
 fn route_schedule(
     alloc: Global,
     inst: &Instance,
+    start: u64,
     number: usize,
     stops: &[Stop],
 ) -> Result<RouteSchedule, AllocError>
-    requires { IsFeasible inst.now 1 inst.now.capacity stops.now }
-    ensures value { IfOk result (λ r. r ≡ route_schedule inst.now number stops.now) }
+    requires start { start ≤ inst.now.capacity }
+    requires feasible { IsFeasible inst.now 1 start stops.now }
+    ensures value { IfOk result (λ r. r ≡ route_schedule inst.now start number stops.now) }
     ensures small { IfOk result HasSmallTotals }
 {
     let _nodes = inst.nodes();
-    let visits = visits(alloc, inst, stops)?;
+    let visits = visits(alloc, inst, start, stops)?;
     let _count = visits.len();
     let line = line(alloc, inst, visits.as_slice())?;
     let totals = route_totals(visits.as_slice());

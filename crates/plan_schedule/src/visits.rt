@@ -13,18 +13,20 @@ use ev_model::Stop;
 use instance_reader::Instance;
 use std::alloc::{AllocError, Global};
 
-/// The visits of a route that is feasible from full.
+/// The visits of a route that is feasible from this level.
 pub(crate) fn visits(
     alloc: Global,
     inst: &Instance,
+    start: u64,
     stops: &[Stop],
 ) -> Result<Vec<Visit>, AllocError>
-    requires { IsFeasible inst.now 1 inst.now.capacity stops.now }
-    ensures value { IfOk result (λ v. v.items ≡ visits_of inst.now stops.now) }
+    requires start { start ≤ inst.now.capacity }
+    requires feasible { IsFeasible inst.now 1 start stops.now }
+    ensures value { IfOk result (λ v. v.items ≡ visits_of inst.now start stops.now) }
     ensures within { IfOk result (λ v. All (IsWithin inst.now) v.items) }
 {
     let mut visits = Vec::with_capacity(alloc, stops.len())?;
-    let mut before = start(inst);
+    let mut before = start_at(inst, start);
     visits.push(before)?;
     for at in 1..stops.len() {
         before = visit(inst, &before, stops[at]);
@@ -33,9 +35,10 @@ pub(crate) fn visits(
     Ok(visits)
 }
 
-/// The first visit: the depot is left fully charged at time 0.
-fn start(inst: &Instance) -> Visit
-    ensures value { result ≡ start_of inst.now }
+/// The first visit: the depot is left at time 0 with this level.
+fn start_at(inst: &Instance, start: u64) -> Visit
+    requires { start ≤ inst.now.capacity }
+    ensures value { result ≡ start_of start }
     ensures within { IsWithin inst.now result }
     ensures network { IsNetwork inst.now }
 {
@@ -47,12 +50,12 @@ fn start(inst: &Instance) -> Visit
         energy: 0,
         driving: 0,
         arrival: 0,
-        level: inst.max_q(),
+        level: start,
         service: 0,
         plugging: 0,
         charging: 0,
         charged: 0,
-        level_left: inst.max_q(),
+        level_left: start,
         leaving: 0,
     }
 }

@@ -6,10 +6,10 @@ pub returns-clause-end : goal.returns-clause-end
 returns-clause-end c = end_is
 
 pub returns-clause-each : goal.returns-clause-each
-returns-clause-each c g stops n = each_is g n stops
+returns-clause-each c g start stops n = each_is g start n stops
 
 pub returns-clause-sum : goal.returns-clause-sum
 returns-clause-sum c = sum_is
 
 pub returns-clause-parts : goal.returns-clause-parts
-returns-clause-parts c g stops = parts_are (visits_of g stops)
+returns-clause-parts c g start stops = parts_are (visits_of g start stops)

@@ -10,11 +10,11 @@ use Rattle.plan_schedule.proofs.RoutesInTurn.{feasible_behind, feasible_here, to
 use Rattle.std.proofs.lemmas.Grind.{common_steps}
 use Rattle.plan_schedule.proofs.plan.route_schedules.Goals as goal
 
-pub route_schedule-requires : goal.route_schedule-requires
-route_schedule-requires c =
+pub route_schedule-requires-clause-feasible : goal.route_schedule-requires-clause-feasible
+route_schedule-requires-clause-feasible c =
     let g = c.args.inst.now in
-    let feasible = feasible_here g c.args.plans.now c.index-plans-number.result c.loop-number.number c.index-plans-number.is c.loop-number-test.true c.loop-number.invariant.feasible in
-    subst (λ (ss : List Stop). IsFeasible g 1 g.capacity ss) (sym c.as_slice.ensures) feasible
+    let feasible = feasible_here g c.args.start c.args.plans.now c.index-plans-number.result c.loop-number.number c.index-plans-number.is c.loop-number-test.true c.loop-number.invariant.feasible in
+    subst (λ (ss : List Stop). IsFeasible g 1 c.args.start ss) (sym c.as_slice.ensures) feasible
 
 pub loop-number-preserved : goal.loop-number-preserved
 loop-number-preserved c =
@@ -23,10 +23,10 @@ loop-number-preserved c =
     let i = c.loop-number.number in
     let old = c.loop-number.routes.items in
     let r = c.in_ok-route.route in
-    let made = c.in_ok-route.ensures.value ∙ ap (λ ss. route_schedule g i ss) c.as_slice.ensures in
+    let made = c.in_ok-route.ensures.value ∙ ap (λ ss. route_schedule g c.args.start i ss) c.as_slice.ensures in
     record {
-      told = told_next g old c.push.new.self.items r (route_schedules g 0 (stops_of c.args.plans.now)) c.args.plans.now p i c.index-plans-number.is c.loop-number-test.true c.in_ok-push.ensures.items made c.loop-number.invariant.told;
-      feasible = feasible_behind g c.args.plans.now p i c.index-plans-number.is c.loop-number-test.true c.loop-number.invariant.feasible;
+      told = told_next g c.args.start old c.push.new.self.items r (route_schedules g c.args.start 0 (stops_of c.args.plans.now)) c.args.plans.now p i c.index-plans-number.is c.loop-number-test.true c.in_ok-push.ensures.items made c.loop-number.invariant.told;
+      feasible = feasible_behind g c.args.start c.args.plans.now p i c.index-plans-number.is c.loop-number-test.true c.loop-number.invariant.feasible;
       small = subst (λ (xs : List RouteSchedule). All HasSmallTotals xs) (sym c.in_ok-push.ensures.items) (All-append HasSmallTotals old (r ∷ []) c.loop-number.invariant.small (All-cons HasSmallTotals r [] c.in_ok-route.ensures.small (All-nil HasSmallTotals)));
     }
 

@@ -10,6 +10,6 @@ pub plan_totals-totals-requires : goal.plan_totals-totals-requires
 plan_totals-totals-requires c =
     let routes = c.in_ok-routes.routes.items in
     let plans = c.as_slice.result.now in
-    let many : length routes ≡ length plans = as_many c.args.inst.now routes plans c.in_ok-routes.ensures.value in
+    let many : length routes ≡ length plans = as_many c.args.inst.now c.args.start routes plans c.in_ok-routes.ensures.value in
     let few : length routes ≤ 10 ^ 6 = omega (arith, many, ap (λ (ps : List RoutePlan). length ps) c.as_slice.ensures, c.requires.few) in
     subst (λ (rs : List RouteSchedule). AreSmall (plan_totals rs)) (sym c.as_slice-2.ensures.value) (small_plan routes c.in_ok-routes.ensures.small few)

@@ -23,7 +23,7 @@ loop-at-preserved c =
     let P = IsWithin g in
     record {
       some = omega arith;
-      told = told_next g old c.push-in-loop-at.new.self.items c.loop-at.before w (visits_of g c.args.stops.now) c.args.stops.now d c.loop-at.at c.loop-at-test.true c.in_ok-push-2.ensures.items c.visit-before.ensures.value c.loop-at.invariant.told;
+      told = told_next g old c.push-in-loop-at.new.self.items c.loop-at.before w (visits_of g c.args.start c.args.stops.now) c.args.stops.now d c.loop-at.at c.loop-at-test.true c.in_ok-push-2.ensures.items c.visit-before.ensures.value c.loop-at.invariant.told;
       goes = goes_next g c.loop-at.before w c.args.stops.now d c.loop-at.at c.loop-at-test.true c.visit-before.ensures.value c.loop-at.invariant.goes;
       within = subst (λ (xs : List Visit). All P xs) (sym c.in_ok-push-2.ensures.items) (All-append P old (w ∷ []) c.loop-at.invariant.within (All-cons P w [] c.visit-before.ensures.within (All-nil P)));
     }

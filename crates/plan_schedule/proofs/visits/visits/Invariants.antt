@@ -8,7 +8,7 @@ use Rattle.plan_schedule.proofs.visits.visits.Given as goal
 abbrev pub invariant-loop-at : goal.invariant-loop-at
 invariant-loop-at l = record {
   some : 1 ≤ l.at;
-  told : l.visits.items ++ visits_behind l.inst l.before (drop l.at l.stops) ≡ visits_of l.inst l.stops;
+  told : l.visits.items ++ visits_behind l.inst l.before (drop l.at l.stops) ≡ visits_of l.inst l.start l.stops;
   goes : GoesOn l.inst l.before (drop l.at l.stops);
   within : All (IsWithin l.inst) l.visits.items;
 }
