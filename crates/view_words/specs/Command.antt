@@ -1,5 +1,5 @@
--- The command that reads the words of `evview`: its name, two positionals, two flags, and
--- nine options of one value each. It has no flag for help and none for a version.
+-- The command that reads the words of `evview`: its name, two positionals, three flags, and
+-- ten options of one value each. It has no flag for help and none for a version.
 use Rattle.std.specs.Prelude.{Some, codes, true}
 use Rattle.clap.specs.Words.{App, Rule, Text, new_rule, with_rule}
 use Rattle.clap.specs.declared.builder.action.ArgAction.TheVariants.{SetTrue}
@@ -21,10 +21,15 @@ with_names app = with_rule (with_rule app (word_rule (codes "file"))) (word_rule
 abbrev pub with_choice : App → App
 with_choice app =
     with_rule
-    (with_rule
     (with_rule (with_rule app (option_rule (codes "limit"))) (option_rule (codes "route")))
-    (flag_rule (codes "partial")))
     (flag_rule (codes "exact"))
+
+-- which form the plan has
+abbrev pub with_form : App → App
+with_form app =
+    with_rule
+    (with_rule (with_rule app (flag_rule (codes "partial"))) (flag_rule (codes "fixed")))
+    (option_rule (codes "charge"))
 
 -- the clock by which is told when something happens
 abbrev pub with_clock : App → App
@@ -47,4 +52,5 @@ with_outputs app =
 unfoldable pub evview : App
 evview =
     with_outputs
-    (with_places (with_clock (with_choice (with_names (without_arguments (codes "evview"))))))
+    (with_places
+    (with_clock (with_form (with_choice (with_names (without_arguments (codes "evview")))))))

@@ -9,7 +9,7 @@ use Rattle.view_words.specs.declared.Job.{Job}
 
 abbrev pub job_value : Job → ViewPlan
 job_value w =
-    view_job_of (string_bytes w.file) (string_bytes w.plan) w.limit w.route w.partial w.exact
+    view_job_of (string_bytes w.file) (string_bytes w.plan) w.limit w.route w.form w.exact
     w.clock
     (option_map (λ s. string_bytes s) w.places)
     (option_map (λ s. string_bytes s) w.svg) (option_map (λ s. string_bytes s) w.json)

@@ -3,5 +3,5 @@ use Rattle.std.specs.Prelude.{List, ℕ, ◌++◌, codes}
 
 abbrev pub usage_text : List ℕ
 usage_text =
-    codes "evview FILE PLAN [--limit N] [--route N] [--partial] [--exact] "
-    ++ codes "[--begin HH:MM --unit U] [--places FILE] [--svg OUT] [--json OUT] [--csv OUT] [--map OUT]\n"
+    codes "evview FILE PLAN [--limit N] [--route N] [--partial] [--fixed [--charge N]] "
+    ++ codes "[--exact] [--begin HH:MM --unit U] [--places FILE] [--svg OUT] [--json OUT] [--csv OUT] [--map OUT]\n"

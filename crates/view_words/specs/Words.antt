@@ -8,11 +8,13 @@ use Rattle.call_words.specs.Names.{are_different}
 use Rattle.call_words.specs.Numbers.{most_value, optional_number}
 use Rattle.view_words.specs.Clocks.{clock_of}
 use Rattle.view_words.specs.Command.{evview}
+use Rattle.view_words.specs.Forms.{form_of}
 use Rattle.view_words.specs.declared.clock.DayClock.{DayClock}
+use Rattle.view_words.specs.declared.form.PlanForm.{PlanForm}
 
 -- the job of showing a plan: the names of the files with the instance and the plan, the limit where
--- one is given, the number of the one route that is shown where it is given, whether it may be a
--- part of a plan, whether times are shown as they are scaled, the clock by which is told when something happens where one is given, the
+-- one is given, the number of the one route that is shown where it is given, which form the plan
+-- has, whether times are shown as they are scaled, the clock by which is told when something happens where one is given, the
 -- name of the file with the names of places where it is given, and the names of the files into which
 -- the pictures, the schedule, as JSON and as CSV, and a map are written, where they are given
 pub record ViewPlan : Type 0 where
@@ -20,7 +22,7 @@ pub record ViewPlan : Type 0 where
   pub plan : Text
   pub limit : Option ℕ
   pub route : Option ℕ
-  pub partial : Bool
+  pub form : PlanForm
   pub exact : Bool
   pub clock : Option DayClock
   pub places : Option Text
@@ -38,6 +40,17 @@ route_in rows = optional_number most_value (first_of (codes "route") rows)
 abbrev pub flag_in : Text → List Row → Bool
 flag_in name rows =
     option_map_or (λ value. bytes_eq value (codes "true")) (first_of name rows) false
+
+-- the level at which the vehicle of a route starts, where it is given; none where its value is no
+-- number of one
+abbrev pub charge_in : List Row → Option (Option ℕ)
+charge_in rows = optional_number most_value (first_of (codes "charge") rows)
+
+-- the form of the plan; none where the words for it don't go together
+abbrev pub form_in : List Row → Option PlanForm
+form_in rows =
+    option_and_then (form_of (flag_in (codes "partial") rows) (flag_in (codes "fixed") rows))
+    (charge_in rows)
 
 -- the clock, where it is given; none where its words are no clock
 abbrev pub clock_in : List Row → Option (Option DayClock)
@@ -81,14 +94,14 @@ all_names file plan rows =
     ∷ Some plan ∷ [])
 
 -- the job of these words
-abbrev pub view_job_of : Text → Text → Option ℕ → Option ℕ → Bool → Bool → Option DayClock → Option Text →
-    Option Text → Option Text → Option Text → Option Text → ViewPlan
-view_job_of file plan limit route partial exact clock places svg json csv map = record {
+abbrev pub view_job_of : Text → Text → Option ℕ → Option ℕ → PlanForm → Bool → Option DayClock →
+    Option Text → Option Text → Option Text → Option Text → Option Text → ViewPlan
+view_job_of file plan limit route form exact clock places svg json csv map = record {
   file = file;
   plan = plan;
   limit = limit;
   route = route;
-  partial = partial;
+  form = form;
   exact = exact;
   clock = clock;
   places = places;
@@ -103,20 +116,20 @@ abbrev pub written_names : ViewPlan → List Text
 written_names job = given_names (job.svg ∷ job.json ∷ job.csv ∷ job.map ∷ [])
 
 -- the same, where the values of the options are numbers and a clock
-abbrev pub view_with : Text → Text → Option (Option ℕ) → Option (Option ℕ) →
+abbrev pub view_with : Text → Text → Option (Option ℕ) → Option (Option ℕ) → Option PlanForm →
     Option (Option DayClock) → List Row → Option ViewPlan
-view_with file plan (Some limit) (Some route) (Some clock) rows =
-    Some (view_job_of file plan limit route (flag_in (codes "partial") rows)
+view_with file plan (Some limit) (Some route) (Some form) (Some clock) rows =
+    Some (view_job_of file plan limit route form
     (flag_in (codes "exact") rows) clock (places_in rows) (svg_in rows)
     (json_in rows) (csv_in rows) (map_in rows))
-view_with file plan limit route clock rows = None
+view_with file plan limit route form clock rows = None
 
--- `FILE PLAN [--limit N] [--route N] [--partial] [--exact] [--begin HH:MM --unit U] [--places FILE]
--- [--svg OUT] [--json OUT] [--csv OUT] [--map OUT]`, where `--map` asks for `--places`
+-- `FILE PLAN [--limit N] [--route N] [--partial] [--fixed [--charge N]] [--exact]
+-- [--begin HH:MM --unit U] [--places FILE] [--svg OUT] [--json OUT] [--csv OUT] [--map OUT]`, where `--map` asks for `--places`
 abbrev pub view_of : Text → Text → List Row → Option ViewPlan
 view_of file plan rows =
     if are_different (all_names file plan rows) && has_places (map_in rows) (places_in rows)
-    then view_with file plan (limit_in rows) (route_in rows) (clock_in rows) rows
+    then view_with file plan (limit_in rows) (route_in rows) (form_in rows) (clock_in rows) rows
     else None
 
 -- the job of what the command finds

@@ -4,7 +4,7 @@ ghost use Rattle.std.specs.Prelude.{◌≡◌, IfOk};
 ghost use Rattle.clap.specs.Words.{app_of, with_rule};
 ghost use Rattle.clap.specs.Walk.{texts};
 ghost use Rattle.call_words.specs.Matches.{IsMatched};
-ghost use Rattle.view_words.specs.Command.{evview, flag_rule, with_choice, with_clock, with_names, with_outputs, with_places, word_rule};
+ghost use Rattle.view_words.specs.Command.{evview, flag_rule, with_choice, with_clock, with_form, with_names, with_outputs, with_places, word_rule};
 
 use call_words::{matches_of, with_option, without_arguments};
 use clap::{Arg, ArgAction, ArgMatches, Command};
@@ -53,8 +53,16 @@ fn with_choice<'a>(alloc: Global, command: Command<'a>) -> Result<Command<'a>, A
 {
     let command = with_option(alloc, command, "limit")?;
     let command = with_option(alloc, command, "route")?;
-    let command = with_flag(alloc, command, "partial")?;
     with_flag(alloc, command, "exact")
+}
+
+/// The command and which form the plan has.
+fn with_form<'a>(alloc: Global, command: Command<'a>) -> Result<Command<'a>, AllocError>
+    ensures { IfOk result (λ c. app_of c ≡ with_form (app_of command.entry)) }
+{
+    let command = with_flag(alloc, command, "partial")?;
+    let command = with_flag(alloc, command, "fixed")?;
+    with_option(alloc, command, "charge")
 }
 
 /// The command and the clock by which is told when something happens.
@@ -89,6 +97,7 @@ fn evview<'a>(alloc: Global) -> Result<Command<'a>, AllocError>
 {
     let command = with_names(alloc, without_arguments(alloc, PROGRAM))?;
     let command = with_choice(alloc, command)?;
+    let command = with_form(alloc, command)?;
     let command = with_clock(alloc, command)?;
     let command = with_places(alloc, command)?;
     with_outputs(alloc, command)

@@ -5,10 +5,11 @@ ghost use Rattle.call_words.specs.Matches.{rows_in};
 ghost use Rattle.call_words.specs.Names.{are_different, is_listed};
 ghost use Rattle.view_words.specs.JobValue.{AnswersJob, IsJob, names_in};
 ghost use Rattle.view_words.specs.Clocks.{IsDayClock};
-ghost use Rattle.view_words.specs.Words.{clock_in, flag_in, given_names, has_places, job_in, route_in, view_of};
+ghost use Rattle.view_words.specs.Words.{charge_in, clock_in, flag_in, form_in, given_names, has_places, job_in, route_in, view_of};
 
 use crate::Job;
 use crate::clock::{DayClock, clock_of};
+use crate::form::{PlanForm, form_of};
 use call_words::{GREATEST_VALUE, first_of, limit_in, optional_number};
 use clap::ArgMatches;
 use std::alloc::{AllocError, Global};
@@ -29,6 +30,28 @@ fn flag_in(matches: &ArgMatches<'_>, name: &str) -> bool
         Some(value) => value == "true",
         None => false,
     }
+}
+
+/// The level at which the vehicle of a route starts, where it is given; `None` where its value is
+/// no number of one.
+fn charge_in(matches: &ArgMatches<'_>) -> Option<Option<u64>>
+    ensures { result ≡ charge_in (rows_in matches.now) }
+{
+    optional_number(first_of(matches, "charge"), GREATEST_VALUE)
+}
+
+/// The form of the plan; `None` where the words for it don't go together.
+fn form_in(matches: &ArgMatches<'_>) -> Option<PlanForm>
+    ensures { result ≡ form_in (rows_in matches.now) }
+{
+    let Some(charge) = charge_in(matches) else {
+        return None;
+    };
+    form_of(
+        flag_in(matches, "partial"),
+        flag_in(matches, "fixed"),
+        charge,
+    )
 }
 
 /// The clock, where it is given; `None` where its words are no clock.
@@ -72,7 +95,7 @@ fn view_job(
     let (Some(limit), Some(route)) = (limit_in(matches), route_in(matches)) else {
         return Ok(None);
     };
-    let Some(clock) = clock_in(matches) else {
+    let (Some(form), Some(clock)) = (form_in(matches), clock_in(matches)) else {
         return Ok(None);
     };
     Ok(Some(Job {
@@ -80,7 +103,7 @@ fn view_job(
         plan: String::from_str(alloc, plan)?,
         limit,
         route,
-        partial: flag_in(matches, "partial"),
+        form,
         exact: flag_in(matches, "exact"),
         clock,
         places: owned(alloc, places)?,

@@ -8,17 +8,19 @@ ghost use Rattle.view_words.specs.Words.{job_of};
 
 mod arguments;
 mod clock;
+mod form;
 mod jobs;
 
 use arguments::{PROGRAM, found_in};
 use call_words::named;
 pub use clock::DayClock;
+pub use form::PlanForm;
 use jobs::job_in;
 use std::alloc::{AllocError, Global};
 
 /// The job of showing a plan: the file of the instance, another one with the plan, the limit on the
 /// time of each route in place of the instance's, in units of time, the number of the one route
-/// that is shown, counted from 0, whether it may be a part of a plan, whether times are shown as
+/// that is shown, counted from 0, which form the plan has, whether times are shown as
 /// they are scaled, the clock by which is told when something happens, the file with the names of
 /// places, and the files into which the pictures, the schedule, as JSON and as CSV, and a map are
 /// written.
@@ -28,7 +30,7 @@ pub struct Job {
     pub plan: String,
     pub limit: Option<u64>,
     pub route: Option<u64>,
-    pub partial: bool,
+    pub form: PlanForm,
     pub exact: bool,
     pub clock: Option<DayClock>,
     pub places: Option<String>,
@@ -39,15 +41,16 @@ pub struct Job {
 }
 
 /// The job of the words, which stand behind the program's name, read by one `clap` command: `FILE
-/// PLAN [--limit N] [--route N] [--partial] [--exact] [--begin HH:MM --unit U] [--places FILE]
-/// [--svg OUT] [--json OUT] [--csv OUT] [--map OUT]`. `None` comes exactly where the words are no
-/// such job.
+/// PLAN [--limit N] [--route N] [--partial] [--fixed [--charge N]] [--exact] [--begin HH:MM --unit
+/// U] [--places FILE] [--svg OUT] [--json OUT] [--csv OUT] [--map OUT]`. `None` comes exactly where
+/// the words are no such job.
 ///
 /// Options stand anywhere before a word `--`, each at most once; the value is the next word or
 /// follows a `=`. A name that begins with `-` and has more behind it is given after `--`. Numbers
 /// are written without leading zeros, and are at most 10^18. HH:MM is a time of day from 00:00 to
 /// 23:59; U is `s`, `min` or `h`, or with `/N` behind it one of N parts of that, N from 1 to 10^9;
-/// both are given or neither. `--map` is given beside `--places` alone. The names of files are
+/// both are given or neither. `--charge` is given beside `--fixed` alone, `--fixed` without
+/// `--partial`, and `--map` beside `--places` alone. The names of files are
 /// different texts. No words at all are no job, and take no memory.
 pub fn job_words(alloc: Global, words: &[String]) -> Result<Option<Job>, AllocError>
     ensures job { IfOk result
@@ -70,5 +73,5 @@ pub fn job_words(alloc: Global, words: &[String]) -> Result<Option<Job>, AllocEr
 pub fn usage() -> &'static str
     ensures { result.now ≡ usage_text }
 {
-    "evview FILE PLAN [--limit N] [--route N] [--partial] [--exact] [--begin HH:MM --unit U] [--places FILE] [--svg OUT] [--json OUT] [--csv OUT] [--map OUT]\n"
+    "evview FILE PLAN [--limit N] [--route N] [--partial] [--fixed [--charge N]] [--exact] [--begin HH:MM --unit U] [--places FILE] [--svg OUT] [--json OUT] [--csv OUT] [--map OUT]\n"
 }
