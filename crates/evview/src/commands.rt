@@ -26,6 +26,21 @@ const PARTIAL: CommandOption = CommandOption {
     is_required: false,
 };
 
+const FIXED: CommandOption = CommandOption {
+    word: "--fixed",
+    value: OptionValue::Nothing,
+    is_required: false,
+};
+
+const CHARGE: CommandOption = CommandOption {
+    word: "--charge",
+    value: OptionValue::Number {
+        least: 0,
+        most: 1_000_000_000_000_000_000,
+    },
+    is_required: false,
+};
+
 const EXACT: CommandOption = CommandOption {
     word: "--exact",
     value: OptionValue::Nothing,
@@ -82,6 +97,6 @@ pub(crate) const COMMANDS: &[Command] = &[Command {
     names: &["FILE", "PLAN"],
     more: 0,
     options: &[
-        LIMIT, ROUTE, PARTIAL, EXACT, BEGIN, UNIT, PLACES, SVG, JSON, CSV, MAP,
+        LIMIT, ROUTE, PARTIAL, FIXED, CHARGE, EXACT, BEGIN, UNIT, PLACES, SVG, JSON, CSV, MAP,
     ],
 }];

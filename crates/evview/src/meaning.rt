@@ -33,6 +33,9 @@ pub(crate) fn told_behind<R: Files>(
         ),
         Some(Cause::Places(fault)) => refused_places(fault),
         Some(Cause::Plan(fault)) => rejected_plan(fault),
+        Some(Cause::Time(_)) => Sentence::plain(
+            "{PLAN}: the route takes another time than this one, which is told of it",
+        ),
         Some(Cause::Words) | None => return Ok(None),
     };
     Ok(Some(sentence.told(alloc, &names)?))
@@ -70,8 +73,8 @@ fn words_of_entry(wrong: EntryFault) -> &'static str {
     }
 }
 
-/// What is wrong with words that name no job: what was found, or else their clock, where they have
-/// words of one.
+/// What is wrong with words that name no job: what was found, or else the form of the plan, or their
+/// clock, where they have words of one.
 fn wrong_or_clock(
     alloc: Global,
     wrong: Option<String>,
@@ -79,6 +82,9 @@ fn wrong_or_clock(
 ) -> Result<Option<String>, AllocError> {
     if wrong.is_some() {
         return Ok(wrong);
+    }
+    if let Some(told) = form_alone(words) {
+        return Ok(Some(String::from_str(alloc, told)?));
     }
     if !words.iter().any(|word| is_of_clock(word.as_str())) {
         return map_alone(alloc, words);
@@ -88,6 +94,18 @@ fn wrong_or_clock(
         "--begin is a time of day from 00:00 to 23:59, --unit is s, min or h, or one of them \
 with /N behind it, N from 1 to 1000000000, and both are given or neither",
     )?))
+}
+
+/// What is wrong with words for the form of the plan, where that is it.
+fn form_alone(words: &[String]) -> Option<&'static str> {
+    let is_given = |name: &str| words.iter().any(|word| word.starts_with(name));
+    if is_given("--charge") && !is_given("--fixed") {
+        Some("--charge asks for --fixed: a fleet plan begins with full batteries")
+    } else if is_given("--partial") && is_given("--fixed") {
+        Some("PLAN is a part of a plan, --partial, or what fixed puts, --fixed, and not both")
+    } else {
+        None
+    }
 }
 
 /// What is wrong with words of a map.

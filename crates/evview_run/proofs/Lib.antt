@@ -1,4 +1,5 @@
 pub mod Hearing
+pub mod HeldLaws
 pub mod WrittenNames
 pub mod ViewFinds
 pub mod ViewLaw

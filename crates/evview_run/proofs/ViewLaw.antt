@@ -1,8 +1,6 @@
 -- The causes of the statuses exclude each other.
-use Rattle.std.proofs.Common.{◌≡◌, ◌⊎◌, ℕ, ◌<◌, ◌≤◌, List, [], ◌∷◌, Bool, Option, Some, inl, inr, arith, subst}
+use Rattle.std.proofs.Common.{◌≡◌, ◌∙◌, ◌⊎◌, ℕ, ◌<◌, ◌≤◌, List, [], ◌∷◌, Bool, Option, Some, inl, inr, arith, subst, sym}
 use Rattle.ev_model.specs.Network.{Network, node_count}
-use Rattle.fleet_steps.proofs.PlanFiles.{refused_holds_not, same_held, same_network}
-use Rattle.fleet_steps.specs.PlanFile.{BreaksFirst, HoldsPlan}
 use Rattle.job_frame.proofs.OneStatus.{ExcludeEachOther, IsPlain, lawful, nothing_excludes}
 use Rattle.job_frame.specs.Lawful.{IsLawful}
 use Rattle.job_frame.specs.Task.{Outcome}
@@ -14,8 +12,12 @@ use Rattle.place_names.specs.declared.faults.PlacesFault.{PlacesFault}
 use Rattle.place_names.specs.declared.place.Place.{Place}
 use Rattle.route_plan.specs.declared.plan.FleetPlan.{FleetPlan}
 use Rattle.view_words.specs.Words.{ViewPlan}
+use Rattle.evview_run.proofs.HeldLaws.{held_starts, refused_holds_not, same_held, same_network}
 use Rattle.evview_run.proofs.Parts.{showable_breaks_none}
-use Rattle.evview_run.specs.ViewAnswer.{BreaksPlaces, HasPlaces, HasRoute, PutsBrokenPlan, PutsNoPlaces, PutsNoRoute, PutsRefusal, PutsSchedule, ViewAnswers, needs_points, route_count, view_answers, view_task}
+use Rattle.evview_run.proofs.Shown.{time_is_cost}
+use Rattle.evview_run.specs.Held.{HoldsPlans}
+use Rattle.evview_run.specs.ViewAnswer.{Breaks, BreaksPlaces, HasPlaces, HasRoute, IsShowable, PutsBrokenPlan, PutsNoPlaces, PutsNoRoute, PutsOtherTime, PutsRefusal, PutsSchedule, ViewAnswers, needs_points, route_count, untrue, view_answers, view_task}
+use Rattle.evview_run.specs.declared.held.HeldPlans.{HeldPlans}
 
 -- a route that is there isn't past the last one
 there_or_past : (route : Option ℕ) (number : ℕ) (plan : Option FleetPlan) → HasRoute route plan → route ≡ Some number → route_count plan ≤ number → ⊥
@@ -29,25 +31,52 @@ places_or_fault needed g more places fault named breaks =
     good_breaks_none needed (node_count g) breaks.0 places fault (subst (λ (m : List (List ℕ)). HasPlaces needed g m places) breaks.1 named) breaks.2
 
 module _ (job : ViewPlan) (bytes plan_bytes : List ℕ) (more : List (List ℕ)) where
-  -- a plan whose schedule is shown breaks no rule
+  -- a plan whose schedule is shown breaks no rule that is asked of it
   shown_is_unbroken : (ws vs : List Written) (text other : List ℕ) → PutsSchedule job bytes plan_bytes more ws text → PutsBrokenPlan job bytes plan_bytes more vs other → ⊥
   shown_is_unbroken ws vs text other p q =
-      let there : BreaksFirst p.files.network q.files.plan q.fault =
-      subst (λ (g : Network). BreaksFirst g q.files.plan q.fault) (same_network job.limit bytes plan_bytes p.files q.files) q.broken in
-      let here : BreaksFirst p.files.network p.files.plan q.fault =
-      subst (λ (plan : Option FleetPlan). BreaksFirst p.files.network plan q.fault) (same_held job.limit bytes plan_bytes p.files q.files) there in
-      showable_breaks_none job.partial p.files.network p.files.plan p.cost q.fault p.valid here q.asked
+      let there : Breaks job.form p.files.network q.files.held q.fault =
+      subst (λ (g : Network). Breaks job.form g q.files.held q.fault) (same_network job bytes plan_bytes p.files q.files) q.broken in
+      let here : Breaks job.form p.files.network p.files.held q.fault =
+      subst (λ (held : HeldPlans). Breaks job.form p.files.network held q.fault) (same_held job bytes plan_bytes p.files q.files) there in
+      showable_breaks_none job.form p.files.network p.files.held p.cost q.fault p.valid here
+
+  -- nor is another time told of it
+  one_cost : (h : HoldsPlans job bytes plan_bytes) (cost other : Option ℕ) → IsShowable job.form h.network h.held cost → IsShowable job.form h.network h.held other → cost ≡ other
+  one_cost h cost other valid again =
+      let starts = held_starts h.network job.form plan_bytes h.held h.has.is in
+      sym (time_is_cost job.form h.network job.route h.held cost starts valid) ∙ time_is_cost job.form h.network job.route h.held other starts again
+
+  shown_is_true : (ws vs : List Written) (text other : List ℕ) → PutsSchedule job bytes plan_bytes more ws text → PutsOtherTime job bytes plan_bytes more vs other → ⊥
+  shown_is_true ws vs text other p q =
+      let held = same_held job bytes plan_bytes p.files q.files in
+      let there : IsShowable job.form p.files.network q.files.held q.cost =
+      subst (λ (g : Network). IsShowable job.form g q.files.held q.cost) (same_network job bytes plan_bytes p.files q.files) q.valid in
+      let here : IsShowable job.form p.files.network p.files.held q.cost = subst (λ (h : HeldPlans). IsShowable job.form p.files.network h q.cost) held there in
+      let same : q.cost ≡ p.cost = one_cost p.files q.cost p.cost here p.valid in
+      let told : untrue p.files.held.told q.cost ≡ Some q.told = subst (λ (h : HeldPlans). untrue h.told q.cost ≡ Some q.told) held q.other in
+      let again : untrue p.files.held.told p.cost ≡ Some q.told = subst (λ (cost : Option ℕ). untrue p.files.held.told cost ≡ Some q.told) same told in
+      let nothing = p.told in
+      cc
+
+  shown_is_no_rejected : (ws vs : List Written) (text other : List ℕ) → PutsSchedule job bytes plan_bytes more ws text → PutsBrokenPlan job bytes plan_bytes more vs other ⊎ PutsOtherTime job bytes plan_bytes more vs other → ⊥
+  shown_is_no_rejected ws vs text other p (inl q) = shown_is_unbroken ws vs text other p q
+  shown_is_no_rejected ws vs text other p (inr q) = shown_is_true ws vs text other p q
 
   -- what the files hold, with the route that is asked for, is refused by no rule
-  held_is_not_refused : (h : HoldsPlan job.limit bytes plan_bytes) (places : List Place) (ws : List Written) (text : List ℕ) → HasPlaces (needs_points job) h.network more places → HasRoute job.route h.plan
+  held_is_not_refused : (h : HoldsPlans job bytes plan_bytes) (places : List Place) (ws : List Written) (text : List ℕ) → HasPlaces (needs_points job) h.network more places → HasRoute job.route h.held.plan
       → PutsRefusal job bytes plan_bytes ws text ⊎ PutsNoPlaces job bytes plan_bytes more ws text ⊎ PutsNoRoute job bytes plan_bytes more ws text → ⊥
-  held_is_not_refused h places ws text named route (inl p) = refused_holds_not job.limit bytes plan_bytes h p.refusal p.rule p.refused
+  held_is_not_refused h places ws text named route (inl p) = refused_holds_not job bytes plan_bytes h p.refusal p.rule p.refused
   held_is_not_refused h places ws text named route (inr (inl p)) =
-      let broken : BreaksPlaces (needs_points job) h.network more p.fault = subst (λ (g : Network). BreaksPlaces (needs_points job) g more p.fault) (same_network job.limit bytes plan_bytes h p.files) p.broken in
+      let broken : BreaksPlaces (needs_points job) h.network more p.fault = subst (λ (g : Network). BreaksPlaces (needs_points job) g more p.fault) (same_network job bytes plan_bytes h p.files) p.broken in
       places_or_fault (needs_points job) h.network more places p.fault named broken
   held_is_not_refused h places ws text named route (inr (inr p)) =
-      let past : route_count h.plan ≤ p.number = subst (λ (plan : Option FleetPlan). route_count plan ≤ p.number) (same_held job.limit bytes plan_bytes h p.files) p.past in
-      there_or_past job.route p.number h.plan route p.asked past
+      let past : route_count h.held.plan ≤ p.number = subst (λ (held : HeldPlans). route_count held.plan ≤ p.number) (same_held job bytes plan_bytes h p.files) p.past in
+      there_or_past job.route p.number h.held.plan route p.asked past
+
+  rejected_is_not_refused : (ws vs : List Written) (text other : List ℕ) → PutsBrokenPlan job bytes plan_bytes more ws text ⊎ PutsOtherTime job bytes plan_bytes more ws text
+      → PutsRefusal job bytes plan_bytes vs other ⊎ PutsNoPlaces job bytes plan_bytes more vs other ⊎ PutsNoRoute job bytes plan_bytes more vs other → ⊥
+  rejected_is_not_refused ws vs text other (inl p) q = held_is_not_refused p.files p.places vs other p.named p.route q
+  rejected_is_not_refused ws vs text other (inr p) q = held_is_not_refused p.files p.places vs other p.named p.route q
 
 -- ---- the causes
 
@@ -68,9 +97,9 @@ exclude : (job : ViewPlan) (bytes plan_bytes : List ℕ) (more : List (List ℕ)
 unfolding ViewCause
 exclude job bytes plan_bytes more = record {
   answered = answered job bytes plan_bytes more;
-  done_negative = λ p q. shown_is_unbroken job bytes plan_bytes more p.0 q.0 p.1.0 q.1.0 p.1.1 q.1.1;
+  done_negative = λ p q. shown_is_no_rejected job bytes plan_bytes more p.0 q.0 p.1.0 q.1.0 p.1.1 q.1.1;
   done_refused = λ p q. held_is_not_refused job bytes plan_bytes more p.1.1.files p.1.1.places q.0 q.1.0 p.1.1.named p.1.1.route q.1.1;
-  negative_refused = λ p q. held_is_not_refused job bytes plan_bytes more p.1.1.files p.1.1.places q.0 q.1.0 p.1.1.named p.1.1.route q.1.1;
+  negative_refused = λ p q. rejected_is_not_refused job bytes plan_bytes more p.0 q.0 p.1.0 q.1.0 p.1.1 q.1.1;
 }
 
 abbrev cause : ViewPlan → List (List ℕ) → Status → Type 0

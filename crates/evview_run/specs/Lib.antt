@@ -1,2 +1,4 @@
+pub mod Held
 pub mod ViewAnswer
+pub mod Judged
 pub mod Run

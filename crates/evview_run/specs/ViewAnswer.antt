@@ -1,10 +1,10 @@
 -- What is written and put for the bytes of an instance, of a plan file, and of a file with places.
-use Rattle.std.specs.Prelude.{◌≡◌, ℕ, ◌<◌, ◌≤◌, ◌⊎◌, ◌||◌, false, true, not, nat_lt, List, [], ◌∷◌, ◌++◌, Option, None, Some, Bool, codes, decimal, is_some, length, option_map}
+use Rattle.std.specs.Prelude.{◌≡◌, ℕ, ◌+◌, ◌<◌, ◌≤◌, ◌⊎◌, true, nat_eq, nat_lt, List, [], ◌∷◌, ◌++◌, Option, None, Some, Result, Ok, Err, Bool, codes, decimal, is_some, length, option_and_then, option_map, if◌then◌else◌}
 use Rattle.std.specs.List.{All}
 use Rattle.ev_model.specs.Feasible.{IsFeasible}
 use Rattle.ev_model.specs.Fleet.{cost_of}
 use Rattle.ev_model.specs.Network.{Network, node_count}
-use Rattle.fleet_steps.specs.PlanFile.{BreaksFirst, HoldsPlan, IsTextRefused, IsValid}
+use Rattle.fleet_steps.specs.PlanFile.{BreaksFirst, IsValid}
 use Rattle.fleet_steps.specs.Heard as fleet
 use Rattle.job_frame.specs.Heard.{HearsDone, HearsRefusal}
 use Rattle.job_frame.specs.Task.{Outcome, Read, Task}
@@ -12,7 +12,6 @@ use Rattle.job_frame.specs.Writes.{Written}
 use Rattle.job_frame.specs.declared.status.Status.{Status}
 use Rattle.job_frame.specs.declared.status.Status.TheVariants as status
 use Rattle.job_frame.specs.Caps.{file_read}
-use Rattle.job_frame.specs.LimitedNetwork.{HasNetwork}
 use Rattle.place_names.specs.Reading.{ArePlacesOf, IsFirstFault}
 use Rattle.place_names.specs.declared.faults.EntryFault.{EntryFault}
 use Rattle.place_names.specs.declared.faults.EntryFault.TheVariants as entry
@@ -23,14 +22,18 @@ use Rattle.place_names.specs.declared.faults.PlacesFault.TheVariants as places_f
 use Rattle.place_names.specs.declared.place.Place.{Place}
 use Rattle.plan_check.specs.FleetRules.{IsCustomer, rule_of, stops_of, times_served}
 use Rattle.plan_check.specs.declared.fault.PlanFault.{PlanFault}
-use Rattle.plan_schedule.specs.Schedules.{only, schedule_of}
+use Rattle.plan_check.specs.declared.fault.PlanFault.TheVariants.{Walk}
+use Rattle.plan_schedule.specs.Schedules.{only, schedule_of, times_of}
 use Rattle.plan_schedule.specs.declared.schedule.Schedule.{Schedule}
 use Rattle.refusal_lines.specs.RejectedText.{rejected_text}
 use Rattle.refusal_lines.specs.RefusalText.{IsRule, refusal_text}
 use Rattle.refusal_lines.specs.declared.refusal.Refusal.{Refusal}
-use Rattle.report_lines.specs.Lines.{number_line}
+use Rattle.report_lines.specs.Lines.{number_line, time_text}
+use Rattle.route_plan.specs.Walking.{walk_along}
 use Rattle.route_plan.specs.declared.plan.FleetPlan.{FleetPlan}
 use Rattle.route_plan.specs.declared.plan.RoutePlan.{RoutePlan}
+use Rattle.route_plan.specs.declared.walks.Walk.{Walk as WalkEnd}
+use Rattle.route_plan.specs.declared.walks.WalkFault.{WalkFault}
 use Rattle.schedule_texts.specs.JsonTexts.{json_text}
 use Rattle.schedule_texts.specs.Maps.{map_text}
 use Rattle.schedule_texts.specs.Pictures.{picture_text}
@@ -39,8 +42,12 @@ use Rattle.schedule_texts.specs.Tables.{table_text}
 use Rattle.schedule_texts.specs.declared.clock.Clock.{Clock}
 use Rattle.view_words.specs.Words.{ViewPlan}
 use Rattle.view_words.specs.declared.clock.DayClock.{DayClock}
+use Rattle.view_words.specs.declared.form.PlanForm.{PlanForm}
+use Rattle.view_words.specs.declared.form.PlanForm.TheVariants as plan_form
+use Rattle.evview_run.specs.Held.{HasStart, HoldsPlans, IsTextRefused}
 use Rattle.evview_run.specs.declared.cause.Cause.{Cause}
 use Rattle.evview_run.specs.declared.cause.Cause.TheVariants as cause
+use Rattle.evview_run.specs.declared.held.HeldPlans.{HeldPlans}
 
 -- how many routes there are
 abbrev pub route_count : Option FleetPlan → ℕ
@@ -108,10 +115,15 @@ abbrev pub part_of : Schedule → Option ℕ → Schedule
 part_of whole None = whole
 part_of whole (Some number) = only whole number
 
--- what is shown: the schedule of the plan, or of the one route that is asked for
-abbrev pub shown_of : Network → Option ℕ → Option FleetPlan → Option Schedule
-shown_of g route None = None
-shown_of g route (Some plan) = Some (part_of (schedule_of g (stops_of plan.routes)) route)
+-- the schedule of plans whose vehicles start with this level, or of the one route that is asked for
+abbrev pub shown_from : Network → ℕ → Option ℕ → Option FleetPlan → Option Schedule
+shown_from g start route None = None
+shown_from g start route (Some plan) =
+    Some (part_of (schedule_of g start (stops_of plan.routes)) route)
+
+-- what is shown
+abbrev pub shown_of : Network → Option ℕ → HeldPlans → Option Schedule
+shown_of g route held = shown_from g held.start route held.plan
 
 -- the clock of the words, as that of the texts
 abbrev pub clock_of : Option DayClock → Option Clock
@@ -123,20 +135,62 @@ pub record IsPart (g : Network) (plans : List RoutePlan) : Type 0 where
   pub feasible : All (IsFeasible g 1 g.capacity) (stops_of plans)
   pub once : (customer : ℕ) → IsCustomer g customer → times_served g plans customer ≤ 1
 
--- the plan is a fleet plan of this cost, or, where that is asked for, a part of one; or there is none
-abbrev pub IsShowable : Bool → Network → Option FleetPlan → Option ℕ → Type 0
-IsShowable false g plan cost = IsValid g plan cost
-IsShowable true g None cost = cost ≡ None
-IsShowable true g (Some plan) cost =
+-- the plan is a part of a fleet plan, of this cost, or there is none
+abbrev pub IsShownPart : Network → Option FleetPlan → Option ℕ → Type 0
+IsShownPart g None cost = cost ≡ None
+IsShownPart g (Some plan) cost =
     IsPart g plan.routes × (cost ≡ Some (cost_of g 1 (stops_of plan.routes)))
+
+-- vehicles that start with this level can drive so, and this is what they take together; or there
+-- is no plan
+abbrev pub IsDriven : Network → ℕ → Option FleetPlan → Option ℕ → Type 0
+IsDriven g start None time = time ≡ None
+IsDriven g start (Some plan) time =
+    All (IsFeasible g 1 start) (stops_of plan.routes)
+    × (time ≡ Some (times_of g start (stops_of plan.routes)))
+
+-- the plan is what the words ask for: a fleet plan of this cost, a part of one, or a route that can
+-- be driven; or there is none
+abbrev pub IsShowable : PlanForm → Network → HeldPlans → Option ℕ → Type 0
+IsShowable plan_form.Fleet g held cost = IsValid g held.plan cost
+IsShowable plan_form.Part g held cost = IsShownPart g held.plan cost
+IsShowable (plan_form.Fixed charge) g held cost = IsDriven g held.start held.plan cost
 
 -- the rule is one of a part of a plan: of the walks, and that no customer is served twice
 abbrev pub is_of_part : PlanFault → Bool
 is_of_part fault = nat_lt (rule_of fault) 3
 
--- the rule is asked of the plan, or of a part of one
-abbrev pub is_asked : Bool → PlanFault → Bool
-is_asked partial fault = not partial || is_of_part fault
+-- the rule that the walk of the route with this number breaks, or else what is found behind it
+abbrev pub walk_or : ℕ → Result WalkEnd WalkFault → Option PlanFault → Option PlanFault
+walk_or number (Ok end) behind = behind
+walk_or number (Err reason) behind = Some (Walk number reason)
+
+-- the first of routes, of which the first has this number, whose walk breaks a rule
+abbrev pub first_walk : Network → ℕ → ℕ → List RoutePlan → Option PlanFault
+first_walk g start number [] = None
+first_walk g start number (p ∷ plans) =
+    walk_or number (walk_along g start p.stops) (first_walk g start (number + 1) plans)
+
+-- the same of a plan, or of none
+abbrev pub first_walk_in : HeldPlans → Network → Option PlanFault
+first_walk_in held g =
+    option_and_then (λ plan. first_walk g held.start 0 plan.routes) held.plan
+
+-- the first rule that the plan breaks, of those that are asked of it
+abbrev pub Breaks : PlanForm → Network → HeldPlans → PlanFault → Type 0
+Breaks plan_form.Fleet g held fault = BreaksFirst g held.plan fault
+Breaks plan_form.Part g held fault = BreaksFirst g held.plan fault × (is_of_part fault ≡ true)
+Breaks (plan_form.Fixed charge) g held fault = first_walk_in held g ≡ Some fault
+
+-- the told time, where it isn't this one
+abbrev pub untrue : Option ℕ → Option ℕ → Option ℕ
+untrue None time = None
+untrue (Some told) None = Some told
+untrue (Some told) (Some time) = if nat_eq told time then None else Some told
+
+-- the line of a told time that isn't that of the route
+abbrev pub other_time_text : ℕ → ℕ → List ℕ
+other_time_text denominator told = codes "rejected " ++ time_text denominator told
 
 -- the files that are asked for
 abbrev pub files_of : ViewPlan → List Place → Option Schedule → List Written
@@ -146,45 +200,59 @@ files_of job places shown =
     ++ file_of job.csv (csv_text (clock_of job.clock) places shown)
     ++ file_of job.map (map_text places shown)
 
--- The plan is a fleet plan, or a part of one where that is asked for, or there is none, and the one
--- route that is asked for is there. Its schedule is put as tables, behind the files that are asked
--- for, with its pictures, and with it as JSON and as CSV, and with its map, with the names of places
--- where they are given; its total time is what the whole plan costs.
+-- The plan is what the words ask for, or there is none, and the one route that is asked for is there.
+-- Its schedule is put as tables, behind the files that are asked for, with its pictures, and with it
+-- as JSON and as CSV, and with its map, with the names of places where they are given; its total
+-- time is what the whole plan costs, or its routes take, and the time that is told, where one is.
 pub record PutsSchedule (job : ViewPlan) (bytes plan_bytes : List ℕ) (more : List (List ℕ))
     (ws : List Written) (text : List ℕ) : Type 0 where
-  pub files : HoldsPlan job.limit bytes plan_bytes
+  pub files : HoldsPlans job bytes plan_bytes
   pub places : List Place
   pub named : HasPlaces (needs_points job) files.network more places
   pub cost : Option ℕ
-  pub valid : IsShowable job.partial files.network files.plan cost
-  pub route : HasRoute job.route files.plan
+  pub valid : IsShowable job.form files.network files.held cost
+  pub route : HasRoute job.route files.held.plan
   pub shown : Option Schedule
-  pub is : shown ≡ shown_of files.network job.route files.plan
+  pub is : shown ≡ shown_of files.network job.route files.held
   pub time : option_map (λ s. s.totals.time) shown ≡ cost
+  pub told : untrue files.held.told cost ≡ None
   pub written : ws ≡ files_of job places shown
   pub text_is : text ≡ table_text job.exact (clock_of job.clock) places shown
 
--- the first rule that the plan breaks is put, and nothing is written; where a part of a plan is asked
--- for, it is a rule of one
+-- the first rule that the plan breaks, of those that are asked of it, is put, and nothing is written
 pub record PutsBrokenPlan (job : ViewPlan) (bytes plan_bytes : List ℕ) (more : List (List ℕ))
     (ws : List Written) (text : List ℕ) : Type 0 where
-  pub files : HoldsPlan job.limit bytes plan_bytes
+  pub files : HoldsPlans job bytes plan_bytes
   pub places : List Place
   pub named : HasPlaces (needs_points job) files.network more places
-  pub route : HasRoute job.route files.plan
+  pub route : HasRoute job.route files.held.plan
   pub fault : PlanFault
-  pub broken : BreaksFirst files.network files.plan fault
-  pub asked : is_asked job.partial fault ≡ true
+  pub broken : Breaks job.form files.network files.held fault
   pub none : ws ≡ []
   pub text_is : text ≡ rejected_text fault
 
--- the first broken rule of the instance, the limit or the plan's text is put, and nothing is
+-- the route can be driven, but doesn't take the time that is told of it; that is put, and nothing is
 -- written
+pub record PutsOtherTime (job : ViewPlan) (bytes plan_bytes : List ℕ) (more : List (List ℕ))
+    (ws : List Written) (text : List ℕ) : Type 0 where
+  pub files : HoldsPlans job bytes plan_bytes
+  pub places : List Place
+  pub named : HasPlaces (needs_points job) files.network more places
+  pub cost : Option ℕ
+  pub valid : IsShowable job.form files.network files.held cost
+  pub route : HasRoute job.route files.held.plan
+  pub told : ℕ
+  pub other : untrue files.held.told cost ≡ Some told
+  pub none : ws ≡ []
+  pub text_is : text ≡ other_time_text files.network.denominator told
+
+-- the first broken rule of the instance, the limit, the level at the start or the plan's text is put,
+-- and nothing is written
 pub record PutsRefusal (job : ViewPlan) (bytes plan_bytes : List ℕ)
     (ws : List Written) (text : List ℕ) : Type 0 where
   pub refusal : Refusal
   pub rule : IsRule refusal
-  pub refused : IsTextRefused job.limit bytes plan_bytes refusal
+  pub refused : IsTextRefused job bytes plan_bytes refusal
   pub none : ws ≡ []
   pub text_is : text ≡ refusal_text refusal
 
@@ -192,7 +260,7 @@ pub record PutsRefusal (job : ViewPlan) (bytes plan_bytes : List ℕ)
 -- nothing is written
 pub record PutsNoPlaces (job : ViewPlan) (bytes plan_bytes : List ℕ) (more : List (List ℕ))
     (ws : List Written) (text : List ℕ) : Type 0 where
-  pub files : HoldsPlan job.limit bytes plan_bytes
+  pub files : HoldsPlans job bytes plan_bytes
   pub fault : PlacesFault
   pub broken : BreaksPlaces (needs_points job) files.network more fault
   pub none : ws ≡ []
@@ -202,12 +270,12 @@ pub record PutsNoPlaces (job : ViewPlan) (bytes plan_bytes : List ℕ) (more : L
 -- nothing is written
 pub record PutsNoRoute (job : ViewPlan) (bytes plan_bytes : List ℕ) (more : List (List ℕ))
     (ws : List Written) (text : List ℕ) : Type 0 where
-  pub files : HoldsPlan job.limit bytes plan_bytes
+  pub files : HoldsPlans job bytes plan_bytes
   pub places : List Place
   pub named : HasPlaces (needs_points job) files.network more places
   pub number : ℕ
   pub asked : job.route ≡ Some number
-  pub past : route_count files.plan ≤ number
+  pub past : route_count files.held.plan ≤ number
   pub none : ws ≡ []
   pub text_is : text ≡ no_route_text number
 
@@ -218,6 +286,7 @@ ViewAnswers job bytes plan_bytes more status.Done ws text =
     PutsSchedule job bytes plan_bytes more ws text
 ViewAnswers job bytes plan_bytes more status.Negative ws text =
     PutsBrokenPlan job bytes plan_bytes more ws text
+    ⊎ PutsOtherTime job bytes plan_bytes more ws text
 ViewAnswers job bytes plan_bytes more status.Refused ws text =
     PutsRefusal job bytes plan_bytes ws text ⊎ PutsNoPlaces job bytes plan_bytes more ws text
     ⊎ PutsNoRoute job bytes plan_bytes more ws text
@@ -226,6 +295,15 @@ ViewAnswers job bytes plan_bytes more other ws text = ⊥
 -- the line of the rule that the plan breaks is put, and this rule is heard
 abbrev pub HearsBrokenPlan : Status → List ℕ → Option Cause → Type 0
 HearsBrokenPlan answered text heard = fleet.HearsBrokenPlan cause.Plan answered text heard
+
+-- the line of a told time that isn't that of the route is put, and this time is heard
+pub record HearsOtherTime
+    (answered : Status) (text : List ℕ) (heard : Option Cause) : Type 0 where
+  pub denominator : ℕ
+  pub told : ℕ
+  pub status_is : answered ≡ status.Negative
+  pub text_is : text ≡ other_time_text denominator told
+  pub heard_is : heard ≡ Some (cause.Time told)
 
 -- the line of the rule that the file of places breaks is put, and this rule is heard
 pub record HearsNoPlaces
@@ -247,7 +325,8 @@ pub record HearsNoRoute
 abbrev pub view_heard : Status → List ℕ → Option Cause → Type 0
 view_heard answered text heard =
     HearsRefusal cause.Refused answered text heard ⊎ HearsBrokenPlan answered text heard
-    ⊎ HearsNoPlaces answered text heard ⊎ HearsNoRoute answered text heard
+    ⊎ HearsOtherTime answered text heard ⊎ HearsNoPlaces answered text heard
+    ⊎ HearsNoRoute answered text heard
     ⊎ HearsDone answered text heard
 
 -- two files are read, and that of places where it is given
@@ -260,8 +339,8 @@ view_answers job other o = ⊥
 -- text is either
 abbrev pub view_goes_on : ViewPlan → List (List ℕ) → Type 0
 view_goes_on job [] = Unit {0}
-view_goes_on job (bytes ∷ []) = (g : Network) × HasNetwork job.limit bytes g
-view_goes_on job (bytes ∷ plan_bytes ∷ []) = HoldsPlan job.limit bytes plan_bytes
+view_goes_on job (bytes ∷ []) = (g : Network) × HasStart job bytes g
+view_goes_on job (bytes ∷ plan_bytes ∷ []) = HoldsPlans job bytes plan_bytes
 view_goes_on job other = ⊥
 
 -- the read of the file of places, where it is given

@@ -21,6 +21,8 @@ pub enum Cause {
     Number(u64),
     /// The plan breaks a rule.
     Plan(PlanFault),
+    /// The route takes another time than this one, scaled, which is told of it.
+    Time(u64),
 }
 
 impl JobCause for Cause {

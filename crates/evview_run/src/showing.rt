@@ -1,13 +1,13 @@
-//! The schedule of a plan, and the texts by which it is shown.
+//! The schedule of plans, and the texts by which it is shown.
 
-ghost use Rattle.std.specs.Prelude.{◌≡◌, ◌<◌, ◌++◌, IfOk, IfSome, None, OnOk, Some, length, map, option_map, string_bytes};
+ghost use Rattle.std.specs.Prelude.{◌≡◌, ◌<◌, ◌≤◌, ◌++◌, IfOk, IfSome, None, OnOk, Some, length, map, option_map, string_bytes};
 ghost use Rattle.std.specs.List.{All};
 ghost use Rattle.ev_model.specs.Feasible.{IsFeasible};
-ghost use Rattle.evview_run.specs.ViewAnswer.{HasRoute, clock_of, file_of, files_of, part_of, shown_of};
+ghost use Rattle.evview_run.specs.Held.{HasFewRoutes};
+ghost use Rattle.evview_run.specs.ViewAnswer.{HasRoute, clock_of, file_of, files_of, part_of, shown_of, untrue};
 ghost use Rattle.job_frame.specs.Finds.{written_by};
 ghost use Rattle.plan_check.specs.FleetRules.{stops_of};
 ghost use Rattle.plan_schedule.specs.Schedules.{IsTimed};
-ghost use Rattle.route_plan.specs.PlanTexts.{FitsFile};
 ghost use Rattle.schedule_texts.specs.Clocks.{AreClocks};
 ghost use Rattle.schedule_texts.specs.JsonTexts.{json_text};
 ghost use Rattle.schedule_texts.specs.Maps.{map_text};
@@ -19,48 +19,41 @@ ghost use Rattle.view_words.specs.Clocks.{IsDayClock};
 ghost use Rattle.view_words.specs.JobValue.{job_value};
 
 use crate::cause::Cause;
+use crate::held::HeldPlans;
 use instance_reader::Instance;
 use job_frame::{Answer, Found, NewFile, Status};
 use place_names::Place;
 use plan_schedule::{Schedule, only_route, schedule_plan};
-use route_plan::FleetPlan;
 use schedule_texts::{
     Clock, schedule_csv, schedule_json, schedule_map, schedule_picture, schedule_table,
 };
 use std::alloc::{AllocError, Global};
 use view_words::{DayClock, Job};
 
-/// What is found for a plan of feasible routes, or for none, with the one route that is asked for:
-/// its tables, and the files that are asked for.
-pub fn show(
+/// What is found for a schedule, or for none: its tables, and the files that are asked for.
+pub(crate) fn show(
     alloc: Global,
-    inst: &Instance,
-    plan: Option<&FleetPlan>,
+    shown: Option<&Schedule>,
     places: &[Place],
     job: &Job,
 ) -> Result<Found<Cause>, AllocError>
-    requires feasible { IfSome plan
-        (λ p. All (IsFeasible inst.now 1 inst.now.capacity) (stops_of p.now.routes)) }
-    requires text { FitsFile (option_map (λ p. p.now) plan) }
-    requires route { HasRoute job.now.route (option_map (λ p. p.now) plan) }
+    requires timed { AreTimed (option_map (λ s. s.now) shown) }
     requires clock { IfSome job.now.clock IsDayClock }
     ensures status { IfOk result (λ f. f.answer.status ≡ Status.Done) }
     ensures files { IfOk result (λ f. map written_by f.files.items
-        ≡ files_of (job_value job.now) places.now
-        (shown_of inst.now job.now.route (option_map (λ p. p.now) plan.entry))) }
+        ≡ files_of (job_value job.now) places.now (option_map (λ s. s.now) shown.entry)) }
     ensures text { IfOk result (λ f. f.answer.text.items
         ≡ table_text job.now.exact (clock_of job.now.clock) places.now
-        (shown_of inst.now job.now.route (option_map (λ p. p.now) plan.entry))) }
+        (option_map (λ s. s.now) shown.entry)) }
     ensures cause { IfOk result (λ f. f.answer.cause ≡ None) }
 {
-    let shown = shown(alloc, inst, plan, job.route)?;
     let clock = clock_of(job.clock);
-    let text = schedule_table(alloc, shown.as_ref(), job.exact, clock, places)?;
+    let text = schedule_table(alloc, shown, job.exact, clock, places)?;
     let mut files = Vec::new(alloc);
-    push_picture(alloc, &mut files, &job.svg, shown.as_ref(), clock, places)?;
-    push_json(alloc, &mut files, &job.json, shown.as_ref(), clock, places)?;
-    push_csv(alloc, &mut files, &job.csv, shown.as_ref(), clock, places)?;
-    push_map(alloc, &mut files, &job.map, shown.as_ref(), places)?;
+    push_picture(alloc, &mut files, &job.svg, shown, clock, places)?;
+    push_json(alloc, &mut files, &job.json, shown, clock, places)?;
+    push_csv(alloc, &mut files, &job.csv, shown, clock, places)?;
+    push_map(alloc, &mut files, &job.map, shown, places)?;
     let answer = Answer {
         status: Status::Done,
         text,
@@ -69,26 +62,40 @@ pub fn show(
     Ok(Found { answer, files })
 }
 
-/// The schedule of a plan, or of the one route that is asked for; `None` where there is no plan.
-fn shown(
+/// The schedule of plans that can be driven, or of the one route that is asked for; `None` where
+/// there is no plan.
+pub(crate) fn shown(
     alloc: Global,
     inst: &Instance,
-    plan: Option<&FleetPlan>,
+    held: &HeldPlans,
     route: Option<u64>,
 ) -> Result<Option<Schedule>, AllocError>
-    requires feasible { IfSome plan
-        (λ p. All (IsFeasible inst.now 1 inst.now.capacity) (stops_of p.now.routes)) }
-    requires text { FitsFile (option_map (λ p. p.now) plan) }
-    requires route { HasRoute route (option_map (λ p. p.now) plan) }
-    ensures shown { IfOk result
-        (λ s. s ≡ shown_of inst.now route (option_map (λ p. p.now) plan.entry)) }
+    requires start { held.now.start ≤ inst.now.capacity }
+    requires feasible { IfSome held.now.plan
+        (λ p. All (IsFeasible inst.now 1 held.now.start) (stops_of p.routes)) }
+    requires few { HasFewRoutes held.now.plan }
+    requires route { HasRoute route held.now.plan }
+    ensures shown { IfOk result (λ s. s ≡ shown_of inst.now route held.now) }
     ensures timed { IfOk result AreTimed }
 {
-    let Some(plan) = plan else {
+    let Some(plan) = &held.plan else {
         return Ok(None);
     };
-    let whole = schedule_plan(alloc, inst, plan)?;
+    let whole = schedule_plan(alloc, inst, held.start, plan)?;
     Ok(part_of(whole, route))
+}
+
+/// The told time, where it isn't that of what is shown.
+pub(crate) fn untrue(told: Option<u64>, shown: Option<&Schedule>) -> Option<u64>
+    ensures { result ≡ untrue told (option_map (λ s. s.totals.time) (option_map (λ s. s.now) shown.entry)) }
+{
+    let Some(told) = told else {
+        return None;
+    };
+    match shown {
+        Some(schedule) if u128::from(told) == schedule.totals.time => None,
+        _ => Some(told),
+    }
 }
 
 /// The schedule of all routes, or of one of them.

@@ -1,28 +1,26 @@
-//! What is found for the words: the instance and the plan of their files are read, the plan is
-//! judged, and its schedule is shown.
+//! What is found for the words: the instance and the plans of their files are read, the plans are
+//! judged, and their schedule is shown.
 
 ghost use Rattle.std.specs.Prelude.{◌≡◌, ◌≤◌, ◌++◌, [], IfErr, IfOk, IfSome, IsNone, List, OnOk, Option, Some, map, option_map, ℕ};
-ghost use Rattle.evview_run.specs.ViewAnswer.{EndsPlaces, HasPlaces, HasRoute, ViewAnswers, entry_words, is_asked, listed, needs_points, no_route_text, places_text, route_count, view_heard, view_task};
-ghost use Rattle.fleet_steps.specs.PlanFile.{HasPlan};
+ghost use Rattle.evview_run.specs.ViewAnswer.{EndsPlaces, HasPlaces, HasRoute, IsShowable, ViewAnswers, entry_words, listed, needs_points, no_route_text, other_time_text, places_text, route_count, view_heard, view_task};
+ghost use Rattle.evview_run.specs.Held.{FitsHeld, HasHeld, HasStart, start_of};
 ghost use Rattle.job_frame.specs.Finds.{Finds, written_by};
 ghost use Rattle.job_frame.specs.Task.{AreReadUpTo};
 ghost use Rattle.job_frame.specs.Caps.{most_bytes};
-ghost use Rattle.job_frame.specs.LimitedNetwork.{HasNetwork};
-ghost use Rattle.route_plan.specs.PlanTexts.{FitsFile};
 ghost use Rattle.view_words.specs.JobValue.{IsJob, job_value};
 
 use crate::asking::ask_files;
 use crate::cause::Cause;
-use crate::showing::show;
+use crate::held::{HeldPlans, held_of, setting_of};
+use crate::judging::judged;
+use crate::showing::{show, shown, untrue};
 use ev_outside::{Shelf, ShelfFault};
-use fleet_steps::{cost_of, plan_of, reject};
+use fleet_steps::reject;
 use instance_reader::Instance;
-use job_frame::{
-    Answer, Ended, Found, MOST_BYTES, Status, limited_instance, read_file, refuse_job,
-};
+use job_frame::{Answer, Ended, Found, MOST_BYTES, Status, read_file, refuse_job};
 use place_names::{EntryFault, Place, PlacesEnded, PlacesFault, read_places};
-use plan_check::{LargeFault, PlanFault};
-use report_lines::{push_number_line, push_numbered, push_word};
+use plan_check::LargeFault;
+use report_lines::{push_number_line, push_numbered, push_time, push_word};
 use route_plan::FleetPlan;
 use std::alloc::{AllocError, Global};
 use view_words::Job;
@@ -48,56 +46,59 @@ fn view_asked<S: Shelf>(alloc: Global, job: &Job, shelf: &mut S) -> Result<Found
         Ok(bytes) => bytes,
         Err(fault) => return Err(fault),
     };
-    match limited_instance(alloc, bytes.as_slice(), job.limit) {
-        Ok(inst) => view_on(alloc, &inst, job, shelf),
+    match setting_of(alloc, bytes.as_slice(), job.limit, &job.form) {
+        Ok(setting) => view_on(alloc, &setting.inst, setting.start, job, shelf),
         Err(Ended::Refused(refusal)) => refuse_job(alloc, refusal),
         Err(Ended::Memory) => Err(ShelfFault::Memory),
     }
 }
 
-/// What is found on the instance of its file: the plan is read, then the places, where they are
-/// given, and the plan is judged and shown.
+/// What is found on an instance whose vehicles start with this level: the plan is read, then the
+/// places, where they are given, and the plan is judged and shown.
 fn view_on<S: Shelf>(
     alloc: Global,
     inst: &Instance,
+    start: u64,
     job: &Job,
     shelf: &mut S,
 ) -> Result<Found<Cause>, ShelfFault>
-    requires { IsJob job.now }
+    requires job { IsJob job.now }
+    requires start { start ≡ start_of inst.now job.now.form }
+    requires within { start ≤ inst.now.capacity }
     ensures { (bytes : List ℕ)
         → AreReadUpTo most_bytes (S.state shelf.old).files (job_value job.now).file bytes
-        → HasNetwork job.now.limit bytes inst.now
+        → HasStart (job_value job.now) bytes inst.now
         → Finds (view_task (job_value job.now)) (S.state shelf.old) (S.state shelf.new) result }
 {
     let bytes = match read_file(alloc, job.plan.as_str(), MOST_BYTES, shelf) {
         Ok(bytes) => bytes,
         Err(fault) => return Err(fault),
     };
-    match plan_of(alloc, bytes.as_slice()) {
-        Ok(plan) => match &job.places {
-            Some(name) => view_named(alloc, inst, plan.as_ref(), name.as_str(), job, shelf),
-            None => view_text(alloc, inst, plan.as_ref(), None, job),
+    match held_of(alloc, inst, start, bytes.as_slice(), &job.form) {
+        Ok(held) => match &job.places {
+            Some(name) => view_named(alloc, inst, &held, name.as_str(), job, shelf),
+            None => view_text(alloc, inst, &held, None, job),
         },
         Err(Ended::Refused(refusal)) => refuse_job(alloc, refusal),
         Err(Ended::Memory) => Err(ShelfFault::Memory),
     }
 }
 
-/// What is found for a plan, or for none, with the file of this name for the places.
+/// What is found for plans, or for none, with the file of this name for the places.
 fn view_named<S: Shelf>(
     alloc: Global,
     inst: &Instance,
-    plan: Option<&FleetPlan>,
+    held: &HeldPlans,
     name: &str,
     job: &Job,
     shelf: &mut S,
 ) -> Result<Found<Cause>, ShelfFault>
     requires job { IsJob job.now }
-    requires text { FitsFile (option_map (λ p. p.now) plan) }
+    requires held { FitsHeld inst.now job.now.form held.now }
     ensures { (bytes plan_bytes : List ℕ)
         → AreReadUpTo most_bytes (S.state shelf.old).files (job_value job.now).file bytes
         → AreReadUpTo most_bytes (S.state shelf.old).files (job_value job.now).plan plan_bytes
-        → HasPlan job.now.limit bytes plan_bytes inst.now (option_map (λ p. p.now) plan.entry)
+        → HasHeld (job_value job.now) bytes plan_bytes inst.now held.now
         → (job_value job.now).places ≡ Some name.now
         → Finds (view_task (job_value job.now)) (S.state shelf.old) (S.state shelf.new) result }
 {
@@ -105,21 +106,21 @@ fn view_named<S: Shelf>(
         Ok(bytes) => bytes,
         Err(fault) => return Err(fault),
     };
-    view_text(alloc, inst, plan, Some(bytes.as_slice()), job)
+    view_text(alloc, inst, held, Some(bytes.as_slice()), job)
 }
 
-/// What is found for a plan, or for none, and the bytes of a file of places, where it is given.
+/// What is found for plans, or for none, and the bytes of a file of places, where it is given.
 fn view_text(
     alloc: Global,
     inst: &Instance,
-    plan: Option<&FleetPlan>,
+    held: &HeldPlans,
     bytes: Option<&[u8]>,
     job: &Job,
 ) -> Result<Found<Cause>, ShelfFault>
     requires job { IsJob job.now }
-    requires text { FitsFile (option_map (λ p. p.now) plan) }
+    requires held { FitsHeld inst.now job.now.form held.now }
     ensures answers { (file plan_bytes : List ℕ)
-        → HasPlan job.now.limit file plan_bytes inst.now (option_map (λ p. p.now) plan.entry)
+        → HasHeld (job_value job.now) file plan_bytes inst.now held.now
         → IfOk result (λ f. ViewAnswers (job_value job.now) file plan_bytes
         (listed (option_map (λ b. b.now) bytes.entry))
         f.answer.status (map written_by f.files.items) f.answer.text.items) }
@@ -128,7 +129,7 @@ fn view_text(
     ensures memory { IfErr result (λ fault. fault ≡ ShelfFault.Memory) }
 {
     match places_of(alloc, inst, bytes, job.map.is_some()) {
-        Ok(places) => match view_plan(alloc, inst, plan, places.as_slice(), job) {
+        Ok(places) => match view_plan(alloc, inst, held, places.as_slice(), job) {
             Ok(found) => Ok(found),
             Err(AllocError) => Err(ShelfFault::Memory),
         },
@@ -207,27 +208,27 @@ fn entry_words(wrong: EntryFault) -> &'static [u8]
     }
 }
 
-/// What is found for a plan, or for none: the one route that is asked for has to be there.
+/// What is found for plans, or for none: the one route that is asked for has to be there.
 fn view_plan(
     alloc: Global,
     inst: &Instance,
-    plan: Option<&FleetPlan>,
+    held: &HeldPlans,
     places: &[Place],
     job: &Job,
 ) -> Result<Found<Cause>, AllocError>
     requires job { IsJob job.now }
-    requires text { FitsFile (option_map (λ p. p.now) plan) }
+    requires held { FitsHeld inst.now job.now.form held.now }
     ensures answers { (file plan_bytes : List ℕ) (more : List (List ℕ))
-        → HasPlan job.now.limit file plan_bytes inst.now (option_map (λ p. p.now) plan.entry)
+        → HasHeld (job_value job.now) file plan_bytes inst.now held.now
         → HasPlaces (needs_points (job_value job.now)) inst.now more places.now
         → IfOk result (λ f. ViewAnswers (job_value job.now) file plan_bytes more
         f.answer.status (map written_by f.files.items) f.answer.text.items) }
     ensures heard { IfOk result
         (λ f. view_heard f.answer.status f.answer.text.items f.answer.cause) }
 {
-    match missing_route(plan, job.route) {
+    match missing_route(held.plan.as_ref(), job.route) {
         Some(number) => refuse_route(alloc, number),
-        None => view_judged(alloc, inst, plan, places, job),
+        None => view_judged(alloc, inst, held, places, job),
     }
 }
 
@@ -274,48 +275,75 @@ fn refuse_route(alloc: Global, number: u64) -> Result<Found<Cause>, AllocError>
     Ok(Found::alone(alloc, answer))
 }
 
-/// What is found for a plan, or for none, with the one route that is asked for: it is judged, as a
-/// part of a plan where that is asked for, and shown.
+/// What is found for plans, or for none, with the one route that is asked for: they are judged by
+/// the rules that are asked of them, and shown.
 fn view_judged(
     alloc: Global,
     inst: &Instance,
-    plan: Option<&FleetPlan>,
+    held: &HeldPlans,
     places: &[Place],
     job: &Job,
 ) -> Result<Found<Cause>, AllocError>
     requires job { IsJob job.now }
-    requires text { FitsFile (option_map (λ p. p.now) plan) }
-    requires route { HasRoute job.now.route (option_map (λ p. p.now) plan) }
+    requires held { FitsHeld inst.now job.now.form held.now }
+    requires route { HasRoute job.now.route held.now.plan }
     ensures answers { (file plan_bytes : List ℕ) (more : List (List ℕ))
-        → HasPlan job.now.limit file plan_bytes inst.now (option_map (λ p. p.now) plan.entry)
+        → HasHeld (job_value job.now) file plan_bytes inst.now held.now
         → HasPlaces (needs_points (job_value job.now)) inst.now more places.now
         → IfOk result (λ f. ViewAnswers (job_value job.now) file plan_bytes more
         f.answer.status (map written_by f.files.items) f.answer.text.items) }
     ensures heard { IfOk result
         (λ f. view_heard f.answer.status f.answer.text.items f.answer.cause) }
 {
-    match cost_of(alloc, inst, plan) {
-        Ok(_cost) => show(alloc, inst, plan, places, job),
-        Err(LargeFault::Plan { fault }) => {
-            if is_asked(job.partial, fault) {
-                reject(alloc, fault)
-            } else {
-                show(alloc, inst, plan, places, job)
-            }
-        }
+    match judged(alloc, inst, held, &job.form) {
+        Ok(()) => view_shown(alloc, inst, held, places, job),
+        Err(LargeFault::Plan { fault }) => reject(alloc, fault),
         Err(LargeFault::Memory) => Err(AllocError),
     }
 }
 
-/// Whether a rule is asked of a plan, or of a part of one: the walks come to their ends, and no
-/// customer stands more than once. These rules are tried before the others.
-fn is_asked(partial: bool, fault: PlanFault) -> bool
-    ensures { result ≡ is_asked partial fault }
+/// What is found for plans that can be driven, or for none: their schedule is shown, unless another
+/// time than its own is told of them.
+fn view_shown(
+    alloc: Global,
+    inst: &Instance,
+    held: &HeldPlans,
+    places: &[Place],
+    job: &Job,
+) -> Result<Found<Cause>, AllocError>
+    requires job { IsJob job.now }
+    requires held { FitsHeld inst.now job.now.form held.now }
+    requires route { HasRoute job.now.route held.now.plan }
+    requires showable { (cost : Option ℕ) × IsShowable job.now.form inst.now held.now cost }
+    ensures answers { (file plan_bytes : List ℕ) (more : List (List ℕ))
+        → HasHeld (job_value job.now) file plan_bytes inst.now held.now
+        → HasPlaces (needs_points (job_value job.now)) inst.now more places.now
+        → IfOk result (λ f. ViewAnswers (job_value job.now) file plan_bytes more
+        f.answer.status (map written_by f.files.items) f.answer.text.items) }
+    ensures heard { IfOk result
+        (λ f. view_heard f.answer.status f.answer.text.items f.answer.cause) }
 {
-    match fault {
-        PlanFault::Walk { .. } | PlanFault::Twice { .. } => true,
-        PlanFault::Unserved { .. } | PlanFault::EmptyRoute { .. } | PlanFault::Stray { .. } => {
-            !partial
-        }
+    let shown = shown(alloc, inst, held, job.route)?;
+    match untrue(held.told, shown.as_ref()) {
+        Some(told) => reject_time(alloc, told, inst.denominator()),
+        None => show(alloc, shown.as_ref(), places, job),
     }
+}
+
+/// The line of a told time that isn't that of the route.
+fn reject_time(alloc: Global, told: u64, denominator: u64) -> Result<Found<Cause>, AllocError>
+    ensures status { IfOk result (λ f. f.answer.status ≡ Status.Negative) }
+    ensures files { IfOk result (λ f. map written_by f.files.items ≡ []) }
+    ensures text { IfOk result (λ f. f.answer.text.items ≡ other_time_text denominator told) }
+    ensures cause { IfOk result (λ f. f.answer.cause ≡ Some (Cause.Time told)) }
+{
+    let mut text = Vec::new(alloc);
+    push_word(&mut text, b"rejected ")?;
+    push_time(alloc, &mut text, told, denominator)?;
+    let answer = Answer {
+        status: Status::Negative,
+        text,
+        cause: Some(Cause::Time(told)),
+    };
+    Ok(Found::alone(alloc, answer))
 }

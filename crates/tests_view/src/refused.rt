@@ -7,6 +7,9 @@ use worked_instances::{NO_STATION, ONE_STATION, TWO_CUSTOMERS};
 /// The plan of the one customer with a station on the way.
 const BY_STATION: &str = "evroute plan 1\nroutes 1\nroute 0 v2+1 1 0\n";
 
+/// What `fixed` puts of that plan.
+const CHARGED: &str = "time 43/2\nat 0\nvia 2 charge 1\nat 1\nat 0\n";
+
 /// A plan file that holds no plan.
 const NONE: &str = "evroute plan 1\nnone\n";
 
@@ -33,7 +36,7 @@ fn the_first_broken_rule_is_put_and_nothing_is_written(rt: HostRuntime) {
             ONE_STATION,
             BY_STATION,
             Status::Words,
-            "evview FILE PLAN [--limit N] [--route N] [--partial] [--exact] [--begin HH:MM --unit U] [--places FILE] [--svg OUT] [--json OUT] [--csv OUT] [--map OUT]\n",
+            "evview FILE PLAN [--limit N] [--route N] [--partial] [--fixed [--charge N]] [--exact] [--begin HH:MM --unit U] [--places FILE] [--svg OUT] [--json OUT] [--csv OUT] [--map OUT]\n",
         ),
         (
             "A P --svg S --json J",
@@ -163,6 +166,109 @@ fn the_first_broken_rule_is_put_and_nothing_is_written(rt: HostRuntime) {
         ),
     ] {
         let mut shelf = shelf_with(alloc, instance, plan, &[]).expect(&rt, "memory");
+        assert_run(&rt, alloc, line, &mut shelf, status, put);
+        assert_file(&rt, &shelf, "S", None);
+        assert_file(&rt, &shelf, "J", None);
+        assert_file(&rt, &shelf, "C", None);
+    }
+}
+
+#[test]
+fn a_charged_route_that_cannot_be_shown_is_told(rt: HostRuntime) {
+    let alloc = rt.alloc();
+    for &(line, plan, status, put) in &[
+        (
+            "A P --fixed --charge 11 --svg S --json J",
+            "what stands here isn't read",
+            Status::Refused,
+            "refused charge 11\n",
+        ),
+        (
+            "A P --fixed --limit 1000000000000000000 --charge 11",
+            CHARGED,
+            Status::Refused,
+            "refused limit 1000000000000000000\n",
+        ),
+        (
+            "A P --fixed --svg S --json J",
+            BY_STATION,
+            Status::Refused,
+            "refused plan 3 at 0\n",
+        ),
+        (
+            "A P --svg S --json J",
+            CHARGED,
+            Status::Refused,
+            "refused plan 3 at 0\n",
+        ),
+        (
+            "A P --fixed --svg S --json J",
+            "time 43/3\nat 0\nvia 2 charge 1\nat 1\nat 0\n",
+            Status::Refused,
+            "refused plan 3 at 7\n",
+        ),
+        (
+            "A P --fixed --svg S --json J",
+            "time 043/2\nat 0\nvia 2 charge 1\nat 1\nat 0\n",
+            Status::Refused,
+            "refused plan 1 at 5\n",
+        ),
+        (
+            "A P --fixed --svg S --json J",
+            "time 43/2\nat 0\nvia 2 charge 0\nat 1\nat 0\n",
+            Status::Refused,
+            "refused plan 1 at 28\n",
+        ),
+        (
+            "A P --fixed --svg S --json J",
+            "time 43/2\nat 0\nvia 1000000001\n",
+            Status::Refused,
+            "refused plan 2 at 19\n",
+        ),
+        (
+            "A P --fixed --svg S --json J",
+            "time 43/2\nat 0\nvia",
+            Status::Refused,
+            "refused plan 4 at 15\n",
+        ),
+        (
+            "A P --fixed --svg S --json J",
+            "infeasible\ninfeasible\n",
+            Status::Refused,
+            "refused plan 3 at 11\n",
+        ),
+        (
+            "A P --fixed --svg S --json J --csv C --route 1",
+            CHARGED,
+            Status::Refused,
+            "refused number 1\n",
+        ),
+        (
+            "A P --fixed --svg S --json J --route 0",
+            "infeasible\n",
+            Status::Refused,
+            "refused number 0\n",
+        ),
+        (
+            "A P --fixed --svg S --json J",
+            "time 42/2\nat 0\nvia 2 charge 1\nat 1\nat 0\n",
+            Status::Negative,
+            "rejected time 42/2\n",
+        ),
+        (
+            "A P --fixed --charge 9 --svg S --json J",
+            CHARGED,
+            Status::Negative,
+            "rejected plan 1 route 0 walk 4 at 3\n",
+        ),
+        (
+            "A P --fixed --svg S --json J",
+            "time 0/2\n",
+            Status::Negative,
+            "rejected plan 1 route 0 walk 1\n",
+        ),
+    ] {
+        let mut shelf = shelf_with(alloc, ONE_STATION, plan, &[]).expect(&rt, "memory");
         assert_run(&rt, alloc, line, &mut shelf, status, put);
         assert_file(&rt, &shelf, "S", None);
         assert_file(&rt, &shelf, "J", None);

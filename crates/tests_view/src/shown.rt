@@ -94,6 +94,27 @@ fn a_part_of_a_plan_is_shown_where_it_is_asked_for(rt: HostRuntime) {
 }
 
 #[test]
+fn a_charged_route_is_shown_from_the_level_at_its_start(rt: HostRuntime) {
+    let alloc = rt.alloc();
+    for &(line, plan, put) in &[
+        (
+            "A P --fixed",
+            "time 43/2\nat 0\nvia 2 charge 1\nat 1\nat 0\n",
+            "route 0\n  stop  node  what        arrival  level  plug time   from     to    leaving\n     0     0  depot          0.00     10          -      -      -       0.00\n     1     2  station        8.00      7       0.00      7      8       8.50\n     2     1  customer      11.50      6          -      -      -      11.50\n     3     0  depot         21.50      0          -      -      -      21.50\ntotal of route 0: time 21.50, driving 21.00, serving 0.00, plugging in 0.00, charging 0.50, energy driven 11, energy charged 1, stops 4\n\ntotal of the plan: time 21.50, driving 21.00, serving 0.00, plugging in 0.00, charging 0.50, energy driven 11, energy charged 1, stops 4\n",
+        ),
+        (
+            "A P --fixed --charge 5 --exact --route 0",
+            "time 48/2\nat 0\nvia 2 charge 6\nat 1\nat 0\n",
+            "route 0\n  stop  node  what        arrival  level  plug time   from     to    leaving\n     0     0  depot           0/2      5          -      -      -        0/2\n     1     2  station        16/2      2        0/2      2      8       22/2\n     2     1  customer       28/2      6          -      -      -       28/2\n     3     0  depot          48/2      0          -      -      -       48/2\ntotal of route 0: time 48/2, driving 42/2, serving 0/2, plugging in 0/2, charging 6/2, energy driven 11, energy charged 6, stops 4\n\ntotal of the plan: time 48/2, driving 42/2, serving 0/2, plugging in 0/2, charging 6/2, energy driven 11, energy charged 6, stops 4\n",
+        ),
+        ("A P --fixed --charge 10", "infeasible\n", "no plan\n"),
+    ] {
+        let mut shelf = shelf_with(alloc, ONE_STATION, plan, &[]).expect(&rt, "memory");
+        assert_run(&rt, alloc, line, &mut shelf, Status::Done, put);
+    }
+}
+
+#[test]
 fn the_schedule_is_written_as_json(rt: HostRuntime) {
     let alloc = rt.alloc();
     for &(line, instance, plan, want) in &[
@@ -113,6 +134,12 @@ fn the_schedule_is_written_as_json(rt: HostRuntime) {
             "A P --svg S --json=J",
             NO_STATION,
             NONE,
+            "{\"format\":\"evview schedule 1\",\"routes\":null}\n",
+        ),
+        (
+            "A P --json J --fixed",
+            NO_STATION,
+            "infeasible\n",
             "{\"format\":\"evview schedule 1\",\"routes\":null}\n",
         ),
         (

@@ -2,7 +2,7 @@
 
 use crate::files::words_of;
 use std::alloc::Global;
-use view_words::{Job, job_words, usage};
+use view_words::{Job, PlanForm, job_words, usage};
 
 /// The name of a file, or a dash where there is none.
 fn name_or_dash(name: &Option<String>) -> &str {
@@ -12,12 +12,25 @@ fn name_or_dash(name: &Option<String>) -> &str {
     }
 }
 
-/// The job in short: its limit and its route, or 0 where there is none, whether it may be a
-/// part of a plan, whether times are shown as they are scaled, the file with the names of places, and the files that are written.
+/// The form of the plan in short, with the level at the start, where it is given.
+fn told_form(alloc: Global, form: PlanForm) -> Option<String> {
+    match form {
+        PlanForm::Fleet => String::from_str(alloc, "fleet").ok(),
+        PlanForm::Part => String::from_str(alloc, "part").ok(),
+        PlanForm::Fixed { charge: None } => String::from_str(alloc, "fixed").ok(),
+        PlanForm::Fixed {
+            charge: Some(level),
+        } => format!(in alloc; "fixed+{level}").ok(),
+    }
+}
+
+/// The job in short: its limit and its route, or 0 where there is none, which form the plan has,
+/// whether times are shown as they are scaled, the file with the names of places, and the files
+/// that are written.
 fn told(alloc: Global, job: &Job) -> Option<String> {
     let limit = job.limit.unwrap_or(0);
     let route = job.route.unwrap_or(0);
-    let partial = job.partial;
+    let form = told_form(alloc, job.form)?;
     let exact = job.exact;
     let clock = match job.clock {
         Some(clock) => format!(in alloc; "{}+{}/{}", clock.begin, clock.seconds, clock.parts).ok()?,
@@ -29,7 +42,7 @@ fn told(alloc: Global, job: &Job) -> Option<String> {
     let csv = name_or_dash(&job.csv);
     let map = name_or_dash(&job.map);
     format!(in alloc;
-        "{limit} {route} {partial} {exact} {clock} {places} {svg} {json} {csv} {map}"
+        "{limit} {route} {form} {exact} {clock} {places} {svg} {json} {csv} {map}"
     ).ok()
 }
 
@@ -44,34 +57,39 @@ fn named(alloc: Global, line: &str) -> Option<String> {
 fn words_name_a_job_or_none(rt: HostRuntime) {
     let alloc = rt.alloc();
     for &(line, want) in &[
-        ("A P", "0 0 false false - - - - - -"),
-        ("A P --limit 5 --route 7", "5 7 false false - - - - - -"),
-        ("--exact A --route=0 P", "0 0 false true - - - - - -"),
-        ("A --partial P", "0 0 true false - - - - - -"),
-        ("A P --svg S", "0 0 false false - - S - - -"),
-        ("A --json J P --svg=S --exact", "0 0 false true - - S J - -"),
+        ("A P", "0 0 fleet false - - - - - -"),
+        ("A P --limit 5 --route 7", "5 7 fleet false - - - - - -"),
+        ("--exact A --route=0 P", "0 0 fleet true - - - - - -"),
+        ("A --partial P", "0 0 part false - - - - - -"),
+        ("A P --fixed", "0 0 fixed false - - - - - -"),
+        (
+            "A P --charge 5 --exact --fixed",
+            "0 0 fixed+5 true - - - - - -",
+        ),
+        ("A P --svg S", "0 0 fleet false - - S - - -"),
+        ("A --json J P --svg=S --exact", "0 0 fleet true - - S J - -"),
         (
             "A P --limit 1000000000000000000",
-            "1000000000000000000 0 false false - - - - - -",
+            "1000000000000000000 0 fleet false - - - - - -",
         ),
         (
             "A P --csv C --json J --svg S",
-            "0 0 false false - - S J C -",
+            "0 0 fleet false - - S J C -",
         ),
         (
             "A P --begin 07:30 --unit min",
-            "0 0 false false 450+60/1 - - - - -",
+            "0 0 fleet false 450+60/1 - - - - -",
         ),
         (
             "A P --begin 00:00 --unit=h/100 --exact",
-            "0 0 false true 0+3600/100 - - - - -",
+            "0 0 fleet true 0+3600/100 - - - - -",
         ),
         (
             "A P --unit s/1000000000 --begin 23:59",
-            "0 0 false false 1439+1/1000000000 - - - - -",
+            "0 0 fleet false 1439+1/1000000000 - - - - -",
         ),
-        ("A P --places N", "0 0 false false - N - - - -"),
-        ("A P --map M --places N", "0 0 false false - N - - - M"),
+        ("A P --places N", "0 0 fleet false - N - - - -"),
+        ("A P --map M --places N", "0 0 fleet false - N - - - M"),
         ("A", ""),
         ("A P Q", ""),
         ("A A", ""),
@@ -91,6 +109,12 @@ fn words_name_a_job_or_none(rt: HostRuntime) {
         ("A P --exact --exact", ""),
         ("A P --exact=1", ""),
         ("A P --partial --partial", ""),
+        ("A P --charge 5", ""),
+        ("A P --partial --charge 5", ""),
+        ("A P --partial --fixed", ""),
+        ("A P --fixed --fixed", ""),
+        ("A P --fixed --charge 05", ""),
+        ("A P --fixed --charge", ""),
         ("A P --begin 07:30", ""),
         ("A P --unit min", ""),
         ("A P --begin 7:30 --unit min", ""),

@@ -1,4 +1,4 @@
-use Rattle.std.proofs.Common.{◌≡◌, ◌∙◌, ℕ, Global, List, Option, Some, String, ap, string_bytes, sym}
+use Rattle.std.proofs.Common.{◌∙◌, ℕ, Global, List, Option, Some, String, ap, string_bytes, sym}
 use Rattle.std.specs.Option.{option_map}
 use Rattle.job_frame.proofs.AskedFiles.{asks_none, asks_some}
 use Rattle.evview_run.proofs.asking.ask_named.Goals as goal

@@ -1,5 +1,3 @@
-use Rattle.std.specs.Borrow.{Bor}
-use Rattle.std.specs.Option.{option_map}
 use Rattle.std.proofs.Common.{Option, subst}
 use Rattle.evview_run.proofs.Shown.{part_is_there}
 use Rattle.evview_run.specs.ViewAnswer.{HasRoute}
@@ -8,5 +6,5 @@ use Rattle.evview_run.proofs.showing.shown.Goals as goal
 
 pub part_of-requires : goal.part_of-requires
 part_of-requires c =
-    let there = subst (λ (p : Option (Bor FleetPlan)). HasRoute c.args.route (option_map (λ b. b.now) p)) c.in-Some.is c.requires.route in
-    part_is_there c.args.inst.now c.in-Some.plan.now c.args.route c.in_ok-whole.whole there c.in_ok-whole.ensures.value
+    let there = subst (λ (p : Option FleetPlan). HasRoute c.args.route p) c.in-Some.is c.requires.route in
+    part_is_there c.args.inst.now c.args.held.now.start c.in-Some.plan c.args.route c.in_ok-whole.whole there c.in_ok-whole.ensures.value

@@ -8,7 +8,7 @@ pub returns-in-Err : goal.returns-in-Err
 returns-in-Err g c = λ bytes plan_bytes read read_plan has named.
     let before = g.S.Shelf.state c.args.shelf.now in
     let after = g.S.Shelf.state c.read_file.new.shelf in
-    read_fails (places_fail (job_value c.args.job.now) before after bytes plan_bytes c.args.name.now (record { network = c.args.inst.now; plan = _; has = has }) read read_plan named)
+    read_fails (places_fail (job_value c.args.job.now) before after bytes plan_bytes c.args.name.now (record { network = c.args.inst.now; held = c.args.held.now; has = has }) read read_plan named)
     refl c.in-Err.ensures.fault c.in-Err.ensures.stays c.in-Err.ensures.falls c.in-Err.ensures.files
 
 pub returns : goal.returns

@@ -22,7 +22,7 @@ returns-in-Ok-refuse_places-clause-answers c = λ file plan_bytes has.
     let needed : c.is_some.result ≡ needs_points (job_value c.args.job.now) = c.is_some.ensures ∙ sym (still_some c.args.job.now.map) in
     let ended = subst (λ (needs : Bool). EndsPlaces needs c.args.inst.now more c.in-Err-Refused.field-0) needed c.in-Err-Refused.ensures.fault in
     let breaks = subst (λ (e : PlacesEnded). EndsPlaces (needs_points (job_value c.args.job.now)) c.args.inst.now more e) c.in-Err-Refused.field-0-is ended in
-    puts_no_places (job_value c.args.job.now) file plan_bytes more {E = ℕ} c.args.inst.now (option_map (λ p. p.now) c.args.plan) c.in-Err-Refused.fault (Ok c.in-Ok-refuse_places.found)
+    puts_no_places (job_value c.args.job.now) file plan_bytes more {E = ℕ} c.args.inst.now c.args.held.now c.in-Err-Refused.fault (Ok c.in-Ok-refuse_places.found)
     has breaks c.in-Ok-refuse_places.ensures.status c.in-Ok-refuse_places.ensures.files c.in-Ok-refuse_places.ensures.text
 
 pub returns-in-Ok-refuse_places-clause-heard : goal.returns-in-Ok-refuse_places-clause-heard
