@@ -1,13 +1,13 @@
 //! Which plans are gone on from: simulated annealing, with the logarithms of a table.
 
 /// The first temperature, in thousandths of what a customer costs on average.
-const HOT: u64 = 300;
+const HOT: u64 = 600;
 
 /// How many stages a cycle has.
 pub(crate) const STAGES: u64 = 256;
 
 /// The temperature of a stage, in 2^16ths of that of the stage before.
-const COOLING: u64 = 64_671;
+const COOLING: u64 = 64_368;
 
 /// For each byte b, 256 times the negative logarithm of (b + 1/2) / 256.
 const NEGATIVE_LOGS: [u64; 256] = [

@@ -36,6 +36,14 @@ struct Plugged {
     number: usize,
 }
 
+/// What a label promises: the least of its times and what is lacking to a full battery is worth,
+/// and its highest level.
+#[derive(Clone, Copy)]
+struct Promise {
+    least: u64,
+    top: u64,
+}
+
 /// Two places, one behind the other, and what is asked of a vehicle that goes from the first to the
 /// second.
 #[derive(Clone, Copy)]
@@ -159,6 +167,10 @@ impl Charger {
                 to,
                 left: ground.full.saturating_sub(gone),
                 others: whole.time.wrapping_sub(arc.time),
+                cost: ground
+                    .worth
+                    .wrapping_mul(whole.energy.wrapping_sub(arc.energy))
+                    .wrapping_add(whole.time.wrapping_sub(arc.time)),
                 rest: rest.energy,
             };
             best = least_in(ground, numbers, asked, best.unwrap_or(bar)).or(best);
@@ -249,9 +261,7 @@ impl Charger {
             let Some(label) = self.labels.get(index).copied() else {
                 break;
             };
-            for number in gaps.stations(ground, gap.from, gap.to) {
-                self.plug(ground, gap, label, gap.from, *number)?;
-            }
+            self.plug_between(ground, gaps, gap, label)?;
         }
         self.go_on_from_stations(ground, gap)?;
         self.labels.clear();
@@ -270,13 +280,60 @@ impl Charger {
             };
             let place = ground.station_place(plugged.number);
             self.arrive(ground, gap, plugged.span, place)?;
-            for number in 0..ground.stations.len() {
-                if number != plugged.number {
-                    self.plug(ground, gap, plugged.span, place, number)?;
-                }
+            self.plug_anew(ground, gap, plugged.span, place)?;
+        }
+        Ok(())
+    }
+
+    /// Takes a label from the beginning of a gap to the stations of use in it. The least detour
+    /// stands first: behind one that promises no time below the bar none does.
+    fn plug_between(
+        &mut self,
+        ground: &Ground,
+        gaps: &Gaps,
+        gap: &Gap,
+        label: Span,
+    ) -> Result<(), AllocError> {
+        let promise = self.promise(ground, label);
+        for number in gaps.stations(ground, gap.from, gap.to) {
+            if !self.plug(ground, gap, label, promise, gap.from, *number)? {
+                break;
             }
         }
         Ok(())
+    }
+
+    /// Takes a label from a place to any station.
+    fn plug_anew(
+        &mut self,
+        ground: &Ground,
+        gap: &Gap,
+        label: Span,
+        from: usize,
+    ) -> Result<(), AllocError> {
+        let promise = self.promise(ground, label);
+        let direct = ground.arc(from, gap.to);
+        let least = promise
+            .least
+            .wrapping_add(ground.cost(direct))
+            .wrapping_add(direct.detour);
+        // A detour of 0 may be one that takes less than the direct way.
+        if direct.detour > 0 && least.wrapping_add(gap.rest) >= gap.bar {
+            return Ok(());
+        }
+        for number in 0..ground.stations.len() {
+            self.plug(ground, gap, label, promise, from, number)?;
+        }
+        Ok(())
+    }
+
+    /// What a label promises.
+    fn promise(&self, ground: &Ground, label: Span) -> Promise {
+        let own = part(&self.points, label);
+        Promise {
+            least: least_lateness(ground, own),
+            top: own.last().map_or(0, |last| last.level),
+        }
     }
 
     /// Takes labels that can't come to the end of a gap to any station.
@@ -286,13 +343,8 @@ impl Charger {
             let Some(label) = self.labels.get(index).copied() else {
                 break;
             };
-            let top = part(&self.points, label)
-                .last()
-                .map_or(0, |last| last.level);
-            if top < least {
-                for number in 0..ground.stations.len() {
-                    self.plug(ground, gap, label, gap.from, number)?;
-                }
+            if self.promise(ground, label).top < least {
+                self.plug_anew(ground, gap, label, gap.from)?;
             }
         }
         Ok(())
@@ -346,28 +398,32 @@ impl Charger {
     }
 
     /// Takes a label from a place to a station, and charges it there from each level from which
-    /// that pays.
+    /// that pays. Whether that way promises a time below the bar.
     fn plug(
         &mut self,
         ground: &Ground,
         gap: &Gap,
         label: Span,
+        promise: Promise,
         from: usize,
         number: usize,
-    ) -> Result<(), AllocError> {
+    ) -> Result<bool, AllocError> {
         let place = ground.station_place(number);
         let (there, on) = (ground.arc(from, place), ground.arc(place, gap.to));
         let onward = ground.cost(on).wrapping_add(gap.rest);
-        let own = part(&self.points, label);
-        let top = own.last().map_or(0, |last| last.level);
-        let least = least_lateness(ground, own).wrapping_add(ground.cost(there));
-        if top < there.energy || gap.latest < on.time || least.wrapping_add(onward) >= gap.bar {
-            return Ok(());
+        let least = promise.least.wrapping_add(ground.cost(there));
+        if least.wrapping_add(onward) >= gap.bar {
+            return Ok(false);
+        }
+        if promise.top < there.energy || gap.latest < on.time {
+            return Ok(true);
         }
         let latest = gap.latest - on.time;
+        let own = part(&self.points, label);
         drive(own, there.energy, there.time, latest, &mut self.made)?;
         let most = gap.bar.saturating_sub(onward);
-        self.charge(ground, number, latest, most)
+        self.charge(ground, number, latest, most)?;
+        Ok(true)
     }
 
     /// Charges the label that was made at a station from each level from which that pays.
@@ -461,18 +517,26 @@ struct Stretch {
     to: usize,
     /// The level at its beginning.
     left: u64,
-    /// What the other arcs of the route take.
+    /// The time of the other arcs of the route.
     others: u64,
+    /// That and what their energy is worth.
+    cost: u64,
     /// The energy of the arcs behind it.
     rest: u64,
 }
 
-/// The least time with one of these stations on a stretch, where it is below a bar.
+/// The least time with one of these stations on a stretch, where it is below a bar. The least
+/// detour stands first, and what is charged takes what it is worth at least.
 fn least_in(ground: &Ground, numbers: &[usize], asked: Stretch, bar: u64) -> Option<u64> {
+    let worth_full = ground.worth.wrapping_mul(ground.full);
     let mut best = None;
     for number in numbers {
         let place = ground.station_place(*number);
         let (there, on) = (ground.arc(asked.from, place), ground.arc(place, asked.to));
+        let over = ground.cost(there).wrapping_add(ground.cost(on));
+        if asked.cost.wrapping_add(over) >= best.unwrap_or(bar).wrapping_add(worth_full) {
+            break;
+        }
         let driving = asked.others.wrapping_add(there.time).wrapping_add(on.time);
         let needed = on.energy.saturating_add(asked.rest);
         if driving >= best.unwrap_or(bar) || there.energy > asked.left || needed > ground.full {

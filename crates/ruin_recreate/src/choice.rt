@@ -55,7 +55,8 @@ impl Choice {
         }
     }
 
-    /// Looks at the places of a route. Where a vehicle need not charge, the time is known.
+    /// Looks at the places of a route that are beside the depot or customers who are close. Where a
+    /// vehicle need not charge, the time is known. How many places these are.
     pub(crate) fn look(
         &mut self,
         ground: &Ground,
@@ -64,14 +65,21 @@ impl Choice {
         number: usize,
         tour: &Tour,
         customer: usize,
-    ) {
+    ) -> u64 {
         let sums = tour.sums;
-        let mut before = ground.depot;
+        let mut places: u64 = 0;
+        let mut after = ground.depot;
+        let mut is_after_close = true;
         for place in 0..=tour.order.len() {
-            let after = tour.order.get(place).copied().unwrap_or(ground.depot);
+            let (before, is_before_close) = (after, is_after_close);
+            after = tour.order.get(place).copied().unwrap_or(ground.depot);
+            is_after_close = ground.are_close(customer, after);
+            if !is_before_close && !is_after_close {
+                continue;
+            }
+            places = places.wrapping_add(1);
             let old = ground.arc(before, after);
             let (there, on) = (ground.arc(before, customer), ground.arc(customer, after));
-            before = after;
             let mut time = sums
                 .time
                 .wrapping_sub(old.time)
@@ -106,6 +114,7 @@ impl Choice {
                 self.target = Target::At(at);
             }
         }
+        places
     }
 
     /// Keeps a candidate where it is one of the three best.

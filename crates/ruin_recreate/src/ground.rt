@@ -43,6 +43,9 @@ pub(crate) struct Ground {
     pub(crate) nodes: Vec<usize>,
     /// The arcs, by both places.
     arcs: Vec<Arc>,
+    /// For each two customers, by both numbers, whether places beside the second are looked at for
+    /// the first; empty where they all are.
+    pub(crate) close: Vec<bool>,
     pub(crate) stations: Vec<Station>,
     /// The level of a full battery.
     pub(crate) full: u64,
@@ -67,6 +70,7 @@ impl Ground {
             customers: inst.customers().len(),
             depot: nodes.len().saturating_sub(1),
             arcs: arcs(alloc, inst, &nodes, unit)?,
+            close: Vec::new(alloc),
             nodes,
             stations,
             full: inst.max_q() - inst.min_q(),
@@ -89,6 +93,13 @@ impl Ground {
             Some(arc) => *arc,
             None => NO_ARC,
         }
+    }
+
+    /// Whether places beside another place are looked at for a customer: those beside the depot
+    /// always are.
+    pub(crate) fn are_close(&self, customer: usize, place: usize) -> bool {
+        let index = customer.wrapping_mul(self.customers).wrapping_add(place);
+        place >= self.customers || self.close.get(index).copied().unwrap_or(true)
     }
 
     /// Where the arc from a place to another stands, and what else there is for two places.

@@ -8,7 +8,10 @@ use crate::search::Search;
 use std::alloc::{AllocError, Global};
 
 /// The routes of so many customers near one are looked at.
-const MOST_NEAR: usize = 40;
+const MOST_NEAR: usize = 20;
+
+/// So many customers near one may be put on a route together with him, where there is no other.
+const MOST_PARTNERS: usize = 40;
 
 /// So many places are charged for a customer at the most.
 const MOST_CHARGES: usize = 3;
@@ -149,8 +152,7 @@ impl Search {
         let Some(tour) = self.fleet.tour(number) else {
             return;
         };
-        self.places = self.places.wrapping_add(tour.order.len() as u64);
-        choice.look(
+        let places = choice.look(
             &self.costs.ground,
             &self.toll,
             &mut self.chance,
@@ -158,6 +160,7 @@ impl Search {
             tour,
             customer,
         );
+        self.places = self.places.wrapping_add(places);
     }
 
     /// Charges a route with a customer at a candidate's place.
@@ -189,7 +192,7 @@ impl Search {
     /// served, if there is one.
     fn insert_pair(&mut self, alloc: Global, customer: usize) -> Result<(), AllocError> {
         let mut best = None;
-        for place in 1..=MOST_NEAR {
+        for place in 1..=MOST_PARTNERS {
             let Some(other) = self.near(customer, place) else {
                 break;
             };

@@ -12,6 +12,29 @@ pub(crate) fn nearest(alloc: Global, ground: &Ground) -> Result<Vec<Vec<usize>>,
     Ok(all)
 }
 
+/// For each two customers, by both numbers, whether the second is among so many of those nearest to
+/// the first.
+pub(crate) fn closest(
+    alloc: Global,
+    near: &[Vec<usize>],
+    most: usize,
+) -> Result<Vec<bool>, AllocError> {
+    let mut close = vec![in alloc; false; near.len().saturating_mul(near.len())]?;
+    for (own, row) in near.iter().enumerate() {
+        mark_close(&mut close, own.wrapping_mul(near.len()), row, most);
+    }
+    Ok(close)
+}
+
+/// Marks so many of those who stand first in a row, from a place on.
+fn mark_close(close: &mut [bool], from: usize, row: &[usize], most: usize) {
+    for place in 0..most.min(row.len()) {
+        if let Some(mark) = close.get_mut(from.wrapping_add(row[place])) {
+            *mark = true;
+        }
+    }
+}
+
 /// All customers, the nearest to one first, by the time there and back.
 fn nearest_to(alloc: Global, ground: &Ground, own: usize) -> Result<Vec<usize>, AllocError> {
     let mut keys = Vec::with_capacity(alloc, ground.customers)?;

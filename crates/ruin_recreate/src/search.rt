@@ -3,10 +3,14 @@
 use crate::chance::Chance;
 use crate::costs::Costs;
 use crate::fleet::Fleet;
-use crate::near::nearest;
+use crate::near::{closest, nearest};
 use crate::toll::Toll;
 use instance_reader::Instance;
 use std::alloc::{AllocError, Global};
+
+/// Places of a route are looked at beside so many customers near one at the most, himself counted,
+/// and beside the depot.
+const MOST_CLOSE: usize = 13;
 
 /// A search for cheaper routes by ruin and recreate.
 #[derive(Drop)]
@@ -35,6 +39,8 @@ impl Search {
     pub(crate) fn new(alloc: Global, inst: &Instance, seed: u64) -> Result<Search, AllocError> {
         let mut costs = Costs::new(alloc, inst)?;
         let limit = costs.ground.limit;
+        let near = nearest(alloc, &costs.ground)?;
+        costs.ground.close = closest(alloc, &near, MOST_CLOSE)?;
         let mut alone = Vec::new(alloc);
         for customer in 0..costs.ground.customers {
             alone.push(costs.time_below(&[customer], limit.saturating_add(1))?)?;
@@ -42,7 +48,7 @@ impl Search {
         Ok(Search {
             toll: Toll::hard(limit),
             chance: Chance::new(seed),
-            near: nearest(alloc, &costs.ground)?,
+            near,
             alone,
             fleet: Fleet::new(alloc, costs.ground.customers)?,
             costs,
