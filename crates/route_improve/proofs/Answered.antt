@@ -1,5 +1,5 @@
 -- The plan of settled routes is what is answered.
-use Rattle.std.proofs.Common.{◌≡◌, ◌≢◌, ◌∙◌, ℕ, zero, suc, ◌+◌, ◌<◌, ◌≤◌, Bool, true, false, List, [], ◌∷◌, ◌++◌, length, get_or, map, take, refl, sym, ap, subst, arith, sum_by, add-one}
+use Rattle.std.proofs.Common.{◌≡◌, ◌≢◌, ◌∙◌, ℕ, zero, suc, ◌+◌, ◌<◌, ◌≤◌, Bool, true, false, List, [], ◌∷◌, ◌++◌, Option, length, get_or, map, take, refl, sym, ap, subst, arith, sum_by, add-one}
 use Rattle.std.specs.Prelude.{nat_eq, slice_index, if◌then◌else◌}
 use Rattle.std.specs.List.{All}
 use Rattle.std.specs.List.Sorted.{IsNonDecreasingBy, IsStrictlyIncreasing}
@@ -16,7 +16,9 @@ use Rattle.route_plan.specs.declared.plan.RoutePlan.{RoutePlan}
 use Rattle.order_pricing.specs.Orders.{IsOrder, route_over}
 use Rattle.route_improve.specs.Arranged.{AreArranged, are_served, first_node, first_or_depot}
 use Rattle.route_improve.specs.Finished.{ArePlansOf, IsPlanOf}
-use Rattle.route_improve.specs.Improved.{IsFastestForOrder, IsImproved, IsOrderly}
+use Rattle.route_improve.specs.Improved.{IsAnswer, IsFastestForOrder, IsImproved, IsMoved, IsOrderly, IsTimedAnswer}
+use Rattle.route_improve.specs.declared.improving.Improved.{Improved}
+use Rattle.route_improve.specs.declared.improving.Improved.TheVariants.{Plan, Alone}
 use Rattle.route_improve.specs.Moves.{IsSettled, has_customer}
 use Rattle.route_improve.specs.Orders.{orders_of}
 use Rattle.route_improve.specs.Routes.{AreRoutes, AreSettledTo, cost_of_routes, lists_of, stands_in}
@@ -220,3 +222,21 @@ module _ (g : Network) (before better : List Route) (plans : List RoutePlan) (ar
       let front = cost_all g arranged.front arranged.empty arranged.none arranged.no_time in
       let same = ap cost_of_routes arranged.is in
       omega (arith, plan, front, same)
+
+-- a plan in order that no move makes cheaper unless a clock ended the moves
+pub moved_unless : (g : Network) (ended : Bool) (plans : List RoutePlan) → IsOrderly g plans → (ended ≡ false → IsImproved g plans) → IsMoved g ended plans
+moved_unless g false plans orderly improved = improved refl
+moved_unless g true plans orderly improved = orderly
+
+-- where the clock didn't end the moves, an answer as ever
+pub answer_of : (g : Network) (from : Option (List RoutePlan)) (found : Improved) → IsTimedAnswer g false from found → IsAnswer g from found
+answer_of g from (Plan plan) is = is
+answer_of g from (Alone node) is = is
+
+orderly_of : (g : Network) (plans : List RoutePlan) → IsImproved g plans → IsOrderly g plans
+orderly_of g plans is = record { fleet = is.fleet; order = is.order; fastest = is.fastest; text = is.text }
+
+-- in any case it is a plan in order
+pub moved_orderly : (g : Network) (ended : Bool) (plans : List RoutePlan) → IsMoved g ended plans → IsOrderly g plans
+moved_orderly g false plans is = orderly_of g plans is
+moved_orderly g true plans is = is

@@ -1,7 +1,7 @@
 -- Routes that are joined don't cost more.
 use Rattle.std.proofs.Common.{◌≤◌, Bool, false, true, List, refl, subst, sym, arith}
 use Rattle.ev_model.specs.Network.{Network}
-use Rattle.route_improve.specs.Arranged.{AreOrderly, AreSettled}
+use Rattle.route_improve.specs.Arranged.{AreOrderly}
 use Rattle.route_improve.specs.Going.{IsGoing}
 use Rattle.route_improve.specs.Routes.{AreNoDearer, cost_of_routes}
 use Rattle.route_improve.specs.declared.route.Route.{Route}
@@ -15,15 +15,6 @@ going_no_dearer g initial now true is = record {
 going_no_dearer g initial now false is = record {
   routes = is.routes;
   no_more = subst (λ (rs : List Route). cost_of_routes rs ≤ cost_of_routes initial) (sym (is.same refl)) (omega arith);
-}
-
--- what was settled after routes were joined
-pub settled_of : (g : Network) (routes joined settled : List Route) → AreNoDearer g routes joined → AreSettled g joined settled → AreSettled g routes settled
-settled_of g routes joined settled are is = record {
-  routes_are = is.routes_are;
-  no_more = omega (arith, is.no_more, are.no_more);
-  arranged = is.arranged;
-  settled_are = is.settled_are;
 }
 
 -- what was put in order after routes were joined

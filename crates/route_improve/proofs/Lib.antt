@@ -11,4 +11,5 @@ pub mod FirstRoutes
 pub mod AnswerRanges
 pub mod Answered
 pub mod OwnRoutes
+pub mod Clocks
 pub mod Joined

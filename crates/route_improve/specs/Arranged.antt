@@ -1,9 +1,9 @@
--- Routes in order, and routes that no move makes cheaper.
-use Rattle.std.specs.Prelude.{◌≡◌, ℕ, ◌≤◌, List, [], ◌∷◌, ◌++◌, filter, length}
+-- Routes in order.
+use Rattle.std.specs.Prelude.{◌≡◌, ℕ, ◌≤◌, List, [], ◌∷◌, ◌++◌, filter}
 use Rattle.std.specs.List.Sorted.{IsNonDecreasingBy, IsPermutation}
 use Rattle.ev_model.specs.Network.{Network}
 use Rattle.route_improve.specs.Moves.{has_customer}
-use Rattle.route_improve.specs.Routes.{AreRoutes, AreSettledTo, cost_of_routes}
+use Rattle.route_improve.specs.Routes.{AreRoutes, cost_of_routes}
 use Rattle.route_improve.specs.declared.route.Route.{Route}
 
 abbrev pub first_or_depot : List ℕ → ℕ
@@ -33,10 +33,3 @@ pub record AreOrderly (g : Network) (routes better : List Route) : Type 0 where
   pub routes_are : AreRoutes g better
   pub no_more : cost_of_routes better ≤ cost_of_routes routes
   pub arranged : (before : List Route) × AreArranged before better
-
--- routes made of others that no move makes cheaper; they don't cost more
-pub record AreSettled (g : Network) (routes settled : List Route) : Type 0 where
-  pub routes_are : AreRoutes g settled
-  pub no_more : cost_of_routes settled ≤ cost_of_routes routes
-  pub arranged : (before : List Route) × AreArranged before settled
-  pub settled_are : AreSettledTo g settled (length settled)

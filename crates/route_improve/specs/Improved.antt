@@ -1,6 +1,6 @@
 -- What is answered: a plan that no move makes cheaper, or a customer whom no route of his own
 -- reaches.
-use Rattle.std.specs.Prelude.{◌≡◌, ℕ, ◌<◌, ◌≤◌, List, [], ◌∷◌, Option, None, Some, map}
+use Rattle.std.specs.Prelude.{◌≡◌, ℕ, ◌<◌, ◌≤◌, Bool, false, true, List, [], ◌∷◌, Option, None, Some, map}
 use Rattle.std.specs.List.{All}
 use Rattle.std.specs.List.Sorted.{IsStrictlyIncreasing}
 use Rattle.ev_model.specs.Fastest.{HasNoPlan, IsFastest}
@@ -71,6 +71,17 @@ abbrev pub IsAnswer : Network → Option (List RoutePlan) → Improved → Type 
 IsAnswer g from (Plan plan) =
     IsImproved g plan.routes × CostsNoMore g from (cost_of g 1 (stops_of plan.routes))
 IsAnswer g from (Alone node) = (from ≡ None) × IsFirstAlone g node
+
+-- a fleet plan that no move makes cheaper, or, where a clock ended the moves, one in order
+abbrev pub IsMoved : Network → Bool → List RoutePlan → Type 0
+IsMoved g false routes = IsImproved g routes
+IsMoved g true routes = IsOrderly g routes
+
+-- what is answered where a clock may have ended the moves: where it didn't, an answer as ever
+abbrev pub IsTimedAnswer : Network → Bool → Option (List RoutePlan) → Improved → Type 0
+IsTimedAnswer g ended from (Plan plan) =
+    IsMoved g ended plan.routes × CostsNoMore g from (cost_of g 1 (stops_of plan.routes))
+IsTimedAnswer g ended from (Alone node) = (from ≡ None) × IsFirstAlone g node
 
 abbrev pub IsOwnFault : Network → OwnFault → Type 0
 IsOwnFault g (own.Alone node) = IsFirstAlone g node

@@ -5,6 +5,7 @@ ghost use Rattle.std.specs.Prelude.{◌≡◌, ◌<◌, ◌≤◌, false, IfOk, 
 ghost use Rattle.ev_model.specs.Network.{node_count};
 ghost use Rattle.route_improve.specs.Routes.{AreCheaper, AreNoDearer, AreRoutes};
 
+use crate::clock::MoveClock;
 use crate::moves::{copy_of, take_pair};
 use crate::route::Route;
 use crate::watcher::{Course, MoveWatcher};
@@ -22,13 +23,14 @@ struct Saving {
 }
 
 /// Joins routes where that is cheaper, each pair of customers tried at most once, until so much
-/// work was done; whether some were joined.
+/// work was done or the clock ends that; whether some were joined.
 #[tactic(auto, using(crate::proofs::Joined::going_no_dearer))]
-pub(crate) fn join_routes<W: MoveWatcher>(
+pub(crate) fn join_routes<C: MoveClock, W: MoveWatcher>(
     alloc: Global,
     inst: &Instance,
     pricer: &mut Pricer,
     routes: &mut Vec<Route>,
+    clock: &mut C,
     course: &mut Course<'_, W>,
     work: u64,
 ) -> Result<bool, AllocError>
@@ -39,11 +41,12 @@ pub(crate) fn join_routes<W: MoveWatcher>(
     ensures made { IfOk result (λ made. IsTrue made →
         AreCheaper pricer.old routes.old.items routes.new.items) }
     ensures same { IfOk result (λ made. made ≡ false → routes.new.items ≡ routes.old.items) }
+    ensures stays { IsTrue (C.has_ended clock.old) → IsTrue (C.has_ended clock.new) }
 {
     let savings = savings_of(alloc, inst)?;
     let mut made = false;
     for saving in savings {
-        if pricer.work() >= work {
+        if pricer.work() >= work || clock.is_over() {
             return Ok(made);
         }
         if join(alloc, pricer, routes, &saving)? {

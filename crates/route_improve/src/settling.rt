@@ -1,10 +1,11 @@
 //! Passes until none makes a move, over routes in order.
 
-ghost use Rattle.std.specs.Prelude.{◌≡◌, ◌≤◌, length, IfOk, OnOk};
+ghost use Rattle.std.specs.Prelude.{◌≡◌, ◌≤◌, false, length, IfOk, IsTrue, OnOk};
 ghost use Rattle.std.specs.List.Sorted.{IsNonDecreasingBy, IsPermutation};
-ghost use Rattle.route_improve.specs.Arranged.{AreArranged, AreSettled, are_served, first_node};
+ghost use Rattle.route_improve.specs.Arranged.{AreArranged, AreOrderly, are_served, first_node};
 ghost use Rattle.route_improve.specs.Routes.{AreRoutes, AreSettledTo, cost_of_routes};
 
+use crate::clock::MoveClock;
 use crate::pass::pass;
 use crate::route::Route;
 use crate::savings::join_routes;
@@ -13,44 +14,52 @@ use instance_reader::Instance;
 use order_pricing::Pricer;
 use std::alloc::{AllocError, Global};
 
-/// Makes moves until none makes the routes cheaper. In the end the routes with customers stand in
-/// rising order of their first ones, and one without customers follows.
-pub(crate) fn settle<W: MoveWatcher>(
+/// Makes moves until none makes the routes cheaper, or the clock ends that. In the end the routes
+/// with customers stand in rising order of their first ones, and one without customers follows.
+pub(crate) fn settle<C: MoveClock, W: MoveWatcher>(
     alloc: Global,
     pricer: &mut Pricer,
     mut routes: Vec<Route>,
+    clock: &mut C,
     course: &mut Course<'_, W>,
 ) -> Result<Vec<Route>, AllocError>
     requires { AreRoutes pricer.old routes.items }
     ensures network { pricer.new ≡ pricer.old }
-    ensures settled { IfOk result (λ settled.
-        AreSettled pricer.old routes.items settled.items) }
+    ensures orderly { IfOk result (λ better.
+        AreOrderly pricer.old routes.items better.items) }
+    ensures settled { IfOk result (λ better. C.has_ended clock.new ≡ false →
+        AreSettledTo pricer.old better.items (length better.items)) }
+    ensures stays { IsTrue (C.has_ended clock.old) → IsTrue (C.has_ended clock.new) }
 {
     loop {
         routes = arranged(alloc, routes)?;
-        if !pass(alloc, pricer, &mut routes, course)? {
+        if !pass(alloc, pricer, &mut routes, clock, course)? {
             return Ok(routes);
         }
     }
 }
 
-/// Makes moves and joins routes in turn, until neither makes the routes cheaper. In the end the
-/// routes stand in order, as [`settle`] leaves them.
-pub(crate) fn settle_joined<W: MoveWatcher>(
+/// Makes moves and joins routes in turn, until neither makes the routes cheaper, or the clock ends
+/// that. In the end the routes stand in order, as [`settle`] leaves them.
+pub(crate) fn settle_joined<C: MoveClock, W: MoveWatcher>(
     alloc: Global,
     inst: &Instance,
     pricer: &mut Pricer,
     mut routes: Vec<Route>,
+    clock: &mut C,
     course: &mut Course<'_, W>,
 ) -> Result<Vec<Route>, AllocError>
     requires { AreRoutes pricer.old routes.items }
     ensures network { pricer.new ≡ pricer.old }
-    ensures settled { IfOk result (λ settled.
-        AreSettled pricer.old routes.items settled.items) }
+    ensures orderly { IfOk result (λ better.
+        AreOrderly pricer.old routes.items better.items) }
+    ensures settled { IfOk result (λ better. C.has_ended clock.new ≡ false →
+        AreSettledTo pricer.old better.items (length better.items)) }
+    ensures stays { IsTrue (C.has_ended clock.old) → IsTrue (C.has_ended clock.new) }
 {
     loop {
-        routes = settle(alloc, pricer, routes, course)?;
-        if !join_routes(alloc, inst, pricer, &mut routes, course, u64::MAX)? {
+        routes = settle(alloc, pricer, routes, clock, course)?;
+        if !join_routes(alloc, inst, pricer, &mut routes, clock, course, u64::MAX)? {
             return Ok(routes);
         }
     }

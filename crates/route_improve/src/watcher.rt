@@ -21,7 +21,7 @@ pub trait MoveWatcher {
 
 /// Nobody.
 #[derive(Drop)]
-pub(crate) struct Nobody {}
+pub struct Nobody {}
 
 impl MoveWatcher for Nobody {
     fn watch_moves(&mut self, _progress: MoveProgress) {}

@@ -8,6 +8,7 @@ ghost use Rattle.route_improve.specs.Improved.{IsOrderly};
 ghost use Rattle.route_improve.specs.Routes.{AreCheaper, AreRoutes, cost_of_routes};
 
 use crate::begin::routes_of;
+use crate::clock::{Endless, MoveClock};
 use crate::finish::plan_of;
 use crate::pass::improve_customer;
 use crate::route::Route;
@@ -41,18 +42,36 @@ pub fn improve_within(
     ensures no_more { IfOk result (λ better. cost_of inst.now 1 (stops_of better.routes)
         ≤ cost_of inst.now 1 (stops_of plan.now.routes)) }
 {
-    let mut pricer = Pricer::new(alloc, inst)?;
-    let routes = routes_of(alloc, inst, &mut pricer, plan)?;
-    orderly_plan(alloc, inst, &mut pricer, routes, work)
+    improve_timed_within(alloc, inst, plan, work, &mut Endless)
 }
 
-/// Joins routes, and then makes moves, until none helps or so much work was done.
-fn orderly_plan(
+/// The same, where a clock may end it too: it is asked behind each order that is charged.
+pub fn improve_timed_within<C: MoveClock>(
+    alloc: Global,
+    inst: &Instance,
+    plan: &FleetPlan,
+    work: u64,
+    clock: &mut C,
+) -> Result<FleetPlan, AllocError>
+    requires { IsFleetPlan inst.now 1 (stops_of plan.now.routes) }
+    ensures orderly { IfOk result (λ better. IsOrderly inst.now better.routes) }
+    ensures no_more { IfOk result (λ better. cost_of inst.now 1 (stops_of better.routes)
+        ≤ cost_of inst.now 1 (stops_of plan.now.routes)) }
+{
+    let mut pricer = Pricer::new(alloc, inst)?;
+    let routes = routes_of(alloc, inst, &mut pricer, plan)?;
+    orderly_plan(alloc, inst, &mut pricer, routes, work, clock)
+}
+
+/// Joins routes, and then makes moves, until none helps, so much work was done or the clock ends
+/// that.
+fn orderly_plan<C: MoveClock>(
     alloc: Global,
     inst: &Instance,
     pricer: &mut Pricer,
     mut routes: Vec<Route>,
     work: u64,
+    clock: &mut C,
 ) -> Result<FleetPlan, AllocError>
     requires network { pricer.old ≡ inst.now }
     requires routes { AreRoutes inst.now routes.items }
@@ -65,18 +84,20 @@ fn orderly_plan(
     let _nodes = inst.nodes();
     let mut nobody = Nobody {};
     let mut course = Course::new(&mut nobody, routes.as_slice());
-    join_routes(alloc, inst, pricer, &mut routes, &mut course, work)?;
-    let better = settle_within(alloc, pricer, routes, work)?;
+    join_routes(alloc, inst, pricer, &mut routes, clock, &mut course, work)?;
+    let better = settle_within(alloc, pricer, routes, work, clock)?;
     plan_of(alloc, inst, &better)
 }
 
-/// Makes moves until none makes the routes cheaper, or so much work was done. In the end the routes
-/// with customers stand in rising order of their first ones, and one without customers follows.
-fn settle_within(
+/// Makes moves until none makes the routes cheaper, so much work was done or the clock ends that. In
+/// the end the routes with customers stand in rising order of their first ones, and one without
+/// customers follows.
+fn settle_within<C: MoveClock>(
     alloc: Global,
     pricer: &mut Pricer,
     mut routes: Vec<Route>,
     work: u64,
+    clock: &mut C,
 ) -> Result<Vec<Route>, AllocError>
     requires { AreRoutes pricer.old routes.items }
     ensures network { pricer.new ≡ pricer.old }
@@ -85,7 +106,7 @@ fn settle_within(
 {
     loop {
         routes = arranged(alloc, routes)?;
-        if !sweep(alloc, pricer, &mut routes, work)? {
+        if !sweep(alloc, pricer, &mut routes, work, clock)? {
             return Ok(routes);
         }
     }
@@ -100,13 +121,14 @@ struct Place {
     i: usize,
 }
 
-/// Looks at the moves of each place, and makes those that are cheaper, until so much work was done;
-/// whether one was made.
-fn sweep(
+/// Looks at the moves of each place, and makes those that are cheaper, until so much work was done
+/// or the clock ends that; whether one was made.
+fn sweep<C: MoveClock>(
     alloc: Global,
     pricer: &mut Pricer,
     routes: &mut Vec<Route>,
     work: u64,
+    clock: &mut C,
 ) -> Result<bool, AllocError>
     requires { AreRoutes pricer.old routes.old.items }
     ensures network { pricer.new ≡ pricer.old }
@@ -117,10 +139,10 @@ fn sweep(
     let mut made = false;
     let mut at = Place { a: 0, b: 0, i: 0 };
     for _ in 0..places(routes) {
-        if pricer.work() >= work {
+        if pricer.work() >= work || clock.is_over() {
             return Ok(made);
         }
-        if look(alloc, pricer, routes, at)? {
+        if look(alloc, pricer, routes, clock, at)? {
             made = true;
         }
         at = next_place(routes, at);
@@ -160,11 +182,13 @@ fn next_place(routes: &[Route], at: Place) -> Place {
     }
 }
 
-/// Makes the first move of a place that is cheaper; whether one was made.
-fn look(
+/// Makes the first move of a place that is cheaper, unless the clock ends that; whether one was
+/// made.
+fn look<C: MoveClock>(
     alloc: Global,
     pricer: &mut Pricer,
     routes: &mut Vec<Route>,
+    clock: &mut C,
     at: Place,
 ) -> Result<bool, AllocError>
     requires { AreRoutes pricer.old routes.old.items }
@@ -176,5 +200,5 @@ fn look(
     if at.a >= routes.len() || at.b >= routes.len() || at.i >= routes[at.a].order.len() {
         return Ok(false);
     }
-    improve_customer(alloc, pricer, routes, at.a, at.i, at.b)
+    improve_customer(alloc, pricer, routes, clock, at.a, at.i, at.b)
 }

@@ -8,4 +8,4 @@ settled_plan-requires-clause-routes g c = own_routes_are c.args.inst.now c.in-Ok
 
 pub returns : goal.returns
 returns g c =
-    (c.in_ok-plan.ensures.improved, own_costs c.args.inst.now c.in-Ok.routes.items (cost_of c.args.inst.now 1 (stops_of c.in_ok-plan.plan.routes)) c.in-Ok.ensures.own c.in_ok-plan.ensures.no_more)
+    (c.in_ok-plan.ensures.moved, own_costs c.args.inst.now c.in-Ok.routes.items (cost_of c.args.inst.now 1 (stops_of c.in_ok-plan.plan.routes)) c.in-Ok.ensures.own c.in_ok-plan.ensures.no_more)

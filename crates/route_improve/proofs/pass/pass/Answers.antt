@@ -4,6 +4,7 @@ use Rattle.std.proofs.lemmas.Bool.{false≢true}
 use Rattle.ev_model.specs.Network.{Network}
 use Rattle.route_improve.specs.Routes.{AreCheaper, IsSettledList}
 use Rattle.route_improve.specs.declared.route.Route.{Route}
+use Rattle.route_improve.proofs.Clocks.{not_before}
 use Rattle.route_improve.proofs.PlaceLooks.{at_same, going_made, going_not}
 use Rattle.route_improve.proofs.pass.pass.Goals as goal
 use Rattle.route_improve.proofs.pass.pass.Goals.{then-branch, else-branch}
@@ -19,12 +20,13 @@ loop-a-preserved g c = record {
         going_not c.args.pricer.now c.args.routes.now.items c.loop-a.routes.items c.improve_route.new.routes.items c.loop-a.made c.if-branch.made c.loop-a.invariant.going
         (c.in_ok-improve_route.ensures.same w.if-branch.false) w.made-is
   ];
-  settled = λ no. elim c.if-branch.branch [
+  stays = λ was. c.improve_route.ensures.stays (c.loop-a.invariant.stays was);
+  settled = λ no ended. elim c.if-branch.branch [
     | then-branch w ↦ absurd (false≢true (sym no ∙ w.made-is))
     | else-branch w ↦
         let none = sym w.made-is ∙ no in
-        below_more (λ (n : ℕ). IsSettledList c.args.pricer.now c.args.routes.now.items (length c.args.routes.now.items) n) c.loop-a.a (c.loop-a.invariant.settled none)
-        (at_same (λ (g : Network) (rs : List Route). IsSettledList g rs (length rs) c.loop-a.a) c.args.pricer.now c.loop-a.pricer c.args.routes.now.items c.loop-a.routes.items c.loop-a.invariant.network (c.loop-a.invariant.going.same none) (c.in_ok-improve_route.ensures.settled w.if-branch.false))
+        below_more (λ (n : ℕ). IsSettledList c.args.pricer.now c.args.routes.now.items (length c.args.routes.now.items) n) c.loop-a.a (c.loop-a.invariant.settled none (not_before _ _ c.improve_route.ensures.stays ended))
+        (at_same (λ (h : Network) (rs : List Route). IsSettledList h rs (length rs) c.loop-a.a) c.args.pricer.now c.loop-a.pricer c.args.routes.now.items c.loop-a.routes.items c.loop-a.invariant.network (c.loop-a.invariant.going.same none) (c.in_ok-improve_route.ensures.settled w.if-branch.false ended))
   ];
 }
 

@@ -12,6 +12,7 @@ join-requires = grind (arith, common_steps)
 pub loop-saving-preserved : goal.loop-saving-preserved
 loop-saving-preserved g c = record {
   network = c.join.ensures.network ∙ c.loop-saving.invariant.network;
+  stays = λ was. c.is_over.ensures.stays (c.loop-saving.invariant.stays was);
   going = elim c.if-branch.branch [
     | then-branch w ↦
         going_made c.args.pricer.now c.args.routes.now.items c.loop-saving.routes.items c.join.new.routes.items c.loop-saving.made c.if-branch.made c.loop-saving.invariant.going

@@ -18,16 +18,20 @@ no_dearer g c = arranged_cost c.args.pricer.now c.loop-routes.routes.items c.in_
 pub pass-requires : goal.pass-requires
 pass-requires g c = subst (λ (h : Network). AreRoutes h c.in_ok-routes.routes.items) (sym c.loop-routes.invariant.network) (in_order g (goal.at.pass-requires g c).In_ok-routes)
 
-pub returns-then-not-branch-clause-settled : goal.returns-then-not-branch-clause-settled
-returns-then-not-branch-clause-settled g c =
+pub returns-then-not-branch-clause-orderly : goal.returns-then-not-branch-clause-orderly
+returns-then-not-branch-clause-orderly g c =
     let same = c.in_ok-pass.ensures.same c.if-not-branch.true in
     record {
-      routes_are = subst (AreRoutes c.args.pricer.now) (sym same) (in_order g (goal.at.returns-then-not-branch-clause-settled g c).In_ok-routes);
-      no_more = subst (λ (rs : List Route). cost_of_routes rs ≤ cost_of_routes c.args.routes.items) (sym same) (omega (arith, no_dearer g (goal.at.returns-then-not-branch-clause-settled g c).In_ok-routes, c.loop-routes.invariant.no_more));
+      routes_are = subst (AreRoutes c.args.pricer.now) (sym same) (in_order g (goal.at.returns-then-not-branch-clause-orderly g c).In_ok-routes);
+      no_more = subst (λ (rs : List Route). cost_of_routes rs ≤ cost_of_routes c.args.routes.items) (sym same) (omega (arith, no_dearer g (goal.at.returns-then-not-branch-clause-orderly g c).In_ok-routes, c.loop-routes.invariant.no_more));
       arranged = (c.loop-routes.routes.items, subst (AreArranged c.loop-routes.routes.items) (sym same) c.in_ok-routes.ensures);
-      settled_are = at_same (λ (h : Network) (rs : List Route). AreSettledTo h rs (length rs)) c.args.pricer.now c.loop-routes.pricer c.pass.new.routes.items c.in_ok-routes.routes.items c.loop-routes.invariant.network (sym same)
-          (c.in_ok-pass.ensures.settled c.if-not-branch.true);
     }
+
+pub returns-then-not-branch-clause-settled : goal.returns-then-not-branch-clause-settled
+returns-then-not-branch-clause-settled g c = λ ended.
+    let same = c.in_ok-pass.ensures.same c.if-not-branch.true in
+    at_same (λ (h : Network) (rs : List Route). AreSettledTo h rs (length rs)) c.args.pricer.now c.loop-routes.pricer c.pass.new.routes.items c.in_ok-routes.routes.items c.loop-routes.invariant.network (sym same)
+    (c.in_ok-pass.ensures.settled c.if-not-branch.true ended)
 
 pub loop-routes-smaller : goal.loop-routes-smaller
 loop-routes-smaller g c =
@@ -40,5 +44,6 @@ loop-routes-preserved g c =
     record {
       network = c.pass.ensures.network ∙ c.loop-routes.invariant.network;
       routes = subst (λ (h : Network). AreRoutes h c.pass.new.routes.items) c.loop-routes.invariant.network cheaper.routes;
+      stays = λ was. c.pass.ensures.stays (c.loop-routes.invariant.stays was);
       no_more = omega (arith, cheaper.less, no_dearer g (goal.at.loop-routes-preserved g c).In_ok-routes, c.loop-routes.invariant.no_more);
     }

@@ -1,4 +1,5 @@
 use Rattle.std.proofs.Common.{◌≡◌, ◌≤◌}
+use Rattle.std.specs.Prelude.{IsTrue}
 use Rattle.route_improve.specs.Routes.{AreRoutes, cost_of_routes}
 use Rattle.route_improve.proofs.settling.settle.Given as goal
 
@@ -6,6 +7,7 @@ abbrev pub invariant-loop-routes : goal.invariant-loop-routes
 invariant-loop-routes g l = record {
   network : l.pricer ≡ l.initial.pricer;
   routes : AreRoutes l.initial.pricer l.routes.items;
+  stays : IsTrue (g.C.MoveClock.has_ended l.initial.clock) → IsTrue (g.C.MoveClock.has_ended l.clock);
   no_more : cost_of_routes l.routes.items ≤ cost_of_routes l.initial.routes.items;
 }
 

@@ -13,21 +13,21 @@ use Rattle.route_improve.proofs.within.orderly_plan.Goals as goal
 use Rattle.route_improve.proofs.within.orderly_plan.Goals.{In_ok-better}
 
 -- the routes in order
-orderly_are : (c : In_ok-better) → AreOrderly c.args.inst.now c.args.routes.items c.in_ok-better.better.items
-orderly_are c =
+orderly_are : (g : _) (c : In_ok-better g) → AreOrderly c.args.inst.now c.args.routes.items c.in_ok-better.better.items
+orderly_are g c =
     let joined = subst (λ (h : Network). AreNoDearer h c.args.routes.items c.join_routes.new.routes.items) c.requires.network c.in_ok-join_routes.ensures.joined in
     let orderly = subst (λ (h : Network). AreOrderly h c.join_routes.new.routes.items c.in_ok-better.better.items) (c.join_routes.ensures.network ∙ c.requires.network) c.in_ok-better.ensures.orderly in
     orderly_of c.args.inst.now c.args.routes.items c.join_routes.new.routes.items c.in_ok-better.better.items joined orderly
 
 pub join_routes-requires : goal.join_routes-requires
-join_routes-requires c = subst (λ (h : Network). AreRoutes h c.args.routes.items) (sym c.requires.network) c.requires.routes
+join_routes-requires g c = subst (λ (h : Network). AreRoutes h c.args.routes.items) (sym c.requires.network) c.requires.routes
 
 pub settle_within-requires : goal.settle_within-requires
-settle_within-requires c = subst (λ (h : Network). AreRoutes h c.join_routes.new.routes.items) (sym c.join_routes.ensures.network) c.in_ok-join_routes.ensures.joined.routes
+settle_within-requires g c = subst (λ (h : Network). AreRoutes h c.join_routes.new.routes.items) (sym c.join_routes.ensures.network) c.in_ok-join_routes.ensures.joined.routes
 
 pub returns-clause-orderly : goal.returns-clause-orderly
-returns-clause-orderly c =
-    let is = orderly_are (goal.at.returns-clause-orderly c).In_ok-better in
+returns-clause-orderly g c =
+    let is = orderly_are g (goal.at.returns-clause-orderly g c).In_ok-better in
     kept_by c.plan_of.result _ _ (λ (plan : FleetPlan) plans.
     plan_is_orderly c.args.inst.now is.arranged.0 c.in_ok-better.better.items plan.routes is.routes_are is.arranged.1
     (subst (λ (rs : List Route). ArePlansOf c.args.inst.now (are_served rs) plan.routes) c.deref.ensures.value plans)
@@ -35,8 +35,8 @@ returns-clause-orderly c =
     c.plan_of.ensures
 
 pub returns-clause-no_more : goal.returns-clause-no_more
-returns-clause-no_more c =
-    let is = orderly_are (goal.at.returns-clause-no_more c).In_ok-better in
+returns-clause-no_more g c =
+    let is = orderly_are g (goal.at.returns-clause-no_more g c).In_ok-better in
     kept_by c.plan_of.result _ _ (λ (plan : FleetPlan) plans.
     let costs = plan_costs c.args.inst.now is.arranged.0 c.in_ok-better.better.items plan.routes is.routes_are is.arranged.1
     (subst (λ (rs : List Route). ArePlansOf c.args.inst.now (are_served rs) plan.routes) c.deref.ensures.value plans) in

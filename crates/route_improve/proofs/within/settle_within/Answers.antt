@@ -8,34 +8,34 @@ use Rattle.route_improve.proofs.within.settle_within.Goals as goal
 use Rattle.route_improve.proofs.within.settle_within.Goals.{In_ok-routes}
 
 -- the routes in order
-in_order : (c : In_ok-routes) → AreRoutes c.args.pricer.now c.in_ok-routes.routes.items
-in_order c = arranged_routes c.args.pricer.now c.loop-routes.routes.items c.in_ok-routes.routes.items c.in_ok-routes.ensures c.loop-routes.invariant.routes
+in_order : (g : _) (c : In_ok-routes g) → AreRoutes c.args.pricer.now c.in_ok-routes.routes.items
+in_order g c = arranged_routes c.args.pricer.now c.loop-routes.routes.items c.in_ok-routes.routes.items c.in_ok-routes.ensures c.loop-routes.invariant.routes
 
-no_dearer : (c : In_ok-routes) → cost_of_routes c.in_ok-routes.routes.items ≡ cost_of_routes c.loop-routes.routes.items
-no_dearer c = arranged_cost c.args.pricer.now c.loop-routes.routes.items c.in_ok-routes.routes.items c.in_ok-routes.ensures c.loop-routes.invariant.routes
+no_dearer : (g : _) (c : In_ok-routes g) → cost_of_routes c.in_ok-routes.routes.items ≡ cost_of_routes c.loop-routes.routes.items
+no_dearer g c = arranged_cost c.args.pricer.now c.loop-routes.routes.items c.in_ok-routes.routes.items c.in_ok-routes.ensures c.loop-routes.invariant.routes
 
 pub sweep-requires : goal.sweep-requires
-sweep-requires c = subst (λ (h : Network). AreRoutes h c.in_ok-routes.routes.items) (sym c.loop-routes.invariant.network) (in_order (goal.at.sweep-requires c).In_ok-routes)
+sweep-requires g c = subst (λ (h : Network). AreRoutes h c.in_ok-routes.routes.items) (sym c.loop-routes.invariant.network) (in_order g (goal.at.sweep-requires g c).In_ok-routes)
 
 pub returns-then-not-branch-clause-orderly : goal.returns-then-not-branch-clause-orderly
-returns-then-not-branch-clause-orderly c =
+returns-then-not-branch-clause-orderly g c =
     let same = c.in_ok-sweep.ensures.same c.if-not-branch.true in
     record {
-      routes_are = subst (AreRoutes c.args.pricer.now) (sym same) (in_order (goal.at.returns-then-not-branch-clause-orderly c).In_ok-routes);
-      no_more = subst (λ (rs : List Route). cost_of_routes rs ≤ cost_of_routes c.args.routes.items) (sym same) (omega (arith, no_dearer (goal.at.returns-then-not-branch-clause-orderly c).In_ok-routes, c.loop-routes.invariant.no_more));
+      routes_are = subst (AreRoutes c.args.pricer.now) (sym same) (in_order g (goal.at.returns-then-not-branch-clause-orderly g c).In_ok-routes);
+      no_more = subst (λ (rs : List Route). cost_of_routes rs ≤ cost_of_routes c.args.routes.items) (sym same) (omega (arith, no_dearer g (goal.at.returns-then-not-branch-clause-orderly g c).In_ok-routes, c.loop-routes.invariant.no_more));
       arranged = (c.loop-routes.routes.items, subst (AreArranged c.loop-routes.routes.items) (sym same) c.in_ok-routes.ensures);
     }
 
 pub loop-routes-smaller : goal.loop-routes-smaller
-loop-routes-smaller c =
+loop-routes-smaller g c =
     let cheaper = c.in_ok-sweep.ensures.made c.if-not-branch.false in
-    omega (arith, cheaper.less, no_dearer (goal.at.loop-routes-smaller c).In_ok-routes)
+    omega (arith, cheaper.less, no_dearer g (goal.at.loop-routes-smaller g c).In_ok-routes)
 
 pub loop-routes-preserved : goal.loop-routes-preserved
-loop-routes-preserved c =
+loop-routes-preserved g c =
     let cheaper = c.in_ok-sweep.ensures.made c.if-not-branch.false in
     record {
       network = c.sweep.ensures.network ∙ c.loop-routes.invariant.network;
       routes = subst (λ (h : Network). AreRoutes h c.sweep.new.routes.items) c.loop-routes.invariant.network cheaper.routes;
-      no_more = omega (arith, cheaper.less, no_dearer (goal.at.loop-routes-preserved c).In_ok-routes, c.loop-routes.invariant.no_more);
+      no_more = omega (arith, cheaper.less, no_dearer g (goal.at.loop-routes-preserved g c).In_ok-routes, c.loop-routes.invariant.no_more);
     }

@@ -6,7 +6,7 @@ use Rattle.route_improve.proofs.within.sweep.Goals as goal
 use Rattle.route_improve.proofs.within.sweep.Goals.{then-branch, else-branch}
 
 pub loop-preserved : goal.loop-preserved
-loop-preserved c = record {
+loop-preserved g c = record {
   network = c.look.ensures.network ∙ c.loop.invariant.network;
   going = elim c.if-branch.branch [
     | then-branch w ↦
