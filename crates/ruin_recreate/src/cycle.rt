@@ -12,6 +12,9 @@ use std::alloc::{AllocError, Global};
 /// Who watches is asked every so many turns.
 const TURNS_A_LOOK: u64 = 64;
 
+/// And whenever so much work was done: with long routes a turn takes long.
+const WORK_A_LOOK: u64 = 1_000_000;
+
 /// The best routes that were found, and what a search hands on.
 #[derive(Drop)]
 pub(crate) struct Best {
@@ -101,14 +104,18 @@ impl Search {
     ) -> Result<bool, AllocError> {
         let start = self.work();
         let stage = (work / STAGES).max(1);
+        let mut next_look: u64 = 0;
         for turn in 0..work {
             let done = self.work().wrapping_sub(start);
             if done >= work {
                 break;
             }
             annealing.cool_to((done / stage).min(STAGES));
-            if turn % TURNS_A_LOOK == 0 && !watcher.goes_on(RecreateProgress { cost: best.cost }) {
-                return Ok(false);
+            if turn % TURNS_A_LOOK == 0 || done >= next_look {
+                next_look = done.saturating_add(WORK_A_LOOK);
+                if !watcher.goes_on(RecreateProgress { cost: best.cost }) {
+                    return Ok(false);
+                }
             }
             let is_warm = done < work / 4;
             self.turn(alloc, annealing, best, is_warm)?;

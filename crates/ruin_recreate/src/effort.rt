@@ -1,5 +1,7 @@
 //! How much a search does, and who may end it.
 
+use route_improve::MoveClock;
+
 /// How much work a search does at the most.
 ///
 /// Work is counted in places of routes that are looked at; charging counts by its labels. It is the
@@ -41,7 +43,7 @@ pub struct RecreateProgress {
     pub cost: Option<u64>,
 }
 
-/// Who is told how far a search is, and may end it.
+/// Who is told how far a search is, and may end it, and the moves behind it.
 pub trait RecreateWatcher {
     /// Whether the search goes on; asked once in a while.
     fn goes_on(&mut self, progress: RecreateProgress) -> bool;
@@ -54,5 +56,39 @@ pub struct GoOn;
 impl RecreateWatcher for GoOn {
     fn goes_on(&mut self, _progress: RecreateProgress) -> bool {
         true
+    }
+}
+
+/// Who watches a search, as the clock of the moves behind it.
+#[derive(Drop)]
+pub(crate) struct Watched<'w, W: RecreateWatcher> {
+    watcher: &'w mut W,
+    progress: RecreateProgress,
+    has_ended: bool,
+}
+
+impl<'w, W: RecreateWatcher> Watched<'w, W> {
+    /// The moves begin, behind a search that came so far.
+    pub(crate) fn new(watcher: &'w mut W, progress: RecreateProgress) -> Self {
+        Watched {
+            watcher,
+            progress,
+            has_ended: false,
+        }
+    }
+}
+
+impl<'w, W: RecreateWatcher> MoveClock for Watched<'w, W> {
+    ghost has_ended = { λ watched. watched.has_ended };
+
+    fn is_over(&mut self) -> bool {
+        if !self.has_ended {
+            self.has_ended = !self.watcher.goes_on(self.progress);
+        }
+        self.has_ended
+    }
+
+    fn has_ended(&self) -> bool {
+        self.has_ended
     }
 }
