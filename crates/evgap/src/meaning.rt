@@ -14,6 +14,11 @@ use std::alloc::{AllocError, Global};
 use std::rt::Files;
 use tree_text::BoundVerdict;
 
+/// What is said where the clock ended the moves.
+const MOVES_ENDED: &str =
+    "the clock ended the moves of single customers: it isn't known whether one \
+    makes the plan cheaper";
+
 /// What people are told behind a job that put a text: which word is wrong, what its cause means,
 /// which customer is out of reach, or that the proof is too long to be read again. `words` stand
 /// behind the program's name, and `job` is the one that they name.
@@ -31,11 +36,25 @@ pub(crate) fn told_behind<R: Files>(
     match cause {
         Some(Cause::Refused(refusal)) => told_refusal(alloc, files, &names, refusal),
         Some(Cause::NoFleet) => told_reach(alloc, files, &names),
+        Some(Cause::MovesEnded) => told_ended(alloc, files, &names),
         Some(cause) => match meaning_of(cause) {
             Some(sentence) => Ok(Some(sentence.told(alloc, &names)?)),
             None => Ok(None),
         },
         None => long_proof(alloc, files, &names),
+    }
+}
+
+/// What is said where the clock ended the moves, and that the proof is too long, where it is.
+fn told_ended<R: Files>(
+    alloc: Global,
+    files: &R,
+    names: &JobNames<'_>,
+) -> Result<Option<String>, AllocError> {
+    let told = MOVES_ENDED;
+    match long_proof(alloc, files, names)? {
+        Some(long) => Ok(Some(format!(in alloc; "{told}\nevgap: {long}")?)),
+        None => Ok(Some(format!(in alloc; "{told}")?)),
     }
 }
 
@@ -60,7 +79,7 @@ pub(crate) fn told_left(
 /// the usage text come where none is written.
 fn is_behind_files(cause: Option<Cause>) -> bool {
     match cause {
-        None | Some(Cause::NoFleet) | Some(Cause::Alone(_)) => true,
+        None | Some(Cause::NoFleet) | Some(Cause::Alone(_)) | Some(Cause::MovesEnded) => true,
         Some(_) => false,
     }
 }
@@ -69,7 +88,7 @@ fn is_behind_files(cause: Option<Cause>) -> bool {
 /// out of reach.
 fn meaning_of(cause: Cause) -> Option<Sentence> {
     match cause {
-        Cause::Words | Cause::NoFleet => None,
+        Cause::Words | Cause::NoFleet | Cause::MovesEnded => None,
         Cause::Refused(refusal) => refused(refusal),
         Cause::Plan(fault) => Some(rejected_plan(fault)),
         Cause::Proof(verdict) => rejected_proof(verdict),

@@ -1,5 +1,5 @@
 -- What is heard of an answer that was made, by its status, its text and its cause.
-use Rattle.std.proofs.Common.{◌≡◌, ℕ, Option, Result, Ok, Err, IfOk, inl, inr}
+use Rattle.std.proofs.Common.{◌≡◌, ℕ, Bool, Option, Result, Ok, Err, IfOk, inl, inr}
 use Rattle.evgap_run.specs.CheckAnswer.{check_heard}
 use Rattle.evgap_run.specs.Judged.{judged_cause, judged_status, judgement_text}
 use Rattle.evgap_run.specs.PlanAnswer.{plan_heard}
@@ -16,6 +16,6 @@ judgement_is_heard {E} denominator told found (Err e) answered text heard = tt
 judgement_is_heard {E} denominator told found (Ok a) answered text heard =
     inr (record { denominator = denominator; told = told; found = found; status_is = answered; text_is = text; heard_is = heard })
 
-pub broken_is_heard : {E : Type 0} (made : Result (Found Cause) E) → IfOk made (HearsOfFound HearsBrokenPlan) → IfOk made (HearsOfFound plan_heard)
-broken_is_heard {E} (Err e) heard = tt
-broken_is_heard {E} (Ok f) heard = inr (inl heard)
+pub broken_is_heard : {E : Type 0} (may_end : Bool) (made : Result (Found Cause) E) → IfOk made (HearsOfFound HearsBrokenPlan) → IfOk made (HearsOfFound (plan_heard may_end))
+broken_is_heard {E} may_end (Err e) heard = tt
+broken_is_heard {E} may_end (Ok f) heard = inr (inl heard)

@@ -1,6 +1,6 @@
 -- What `plan` finds, and which of its reads failed.
 use Rattle.std.specs.Borrow.{Bor}
-use Rattle.std.specs.Option.{option_map}
+use Rattle.std.specs.Option.{is_some, option_map}
 use Rattle.std.proofs.Common.{◌≡◌, ◌≢◌, ℕ, ◌⊎◌, List, [], ◌∷◌, Bool, Global, String, true, false, Option, None, Some, Result, Ok, Err, IfOk, IfSome, ap, inl, inr, map, nat_eq, refl, string_bytes, subst, sym}
 use Rattle.std.specs.Prelude.{if◌then◌else◌}
 use Rattle.ev_model.specs.Fleet.{IsFleetPlan, cost_of}
@@ -104,13 +104,13 @@ module _ (job : PlanGap) (bytes : List ℕ) (more : List (List ℕ)) where
 
   -- what a search found, behind the two files
   pub puts_plan : {E : Type 0} (g : Network) (start : Option FleetPlan) (was : Option ℕ) (plan_bytes proof_bytes plan_name proof_name : List ℕ) (answer : Answer Cause) (made : Result (Found Cause) E) →
-      HasPlanJob job bytes more g start → IsValid g start was → IsPlanFound g start plan_bytes proof_bytes answer.status answer.text.items → plan_name ≡ job.plan → proof_name ≡ job.proof
+      HasPlanJob job bytes more g start → IsValid g start was → IsPlanFound g start (is_some job.seconds) plan_bytes proof_bytes answer.status answer.text.items → plan_name ≡ job.plan → proof_name ≡ job.proof
       → IfOk made (λ f. f.answer ≡ answer)
       → IfOk made (λ f. map written_by f.files.items ≡ record { name = plan_name; bytes = plan_bytes } ∷ record { name = proof_name; bytes = proof_bytes } ∷ [])
       → IfOk made (λ f. PlanAnswers job bytes more f.answer.status (map written_by f.files.items) f.answer.text.items)
   puts_plan {E} g start was plan_bytes proof_bytes plan_name proof_name answer (Err e) has valid found named proof_named same written = tt
   puts_plan {E} g start was plan_bytes proof_bytes plan_name proof_name answer (Ok f) has valid found named proof_named same written =
-      let here = subst (λ (a : Answer Cause). IsPlanFound g start plan_bytes proof_bytes a.status a.text.items) (sym same) found in
+      let here = subst (λ (a : Answer Cause). IsPlanFound g start (is_some job.seconds) plan_bytes proof_bytes a.status a.text.items) (sym same) found in
       found_answers f.answer.status (map written_by f.files.items) f.answer.text.items (record {
         network = g;
         start = start;
@@ -120,8 +120,8 @@ module _ (job : PlanGap) (bytes : List ℕ) (more : List (List ℕ)) where
         plan_bytes = plan_bytes;
         proof_bytes = proof_bytes;
         found = here;
-        accepted = are_accepted job.limit bytes plan_bytes proof_bytes g (routes_of start) here.outcome here.is_network has.network here.is here.plan_is here.proof_is;
-        again = λ short. record { within = short; fits = held_fits g (routes_of start) here.outcome.plan here.is.plan; text = here.plan_is };
+        accepted = are_accepted job.limit bytes plan_bytes proof_bytes g (routes_of start) here.moves_ended here.outcome here.is_network has.network here.is here.plan_is here.proof_is;
+        again = λ short. record { within = short; fits = held_fits g (routes_of start) here.moves_ended here.outcome.plan here.is.plan; text = here.plan_is };
         written = subst (λ (name : List ℕ). map written_by f.files.items ≡ record { name = job.plan; bytes = plan_bytes } ∷ record { name = name; bytes = proof_bytes } ∷ []) proof_named
             (subst (λ (name : List ℕ). map written_by f.files.items ≡ record { name = name; bytes = plan_bytes } ∷ record { name = proof_name; bytes = proof_bytes } ∷ []) named written);
       })
@@ -194,7 +194,7 @@ reads_none files start is = subst (λ (s : Option (List ℕ)). AreRead files (st
 
 found_for : {E : Type 0} (job : PlanGap) (files : Option Files) (bytes : List ℕ) (more : List (List ℕ)) (made : Result (Found Cause) E) → job.plan ≢ job.proof → AreReadUpTo most_bytes files job.file bytes
     → AreRead files (start_reads job.start) more → IfOk made (λ f. PlanAnswers job bytes more f.answer.status (map written_by f.files.items) f.answer.text.items)
-    → IfOk made (HearsOfFound plan_heard) → IfOk made (λ f. IsFoundFor (plan_task job) files f)
+    → IfOk made (HearsOfFound (plan_heard (is_some job.seconds))) → IfOk made (λ f. IsFoundFor (plan_task job) files f)
 found_for {E} job files bytes more (Err e) other read reads answers heard = tt
 found_for {E} job files bytes more (Ok f) other read reads answers heard =
     let plain = answer_is_plain job bytes more f.answer.status (map written_by f.files.items) f.answer.text.items other answers in
@@ -206,12 +206,12 @@ found_for {E} job files bytes more (Ok f) other read reads answers heard =
     }
 
 pub found_from_none : {E : Type 0} (job : PlanGap) (files : Option Files) (bytes : List ℕ) (made : Result (Found Cause) E) → job.plan ≢ job.proof → job.start ≡ None → AreReadUpTo most_bytes files job.file bytes
-    → IfOk made (λ f. PlanAnswers job bytes [] f.answer.status (map written_by f.files.items) f.answer.text.items) → IfOk made (HearsOfFound plan_heard) → IfOk made (λ f. IsFoundFor (plan_task job) files f)
+    → IfOk made (λ f. PlanAnswers job bytes [] f.answer.status (map written_by f.files.items) f.answer.text.items) → IfOk made (HearsOfFound (plan_heard (is_some job.seconds))) → IfOk made (λ f. IsFoundFor (plan_task job) files f)
 found_from_none {E} job files bytes made other none read answers heard = found_for job files bytes [] made other read (reads_none files job.start none) answers heard
 
 pub found_from_text : {E : Type 0} (job : PlanGap) (files : Option Files) (bytes name start_bytes given : List ℕ) (made : Result (Found Cause) E) → job.plan ≢ job.proof → job.start ≡ Some name
     → AreReadUpTo most_bytes files job.file bytes → AreReadUpTo most_bytes files name start_bytes → given ≡ start_bytes
-    → IfOk made (λ f. PlanAnswers job bytes (given ∷ []) f.answer.status (map written_by f.files.items) f.answer.text.items) → IfOk made (HearsOfFound plan_heard) → IfOk made (λ f. IsFoundFor (plan_task job) files f)
+    → IfOk made (λ f. PlanAnswers job bytes (given ∷ []) f.answer.status (map written_by f.files.items) f.answer.text.items) → IfOk made (HearsOfFound (plan_heard (is_some job.seconds))) → IfOk made (λ f. IsFoundFor (plan_task job) files f)
 found_from_text {E} job files bytes name start_bytes given made other named read read_start same answers heard =
     let here = subst (λ (bs : List ℕ). IfOk made (λ f. PlanAnswers job bytes (bs ∷ []) f.answer.status (map written_by f.files.items) f.answer.text.items)) same answers in
     found_for job files bytes (start_bytes ∷ []) made other read (reads_start files job.start name start_bytes named read_start) here heard

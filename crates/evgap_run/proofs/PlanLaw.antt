@@ -1,5 +1,6 @@
 -- The files that `plan` leaves tell its status, and its causes exclude each other.
-use Rattle.std.proofs.Common.{◌≡◌, ◌∙◌, ℕ, ◌⊎◌, List, [], ◌∷◌, Option, None, Some, ap, inl, inr, refl, subst, sym}
+use Rattle.std.proofs.Common.{◌≡◌, ◌∙◌, ℕ, ◌⊎◌, Bool, List, [], ◌∷◌, Option, None, Some, ap, inl, inr, refl, subst, sym}
+use Rattle.std.specs.Option.{is_some}
 use Rattle.std.proofs.lemmas.Option.{same_Some}
 use Rattle.ev_model.specs.Network.{Network}
 use Rattle.ev_outside.specs.Shelf.{Files, HoldsUnder}
@@ -43,12 +44,12 @@ same_status g held other p q plan proof =
     ap (λ (c : Option ℕ). plan_status c (bound_of p)) cost ∙ ap (λ (x : BoundProof). plan_status (cost_held g other) (bound_of x)) proof
 
 -- the same texts tell the same status
-same_found : (g : Network) (start : Option FleetPlan) (plan_bytes proof_bytes text other : List ℕ) (s t : Status) → IsPlanFound g start plan_bytes proof_bytes s text → IsPlanFound g start plan_bytes proof_bytes t other → s ≡ t
-same_found g start plan_bytes proof_bytes text other s t p q =
+same_found : (g : Network) (start : Option FleetPlan) (may_end : Bool) (plan_bytes proof_bytes text other : List ℕ) (s t : Status) → IsPlanFound g start may_end plan_bytes proof_bytes s text → IsPlanFound g start may_end plan_bytes proof_bytes t other → s ≡ t
+same_found g start may_end plan_bytes proof_bytes text other s t p q =
     let held = p.outcome.plan in
     let another = q.outcome.plan in
     let plan : plan_held held ≡ plan_held another =
-    one_plan (plan_held held) (plan_held another) (held_fits g (routes_of start) held p.is.plan) (held_fits g (routes_of start) another q.is.plan) (sym p.plan_is ∙ q.plan_is) in
+    one_plan (plan_held held) (plan_held another) (held_fits g (routes_of start) p.moves_ended held p.is.plan) (held_fits g (routes_of start) q.moves_ended another q.is.plan) (sym p.plan_is ∙ q.plan_is) in
     let proof : p.outcome.proof ≡ q.outcome.proof =
     one_shown g p.is_network proof_bytes p.outcome.proof q.outcome.proof p.is.proof q.is.proof p.proof_is q.proof_is in
     p.status_is ∙ same_status g held another p.outcome.proof q.outcome.proof plan proof ∙ sym q.status_is
@@ -82,11 +83,11 @@ module _ (job : PlanGap) (bytes : List ℕ) (more : List (List ℕ)) where
       let hold = both_in (Some alike.files) r.writes (record { name = job.plan; bytes = q.plan_bytes }) (record { name = job.proof; bytes = q.proof_bytes }) q.written alike.other in
       let plan : q.plan_bytes ≡ p.plan_bytes = same_Some q.plan_bytes p.plan_bytes (sym hold.0 ∙ held.0) in
       let proof : q.proof_bytes ≡ p.proof_bytes = same_Some q.proof_bytes p.proof_bytes (sym hold.1 ∙ held.1) in
-      same_found p.network p.start p.plan_bytes p.proof_bytes o.text r.text o.status r.status p.found
-      (subst (λ (g : Network). IsPlanFound g p.start p.plan_bytes p.proof_bytes r.status r.text) network
-      (subst (λ (s : Option FleetPlan). IsPlanFound q.network s p.plan_bytes p.proof_bytes r.status r.text) start
-      (subst (λ (bs : List ℕ). IsPlanFound q.network q.start bs p.proof_bytes r.status r.text) plan
-      (subst (λ (bs : List ℕ). IsPlanFound q.network q.start q.plan_bytes bs r.status r.text) proof q.found))))
+      same_found p.network p.start (is_some job.seconds) p.plan_bytes p.proof_bytes o.text r.text o.status r.status p.found
+      (subst (λ (g : Network). IsPlanFound g p.start (is_some job.seconds) p.plan_bytes p.proof_bytes r.status r.text) network
+      (subst (λ (s : Option FleetPlan). IsPlanFound q.network s (is_some job.seconds) p.plan_bytes p.proof_bytes r.status r.text) start
+      (subst (λ (bs : List ℕ). IsPlanFound q.network q.start (is_some job.seconds) bs p.proof_bytes r.status r.text) plan
+      (subst (λ (bs : List ℕ). IsPlanFound q.network q.start (is_some job.seconds) q.plan_bytes bs r.status r.text) proof q.found))))
 
   -- the plan to begin with breaks no rule where something was found
   found_is_unbroken : (s : Status) (ws vs : List Written) (text other : List ℕ) → PutsPlan job bytes more s ws text → PutsBrokenStart job bytes more vs other → ⊥

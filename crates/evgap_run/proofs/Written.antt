@@ -1,5 +1,5 @@
 -- The two files that `plan` writes, read again, are accepted.
-use Rattle.std.proofs.Common.{◌≡◌, ◌∙◌, ℕ, ◌≤◌, List, Option, ap, false, length, refl, subst, sym, true}
+use Rattle.std.proofs.Common.{◌≡◌, ◌∙◌, ℕ, ◌≤◌, Bool, List, Option, ap, false, length, refl, subst, sym, true}
 use Rattle.std.proofs.lemmas.Bool.{false≢true}
 use Rattle.certificate_parts.specs.Limits as certificate
 use Rattle.ev_model.specs.Network.{IsNetwork, Network}
@@ -9,6 +9,7 @@ use Rattle.gap_search.specs.Gap.{IsGapOutcome, IsHeld, cost_held, plan_held}
 use Rattle.gap_search.specs.declared.outcome.GapOutcome.{GapOutcome}
 use Rattle.near_proof.specs.declared.proof.NearProof.{NearProof}
 use Rattle.near_text.proofs.NearLaws.{one_near}
+use Rattle.route_improve.proofs.Answered.{moved_orderly}
 use Rattle.route_improve.specs.declared.improving.Improved.{Improved}
 use Rattle.route_improve.specs.declared.improving.Improved.TheVariants.{Alone, Plan}
 use Rattle.route_plan.specs.PlanTexts.{FitsFile, fleet_plan_text}
@@ -22,13 +23,13 @@ use Rattle.tree_text.specs.declared.bounds.proof.BoundProof.{BoundProof}
 use Rattle.tree_text.specs.declared.bounds.proof.BoundProof.TheVariants.{Near, Tree}
 use Rattle.evgap_run.specs.PlanAnswer.{AreAccepted, IsAcceptedBound}
 
-pub held_fits : (g : Network) (start : Option (List RoutePlan)) (held : Improved) → IsHeld g start held → FitsFile (plan_held held)
-held_fits g start (Plan plan) is = is.0.text
-held_fits g start (Alone node) is = tt
+pub held_fits : (g : Network) (start : Option (List RoutePlan)) (ended : Bool) (held : Improved) → IsHeld g start ended held → FitsFile (plan_held held)
+held_fits g start ended (Plan plan) is = (moved_orderly g ended plan.routes is.0).text
+held_fits g start ended (Alone node) is = tt
 
-pub held_valid : (g : Network) (start : Option (List RoutePlan)) (held : Improved) → IsHeld g start held → IsValid g (plan_held held) (cost_held g held)
-held_valid g start (Plan plan) is = (is.0.fleet, refl)
-held_valid g start (Alone node) is = refl
+pub held_valid : (g : Network) (start : Option (List RoutePlan)) (ended : Bool) (held : Improved) → IsHeld g start ended held → IsValid g (plan_held held) (cost_held g held)
+held_valid g start ended (Plan plan) is = ((moved_orderly g ended plan.routes is.0).fleet, refl)
+held_valid g start ended (Alone node) is = refl
 
 -- the text of a proof that is shown, where it isn't too long, is read as it
 shown_again : (g : Network) (bytes : List ℕ) (p : BoundProof) → IsNetwork g → IsBoundShown g p → bytes ≡ bound_proof_text g p → length bytes ≤ certificate.most_bytes → HasProof g bytes p
@@ -76,23 +77,23 @@ bound_again limit file bytes g (Tree p) network has shown is kind within =
     let tree : begins_tree bytes ≡ true = ap begins_tree is in
     absurd (false≢true (sym kind ∙ tree))
 
-pub are_accepted : (limit : Option ℕ) (file plan_bytes proof_bytes : List ℕ) (g : Network) (start : Option (List RoutePlan)) (o : GapOutcome) → IsNetwork g → HasNetwork limit file g → IsGapOutcome g start o
+pub are_accepted : (limit : Option ℕ) (file plan_bytes proof_bytes : List ℕ) (g : Network) (start : Option (List RoutePlan)) (ended : Bool) (o : GapOutcome) → IsNetwork g → HasNetwork limit file g → IsGapOutcome g start ended o
     → plan_bytes ≡ fleet_plan_text (plan_held o.plan) → proof_bytes ≡ bound_proof_text g o.proof
     → AreAccepted limit file plan_bytes proof_bytes g.denominator (cost_held g o.plan) (bound_of o.proof)
-are_accepted limit file plan_bytes proof_bytes g start o network has is plan_is proof_is = record {
+are_accepted limit file plan_bytes proof_bytes g start ended o network has is plan_is proof_is = record {
   both = λ short within. record {
     files = record {
       network = g;
       plan = plan_held o.plan;
       fleet = record {
         network = has;
-        spelled = record { within = short; fits = held_fits g start o.plan is.plan; text = plan_is };
+        spelled = record { within = short; fits = held_fits g start ended o.plan is.plan; text = plan_is };
       };
       proof = o.proof;
       has = shown_again g proof_bytes o.proof network is.proof proof_is within;
     };
     cost = cost_held g o.plan;
-    valid = held_valid g start o.plan is.plan;
+    valid = held_valid g start ended o.plan is.plan;
     accepted = is.proof.accepted;
     shows = is.proof.shows;
     text_is = refl;

@@ -1,6 +1,6 @@
 -- What `plan` writes and puts on the bytes of its instance, and of the plan to begin with where it
 -- is given one.
-use Rattle.std.specs.Prelude.{◌≡◌, ℕ, ◌≤◌, ◌⊎◌, false, List, [], ◌∷◌, Option, None, Some, Err, if◌then◌else◌, length, nat_eq}
+use Rattle.std.specs.Prelude.{◌≡◌, ℕ, ◌≤◌, ◌⊎◌, Bool, false, true, List, [], ◌∷◌, Option, None, Some, Err, if◌then◌else◌, is_some, length, nat_eq}
 use Rattle.certificate_parts.specs.Limits as certificate
 use Rattle.ev_model.specs.Network.{IsNetwork, Network}
 use Rattle.near_steps.specs.NearFile.{HasNear}
@@ -102,12 +102,15 @@ pub record AreAccepted (limit : Option ℕ) (bytes plan_bytes proof_bytes : List
 
 -- A search found a plan, or holds none, and a proof, and these are the text of the plan file, the
 -- text of the proof, the status and the report. The bound is true: no fleet plan costs less, in any
--- fraction of a unit; where there is none, there is no fleet plan, in any fraction.
-pub record IsPlanFound (g : Network) (start : Option FleetPlan)
+-- fraction of a unit; where there is none, there is no fleet plan, in any fraction. A clock ended the
+-- moves of the plan only where it may.
+pub record IsPlanFound (g : Network) (start : Option FleetPlan) (may_end : Bool)
     (plan_bytes proof_bytes : List ℕ) (ended : Status) (text : List ℕ) : Type 0 where
   pub is_network : IsNetwork g
   pub outcome : GapOutcome
-  pub is : IsGapOutcome g (routes_of start) outcome
+  pub moves_ended : Bool
+  pub may : may_end ≡ false → moves_ended ≡ false
+  pub is : IsGapOutcome g (routes_of start) moves_ended outcome
   pub true_bound : IsTrueNearBound g (bound_of outcome.proof)
   pub plan_is : plan_bytes ≡ fleet_plan_text (plan_held outcome.plan)
   pub proof_is : proof_bytes ≡ bound_proof_text g outcome.proof
@@ -116,7 +119,7 @@ pub record IsPlanFound (g : Network) (start : Option FleetPlan)
       (cost_held g outcome.plan) (bound_of outcome.proof)
 
 -- the plan to begin with breaks no rule, and what was found is put, behind the two files, which are
--- accepted
+-- accepted; the words have a clock where they give seconds
 pub record PutsPlan (job : PlanGap) (bytes : List ℕ) (more : List (List ℕ))
     (ended : Status) (ws : List Written) (text : List ℕ) : Type 0 where
   pub network : Network
@@ -126,7 +129,7 @@ pub record PutsPlan (job : PlanGap) (bytes : List ℕ) (more : List (List ℕ))
   pub valid : IsValid network start was
   pub plan_bytes : List ℕ
   pub proof_bytes : List ℕ
-  pub found : IsPlanFound network start plan_bytes proof_bytes ended text
+  pub found : IsPlanFound network start (is_some job.seconds) plan_bytes proof_bytes ended text
   pub accepted : AreAccepted job.limit bytes plan_bytes proof_bytes network.denominator
       (cost_held network found.outcome.plan) (bound_of found.outcome.proof)
   pub again : IsReadBack plan_bytes (plan_held found.outcome.plan)
@@ -164,27 +167,33 @@ PlanAnswers job bytes more status.Stopped ws text = PutsPlan job bytes more stat
 PlanAnswers job bytes more status.Refused ws text = PutsPlanRefusal job bytes more ws text
 PlanAnswers job bytes more other ws text = ⊥
 
--- what the first line of a search tells: that there is no fleet plan, or who is out of reach
-abbrev pub found_cause : Option ℕ → Option ℕ → Option Cause
-found_cause alone None = Some cause.NoFleet
-found_cause (Some node) (Some bound) = Some (cause.Alone node)
-found_cause None (Some bound) = None
+-- what the first line of a search tells, that there is no fleet plan, or who is out of reach; or that
+-- a clock ended the moves
+abbrev pub found_cause : Option ℕ → Option ℕ → Bool → Option Cause
+found_cause alone None ended = Some cause.NoFleet
+found_cause (Some node) (Some bound) ended = Some (cause.Alone node)
+found_cause None (Some bound) true = Some cause.MovesEnded
+found_cause None (Some bound) false = None
 
--- the lines of what a search found are put, and its cause is heard
-pub record HearsFound (answered : Status) (text : List ℕ) (heard : Option Cause) : Type 0 where
+-- the lines of what a search found are put, and its cause is heard; that a clock ended the moves only
+-- where it may
+pub record HearsFound (may_end : Bool) (answered : Status) (text : List ℕ)
+    (heard : Option Cause) : Type 0 where
   pub denominator : ℕ
   pub alone : Option ℕ
   pub cost : Option ℕ
   pub bound : Option ℕ
   pub status_is : answered ≡ plan_status cost bound
   pub text_is : text ≡ found_text denominator alone cost bound
-  pub heard_is : heard ≡ found_cause alone bound
+  pub moves_ended : Bool
+  pub may : may_end ≡ false → moves_ended ≡ false
+  pub heard_is : heard ≡ found_cause alone bound moves_ended
 
--- what is heard of an answer
-abbrev pub plan_heard : Status → List ℕ → Option Cause → Type 0
-plan_heard answered text heard =
+-- what is heard of an answer, where a clock may end the moves or may not
+abbrev pub plan_heard : Bool → Status → List ℕ → Option Cause → Type 0
+plan_heard may_end answered text heard =
     HearsRefusal answered text heard ⊎ HearsBrokenPlan answered text heard
-    ⊎ HearsFound answered text heard
+    ⊎ HearsFound may_end answered text heard
 
 -- `plan` reads its instance, and the plan to begin with where a file is named
 abbrev pub plan_answers : PlanGap → List (List ℕ) → Outcome → Type 0
@@ -208,7 +217,7 @@ plan_task job = record {
   reads = file_read job.file ∷ start_reads job.start;
   goes_on = plan_goes_on job;
   answers = plan_answers job;
-  heard = plan_heard;
+  heard = plan_heard (is_some job.seconds);
   asks = λ name. (name ≡ job.plan) ⊎ (name ≡ job.proof);
   writes_first = λ ws. ⊥;
   is_open = Unit {0};

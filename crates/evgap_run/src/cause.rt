@@ -8,7 +8,8 @@ use plan_check::PlanFault;
 use refusal_lines::Refusal;
 use tree_text::BoundVerdict;
 
-/// What the first line of an answer tells, where it isn't the one that was asked for.
+/// What the first line of an answer tells, where it isn't the one that was asked for; or what an
+/// answer doesn't tell.
 #[derive(Clone, Copy, Debug, Drop, PartialEq, Eq)]
 pub enum Cause {
     /// The words name no job.
@@ -23,6 +24,8 @@ pub enum Cause {
     Alone(usize),
     /// There is no plan of the fleet.
     NoFleet,
+    /// The clock ended the moves that make the plan of the fleet cheaper: some may be left.
+    MovesEnded,
 }
 
 impl JobCause for Cause {

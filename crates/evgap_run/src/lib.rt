@@ -15,8 +15,9 @@ pub use cause::Cause;
 pub use clock::{AtOnce, JobClock, Never};
 pub use command::{Evgap, run};
 pub use gap_search::{
-    BranchClock, BranchProgress, BranchWatcher, GapProgress, GapWatcher, MoveProgress, MoveWatcher,
-    PricesProgress, PricesWatcher, RecreateProgress, RecreateWatcher, SearchClock,
+    BranchClock, BranchProgress, BranchWatcher, GapClock, GapProgress, GapWatcher, MoveClock,
+    MoveProgress, MoveWatcher, PricesProgress, PricesWatcher, RecreateProgress, RecreateWatcher,
+    SearchClock,
 };
 pub use job_frame::{CauseListener, ScaleWatcher, Status};
 pub use watcher::{JobWatcher, Nobody};

@@ -1,7 +1,7 @@
 //! What `plan` finds: a fleet is planned with a close bound, and its plan and the proof of the
 //! bound are written.
 
-ghost use Rattle.std.specs.Prelude.{◌≡◌, ◌∷◌, [], IfErr, IfOk, IfSome, List, None, Some, map, option_map, ℕ};
+ghost use Rattle.std.specs.Prelude.{◌≡◌, ◌∷◌, [], IfErr, IfOk, IfSome, List, None, Some, is_some, map, option_map, ℕ};
 ghost use Rattle.ev_model.specs.Fleet.{IsFleetPlan};
 ghost use Rattle.evgap_run.specs.PlanAnswer.{HasPlanJob, PlanAnswers, plan_heard, plan_task};
 ghost use Rattle.gap_words.specs.JobValue.{IsPlanJob, plan_value};
@@ -17,7 +17,7 @@ use crate::clock::JobClock;
 use crate::planning::plan_all;
 use ev_outside::{Shelf, ShelfFault};
 use fleet_steps::{cost_of, plan_of, reject};
-use gap_search::{BranchClock, GapOptions, GapWatcher, Recreation};
+use gap_search::{GapClock, GapOptions, GapWatcher, Recreation};
 use gap_words::PlanWords;
 use instance_reader::Instance;
 use job_frame::{
@@ -110,7 +110,7 @@ fn plan_on<S: Shelf, C: JobClock, W: GapWatcher>(
 }
 
 /// What `plan` finds where the file of the plan to begin with has this name.
-fn plan_from_file<S: Shelf, C: BranchClock, W: GapWatcher>(
+fn plan_from_file<S: Shelf, C: GapClock, W: GapWatcher>(
     alloc: Global,
     inst: &Instance,
     name: &str,
@@ -135,7 +135,7 @@ fn plan_from_file<S: Shelf, C: BranchClock, W: GapWatcher>(
 }
 
 /// What is found where no file with a plan to begin with is named.
-fn plan_from_none<C: BranchClock, W: GapWatcher>(
+fn plan_from_none<C: GapClock, W: GapWatcher>(
     alloc: Global,
     inst: &Instance,
     job: &PlanWords,
@@ -148,7 +148,7 @@ fn plan_from_none<C: BranchClock, W: GapWatcher>(
         → IfOk result (λ f. PlanAnswers (plan_value job.now) bytes more
         f.answer.status (map written_by f.files.items) f.answer.text.items) }
     ensures heard { IfOk result
-        (λ f. plan_heard f.answer.status f.answer.text.items f.answer.cause) }
+        (λ f. plan_heard (is_some job.now.seconds) f.answer.status f.answer.text.items f.answer.cause) }
     ensures memory { IfErr result (λ fault. fault ≡ ShelfFault.Memory) }
 {
     match plan_from(alloc, inst, None, job, clock, watcher) {
@@ -159,7 +159,7 @@ fn plan_from_none<C: BranchClock, W: GapWatcher>(
 
 /// What is found for the bytes of the file of the plan to begin with: it is read, and a fleet is
 /// planned.
-fn plan_from_text<C: BranchClock, W: GapWatcher>(
+fn plan_from_text<C: GapClock, W: GapWatcher>(
     alloc: Global,
     inst: &Instance,
     bytes: &[u8],
@@ -173,7 +173,7 @@ fn plan_from_text<C: BranchClock, W: GapWatcher>(
         → IfOk result (λ f. PlanAnswers (plan_value job.now) file (bytes.now ∷ [])
         f.answer.status (map written_by f.files.items) f.answer.text.items) }
     ensures heard { IfOk result
-        (λ f. plan_heard f.answer.status f.answer.text.items f.answer.cause) }
+        (λ f. plan_heard (is_some job.now.seconds) f.answer.status f.answer.text.items f.answer.cause) }
     ensures memory { IfErr result (λ fault. fault ≡ ShelfFault.Memory) }
 {
     match plan_of(alloc, bytes) {
@@ -187,7 +187,7 @@ fn plan_from_text<C: BranchClock, W: GapWatcher>(
 }
 
 /// What is found with a plan to begin with, or with none: it is judged, and a fleet is planned.
-fn plan_from<C: BranchClock, W: GapWatcher>(
+fn plan_from<C: GapClock, W: GapWatcher>(
     alloc: Global,
     inst: &Instance,
     start: Option<&FleetPlan>,
@@ -202,7 +202,7 @@ fn plan_from<C: BranchClock, W: GapWatcher>(
         → IfOk result (λ f. PlanAnswers (plan_value job.now) bytes more
         f.answer.status (map written_by f.files.items) f.answer.text.items) }
     ensures heard { IfOk result
-        (λ f. plan_heard f.answer.status f.answer.text.items f.answer.cause) }
+        (λ f. plan_heard (is_some job.now.seconds) f.answer.status f.answer.text.items f.answer.cause) }
 {
     match cost_of(alloc, inst, start) {
         Ok(_was) => plan_judged(alloc, inst, start, job, clock, watcher),
@@ -212,7 +212,7 @@ fn plan_from<C: BranchClock, W: GapWatcher>(
 }
 
 /// What is found with a fleet plan to begin with, or with none.
-fn plan_judged<C: BranchClock, W: GapWatcher>(
+fn plan_judged<C: GapClock, W: GapWatcher>(
     alloc: Global,
     inst: &Instance,
     start: Option<&FleetPlan>,
@@ -227,7 +227,7 @@ fn plan_judged<C: BranchClock, W: GapWatcher>(
         → IfOk result (λ f. PlanAnswers (plan_value job.now) bytes more
         f.answer.status (map written_by f.files.items) f.answer.text.items) }
     ensures heard { IfOk result
-        (λ f. plan_heard f.answer.status f.answer.text.items f.answer.cause) }
+        (λ f. plan_heard (is_some job.now.seconds) f.answer.status f.answer.text.items f.answer.cause) }
 {
     let options = GapOptions {
         recreation: Recreation {
@@ -235,6 +235,7 @@ fn plan_judged<C: BranchClock, W: GapWatcher>(
             effort: job.effort,
         },
         nodes: job.nodes,
+        ends_moves: job.seconds.is_some(),
     };
     let planned = plan_all(alloc, inst, start, options, clock, watcher)?;
     planned.found(alloc, job.plan.as_str(), job.proof.as_str())

@@ -1,12 +1,13 @@
 -- What is held beside a proof that is accepted.
-use Rattle.std.proofs.Common.{◌≡◌, ℕ, ◌*◌, ◌≤◌, List, Option, None, Some, arith, refl, subst, sym}
+use Rattle.std.proofs.Common.{◌≡◌, ℕ, ◌*◌, ◌≤◌, Bool, List, Option, None, Some, arith, refl, subst, sym}
 use Rattle.std.specs.Prelude.{IfSome}
 use Rattle.ev_model.specs.Fleet.{IsFleetPlan, cost_of}
 use Rattle.ev_model.specs.Network.{Network}
 use Rattle.near_proof.specs.Truth.{IsTrueNearBound}
 use Rattle.plan_check.specs.FleetRules.{stops_of}
 use Rattle.report_lines.specs.Lines.{IsBoundOf}
-use Rattle.route_improve.specs.Improved.{CostsNoMore, IsAnswer}
+use Rattle.route_improve.proofs.Answered.{moved_orderly}
+use Rattle.route_improve.specs.Improved.{CostsNoMore, IsTimedAnswer}
 use Rattle.route_improve.specs.declared.improving.Improved.{Improved}
 use Rattle.route_improve.specs.declared.improving.Improved.TheVariants.{Alone, Plan}
 use Rattle.route_plan.specs.declared.plan.RoutePlan.{RoutePlan}
@@ -58,39 +59,39 @@ no_dearer : (g : Network) (start : Option (List RoutePlan)) (cost : ℕ) → Cos
 no_dearer g None cost own = own.no_more
 no_dearer g (Some from) cost less = less
 
--- what moves of single customers answer is no dearer
-pub begun : (g : Network) (start : Option (List RoutePlan)) (found : Improved) → IsAnswer g start found → IsBegun g start found
-begun g start (Plan plan) is = (is.0.fleet, no_dearer g start (cost_of g 1 (stops_of plan.routes)) is.1)
-begun g start (Alone node) is = is
+-- what moves of single customers answer is no dearer, though a clock ended them
+pub begun : (g : Network) (start : Option (List RoutePlan)) (ended : Bool) (found : Improved) → IsTimedAnswer g ended start found → IsBegun g start found
+begun g start ended (Plan plan) is = ((moved_orderly g ended plan.routes is.0).fleet, no_dearer g start (cost_of g 1 (stops_of plan.routes)) is.1)
+begun g start ended (Alone node) is = is
 
 -- what they answer in the end is held
-pub settled_held : (g : Network) (start : Option (List RoutePlan)) (before after : Improved) → IsBegun g start before → IsSettledAfter g before after → IsHeld g start after
-settled_held g start (Plan before) (Plan after) is answer =
+pub settled_held : (g : Network) (start : Option (List RoutePlan)) (ended : Bool) (before after : Improved) → IsBegun g start before → IsSettledAfter g ended before after → IsHeld g start ended after
+settled_held g start ended (Plan before) (Plan after) is answer =
     (answer.0, still_no_dearer g start (cost_of g 1 (stops_of before.routes)) (cost_of g 1 (stops_of after.routes)) answer.1 is.1)
-settled_held g start (Plan before) (Alone node) is answer = let bad : Some before.routes ≡ None = answer.0 in absurd (cc)
-settled_held g start (Alone node) after is same = subst (IsHeld g start) (sym same) is
+settled_held g start ended (Plan before) (Alone node) is answer = let bad : Some before.routes ≡ None = answer.0 in absurd (cc)
+settled_held g start ended (Alone node) after is same = subst (IsHeld g start ended) (sym same) is
 
-bounded : (g : Network) (start : Option (List RoutePlan)) (found : Improved) (bound : Option ℕ) → IsHeld g start found → IsTrueNearBound g bound → IsBoundOf (cost_held g found) bound
-bounded g start (Plan plan) (Some b) is truth =
-    let le : 1 * b ≤ cost_of g 1 (stops_of plan.routes) = truth 1 (stops_of plan.routes) is.0.fleet in
+bounded : (g : Network) (start : Option (List RoutePlan)) (ended : Bool) (found : Improved) (bound : Option ℕ) → IsHeld g start ended found → IsTrueNearBound g bound → IsBoundOf (cost_held g found) bound
+bounded g start ended (Plan plan) (Some b) is truth =
+    let le : 1 * b ≤ cost_of g 1 (stops_of plan.routes) = truth 1 (stops_of plan.routes) (moved_orderly g ended plan.routes is.0).fleet in
     omega (arith, le)
-bounded g start (Plan plan) None is truth = tt
-bounded g start (Alone node) bound is truth = tt
+bounded g start ended (Plan plan) None is truth = tt
+bounded g start ended (Alone node) bound is truth = tt
 
-no_plan : (g : Network) (start : Option (List RoutePlan)) (found : Improved) → IsHeld g start found → IsTrueNearBound g None → plan_held found ≡ None
-no_plan g start (Plan plan) is truth = absurd (truth 1 (stops_of plan.routes) is.0.fleet)
-no_plan g start (Alone node) is truth = refl
+no_plan : (g : Network) (start : Option (List RoutePlan)) (ended : Bool) (found : Improved) → IsHeld g start ended found → IsTrueNearBound g None → plan_held found ≡ None
+no_plan g start ended (Plan plan) is truth = absurd (truth 1 (stops_of plan.routes) (moved_orderly g ended plan.routes is.0).fleet)
+no_plan g start ended (Alone node) is truth = refl
 
-none_held : (g : Network) (start : Option (List RoutePlan)) (found : Improved) (bound : Option ℕ) → IsHeld g start found → IsTrueNearBound g bound → bound ≡ None → plan_held found ≡ None
-none_held g start found None is truth none = no_plan g start found is truth
-none_held g start found (Some b) is truth none = absurd (cc)
+none_held : (g : Network) (start : Option (List RoutePlan)) (ended : Bool) (found : Improved) (bound : Option ℕ) → IsHeld g start ended found → IsTrueNearBound g bound → bound ≡ None → plan_held found ≡ None
+none_held g start ended found None is truth none = no_plan g start ended found is truth
+none_held g start ended found (Some b) is truth none = absurd (cc)
 
-pub is_outcome : (g : Network) (start : Option (List RoutePlan)) (found : Improved) (proof : BoundProof) → IsHeld g start found → IsBoundShown g proof → IsGapOutcome g start (record { plan = found; proof = proof })
-is_outcome g start found proof is accepted = record {
+pub is_outcome : (g : Network) (start : Option (List RoutePlan)) (ended : Bool) (found : Improved) (proof : BoundProof) → IsHeld g start ended found → IsBoundShown g proof → IsGapOutcome g start ended (record { plan = found; proof = proof })
+is_outcome g start ended found proof is accepted = record {
   plan = is;
   proof = accepted;
-  bound = bounded g start found (bound_of proof) is (shown_bound g proof accepted);
-  none = none_held g start found (bound_of proof) is (shown_bound g proof accepted);
+  bound = bounded g start ended found (bound_of proof) is (shown_bound g proof accepted);
+  none = none_held g start ended found (bound_of proof) is (shown_bound g proof accepted);
 }
 
 -- what ruin and recreate makes of a plan in two steps, each no dearer than the one before

@@ -1,9 +1,9 @@
 -- What is held while a search looks for cheaper plans, and what is made of it in the end.
-use Rattle.std.specs.Prelude.{◌≡◌, ◌≤◌, List, Option, None, Some}
+use Rattle.std.specs.Prelude.{◌≡◌, ◌≤◌, Bool, List, Option, None, Some}
 use Rattle.ev_model.specs.Fleet.{IsFleetPlan, cost_of}
 use Rattle.ev_model.specs.Network.{Network}
 use Rattle.plan_check.specs.FleetRules.{stops_of}
-use Rattle.route_improve.specs.Improved.{IsAnswer, IsFirstAlone}
+use Rattle.route_improve.specs.Improved.{IsFirstAlone, IsTimedAnswer}
 use Rattle.route_improve.specs.declared.improving.Improved.{Improved}
 use Rattle.route_improve.specs.declared.improving.Improved.TheVariants.{Plan, Alone}
 use Rattle.route_plan.specs.declared.plan.FleetPlan.{FleetPlan}
@@ -35,7 +35,8 @@ IsGrownAfter g (Plan before) (Alone node) = ⊥
 IsGrownAfter g (Alone node) (Plan after) = IsFleetPlan g 1 (stops_of after.routes)
 IsGrownAfter g (Alone node) (Alone other) = other ≡ node
 
--- what moves of single customers answer to such a plan, and else no plan for the same reason
-abbrev pub IsSettledAfter : Network → Improved → Improved → Type 0
-IsSettledAfter g (Plan before) after = IsAnswer g (Some before.routes) after
-IsSettledAfter g (Alone node) after = after ≡ Alone node
+-- what moves of single customers answer to such a plan, though a clock may have ended them, and else
+-- no plan for the same reason
+abbrev pub IsSettledAfter : Network → Bool → Improved → Improved → Type 0
+IsSettledAfter g ended (Plan before) after = IsTimedAnswer g ended (Some before.routes) after
+IsSettledAfter g ended (Alone node) after = after ≡ Alone node

@@ -2,7 +2,37 @@
 
 use near_branch::BranchClock;
 use near_search::SearchClock;
+use route_improve::MoveClock;
 use ruin_recreate::{RecreateProgress, RecreateWatcher};
+
+/// Who says when the time of a search for a close gap is up, and, some time behind that, when the
+/// last moves of its plan have to end.
+pub trait GapClock: BranchClock + MoveClock {
+    /// Whether the time has been up for so many milliseconds.
+    fn is_up_since(&mut self, milliseconds: u64) -> bool;
+}
+
+/// When a part of a search ends.
+#[derive(Clone, Copy, Debug, PartialEq, Eq)]
+pub(crate) enum End {
+    /// So many milliseconds before the time is up.
+    Before(u64),
+    /// So many behind that.
+    Behind(u64),
+    /// Whatever the clock says, when its work is done.
+    Never,
+}
+
+impl End {
+    /// Whether a clock is there.
+    fn is_reached<C: GapClock>(self, clock: &mut C) -> bool {
+        match self {
+            End::Before(milliseconds) => clock.is_up_in(milliseconds),
+            End::Behind(milliseconds) => clock.is_up_since(milliseconds),
+            End::Never => false,
+        }
+    }
+}
 
 /// A clock that is up so many milliseconds before another.
 #[derive(Drop)]
@@ -17,22 +47,56 @@ impl<'c, C: BranchClock> SearchClock for Ahead<'c, C> {
     }
 }
 
-/// Who watches ruin and recreate, and ends it so many milliseconds before a clock is up.
+/// The clock of moves that are not the last ones.
 #[derive(Drop)]
-pub(crate) struct Timed<'c, C: BranchClock, W: RecreateWatcher> {
-    pub(crate) clock: &'c mut C,
-    pub(crate) milliseconds: u64,
-    pub(crate) watcher: &'c mut W,
+pub(crate) struct Moving<'c, C: GapClock> {
+    clock: &'c mut C,
+    end: End,
+    has_ended: bool,
 }
 
-impl<'c, C: BranchClock, W: RecreateWatcher> Timed<'c, C, W> {
-    /// Whether the time is up.
-    pub(crate) fn is_up(&mut self) -> bool {
-        self.clock.is_up_in(self.milliseconds)
+impl<'c, C: GapClock> Moving<'c, C> {
+    /// The moves end by then.
+    pub(crate) fn until(clock: &'c mut C, end: End) -> Self {
+        Moving {
+            clock,
+            end,
+            has_ended: false,
+        }
     }
 }
 
-impl<'c, C: BranchClock, W: RecreateWatcher> RecreateWatcher for Timed<'c, C, W> {
+impl<'c, C: GapClock> MoveClock for Moving<'c, C> {
+    ghost has_ended = { λ moving. moving.has_ended };
+
+    fn is_over(&mut self) -> bool {
+        if !self.has_ended {
+            self.has_ended = self.end.is_reached(self.clock);
+        }
+        self.has_ended
+    }
+
+    fn has_ended(&self) -> bool {
+        self.has_ended
+    }
+}
+
+/// Who watches ruin and recreate, and ends it by a clock.
+#[derive(Drop)]
+pub(crate) struct Timed<'c, C: GapClock, W: RecreateWatcher> {
+    pub(crate) clock: &'c mut C,
+    pub(crate) end: End,
+    pub(crate) watcher: &'c mut W,
+}
+
+impl<'c, C: GapClock, W: RecreateWatcher> Timed<'c, C, W> {
+    /// Whether the time is up.
+    pub(crate) fn is_up(&mut self) -> bool {
+        self.end.is_reached(self.clock)
+    }
+}
+
+impl<'c, C: GapClock, W: RecreateWatcher> RecreateWatcher for Timed<'c, C, W> {
     fn goes_on(&mut self, progress: RecreateProgress) -> bool {
         self.watcher.goes_on(progress) && !self.is_up()
     }

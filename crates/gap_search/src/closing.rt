@@ -1,12 +1,13 @@
 //! The search for a plan and for a close bound.
 
-ghost use Rattle.std.specs.Prelude.{◌≡◌, IfOk, IfSome, option_map};
+ghost use Rattle.std.specs.Prelude.{◌≡◌, ◌&&◌, IfOk, IfSome, option_map};
 ghost use Rattle.ev_model.specs.Fleet.{IsFleetPlan};
 ghost use Rattle.gap_search.specs.Gap.{IsGapOutcome};
 ghost use Rattle.plan_check.specs.FleetRules.{stops_of};
 
 use crate::bound::{BoundFound, search_bound};
 use crate::candidate::proof_of_candidates;
+use crate::clock::GapClock;
 use crate::first::{FirstPlan, first_plan};
 use crate::grown::with_tree;
 use crate::offers::tell;
@@ -16,7 +17,6 @@ use crate::plans::{FoundRoutes, cheaper};
 use crate::settling::settled;
 use crate::watcher::GapWatcher;
 use instance_reader::Instance;
-use near_branch::BranchClock;
 use route_plan::FleetPlan;
 use std::alloc::{AllocError, Global};
 
@@ -30,8 +30,10 @@ use std::alloc::{AllocError, Global};
 /// are isn't promised, nor of which kind the proof is.
 ///
 /// The clock is asked whether the search stops. Where it is up, what makes a proof of the prices at
-/// hand goes on. The only `Err` is want of memory.
-pub fn close_gap<C: BranchClock, W: GapWatcher>(
+/// hand goes on. Where the options let it, it also ends the last moves: that some may make the plan
+/// cheaper is so only where it said then that its time is up, which it tells behind the call
+/// ([`route_improve::MoveClock::has_ended`]). The only `Err` is want of memory.
+pub fn close_gap<C: GapClock, W: GapWatcher>(
     alloc: Global,
     inst: &Instance,
     start: Option<&FleetPlan>,
@@ -41,7 +43,8 @@ pub fn close_gap<C: BranchClock, W: GapWatcher>(
 ) -> Result<GapOutcome, AllocError>
     requires { IfSome start (λ plan. IsFleetPlan inst.now 1 (stops_of plan.now.routes)) }
     ensures { IfOk result
-        (IsGapOutcome inst.now (option_map (λ plan. plan.now.routes) start.entry)) }
+        (IsGapOutcome inst.now (option_map (λ plan. plan.now.routes) start.entry)
+        (options.ends_moves && C.has_ended clock.new)) }
 {
     let first = first_plan(alloc, inst, start, options.recreation, clock, watcher)?;
     tell(inst, &first.plan, None, watcher);
@@ -64,6 +67,6 @@ pub fn close_gap<C: BranchClock, W: GapWatcher>(
     let held = GapOutcome { plan, proof };
     let grown = with_tree(alloc, inst, held, root, options.nodes, clock, watcher)?;
     let GapOutcome { plan, proof } = grown;
-    let plan = settled(alloc, inst, plan, watcher)?;
+    let plan = settled(alloc, inst, plan, options.ends_moves, clock, watcher)?;
     Ok(GapOutcome { plan, proof })
 }

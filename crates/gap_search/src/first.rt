@@ -9,14 +9,13 @@ ghost use Rattle.route_improve.specs.Improved.{IsOrderly};
 ghost use Rattle.ruin_recreate.specs.Recreated.{IsNoDearer};
 
 use crate::bound::bound_milliseconds;
-use crate::clock::Timed;
+use crate::clock::{End, GapClock, Moving, Timed};
 use crate::own::is_no_more_than_own;
 use crate::plans::cost_of;
 use crate::recreation::{Recreation, Work};
 use crate::watcher::GapWatcher;
 use instance_reader::Instance;
-use near_branch::BranchClock;
-use route_improve::{Improved, improve_watched, improve_within};
+use route_improve::{Improved, improve_timed, improve_within};
 use route_plan::FleetPlan;
 use ruin_recreate::{Effort, RecreateWatcher, Recreated, SeenRoute, recreate};
 use std::alloc::{AllocError, Global};
@@ -34,8 +33,8 @@ pub(crate) struct FirstPlan {
 }
 
 /// The first plan, or why none is held: where work is done for it, by ruin and recreate, which ends
-/// with some moves of single customers, and else by these until none helps.
-pub(crate) fn first_plan<C: BranchClock, W: GapWatcher>(
+/// with some moves of single customers, and else by these until none helps or the clock is up.
+pub(crate) fn first_plan<C: GapClock, W: GapWatcher>(
     alloc: Global,
     inst: &Instance,
     start: Option<&FleetPlan>,
@@ -54,7 +53,7 @@ pub(crate) fn first_plan<C: BranchClock, W: GapWatcher>(
 
 /// The first plan, or why none is held. The routes that are seen are added.
 #[tactic(auto, using(crate::proofs::Outcomes::begun))]
-fn begun_plan<C: BranchClock, W: GapWatcher>(
+fn begun_plan<C: GapClock, W: GapWatcher>(
     alloc: Global,
     inst: &Instance,
     start: Option<&FleetPlan>,
@@ -67,7 +66,8 @@ fn begun_plan<C: BranchClock, W: GapWatcher>(
     ensures { IfOk result (IsBegun inst.now (option_map (λ plan. plan.now.routes) start.entry)) }
 {
     let Some(work) = recreation.work(inst.customers().len()) else {
-        return improve_watched(alloc, inst, start, watcher);
+        let mut moving = Moving::until(clock, End::Before(0));
+        return improve_timed(alloc, inst, start, &mut moving, watcher);
     };
     match start {
         Some(plan) => from_plan(
@@ -86,7 +86,7 @@ fn begun_plan<C: BranchClock, W: GapWatcher>(
 
 /// A plan that is made of this one, and no dearer.
 #[tactic(auto, using(crate::proofs::Outcomes::begun_behind))]
-fn from_plan<C: BranchClock, W: GapWatcher>(
+fn from_plan<C: GapClock, W: GapWatcher>(
     alloc: Global,
     inst: &Instance,
     plan: &FleetPlan,
@@ -99,13 +99,18 @@ fn from_plan<C: BranchClock, W: GapWatcher>(
     requires { IsFleetPlan inst.now 1 (stops_of plan.now.routes) }
     ensures { IfOk result (IsBegun inst.now (Some plan.now.routes)) }
 {
-    let better = recreated(alloc, inst, plan, work.first, seed, seen, watcher)?;
+    let mut timed = Timed {
+        clock,
+        end: work.end,
+        watcher,
+    };
+    let better = recreated(alloc, inst, plan, work.first, seed, seen, &mut timed)?;
     let better = more_work(alloc, inst, better, work.then, seed, seen, clock, watcher)?;
     Ok(Improved::Plan(better))
 }
 
 /// A plan, or the first customer without a route of his own.
-fn from_none<C: BranchClock, W: GapWatcher>(
+fn from_none<C: GapClock, W: GapWatcher>(
     alloc: Global,
     inst: &Instance,
     work: Work,
@@ -116,7 +121,12 @@ fn from_none<C: BranchClock, W: GapWatcher>(
 ) -> Result<Improved, AllocError>
     ensures { IfOk result (IsBegun inst.now None) }
 {
-    let found = recreate(alloc, inst, None, work.first, seed, watcher)?;
+    let mut timed = Timed {
+        clock,
+        end: work.end,
+        watcher,
+    };
+    let found = recreate(alloc, inst, None, work.first, seed, &mut timed)?;
     let Recreated {
         outcome,
         seen: others,
@@ -125,7 +135,7 @@ fn from_none<C: BranchClock, W: GapWatcher>(
     match outcome {
         Improved::Plan(plan) => {
             let plan = more_work(alloc, inst, plan, work.then, seed, seen, clock, watcher)?;
-            no_dearer_than_own(alloc, inst, plan, watcher)
+            no_dearer_than_own(alloc, inst, plan, clock, watcher)
         }
         Improved::Alone(node) => Ok(Improved::Alone(node)),
     }
@@ -159,7 +169,7 @@ fn recreated<W: RecreateWatcher>(
 
 /// The plan once more work was done, where there is some, no routes are long, and as far as the
 /// clock leaves time for a bound.
-fn more_work<C: BranchClock, W: GapWatcher>(
+fn more_work<C: GapClock, W: GapWatcher>(
     alloc: Global,
     inst: &Instance,
     plan: FleetPlan,
@@ -177,7 +187,7 @@ fn more_work<C: BranchClock, W: GapWatcher>(
     };
     let mut timed = Timed {
         clock,
-        milliseconds: bound_milliseconds(inst.customers().len()),
+        end: End::Before(bound_milliseconds(inst.customers().len())),
         watcher,
     };
     if timed.is_up() || are_long(inst, &plan) {
@@ -199,13 +209,14 @@ fn are_long(inst: &Instance, plan: &FleetPlan) -> bool {
     inst.customers().len() > plan.routes.len().saturating_mul(LONG_ROUTE)
 }
 
-/// The plan; or one that moves make of routes for the customers alone, where the plan is dearer
-/// than these.
+/// The plan; or one that moves make of routes for the customers alone, as far as the clock lets them,
+/// where the plan is dearer than these.
 #[tactic(auto, using(crate::proofs::Outcomes::begun))]
-fn no_dearer_than_own<W: GapWatcher>(
+fn no_dearer_than_own<C: GapClock, W: GapWatcher>(
     alloc: Global,
     inst: &Instance,
     plan: FleetPlan,
+    clock: &mut C,
     watcher: &mut W,
 ) -> Result<Improved, AllocError>
     requires { IsFleetPlan inst.now 1 (stops_of plan.routes) }
@@ -214,7 +225,8 @@ fn no_dearer_than_own<W: GapWatcher>(
     if is_no_dearer_than_own(alloc, inst, &plan)? {
         return Ok(Improved::Plan(plan));
     }
-    improve_watched(alloc, inst, None, watcher)
+    let mut moving = Moving::until(clock, End::Before(0));
+    improve_timed(alloc, inst, None, &mut moving, watcher)
 }
 
 /// Whether a plan costs no more than routes for the customers alone, where each has one.

@@ -9,13 +9,13 @@ ghost use Rattle.plan_check.specs.FleetRules.{stops_of};
 ghost use Rattle.tree_text.specs.BoundProofs.{IsBoundShown, bound_of};
 
 use crate::bound::{NearOrder, Root, grow_tree};
+use crate::clock::GapClock;
 use crate::judged::accepted;
 use crate::offers::tell;
 use crate::outcome::GapOutcome;
 use crate::plans::{cheaper_of, improved, plan_of};
 use crate::watcher::GapWatcher;
 use instance_reader::Instance;
-use near_branch::BranchClock;
 use route_improve::Improved;
 use std::alloc::{AllocError, Global};
 use tree_text::BoundProof;
@@ -23,7 +23,7 @@ use tree_text::BoundProof;
 /// A plan, or why none is held, and an accepted proof, once a tree was grown from what is known at
 /// its root, where nodes for one are asked for and a gap is left.
 #[tactic(auto, using(crate::proofs::Outcomes::grown_same, crate::proofs::Outcomes::no_weaker_same))]
-pub(crate) fn with_tree<C: BranchClock, W: GapWatcher>(
+pub(crate) fn with_tree<C: GapClock, W: GapWatcher>(
     alloc: Global,
     inst: &Instance,
     held: GapOutcome,
@@ -44,7 +44,7 @@ pub(crate) fn with_tree<C: BranchClock, W: GapWatcher>(
     let bound = proof.bound();
     match grow_tree(alloc, inst, &plan, bound, root, nodes, clock, watcher)? {
         Some(given) => {
-            let plan = with_orders(alloc, inst, plan, given.orders)?;
+            let plan = with_orders(alloc, inst, plan, given.orders, clock)?;
             let proof = stronger(alloc, inst, proof, given.proof)?;
             tell(inst, &plan, proof.bound(), watcher);
             Ok(GapOutcome { plan, proof })
@@ -56,11 +56,12 @@ pub(crate) fn with_tree<C: BranchClock, W: GapWatcher>(
 /// What is held, or the plan of these routes, made cheaper by some moves, where it is one and costs
 /// less, or where none is held.
 #[tactic(auto, using(crate::proofs::Outcomes::grown_same))]
-fn with_orders(
+fn with_orders<C: GapClock>(
     alloc: Global,
     inst: &Instance,
     held: Improved,
     orders: Option<Vec<NearOrder>>,
+    clock: &mut C,
 ) -> Result<Improved, AllocError>
     requires { IfSome (plan_held held) (λ plan. IsFleetPlan inst.now 1
         (stops_of plan.routes)) }
@@ -72,7 +73,7 @@ fn with_orders(
     let Some(plan) = plan_of(alloc, inst, &orders)? else {
         return Ok(held);
     };
-    let Some(other) = improved(alloc, inst, &plan)? else {
+    let Some(other) = improved(alloc, inst, &plan, clock)? else {
         return Ok(held);
     };
     match held {

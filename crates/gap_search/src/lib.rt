@@ -24,6 +24,7 @@ mod trips;
 mod watcher;
 
 pub use candidate::proof_of_candidates;
+pub use clock::GapClock;
 pub use closing::close_gap;
 pub use near_branch::{BranchClock, BranchProgress, BranchWatcher};
 pub use near_prices::{PricesProgress, PricesWatcher};
@@ -31,7 +32,7 @@ pub use near_search::SearchClock;
 pub use options::GapOptions;
 pub use outcome::GapOutcome;
 pub use recreation::Recreation;
-pub use route_improve::{Improved, MoveProgress, MoveWatcher};
+pub use route_improve::{Improved, MoveClock, MoveProgress, MoveWatcher};
 pub use ruin_recreate::{RecreateProgress, RecreateWatcher};
 pub use tree_text::BoundProof;
 pub use watcher::{GapProgress, GapWatcher};

@@ -10,4 +10,6 @@ pub struct GapOptions {
     /// So many nodes of a tree are priced at the most, which is grown where a gap is left without
     /// it. `None`: none is grown.
     pub nodes: Option<u64>,
+    /// Whether the clock may end the moves that make the plan cheaper in the end.
+    pub ends_moves: bool,
 }

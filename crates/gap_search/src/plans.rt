@@ -7,14 +7,14 @@ ghost use Rattle.gap_search.specs.After.{IsHeldAfter, IsPlanAfter};
 ghost use Rattle.gap_search.specs.Gap.{plan_held};
 
 use crate::bound::NearOrder;
+use crate::clock::{End, GapClock, Moving};
 use crate::offers::Offers;
 use crate::trips::fastest_plan;
 use crate::watcher::GapWatcher;
 use ev_list::Listed;
 use instance_reader::{Instance, MOST_CUSTOMERS};
-use near_branch::BranchClock;
 use plan_check::{LargeFault, check_large};
-use route_improve::{Improved, improve_within};
+use route_improve::{Improved, improve_timed_within};
 use route_plan::FleetPlan;
 use std::alloc::{AllocError, Global};
 
@@ -39,7 +39,7 @@ pub(crate) struct FoundRoutes {
 /// What is held, with a plan that costs no more: of the routes others are made, each is made
 /// cheaper by some moves, and the cheapest is held. Where no plan is held, and for more than 128
 /// customers, none is made. The clock is asked between two of them whether to stop.
-pub(crate) fn cheaper<C: BranchClock, W: GapWatcher>(
+pub(crate) fn cheaper<C: GapClock, W: GapWatcher>(
     alloc: Global,
     inst: &Instance,
     held: Improved,
@@ -61,7 +61,7 @@ pub(crate) fn cheaper<C: BranchClock, W: GapWatcher>(
 }
 
 /// A plan that costs no more than the one that is held.
-fn cheaper_plan<C: BranchClock, W: GapWatcher>(
+fn cheaper_plan<C: GapClock, W: GapWatcher>(
     alloc: Global,
     inst: &Instance,
     held: FleetPlan,
@@ -85,7 +85,7 @@ fn cheaper_plan<C: BranchClock, W: GapWatcher>(
 }
 
 /// The cheapest of the plan that is held and of those of dives, in which parts are replaced.
-fn with_dives<C: BranchClock, W: GapWatcher>(
+fn with_dives<C: GapClock, W: GapWatcher>(
     alloc: Global,
     inst: &Instance,
     mut held: FleetPlan,
@@ -103,13 +103,13 @@ fn with_dives<C: BranchClock, W: GapWatcher>(
         }
         let places = offers.add_orders(alloc, dive)?;
         let places = offers.polished(alloc, places)?;
-        held = with_choice(alloc, inst, held, offers, &places, watcher)?;
+        held = with_choice(alloc, inst, held, offers, &places, clock, watcher)?;
     }
     Ok(held)
 }
 
 /// The cheapest of the plan that is held and of those of choices that cost less than it.
-fn with_choices<C: BranchClock, W: GapWatcher>(
+fn with_choices<C: GapClock, W: GapWatcher>(
     alloc: Global,
     inst: &Instance,
     mut held: FleetPlan,
@@ -128,19 +128,20 @@ fn with_choices<C: BranchClock, W: GapWatcher>(
         let Some(places) = offers.cheaper_choice(alloc, places)? else {
             break;
         };
-        held = with_choice(alloc, inst, held, offers, &places, watcher)?;
+        held = with_choice(alloc, inst, held, offers, &places, clock, watcher)?;
     }
     Ok(held)
 }
 
 /// The plan that is held, or the one of the routes at these places, made cheaper by some moves,
 /// where it is one and costs less.
-fn with_choice<W: GapWatcher>(
+fn with_choice<C: GapClock, W: GapWatcher>(
     alloc: Global,
     inst: &Instance,
     held: FleetPlan,
     offers: &Offers<'_>,
     places: &[usize],
+    clock: &mut C,
     watcher: &mut W,
 ) -> Result<FleetPlan, AllocError>
     requires { IsFleetPlan inst.now 1 (stops_of held.routes) }
@@ -149,7 +150,7 @@ fn with_choice<W: GapWatcher>(
     let Some(plan) = plan_of_places(alloc, inst, offers, places)? else {
         return Ok(held);
     };
-    let Some(other) = improved(alloc, inst, &plan)? else {
+    let Some(other) = improved(alloc, inst, &plan, clock)? else {
         return Ok(held);
     };
     let held = cheaper_of(alloc, inst, held, other)?;
@@ -197,11 +198,12 @@ fn plan_of_places(
     }))
 }
 
-/// The plan, made cheaper by some moves, where it is a fleet plan.
-pub(crate) fn improved(
+/// The plan, made cheaper by some moves before the clock is up, where it is a fleet plan.
+pub(crate) fn improved<C: GapClock>(
     alloc: Global,
     inst: &Instance,
     plan: &FleetPlan,
+    clock: &mut C,
 ) -> Result<Option<FleetPlan>, AllocError>
     ensures { IfOk result (λ found. IfSome found
         (λ better. IsFleetPlan inst.now 1 (stops_of better.routes))) }
@@ -211,7 +213,9 @@ pub(crate) fn improved(
         Err(LargeFault::Memory) => return Err(AllocError),
         Err(LargeFault::Plan { .. }) => return Ok(None),
     }
-    Ok(Some(improve_within(alloc, inst, plan, MOVES_WORK)?))
+    let mut moving = Moving::until(clock, End::Before(0));
+    let better = improve_timed_within(alloc, inst, plan, MOVES_WORK, &mut moving)?;
+    Ok(Some(better))
 }
 
 /// The cheaper one of two fleet plans.

@@ -1,5 +1,6 @@
 //! How much work is done for the first plan, and by which numbers it is drawn.
 
+use crate::clock::End;
 use ruin_recreate::Effort;
 
 /// So many customers make the effort a step greater, where none is given.
@@ -8,14 +9,18 @@ const CUSTOMERS_A_STEP: usize = 20;
 /// So many steps greater it is at the most then.
 const MOST_STEPS: usize = 5;
 
+/// The first step of work ends so many milliseconds behind the end of a clock, where no effort is
+/// given.
+const FIRST_BEHIND: u64 = 1_500;
+
 /// The seed and the effort of the search for the first plan.
 #[derive(Clone, Copy, Debug, Drop, PartialEq, Eq)]
 pub struct Recreation {
     /// The numbers by chance come from it.
     pub seed: u64,
-    /// How much work is done: with 0 none, the moves of single customers alone; with 1 so much a
-    /// customer, and twice as much with each step behind it. `None`: by the number of customers,
-    /// and with long routes that of 1.
+    /// How much work is done, whatever a clock says: with 0 none, the moves of single customers
+    /// alone; with 1 so much a customer, and twice as much with each step behind it. `None`: by the
+    /// number of customers, and with long routes that of 1, as far as the clock lets it.
     pub effort: Option<u64>,
 }
 
@@ -23,6 +28,8 @@ pub struct Recreation {
 #[derive(Clone, Copy)]
 pub(crate) struct Work {
     pub(crate) first: Effort,
+    /// When that ends, though it isn't all done.
+    pub(crate) end: End,
     /// What is done behind it, unless routes are long.
     pub(crate) then: Option<Effort>,
 }
@@ -34,6 +41,7 @@ impl Recreation {
             Some(0) => None,
             Some(steps) => Some(Work {
                 first: effort_of(customers, steps),
+                end: End::Never,
                 then: None,
             }),
             None => Some(work_by_size(customers)),
@@ -48,6 +56,7 @@ fn work_by_size(customers: usize) -> Work {
     let all = effort_of(customers, steps.saturating_add(1));
     Work {
         first,
+        end: End::Behind(FIRST_BEHIND),
         then: Some(Effort {
             work: all.work.saturating_sub(first.work),
             cycles: all.cycles.saturating_sub(first.cycles),

@@ -50,6 +50,7 @@ fn found(alloc: Global, inst: &Instance) -> Option<BoundProof> {
             effort: None,
         },
         nodes: None,
+        ends_moves: false,
     };
     let outcome = close_gap(
         alloc,

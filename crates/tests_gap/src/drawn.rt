@@ -40,6 +40,7 @@ fn compare(alloc: Global, number: u64) -> Option<Compared> {
             effort: None,
         },
         nodes: None,
+        ends_moves: false,
     };
     let found = close_gap(
         alloc,

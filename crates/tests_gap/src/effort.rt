@@ -30,6 +30,7 @@ fn bound_on(alloc: Global, text: &str) -> Option<u128> {
             effort: None,
         },
         nodes: None,
+        ends_moves: false,
     };
     let found = close_gap(
         alloc,

@@ -15,13 +15,24 @@ const PAIR: &str =
     r#"{"max_q":3,"css":[{"node_id":3,"cs_type":"fast"}],"breakpoints_by_type":[{"cs_type":"fast","time":[0,3],"charge":[0,3]}],"process_times":[0,0,0,0],"energy_matrix":[[0,1,9,9],[9,0,1,9],[1,9,0,9],[9,9,9,0]],"time_matrix":[[0,1,1,1],[1,0,1,1],[1,1,0,1],[1,1,1,0]]}"#;
 
 /// Counts how often ruin and recreate tells how far it is, and keeps what the best routes cost
-/// then.
+/// then; and the last cause that is heard.
 #[derive(Drop)]
-struct Looks {
+pub struct Looks {
     count: u64,
     /// A hash of the costs, in their order.
     costs: u64,
-    cause: Option<Cause>,
+    pub cause: Option<Cause>,
+}
+
+impl Looks {
+    /// Nothing was told yet.
+    pub fn new() -> Looks {
+        Looks {
+            count: 0,
+            costs: 0,
+            cause: None,
+        }
+    }
 }
 
 impl PricesWatcher for Looks {
@@ -75,11 +86,7 @@ fn looks_made(
     let mut out = MemorySink::new(alloc, Vec::new(alloc));
     let mut program = Evgap {
         clock: Never {},
-        watcher: Looks {
-            count: 0,
-            costs: 0,
-            cause: None,
-        },
+        watcher: Looks::new(),
     };
     let _ = job_ending::run(alloc, words.as_slice(), shelf, &mut out, &mut program);
     Ok((program.watcher.count, program.watcher.costs))

@@ -1,5 +1,5 @@
 use Rattle.std.proofs.Common.{subst}
-use Rattle.std.specs.Option.{option_map}
+use Rattle.std.specs.Option.{is_some, option_map}
 use Rattle.evgap_run.proofs.PlanFinds.{puts_broken, start_is_fleet}
 use Rattle.evgap_run.proofs.Hearing.{broken_is_heard}
 use Rattle.fleet_steps.proofs.Hearing.{broken_plan_is_heard}
@@ -21,5 +21,5 @@ returns-in-Err-Plan-clause-answers g c = λ bytes more has.
 
 pub returns-in-Err-Plan-clause-heard : goal.returns-in-Err-Plan-clause-heard
 returns-in-Err-Plan-clause-heard g c =
-    broken_is_heard c.reject.result
+    broken_is_heard (is_some c.args.job.now.seconds) c.reject.result
     (broken_plan_is_heard cause.Plan c.in-Err-Plan.fault c.reject.result c.reject.ensures.status c.reject.ensures.text c.reject.ensures.cause)

@@ -6,7 +6,7 @@ use Rattle.gap_words.specs.JobValue.{plan_value}
 use Rattle.evgap_run.proofs.Refusals.{refused_job_is_heard}
 use Rattle.route_plan.specs.PlanTexts.{SpellsFleetPlan}
 use Rattle.route_plan.specs.declared.plan.FleetPlan.{FleetPlan}
-use Rattle.std.specs.Option.{option_map}
+use Rattle.std.specs.Option.{is_some, option_map}
 use Rattle.evgap_run.proofs.plan.plan_from_text.Goals as goal
 
 pub returns-in-Ok-plan_from-clause-answers : goal.returns-in-Ok-plan_from-clause-answers
@@ -23,5 +23,5 @@ returns-in-Err-Refused-clause-answers g c = λ file name fleet named.
 
 pub returns-in-Err-Refused-clause-heard : goal.returns-in-Err-Refused-clause-heard
 returns-in-Err-Refused-clause-heard g c =
-    refused_job_is_heard (λ s text heard. HearsBrokenPlan s text heard ⊎ HearsFound s text heard) c.in-Err-Refused.refusal c.refuse_job.result
+    refused_job_is_heard (λ s text heard. HearsBrokenPlan s text heard ⊎ HearsFound (is_some c.args.job.now.seconds) s text heard) c.in-Err-Refused.refusal c.refuse_job.result
     c.refuse_job.ensures.status c.refuse_job.ensures.text c.refuse_job.ensures.cause

@@ -1,3 +1,4 @@
+use Rattle.std.specs.Prelude.{◌&&◌, Bool}
 use Rattle.std.specs.Option.{option_map}
 use Rattle.gap_search.proofs.Outcomes.{is_fleet, is_outcome, settled_held, still_begun, still_begun_grown}
 use Rattle.gap_search.proofs.closing.close_gap.Goals as goal
@@ -20,8 +21,9 @@ settled-requires g c =
 
 pub returns : goal.returns
 returns g c =
-    is_outcome c.args.inst.now (option_map (λ p. p.now.routes) c.args.start) c.in_ok-plan-2.plan c.in_ok-grown.grown.proof
-    (settled_held c.args.inst.now (option_map (λ p. p.now.routes) c.args.start) c.in_ok-grown.grown.plan c.in_ok-plan-2.plan
+    let ended : Bool = c.args.options.ends_moves && g.C.MoveClock.has_ended c.settled.new.clock in
+    is_outcome c.args.inst.now (option_map (λ p. p.now.routes) c.args.start) ended c.in_ok-plan-2.plan c.in_ok-grown.grown.proof
+    (settled_held c.args.inst.now (option_map (λ p. p.now.routes) c.args.start) ended c.in_ok-grown.grown.plan c.in_ok-plan-2.plan
     (still_begun_grown c.args.inst.now (option_map (λ p. p.now.routes) c.args.start) c.in_ok-plan.plan c.in_ok-grown.grown.plan
     (still_begun c.args.inst.now (option_map (λ p. p.now.routes) c.args.start) c.in_ok-first.first.plan c.in_ok-plan.plan c.in_ok-first.ensures c.in_ok-plan.ensures)
     c.in_ok-grown.ensures.plan)
