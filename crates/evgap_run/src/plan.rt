@@ -148,7 +148,8 @@ fn plan_from_none<C: GapClock, W: GapWatcher>(
         → IfOk result (λ f. PlanAnswers (plan_value job.now) bytes more
         f.answer.status (map written_by f.files.items) f.answer.text.items) }
     ensures heard { IfOk result
-        (λ f. plan_heard (is_some job.now.seconds) f.answer.status f.answer.text.items f.answer.cause) }
+        (λ f. plan_heard (is_some job.now.seconds) f.answer.status f.answer.text.items
+        f.answer.cause) }
     ensures memory { IfErr result (λ fault. fault ≡ ShelfFault.Memory) }
 {
     match plan_from(alloc, inst, None, job, clock, watcher) {
@@ -173,7 +174,8 @@ fn plan_from_text<C: GapClock, W: GapWatcher>(
         → IfOk result (λ f. PlanAnswers (plan_value job.now) file (bytes.now ∷ [])
         f.answer.status (map written_by f.files.items) f.answer.text.items) }
     ensures heard { IfOk result
-        (λ f. plan_heard (is_some job.now.seconds) f.answer.status f.answer.text.items f.answer.cause) }
+        (λ f. plan_heard (is_some job.now.seconds) f.answer.status f.answer.text.items
+        f.answer.cause) }
     ensures memory { IfErr result (λ fault. fault ≡ ShelfFault.Memory) }
 {
     match plan_of(alloc, bytes) {
@@ -202,7 +204,8 @@ fn plan_from<C: GapClock, W: GapWatcher>(
         → IfOk result (λ f. PlanAnswers (plan_value job.now) bytes more
         f.answer.status (map written_by f.files.items) f.answer.text.items) }
     ensures heard { IfOk result
-        (λ f. plan_heard (is_some job.now.seconds) f.answer.status f.answer.text.items f.answer.cause) }
+        (λ f. plan_heard (is_some job.now.seconds) f.answer.status f.answer.text.items
+        f.answer.cause) }
 {
     match cost_of(alloc, inst, start) {
         Ok(_was) => plan_judged(alloc, inst, start, job, clock, watcher),
@@ -227,7 +230,8 @@ fn plan_judged<C: GapClock, W: GapWatcher>(
         → IfOk result (λ f. PlanAnswers (plan_value job.now) bytes more
         f.answer.status (map written_by f.files.items) f.answer.text.items) }
     ensures heard { IfOk result
-        (λ f. plan_heard (is_some job.now.seconds) f.answer.status f.answer.text.items f.answer.cause) }
+        (λ f. plan_heard (is_some job.now.seconds) f.answer.status f.answer.text.items
+        f.answer.cause) }
 {
     let options = GapOptions {
         recreation: Recreation {

@@ -21,20 +21,22 @@ use view_words::{Job, job_words, usage};
 /// `FILE PLAN [--limit N] [--route N] [--partial] [--fixed [--charge N]] [--exact] [--begin HH:MM
 /// --unit U] [--places FILE] [--svg OUT] [--json OUT] [--csv OUT] [--map OUT]` reads FILE as an
 /// instance with any number of customers, PLAN as a fleet plan, or none, or with `--fixed` as what
-/// `evroute fixed` puts of a vehicle that starts with the level of `--charge`, and the FILE of `--places` as the places by node; it
-/// writes the pictures of the plan's schedule into the OUT of `--svg`, the schedule as JSON into
-/// that of `--json`, as CSV into that of `--csv`, and its map into that of `--map`, and puts the
-/// schedule as a table a route ([`Status::Done`]). `--route` leaves all routes out but one; with
-/// `--begin` and `--unit` is told by the clock when something happens, with `--places` what the
-/// places are called. Where the plan breaks a rule, the first one is put ([`Status::Negative`]);
-/// with `--partial` the rules are that each route can be driven and no customer stands twice, with
-/// `--fixed` that it can be driven and takes the time that PLAN tells.
+/// `evroute fixed` puts of a vehicle that starts with the level of `--charge`, and the FILE of
+/// `--places` as the places by node; it writes the pictures of the plan's schedule into the OUT of
+/// `--svg`, the schedule as JSON into that of `--json`, as CSV into that of `--csv`, and its map
+/// into that of `--map`, and puts the schedule as a table a route ([`Status::Done`]). `--route`
+/// leaves all routes out but one; with `--begin` and `--unit` is told by the clock when something
+/// happens, with `--places` what the places are called. Where the plan breaks a rule, the first one
+/// is put ([`Status::Negative`]); with `--partial` the rules are that each route can be driven and
+/// no customer stands twice, with `--fixed` that it can be driven and takes the time that PLAN
+/// tells.
 ///
 /// The line of the first broken rule of the files and words is put ([`Status::Refused`]): of the
 /// instance, of the limit, of the level at the start, of the text of the plan, of the file of
-/// places, or that the plan has no such route. Other words put the usage text ([`Status::Words`]). After [`Status::Fault`] and [`Status::Memory`] a part of
-/// such a text may have been put. No file but an OUT is written, and only where no rule is broken.
-/// What it holds after a failed write isn't known.
+/// places, or that the plan has no such route. Other words put the usage text ([`Status::Words`]).
+/// After [`Status::Fault`] and [`Status::Memory`] a part of such a text may have been put. No file
+/// but an OUT is written, and only where no rule is broken. What it holds after a failed write
+/// isn't known.
 pub fn run<S: Shelf, K: Sink>(alloc: Global, words: &[String], shelf: &mut S, out: &mut K) -> Status
     ensures words { result ≡ Status.Words → IsNone (job_named words.now) }
     ensures usage { IsNone (job_named words.now)

@@ -11,8 +11,8 @@ use std::alloc::{AllocError, Global};
 const MOST_CUSTOMERS: usize = 128;
 
 /// The labels of a section as those of a near proof, where nothing is forbidden or counted and
-/// nobody has earned less than nothing, for up to 128 customers; else `None`. The only `Err` is want
-/// of memory.
+/// nobody has earned less than nothing, for up to 128 customers; else `None`. The only `Err` is
+/// want of memory.
 pub fn near_labels(
     alloc: Global,
     inst: &Instance,
@@ -33,8 +33,8 @@ pub fn near_labels(
     Ok(Some(all))
 }
 
-/// A label as one of a near proof; `None` where its last is told at a station, or it has earned less
-/// than nothing.
+/// A label as one of a near proof; `None` where its last is told at a station, or it has earned
+/// less than nothing.
 fn near_label(
     alloc: Global,
     inst: &Instance,

@@ -61,11 +61,11 @@ pub fn improve_watched<W: MoveWatcher>(
     improve_timed(alloc, inst, from, &mut Endless, watcher)
 }
 
-/// The same as `improve_watched`, where a clock may end the moves: as long as it doesn't say that its
-/// time is up, no relocation and no exchange of customers is left that helps.
+/// The same as `improve_watched`, where a clock may end the moves: as long as it doesn't say that
+/// its time is up, no relocation and no exchange of customers is left that helps.
 ///
-/// Behind the clock's end an order is charged for each route. Without `from` routes for the customers
-/// alone are sought whatever the clock says.
+/// Behind the clock's end an order is charged for each route. Without `from` routes for the
+/// customers alone are sought whatever the clock says.
 pub fn improve_timed<C: MoveClock, W: MoveWatcher>(
     alloc: Global,
     inst: &Instance,
@@ -121,8 +121,8 @@ fn improve_none<C: MoveClock, W: MoveWatcher>(
     Ok(Improved::Plan(plan))
 }
 
-/// Joins routes, and then makes moves and joins routes in turn, until no relocation, no exchange and
-/// no join helps, or the clock ends that.
+/// Joins routes, and then makes moves and joins routes in turn, until no relocation, no exchange
+/// and no join helps, or the clock ends that.
 fn settled_plan<C: MoveClock, W: MoveWatcher>(
     alloc: Global,
     inst: &Instance,

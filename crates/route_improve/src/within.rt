@@ -24,8 +24,8 @@ use std::alloc::{AllocError, Global};
 /// none helps or so much work was done.
 ///
 /// Work is counted in customers that are looked at. Charging an order of n customers takes as much
-/// as looking at n squared: a million is a second at most. What was begun is brought to its end, the
-/// moves of one customer to and with one route, and each route of the plan is charged once
+/// as looking at n squared: a million is a second at most. What was begun is brought to its end,
+/// the moves of one customer to and with one route, and each route of the plan is charged once
 /// whatever the work.
 ///
 /// The answer is a fleet plan that costs no more than `plan`. Each of its routes is fastest for the
@@ -45,7 +45,7 @@ pub fn improve_within(
     improve_timed_within(alloc, inst, plan, work, &mut Endless)
 }
 
-/// The same, where a clock may end it too: it is asked behind each order that is charged.
+/// The same, where a clock may end it too: it is asked before each place that is looked at.
 pub fn improve_timed_within<C: MoveClock>(
     alloc: Global,
     inst: &Instance,
@@ -89,8 +89,8 @@ fn orderly_plan<C: MoveClock>(
     plan_of(alloc, inst, &better)
 }
 
-/// Makes moves until none makes the routes cheaper, so much work was done or the clock ends that. In
-/// the end the routes with customers stand in rising order of their first ones, and one without
+/// Makes moves until none makes the routes cheaper, so much work was done or the clock ends that.
+/// In the end the routes with customers stand in rising order of their first ones, and one without
 /// customers follows.
 fn settle_within<C: MoveClock>(
     alloc: Global,

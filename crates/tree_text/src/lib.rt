@@ -1,5 +1,6 @@
 //! The text of trees over near sections, which are proofs of lower bounds, both ways, and of a
-//! verdict on one; and one value for a proof of a bound of either kind, by near routes or by a tree.
+//! verdict on one; and one value for a proof of a bound of either kind, by near routes or by a
+//! tree.
 #![tactic(auto)]
 
 mod bounds;
