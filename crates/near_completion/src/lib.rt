@@ -19,5 +19,5 @@ pub use follow::Follow;
 pub use ground::{Arc, Ground};
 pub use nearest::nearest_sets;
 pub use rate::Rate;
-pub use table::{Rest, WayTable};
+pub use table::{HomeCost, WayTable};
 pub use terms::{Last, NearTerms};

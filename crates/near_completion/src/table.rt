@@ -10,7 +10,7 @@ use std::alloc::{AllocError, Global};
 
 /// What ways home take at the least beyond what they earn.
 #[derive(Clone, Copy, Debug, PartialEq, Eq)]
-pub struct Rest {
+pub struct HomeCost {
     pub least: i64,
     /// The customer who is left out by that, of those remembered.
     pub known: Option<usize>,
@@ -270,10 +270,10 @@ impl WayTable {
 
     /// What is known of the ways home from a place after a class, in a layer, that leave out those
     /// in a memory. `None` where there is no such place, class or layer.
-    pub fn rest(&self, place: usize, class: usize, layer: usize, memory: LargeSet) -> Option<Rest> {
+    pub fn rest(&self, place: usize, class: usize, layer: usize, memory: LargeSet) -> Option<HomeCost> {
         let cell = self.cell_at(place, class, layer)?;
         let (least, known) = cell.without(memory);
-        Some(Rest {
+        Some(HomeCost {
             least: i64::from(least) * i64::from(self.unit),
             known,
         })

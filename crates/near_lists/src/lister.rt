@@ -3,7 +3,7 @@
 use crate::plan::ListPlan;
 use crate::sizes::is_small;
 use dominance::LabelValue;
-use near_search::{Care, NearLabel, NearLabels, NearQuery, NearState, Origin};
+use near_search::{Comparison, NearLabel, NearLabels, NearQuery, NearState, Origin};
 use std::alloc::{AllocError, Global};
 
 /// A list in the making.
@@ -29,7 +29,7 @@ impl<'q, 'a> Lister<'q, 'a> {
     ) -> Result<Lister<'q, 'a>, AllocError> {
         let mut lister = Lister {
             query,
-            labels: NearLabels::new(alloc, query, Care::Exact)?,
+            labels: NearLabels::new(alloc, query, Comparison::Exact)?,
             most_labels: plan.most_labels,
             never_loses,
             is_cut: false,

@@ -4,7 +4,7 @@
 use crate::sizes::{owing, weighted, with_rest};
 use crate::values::line_from;
 use customer_sets::LargeSet;
-use near_completion::{Last, Rest, WayTable};
+use near_completion::{Last, HomeCost, WayTable};
 use near_search::{NearQuery, NearState, fold};
 use std::alloc::{AllocError, Global};
 
@@ -112,7 +112,7 @@ impl Hopeless<'_> {
     }
 
     /// What is known of the ways home after a class that leave out those in a memory.
-    fn rest(&self, class: usize, memory: LargeSet) -> Option<Rest> {
+    fn rest(&self, class: usize, memory: LargeSet) -> Option<HomeCost> {
         self.table.rest(self.state.place, class, self.layer, memory)
     }
 
@@ -131,7 +131,7 @@ impl Hopeless<'_> {
     }
 
     /// Whom the label remembers: nobody whom the least of ways doesn't pass by.
-    fn memory(&self, class: usize, rest: Rest) -> Option<LargeSet> {
+    fn memory(&self, class: usize, rest: HomeCost) -> Option<LargeSet> {
         let mut memory = LargeSet::empty();
         if self.query.ground().is_customer(self.state.place) {
             memory = with(memory, self.state.place);

@@ -1,6 +1,6 @@
 //! How much is searched at the most.
 
-use near_search::{Aim, Care, Order};
+use near_search::{Aim, Comparison, Order};
 
 /// How much work a search for prices does beside its rounds, in labels; making a table counts as
 /// some.
@@ -62,10 +62,10 @@ impl Budget {
 }
 
 /// The aim of a search for routes that earn.
-pub(crate) fn aim_of(care: Care, most_routes: usize, most_labels: usize) -> Aim {
+pub(crate) fn aim_of(comparison: Comparison, most_routes: usize, most_labels: usize) -> Aim {
     Aim {
-        care,
-        order: order_of(care),
+        comparison,
+        order: order_of(comparison),
         slack: 0,
         most_routes,
         most_labels,
@@ -73,9 +73,9 @@ pub(crate) fn aim_of(care: Care, most_routes: usize, most_labels: usize) -> Aim 
 }
 
 /// In which order labels are taken.
-fn order_of(care: Care) -> Order {
-    match care {
-        Care::Exact => Order::ByTime,
+fn order_of(comparison: Comparison) -> Order {
+    match comparison {
+        Comparison::Exact => Order::ByTime,
         _ => Order::ByBound,
     }
 }

@@ -8,7 +8,7 @@ use crate::question::KnownRoute;
 use crate::routes::{Route, Standing};
 use crate::search::PriceSearch;
 use customer_sets::LargeSet;
-use near_search::{Care, SearchClock};
+use near_search::{Comparison, SearchClock};
 use std::alloc::{AllocError, Global};
 
 /// So many rounds are made behind a route that is taken, at the most.
@@ -33,7 +33,7 @@ impl PriceSearch<'_> {
                 break;
             }
             self.set_prices_of_rest(alloc)?;
-            if self.seek(alloc, Care::LevelsAlone, clock)?.added == 0 {
+            if self.seek(alloc, Comparison::LevelsAlone, clock)?.added == 0 {
                 break;
             }
             self.solve_known(alloc)?;
@@ -91,7 +91,7 @@ impl PriceSearch<'_> {
                 return Ok(());
             }
             self.set_prices_of_rest(alloc)?;
-            if self.seek(alloc, Care::LevelsAlone, clock)?.added == 0 {
+            if self.seek(alloc, Comparison::LevelsAlone, clock)?.added == 0 {
                 return Ok(());
             }
         }

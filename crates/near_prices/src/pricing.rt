@@ -4,7 +4,7 @@ use crate::numbers::at;
 use crate::question::EntryRange;
 use instance_reader::Instance;
 use near_completion::{Follow, Ground, NearTerms, WayTable};
-use near_search::{Aim, Care, NearFound, NearQuery, SearchClock, search_routes};
+use near_search::{Aim, Comparison, NearFound, NearQuery, SearchClock, search_routes};
 use std::alloc::{AllocError, Global};
 
 /// Making so much of a table, in steps, is as much work as making a label.
@@ -181,7 +181,7 @@ impl<'a> Pricing<'a> {
         clock: &mut C,
     ) -> Result<NearFound, AllocError> {
         let mut found = self.search_by(alloc, self.table.as_ref(), aim, clock)?;
-        if aim.care != Care::Exact || !found.routes.is_empty() || !self.leaves_out() {
+        if aim.comparison != Comparison::Exact || !found.routes.is_empty() || !self.leaves_out() {
             return Ok(found);
         }
         let farther = Aim {

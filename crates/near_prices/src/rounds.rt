@@ -12,7 +12,7 @@ use crate::pricing::Grain;
 use crate::search::{PriceSearch, RoundsEnd};
 use crate::watcher::{PricesProgress, PricesWatcher};
 use near_completion::NearTerms;
-use near_search::{Care, NearFound, SearchClock, SearchEnd};
+use near_search::{Comparison, NearFound, SearchClock, SearchEnd};
 use std::alloc::{AllocError, Global};
 
 /// So many rounds are made at the most.
@@ -134,14 +134,14 @@ impl PriceSearch<'_> {
     ) -> Result<Round, AllocError> {
         let mut added: usize = 0;
         if self.is_coarse {
-            added = self.seek(alloc, Care::TimesAlone, clock)?.added;
+            added = self.seek(alloc, Comparison::TimesAlone, clock)?.added;
             if added >= FEW {
                 return Ok(Round::GoOn);
             }
             self.is_coarse = false;
             self.make_table(alloc)?;
         }
-        let sought = self.seek(alloc, Care::LevelsAlone, clock)?;
+        let sought = self.seek(alloc, Comparison::LevelsAlone, clock)?;
         if sought.end == SearchEnd::Stopped {
             return Ok(Round::End(RoundsEnd::Stopped));
         }
@@ -185,13 +185,13 @@ impl PriceSearch<'_> {
         alloc: Global,
         clock: &mut C,
     ) -> Result<Round, AllocError> {
-        if self.seek(alloc, Care::FirstSets, clock)?.added > 0 {
+        if self.seek(alloc, Comparison::FirstSets, clock)?.added > 0 {
             return Ok(Round::GoOn);
         }
         let base = copy_of(alloc, self.pool.cover.prices())?;
         let prices = fitted(alloc, &self.pool, &base)?;
         self.pricing.set_prices(alloc, &prices, Grain::Fine)?;
-        let sought = self.seek(alloc, Care::Exact, clock)?;
+        let sought = self.seek(alloc, Comparison::Exact, clock)?;
         Ok(self.judge(&sought))
     }
 
@@ -232,16 +232,16 @@ impl PriceSearch<'_> {
     pub(crate) fn seek<C: SearchClock>(
         &mut self,
         alloc: Global,
-        care: Care,
+        comparison: Comparison,
         clock: &mut C,
     ) -> Result<Sought, AllocError> {
-        let enough = match care {
-            Care::Exact => ENOUGH_EXACT,
+        let enough = match comparison {
+            Comparison::Exact => ENOUGH_EXACT,
             _ => ENOUGH_QUICK,
         };
         let found = self
             .pricing
-            .search(alloc, &aim_of(care, enough, MOST_LABELS), clock)?;
+            .search(alloc, &aim_of(comparison, enough, MOST_LABELS), clock)?;
         self.work = self.work.saturating_add(found.labels);
         let added = self.take_some(alloc, &found)?;
         Ok(Sought {

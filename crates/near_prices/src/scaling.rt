@@ -4,7 +4,7 @@ use crate::budget::{Budget, aim_of};
 use crate::kept::Ratio;
 use crate::pricing::Grain;
 use crate::search::PriceSearch;
-use near_search::{Care, SearchEnd};
+use near_search::{Comparison, SearchEnd};
 use std::alloc::{AllocError, Global};
 
 /// So often prices are lowered at the most at one level of comparing labels.
@@ -52,8 +52,8 @@ impl PriceSearch<'_> {
         budget: &mut Budget,
     ) -> Result<bool, AllocError> {
         self.floor.lower(self.worst_known(prices), prices);
-        for care in [Care::TimesAlone, Care::LevelsAlone, Care::Exact] {
-            if !self.scale_at(alloc, prices, care, budget)? {
+        for comparison in [Comparison::TimesAlone, Comparison::LevelsAlone, Comparison::Exact] {
+            if !self.scale_at(alloc, prices, comparison, budget)? {
                 return Ok(false);
             }
         }
@@ -77,16 +77,16 @@ impl PriceSearch<'_> {
         &mut self,
         alloc: Global,
         prices: &mut [i64],
-        care: Care,
+        comparison: Comparison,
         budget: &mut Budget,
     ) -> Result<bool, AllocError> {
         for _ in 0..MOST_TIMES {
             if budget.is_spent() {
                 return Ok(false);
             }
-            budget.spend(self.pricing.set_prices(alloc, prices, grain_for(care))?);
+            budget.spend(self.pricing.set_prices(alloc, prices, grain_for(comparison))?);
             let labels = (budget.left() / 2).max(LEAST_LABELS);
-            let found = self.look(alloc, aim_of(care, ENOUGH, labels), budget)?;
+            let found = self.look(alloc, aim_of(comparison, ENOUGH, labels), budget)?;
             if !found.routes.is_empty() {
                 let ratio = self.floor.worst_of(&self.pricing, &found);
                 self.floor.lower(ratio, prices);
@@ -102,9 +102,9 @@ impl PriceSearch<'_> {
 }
 
 /// How fine the table is for a search at a level of comparing labels.
-fn grain_for(care: Care) -> Grain {
-    match care {
-        Care::TimesAlone => Grain::Coarse,
+fn grain_for(comparison: Comparison) -> Grain {
+    match comparison {
+        Comparison::TimesAlone => Grain::Coarse,
         _ => Grain::Fine,
     }
 }

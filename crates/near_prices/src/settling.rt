@@ -4,7 +4,7 @@ use crate::budget::{Budget, aim_of};
 use crate::fitting::fitted;
 use crate::pricing::Grain;
 use crate::search::PriceSearch;
-use near_search::{Aim, Care, NearFound, NoClock, SearchEnd};
+use near_search::{Aim, Comparison, NearFound, NoClock, SearchEnd};
 use std::alloc::{AllocError, Global};
 
 /// So many routes that earn are enough.
@@ -49,8 +49,8 @@ impl PriceSearch<'_> {
 
     /// Tests the prices. Routes that earn join those that are known.
     fn test(&mut self, alloc: Global, budget: &mut Budget) -> Result<Tested, AllocError> {
-        for care in [Care::TimesAlone, Care::LevelsAlone, Care::Exact] {
-            let found = self.look(alloc, aim_of(care, ENOUGH, budget.left()), budget)?;
+        for comparison in [Comparison::TimesAlone, Comparison::LevelsAlone, Comparison::Exact] {
+            let found = self.look(alloc, aim_of(comparison, ENOUGH, budget.left()), budget)?;
             if !found.routes.is_empty() {
                 self.learn(alloc, &found)?;
                 return Ok(Tested::Earning);

@@ -1,6 +1,6 @@
 //! Which labels cover a state. No clause rests on this.
 
-use crate::entries::{Care, Entry, owed, reduced};
+use crate::entries::{Comparison, Entry, owed, reduced};
 use crate::labels::NearLabel;
 use crate::state::NearState;
 use crate::values::{last_point, reach};
@@ -12,7 +12,7 @@ use near_completion::NearTerms;
 #[derive(Clone, Copy)]
 pub(crate) struct Measure<'t> {
     pub(crate) terms: &'t NearTerms,
-    pub(crate) care: Care,
+    pub(crate) comparison: Comparison,
 }
 
 /// What a label has at the most that covers a state somewhere.
@@ -38,16 +38,16 @@ impl Measure<'_> {
     /// What a label has at the most that covers a state; `None` where the numbers don't fit.
     pub(crate) fn asked(&self, state: &NearState, lateness: i64) -> Option<Asked> {
         let (top, latest) = last_point(&state.value);
-        let time = match self.care {
-            Care::TimesAlone => lateness,
+        let time = match self.comparison {
+            Comparison::TimesAlone => lateness,
             _ => i64::try_from(latest).ok()?,
         };
         Some(Asked {
             time,
             cost: reduced(self.terms, time, state.earned)?,
             top,
-            missing: match self.care {
-                Care::Exact => !state.folded,
+            missing: match self.comparison {
+                Comparison::Exact => !state.folded,
                 _ => 0,
             },
             class: state.class,
@@ -65,7 +65,7 @@ impl Measure<'_> {
         if label.is_dead || !self.fits(&label.state, state) {
             return None;
         }
-        if self.care == Care::TimesAlone {
+        if self.comparison == Comparison::TimesAlone {
             return Some(asked.top);
         }
         let extra = owed(self.terms, label.state.earned, state.earned)?;
@@ -83,7 +83,7 @@ impl Measure<'_> {
         if other.time < own.time || !self.fits(state, &label.state) {
             return false;
         }
-        if self.care == Care::TimesAlone {
+        if self.comparison == Comparison::TimesAlone {
             return true;
         }
         match owed(self.terms, state.earned, label.state.earned) {
@@ -100,16 +100,16 @@ impl Measure<'_> {
 
     /// Whether a state remembers nobody of those who count whom another doesn't remember.
     fn remembers_no_more(&self, state: &NearState, other: &NearState) -> bool {
-        match self.care {
-            Care::TimesAlone | Care::LevelsAlone => true,
-            Care::FirstSets => {
+        match self.comparison {
+            Comparison::TimesAlone | Comparison::LevelsAlone => true,
+            Comparison::FirstSets => {
                 if state.place >= self.terms.customers() {
                     return true;
                 }
                 let first: LargeSet = self.terms.first_near(state.place);
                 state.memory.common(first).is_subset(other.memory)
             }
-            Care::Exact => state.memory.is_subset(other.memory),
+            Comparison::Exact => state.memory.is_subset(other.memory),
         }
     }
 }

@@ -7,7 +7,7 @@ use near_completion::NearTerms;
 
 /// How labels are compared: by which of them others become needless.
 #[derive(Clone, Copy, Debug, PartialEq, Eq)]
-pub enum Care {
+pub enum Comparison {
     /// By lateness, and that less what is earned, alone.
     TimesAlone,
     /// By the times at all levels alone, whoever is remembered.
@@ -37,14 +37,14 @@ impl Entry {
     /// That of a label with a number; `None` where its numbers don't fit.
     pub(crate) fn of(
         terms: &NearTerms,
-        care: Care,
+        comparison: Comparison,
         state: &NearState,
         lateness: i64,
         number: usize,
     ) -> Option<Entry> {
         let (_, early) = state.value.least();
-        let time = match care {
-            Care::TimesAlone => lateness,
+        let time = match comparison {
+            Comparison::TimesAlone => lateness,
             _ => i64::try_from(early).ok()?,
         };
         let (top, _) = last_point(&state.value);

@@ -1,7 +1,7 @@
 //! The labels of a search, and which of them wait. No clause rests on this.
 
 use crate::asked::Measure;
-use crate::entries::{Care, Entry};
+use crate::entries::{Comparison, Entry};
 use crate::query::NearQuery;
 use crate::shelf::{GROUPS, Shelf, Spread};
 use crate::state::NearState;
@@ -38,7 +38,7 @@ pub struct NearLabel {
 /// The labels of a search, and which of them wait.
 #[derive(Drop)]
 pub struct NearLabels {
-    care: Care,
+    comparison: Comparison,
     spread: Spread,
     all: Vec<NearLabel>,
     /// Those that aren't covered, by place.
@@ -48,8 +48,8 @@ pub struct NearLabels {
 }
 
 impl NearLabels {
-    /// No labels, compared with some care.
-    pub fn new(alloc: Global, query: &NearQuery<'_>, care: Care) -> Result<NearLabels, AllocError> {
+    /// No labels, compared with some comparison.
+    pub fn new(alloc: Global, query: &NearQuery<'_>, comparison: Comparison) -> Result<NearLabels, AllocError> {
         let places = query.ground().depot();
         let mut shelves = Vec::new(alloc);
         for _ in 0..places {
@@ -57,7 +57,7 @@ impl NearLabels {
         }
         shelves.push(Shelf::new(alloc)?)?;
         Ok(NearLabels {
-            care,
+            comparison,
             spread: query.spread(),
             all: Vec::new(alloc),
             shelves,
@@ -126,7 +126,7 @@ impl NearLabels {
     ) -> Result<Option<usize>, AllocError> {
         let number = self.all.len();
         let measure = self.measure(terms);
-        let Some(entry) = Entry::of(terms, self.care, &label.state, label.lateness, number) else {
+        let Some(entry) = Entry::of(terms, self.comparison, &label.state, label.lateness, number) else {
             return Ok(None);
         };
         let group = self.spread.group_of(entry.time);
@@ -146,7 +146,7 @@ impl NearLabels {
     fn measure<'t>(&self, terms: &'t NearTerms) -> Measure<'t> {
         Measure {
             terms,
-            care: self.care,
+            comparison: self.comparison,
         }
     }
 

@@ -16,7 +16,7 @@ mod state;
 mod values;
 
 pub use clock::{NoClock, SearchClock};
-pub use entries::{Care, Entry};
+pub use entries::{Comparison, Entry};
 pub use labels::{NearLabel, NearLabels, Origin};
 pub use query::NearQuery;
 pub use route::{NearFound, NearRoute, SearchEnd};

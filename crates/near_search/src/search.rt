@@ -2,7 +2,7 @@
 
 use crate::clock::SearchClock;
 use crate::costs::{bar, later, owing, weighted, with_rest};
-use crate::entries::{Care, reduced};
+use crate::entries::{Comparison, reduced};
 use crate::labels::{NearLabel, NearLabels, Origin};
 use crate::query::{NearQuery, Passage, Standing};
 use crate::route::{NearFound, NearRoute, SearchEnd};
@@ -27,7 +27,7 @@ pub enum Order {
 /// What a search aims at.
 #[derive(Clone, Copy)]
 pub struct Aim {
-    pub care: Care,
+    pub comparison: Comparison,
     pub order: Order,
     /// Routes are of use whose weighted time less what is earned is below it.
     pub slack: i64,
@@ -47,7 +47,7 @@ struct Found {
 
 /// A search.
 #[derive(Drop)]
-struct Search<'q, 'a> {
+struct NearRouteSearch<'q, 'a> {
     query: &'q NearQuery<'a>,
     aim: Aim,
     labels: NearLabels,
@@ -72,10 +72,10 @@ pub fn search_routes<C: SearchClock>(
     aim: &Aim,
     clock: &mut C,
 ) -> Result<NearFound, AllocError> {
-    let mut search = Search {
+    let mut search = NearRouteSearch {
         query,
         aim: *aim,
-        labels: NearLabels::new(alloc, query, aim.care)?,
+        labels: NearLabels::new(alloc, query, aim.comparison)?,
         found: Vec::new(alloc),
         is_cut: false,
     };
@@ -84,7 +84,7 @@ pub fn search_routes<C: SearchClock>(
     search.finish(alloc, end)
 }
 
-impl Search<'_, '_> {
+impl NearRouteSearch<'_, '_> {
     /// Lets the start wait.
     fn put_start(&mut self, alloc: Global) -> Result<(), AllocError> {
         let state = self.query.start(alloc);

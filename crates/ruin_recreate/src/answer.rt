@@ -7,7 +7,7 @@ ghost use Rattle.ruin_recreate.specs.Recreated.{IsNoDearer, IsRecreated};
 
 use crate::effort::{Effort, RecreateProgress, RecreateWatcher, Watched};
 use crate::plans::{orders_of, plan_of};
-use crate::search::Search;
+use crate::search::RuinSearch;
 use crate::seen::Seen;
 use instance_reader::Instance;
 use plan_check::{LargeFault, check_large};
@@ -58,7 +58,7 @@ pub fn recreate<W: RecreateWatcher>(
         IsRecreated inst.now (option_map (λ plan. plan.now.routes) from.entry) found.outcome) }
 {
     let orders = orders_of(alloc, inst, from)?;
-    let mut search = Search::new(alloc, inst, seed)?;
+    let mut search = RuinSearch::new(alloc, inst, seed)?;
     let best = search.run(alloc, &orders, effort, watcher)?;
     let found = plan_of(alloc, inst, &search.nodes_of(alloc, &best.orders)?)?;
     let mut clock = Watched::new(watcher, RecreateProgress { cost: best.cost });
@@ -143,7 +143,7 @@ fn cheaper_plan<C: MoveClock>(
 }
 
 /// The routes that were seen, by nodes.
-fn seen_routes(alloc: Global, search: &Search, seen: &Seen) -> Result<Vec<SeenRoute>, AllocError> {
+fn seen_routes(alloc: Global, search: &RuinSearch, seen: &Seen) -> Result<Vec<SeenRoute>, AllocError> {
     let mut routes = Vec::with_capacity(alloc, seen.orders.len())?;
     for own in &seen.orders {
         routes.push(SeenRoute {

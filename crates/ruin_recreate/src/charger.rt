@@ -17,7 +17,7 @@ const LABEL_WORK: u64 = 16;
 
 /// What a route takes behind a place, without charging.
 #[derive(Clone, Copy)]
-struct Rest {
+struct Onward {
     time: u64,
     energy: u64,
 }
@@ -63,7 +63,7 @@ struct Gap {
 /// Charges orders.
 #[derive(Drop)]
 pub(crate) struct Charger {
-    rest: Vec<Rest>,
+    rest: Vec<Onward>,
     points: Vec<Point>,
     labels: Vec<Span>,
     next: Vec<Span>,
@@ -113,15 +113,15 @@ impl Charger {
     }
 
     /// What the route takes behind each of its places without charging, and what as a whole.
-    fn find_rest(&mut self, ground: &Ground, order: &[usize]) -> Result<Rest, AllocError> {
+    fn find_rest(&mut self, ground: &Ground, order: &[usize]) -> Result<Onward, AllocError> {
         self.work = self.work.wrapping_add(order.len() as u64);
         self.rest.clear();
-        let mut rest = Rest { time: 0, energy: 0 };
+        let mut rest = Onward { time: 0, energy: 0 };
         let mut to = ground.depot;
         for from in order.iter().rev() {
             self.rest.push(rest)?;
             let arc = ground.arc(*from, to);
-            rest = Rest {
+            rest = Onward {
                 time: rest.time.wrapping_add(arc.time),
                 energy: rest.energy.wrapping_add(arc.energy),
             };
@@ -129,18 +129,18 @@ impl Charger {
         }
         self.rest.push(rest)?;
         let arc = ground.arc(ground.depot, to);
-        Ok(Rest {
+        Ok(Onward {
             time: rest.time.wrapping_add(arc.time),
             energy: rest.energy.wrapping_add(arc.energy),
         })
     }
 
     /// What the route takes behind a place of the order, or home, which is behind the last.
-    fn rest_behind(&self, order: &[usize], place: usize) -> Rest {
+    fn rest_behind(&self, order: &[usize], place: usize) -> Onward {
         let back = order.len().wrapping_sub(place);
         match self.rest.get(back) {
             Some(rest) => *rest,
-            None => Rest { time: 0, energy: 0 },
+            None => Onward { time: 0, energy: 0 },
         }
     }
 
@@ -150,7 +150,7 @@ impl Charger {
         ground: &Ground,
         gaps: &Gaps,
         order: &[usize],
-        whole: Rest,
+        whole: Onward,
         bar: u64,
     ) -> Option<u64> {
         let mut best = None;

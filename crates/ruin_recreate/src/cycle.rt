@@ -4,7 +4,7 @@ use crate::acceptance::{Annealing, STAGES};
 use crate::effort::{Effort, RecreateProgress, RecreateWatcher};
 use crate::fleet::Fleet;
 use crate::insertion::Sequence;
-use crate::search::Search;
+use crate::search::RuinSearch;
 use crate::seen::Seen;
 use crate::toll::Toll;
 use std::alloc::{AllocError, Global};
@@ -35,7 +35,7 @@ impl Best {
     }
 }
 
-impl Search {
+impl RuinSearch {
     /// Looks for cheaper routes with so much effort, from these orders or from none.
     pub(crate) fn run<W: RecreateWatcher>(
         &mut self,

@@ -4,7 +4,7 @@ use crate::choice::{Candidate, Choice, Target};
 use crate::fleet::Place;
 use crate::ground::NEVER;
 use crate::near::there_and_back;
-use crate::search::Search;
+use crate::search::RuinSearch;
 use std::alloc::{AllocError, Global};
 
 /// The routes of so many customers near one are looked at.
@@ -33,7 +33,7 @@ pub(crate) enum Sequence {
     DearestFirst,
 }
 
-impl Search {
+impl RuinSearch {
     /// A sequence by chance.
     pub(crate) fn draw_sequence(&mut self) -> Sequence {
         match self.chance.below(4) {

@@ -1,7 +1,7 @@
 //! Ruin: strings of customers near one another are taken out of routes (slack induction by string
 //! removals: Christiaens, Vanden Berghe 2020).
 
-use crate::search::Search;
+use crate::search::RuinSearch;
 use std::alloc::{AllocError, Global};
 
 /// So many customers are taken out of a route at the most.
@@ -26,7 +26,7 @@ struct Cut {
     stay_end: usize,
 }
 
-impl Search {
+impl RuinSearch {
     /// Takes strings of customers out of routes. Whether the routes can be driven without them.
     pub(crate) fn ruin(&mut self, alloc: Global) -> Result<bool, AllocError> {
         self.gone.clear();

@@ -14,7 +14,7 @@ const MOST_CLOSE: usize = 13;
 
 /// A search for cheaper routes by ruin and recreate.
 #[derive(Drop)]
-pub(crate) struct Search {
+pub(crate) struct RuinSearch {
     pub(crate) costs: Costs,
     pub(crate) toll: Toll,
     pub(crate) chance: Chance,
@@ -34,9 +34,9 @@ pub(crate) struct Search {
     pub(crate) places: u64,
 }
 
-impl Search {
+impl RuinSearch {
     /// Nobody is served yet.
-    pub(crate) fn new(alloc: Global, inst: &Instance, seed: u64) -> Result<Search, AllocError> {
+    pub(crate) fn new(alloc: Global, inst: &Instance, seed: u64) -> Result<RuinSearch, AllocError> {
         let mut costs = Costs::new(alloc, inst)?;
         let limit = costs.ground.limit;
         let near = nearest(alloc, &costs.ground)?;
@@ -45,7 +45,7 @@ impl Search {
         for customer in 0..costs.ground.customers {
             alone.push(costs.time_below(&[customer], limit.saturating_add(1))?)?;
         }
-        Ok(Search {
+        Ok(RuinSearch {
             toll: Toll::hard(limit),
             chance: Chance::new(seed),
             near,

@@ -2,7 +2,7 @@
 
 use instance_reader::read_instance;
 use near_completion::{Follow, Ground, NearTerms, WayTable, nearest_sets};
-use near_search::{Aim, Care, NearQuery, NoClock, Order, SearchEnd, search_routes};
+use near_search::{Aim, Comparison, NearQuery, NoClock, Order, SearchEnd, search_routes};
 use std::alloc::Global;
 use worked_instances::{DEPOT_ALONE, ONE_STATION, THREE_CUSTOMERS};
 
@@ -21,7 +21,7 @@ fn least_reduced(alloc: Global, text: &str, price: i64, has_table: bool) -> Opti
     let taken = if has_table { table.as_ref() } else { None };
     let query = NearQuery::new(alloc, &inst, &ground, &terms, taken).ok()?;
     let aim = Aim {
-        care: Care::Exact,
+        comparison: Comparison::Exact,
         order: Order::ByBound,
         slack: 0,
         most_routes: 1000,
