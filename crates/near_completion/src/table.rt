@@ -270,7 +270,13 @@ impl WayTable {
 
     /// What is known of the ways home from a place after a class, in a layer, that leave out those
     /// in a memory. `None` where there is no such place, class or layer.
-    pub fn rest(&self, place: usize, class: usize, layer: usize, memory: LargeSet) -> Option<HomeCost> {
+    pub fn rest(
+        &self,
+        place: usize,
+        class: usize,
+        layer: usize,
+        memory: LargeSet,
+    ) -> Option<HomeCost> {
         let cell = self.cell_at(place, class, layer)?;
         let (least, known) = cell.without(memory);
         Some(HomeCost {

@@ -4,7 +4,7 @@
 use crate::sizes::{owing, weighted, with_rest};
 use crate::values::line_from;
 use customer_sets::LargeSet;
-use near_completion::{Last, HomeCost, WayTable};
+use near_completion::{HomeCost, Last, WayTable};
 use near_search::{NearQuery, NearState, fold};
 use std::alloc::{AllocError, Global};
 

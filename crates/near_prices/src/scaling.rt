@@ -52,7 +52,11 @@ impl PriceSearch<'_> {
         budget: &mut Budget,
     ) -> Result<bool, AllocError> {
         self.floor.lower(self.worst_known(prices), prices);
-        for comparison in [Comparison::TimesAlone, Comparison::LevelsAlone, Comparison::Exact] {
+        for comparison in [
+            Comparison::TimesAlone,
+            Comparison::LevelsAlone,
+            Comparison::Exact,
+        ] {
             if !self.scale_at(alloc, prices, comparison, budget)? {
                 return Ok(false);
             }
@@ -84,7 +88,10 @@ impl PriceSearch<'_> {
             if budget.is_spent() {
                 return Ok(false);
             }
-            budget.spend(self.pricing.set_prices(alloc, prices, grain_for(comparison))?);
+            budget.spend(
+                self.pricing
+                    .set_prices(alloc, prices, grain_for(comparison))?,
+            );
             let labels = (budget.left() / 2).max(LEAST_LABELS);
             let found = self.look(alloc, aim_of(comparison, ENOUGH, labels), budget)?;
             if !found.routes.is_empty() {

@@ -49,7 +49,11 @@ impl PriceSearch<'_> {
 
     /// Tests the prices. Routes that earn join those that are known.
     fn test(&mut self, alloc: Global, budget: &mut Budget) -> Result<Tested, AllocError> {
-        for comparison in [Comparison::TimesAlone, Comparison::LevelsAlone, Comparison::Exact] {
+        for comparison in [
+            Comparison::TimesAlone,
+            Comparison::LevelsAlone,
+            Comparison::Exact,
+        ] {
             let found = self.look(alloc, aim_of(comparison, ENOUGH, budget.left()), budget)?;
             if !found.routes.is_empty() {
                 self.learn(alloc, &found)?;

@@ -49,7 +49,11 @@ pub struct NearLabels {
 
 impl NearLabels {
     /// No labels, compared with some comparison.
-    pub fn new(alloc: Global, query: &NearQuery<'_>, comparison: Comparison) -> Result<NearLabels, AllocError> {
+    pub fn new(
+        alloc: Global,
+        query: &NearQuery<'_>,
+        comparison: Comparison,
+    ) -> Result<NearLabels, AllocError> {
         let places = query.ground().depot();
         let mut shelves = Vec::new(alloc);
         for _ in 0..places {
@@ -126,7 +130,8 @@ impl NearLabels {
     ) -> Result<Option<usize>, AllocError> {
         let number = self.all.len();
         let measure = self.measure(terms);
-        let Some(entry) = Entry::of(terms, self.comparison, &label.state, label.lateness, number) else {
+        let Some(entry) = Entry::of(terms, self.comparison, &label.state, label.lateness, number)
+        else {
             return Ok(None);
         };
         let group = self.spread.group_of(entry.time);

@@ -143,7 +143,11 @@ fn cheaper_plan<C: MoveClock>(
 }
 
 /// The routes that were seen, by nodes.
-fn seen_routes(alloc: Global, search: &RuinSearch, seen: &Seen) -> Result<Vec<SeenRoute>, AllocError> {
+fn seen_routes(
+    alloc: Global,
+    search: &RuinSearch,
+    seen: &Seen,
+) -> Result<Vec<SeenRoute>, AllocError> {
     let mut routes = Vec::with_capacity(alloc, seen.orders.len())?;
     for own in &seen.orders {
         routes.push(SeenRoute {

@@ -15,7 +15,7 @@ pub struct Effort {
 }
 
 /// The work of the least effort, for one customer.
-const WORK_A_CUSTOMER: u64 = 200_000;
+const WORK_A_CUSTOMER: u64 = 250_000;
 
 /// So often at the most the effort is doubled.
 const MOST_DOUBLINGS: u32 = 30;
