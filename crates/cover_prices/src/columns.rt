@@ -1,4 +1,4 @@
-//! The columns of a master problem.
+//! The columns of a master problem. No clause rests on this.
 
 use crate::fixed::{at, narrow, product};
 use std::alloc::{AllocError, Global};

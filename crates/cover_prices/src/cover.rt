@@ -1,4 +1,4 @@
-//! The master problem.
+//! The master problem. No clause rests on this.
 
 use crate::columns::{Column, Service, Standing};
 use crate::fixed::product;

@@ -1,4 +1,5 @@
-//! Numbers in fixed point, by which a solver knows shares and the inverse of a basis.
+//! Numbers in fixed point, by which a solver knows shares and the inverse of a basis. No clause
+//! rests on this.
 
 /// How many bits are behind the point.
 const BITS: u32 = 32;

@@ -1,5 +1,5 @@
 //! The master problem that covers customers by columns, each with how often it serves them: prices
-//! and amounts, in whole numbers.
+//! and amounts, in whole numbers. No clause rests on this.
 //!
 //! First by the volume method (Barahona, Anbil 2000), and then by the revised simplex method with
 //! the inverse of the basis in fixed point, and prices and amounts corrected by what whole columns

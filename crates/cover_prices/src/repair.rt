@@ -1,4 +1,4 @@
-//! Prices by which no column of the pool earns.
+//! Prices by which no column of the pool earns. No clause rests on this.
 
 use crate::columns::{Column, columns_by_customer};
 use crate::fixed::{at, narrow, product, put};

@@ -1,4 +1,4 @@
-//! The revised simplex method in fixed point.
+//! The revised simplex method in fixed point. No clause rests on this.
 
 use crate::basis::{Basis, Member, sum_over};
 use crate::columns::Column;
@@ -6,14 +6,15 @@ use crate::fixed::{ONE, at, narrow, product, put, rounded};
 use crate::rows::{Row, Sense};
 use std::alloc::{AllocError, Global};
 
-/// A column enters whose reduced cost is below this.
+/// A column enters whose reduced cost is below this: a little more than rounding makes of 0.
 const ENTRY: i64 = -16;
 
 /// Prices at which a member of the basis costs more or less than it earns by more than this are
 /// reason to work out the inverse anew.
 const MOST_RESIDUAL: i64 = 128;
 
-/// A member leaves only where the entry of the entering column is greater.
+/// A member leaves only where the entry of the entering column is greater, as a pivot of a rebuilt
+/// basis has to be.
 pub(crate) const LEAST_ENTRY: i64 = 1 << 18;
 
 /// By so much an amount may come below 0.

@@ -1,5 +1,5 @@
 //! Prices by the volume method (Barahona, Anbil 2000): steps along an average of what the columns
-//! that earn leave uncovered.
+//! that earn leave uncovered. No clause rests on this.
 
 use crate::columns::{Column, Service};
 use crate::fixed::{at, narrow, product, put};

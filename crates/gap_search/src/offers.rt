@@ -1,4 +1,4 @@
-//! Routes of which plans are made.
+//! Routes of which plans are made. No clause rests on this.
 
 use crate::bound::NearOrder;
 use crate::watcher::{GapProgress, GapWatcher};

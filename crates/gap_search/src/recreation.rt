@@ -1,4 +1,5 @@
-//! How much work is done for the first plan, and by which numbers it is drawn.
+//! How much work is done for the first plan, and by which numbers it is drawn. No clause rests on
+//! this.
 
 use crate::clock::End;
 use ruin_recreate::Effort;

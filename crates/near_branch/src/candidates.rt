@@ -1,4 +1,4 @@
-//! On what a node may be split.
+//! On what a node may be split. No clause rests on this.
 
 use crate::fork::Fork;
 use crate::numbers::{HALF, ONE, fraction, whole, with};

@@ -1,4 +1,4 @@
-//! When the growing of a tree has to stop.
+//! When the growing of a tree has to stop. No clause rests on this.
 
 use near_search::SearchClock;
 

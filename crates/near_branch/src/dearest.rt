@@ -1,5 +1,6 @@
 //! What no plan is reckoned to cost more than, where none is held. The limit alone would be far too
-//! much where an instance has none: the master problem reckons in fixed point.
+//! much where an instance has none: the master problem reckons in fixed point. No clause rests on
+//! this.
 
 use instance_reader::Instance;
 use near_completion::{Arc, Ground};

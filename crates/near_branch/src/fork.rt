@@ -1,4 +1,4 @@
-//! How nodes are split in two.
+//! How nodes are split in two. No clause rests on this.
 
 use customer_sets::LargeSet;
 use near_prices::{Row, Sense, Tally};

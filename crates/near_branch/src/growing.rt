@@ -1,4 +1,4 @@
-//! A tree grows, best bound first.
+//! A tree grows, best bound first. No clause rests on this.
 
 use crate::candidates::family;
 use crate::clock::{BranchClock, Early, milliseconds_left};

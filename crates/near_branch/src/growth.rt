@@ -1,4 +1,4 @@
-//! A tree in the making.
+//! A tree in the making. No clause rests on this.
 
 use crate::dearest::most_cost;
 use crate::node::{Node, Standing};

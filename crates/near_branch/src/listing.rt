@@ -1,4 +1,4 @@
-//! Closed lists of leaves.
+//! Closed lists of leaves. No clause rests on this.
 
 use crate::growth::Growth;
 use crate::lowering::{SectionPrices, lowered};

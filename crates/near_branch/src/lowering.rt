@@ -1,4 +1,5 @@
-//! Prices that are lowered until they bound no more than is asked: the lists get shorter.
+//! Prices that are lowered until they bound no more than is asked: the lists get shorter. No clause
+//! rests on this.
 
 use crate::prices::{LeafPrices, Worth, sum_of, worth_of};
 use near_prices::EntryRange;

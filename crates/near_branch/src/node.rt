@@ -1,4 +1,4 @@
-//! The nodes of a tree in the making.
+//! The nodes of a tree in the making. No clause rests on this.
 
 use crate::fork::{Fork, Turn};
 use crate::prices::{LeafPrices, Worth};

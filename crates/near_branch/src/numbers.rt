@@ -1,4 +1,4 @@
-//! Amounts in units of 2^-32, and members of sets.
+//! Amounts in units of 2^-32, and members of sets. No clause rests on this.
 
 use customer_sets::LargeSet;
 

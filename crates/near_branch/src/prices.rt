@@ -1,4 +1,4 @@
-//! Prices by which no near route earns that goes to a leaf.
+//! Prices by which no near route earns that goes to a leaf. No clause rests on this.
 
 use customer_sets::LargeSet;
 use near_prices::EntryRange;

@@ -1,4 +1,4 @@
-//! Prices of nodes.
+//! Prices of nodes. No clause rests on this.
 
 use crate::clock::{BranchClock, Early};
 use crate::fork::Turn;
@@ -11,7 +11,8 @@ use near_prices::{
 use std::alloc::{AllocError, Global};
 use std::mem;
 
-/// About so many layers the tables have, and a fourth of it where routes are looked for quickly.
+/// About so many layers the tables have, as those of lists have, and a fourth of it where routes are
+/// looked for quickly.
 const LAYERS: usize = 120;
 
 /// So many where nodes are only estimated.

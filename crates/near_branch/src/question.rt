@@ -1,4 +1,4 @@
-//! What a tree is grown for, and what was found.
+//! What a tree is grown for, and what was found. No clause rests on this.
 
 use customer_sets::LargeSet;
 use near_prices::KnownRoute;

@@ -1,4 +1,4 @@
-//! Which of the candidates a node is split on.
+//! Which of the candidates a node is split on. No clause rests on this.
 
 use crate::clock::{BranchClock, Early};
 use crate::fork::{Fork, Turn};

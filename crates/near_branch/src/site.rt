@@ -1,4 +1,5 @@
-//! Who may come next, and how often sets are entered, where a way down a tree ends.
+//! Who may come next, and how often sets are entered, where a way down a tree ends. No clause rests
+//! on this.
 
 use crate::fork::{Fork, Turn};
 use customer_sets::LargeSet;

@@ -1,4 +1,4 @@
-//! Nodes that are split.
+//! Nodes that are split. No clause rests on this.
 
 use crate::candidates::candidates;
 use crate::clock::{BranchClock, Early};

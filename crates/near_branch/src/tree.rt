@@ -1,4 +1,4 @@
-//! The tree of what has grown.
+//! The tree of what has grown. No clause rests on this.
 
 use crate::growth::Growth;
 use crate::node::{Node, Standing};

@@ -1,4 +1,4 @@
-//! Who watches a tree grow.
+//! Who watches a tree grow. No clause rests on this.
 
 use near_prices::PricesWatcher;
 

@@ -1,4 +1,4 @@
-//! What is answered.
+//! What is answered. No clause rests on this.
 
 use crate::budget::Budget;
 use crate::numbers::copy_of;

@@ -1,4 +1,4 @@
-//! What the optimum is made of, and what it would cost with a further row.
+//! What the optimum is made of, and what it would cost with a further row. No clause rests on this.
 
 use crate::numbers::put;
 use crate::pool::Pool;

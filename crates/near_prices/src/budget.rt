@@ -1,4 +1,4 @@
-//! How much is searched at the most.
+//! How much is searched at the most. No clause rests on this.
 
 use near_search::{Aim, Comparison, Order};
 

@@ -1,4 +1,4 @@
-//! Which routes are taken at once.
+//! Which routes are taken at once. No clause rests on this.
 
 use crate::numbers::{at, put};
 use crate::routes::Route;

@@ -1,5 +1,6 @@
 //! Plans by diving: routes of the optimum are taken for good, one after another, and those who are
-//! left are priced again (as Sadykov, Vanderbeck, Pessoa, Tahiri, Uchoa 2019 do).
+//! left are priced again (as Sadykov, Vanderbeck, Pessoa, Tahiri, Uchoa 2019 do). No clause rests
+//! on this.
 
 use crate::numbers::{copy_of, is_in, put, signed, with};
 use crate::pool::ban;

@@ -1,4 +1,4 @@
-//! Whole prices as the routes that are known allow them.
+//! Whole prices as the routes that are known allow them. No clause rests on this.
 
 use crate::numbers::{at, copy_of, floor_of, put};
 use crate::pool::Pool;

@@ -1,4 +1,4 @@
-//! Prices by which surely no route earns, toward which others are lowered.
+//! Prices by which surely no route earns, toward which others are lowered. No clause rests on this.
 
 use crate::kept::Ratio;
 use crate::numbers::{at, narrow, signed};

@@ -1,5 +1,5 @@
 //! Near sets that grow where routes of an optimum serve customers again (as Roberti, Mingozzi 2014
-//! let them).
+//! let them). No clause rests on this.
 
 use crate::numbers::{is_in, with};
 use customer_sets::LargeSet;

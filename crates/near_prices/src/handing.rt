@@ -1,4 +1,4 @@
-//! Routes that are handed from one search to the next.
+//! Routes that are handed from one search to the next. No clause rests on this.
 
 use crate::numbers::at;
 use crate::question::{Handed, KnownRoute};

@@ -1,4 +1,5 @@
-//! The best prices so far, by what they are worth when they are lowered until no route earns.
+//! The best prices so far, by what they are worth when they are lowered until no route earns. No
+//! clause rests on this.
 
 /// What a route takes, and what it earns, both beyond what it earns by the floor of prices.
 #[derive(Clone, Copy, Debug, PartialEq, Eq)]

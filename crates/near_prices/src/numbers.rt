@@ -1,4 +1,4 @@
-//! Numbers in lists, and numbers in fewer bits.
+//! Numbers in lists, and numbers in fewer bits. No clause rests on this.
 
 use customer_sets::LargeSet;
 use std::alloc::{AllocError, Global};

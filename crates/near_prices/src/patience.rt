@@ -1,4 +1,4 @@
-//! A clock that isn't asked at once.
+//! A clock that isn't asked at once. No clause rests on this.
 
 use near_search::SearchClock;
 

@@ -1,4 +1,4 @@
-//! The routes that are known, and the master problem over some of them.
+//! The routes that are known, and the master problem over some of them. No clause rests on this.
 
 use crate::choice::Choice;
 use crate::numbers::at;
@@ -8,7 +8,8 @@ use cover_prices::{Cover, Row, Sense};
 use near_completion::{Follow, NearTerms};
 use std::alloc::{AllocError, Global};
 
-/// A column stands in the optimum that is taken to more than this, in units of 2^-32.
+/// A column stands in the optimum that is taken to more than a millionth, in units of 2^-32: what
+/// is less comes of rounding in fixed point.
 const LEAST_AMOUNT: i64 = 4295;
 
 /// The routes that are known, and the master problem over some of them.

@@ -1,4 +1,4 @@
-//! What routes are searched by, and the search.
+//! What routes are searched by, and the search. No clause rests on this.
 
 use crate::numbers::at;
 use crate::question::EntryRange;

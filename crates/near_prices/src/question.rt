@@ -1,4 +1,4 @@
-//! What prices are sought for.
+//! What prices are sought for. No clause rests on this.
 
 use customer_sets::LargeSet;
 use near_completion::Follow;

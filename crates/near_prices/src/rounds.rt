@@ -1,4 +1,4 @@
-//! Rounds of column generation.
+//! Rounds of column generation. No clause rests on this.
 
 use crate::budget::aim_of;
 use crate::choice::Choice;

@@ -1,4 +1,4 @@
-//! Near routes as columns.
+//! Near routes as columns. No clause rests on this.
 
 use crate::numbers::{at, is_in, signed, with};
 use crate::question::{EntryRange, KnownRoute};

@@ -1,4 +1,5 @@
-//! Prices that are lowered toward their floor until no near route earns by them.
+//! Prices that are lowered toward their floor until no near route earns by them. No clause rests on
+//! this.
 
 use crate::budget::{Budget, aim_of};
 use crate::kept::Ratio;

@@ -1,4 +1,4 @@
-//! The search for prices: what is known, and what is sought.
+//! The search for prices: what is known, and what is sought. No clause rests on this.
 
 use crate::budget::PriceEffort;
 use crate::floor::Floor;

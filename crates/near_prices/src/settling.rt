@@ -1,4 +1,5 @@
-//! Whole prices by which no near route earns, as high as the known routes let them.
+//! Whole prices by which no near route earns, as high as the known routes let them. No clause rests
+//! on this.
 
 use crate::budget::{Budget, aim_of};
 use crate::fitting::fitted;

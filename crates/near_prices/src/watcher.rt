@@ -1,4 +1,4 @@
-//! Who watches rounds of column generation.
+//! Who watches rounds of column generation. No clause rests on this.
 
 /// How far the rounds are.
 #[derive(Clone, Copy, Debug, PartialEq, Eq)]

@@ -1,4 +1,4 @@
-//! When a search has to stop.
+//! When a search has to stop. No clause rests on this.
 
 /// Who is asked, between two labels, whether to stop.
 pub trait SearchClock {

@@ -1,4 +1,4 @@
-//! What prices are sought for: the routes that are known already.
+//! What prices are sought for: the routes that are known already. No clause rests on this.
 
 use super::pace::Pace;
 use crate::first::FirstPlan;
