@@ -6,6 +6,7 @@
 
 mod closing;
 mod far;
+mod hits;
 mod home;
 mod keeping;
 mod lasts;

@@ -1,5 +1,6 @@
 //! A list in the making. No clause rests on this.
 
+use crate::hits::Hits;
 use crate::plan::ListPlan;
 use crate::sizes::is_small;
 use dominance::LabelValue;
@@ -11,6 +12,8 @@ use std::alloc::{AllocError, Global};
 pub(crate) struct Lister<'q, 'a> {
     pub(crate) query: &'q NearQuery<'a>,
     pub(crate) labels: NearLabels,
+    /// Those that left room lately.
+    pub(crate) hits: Hits,
     /// So many labels are too many.
     pub(crate) most_labels: usize,
     /// Whether no vehicle has earned less than nothing.
@@ -30,6 +33,7 @@ impl<'q, 'a> Lister<'q, 'a> {
         let mut lister = Lister {
             query,
             labels: NearLabels::new(alloc, query, Comparison::Exact)?,
+            hits: Hits::new(alloc, query.ground().depot())?,
             most_labels: plan.most_labels,
             never_loses,
             is_cut: false,

@@ -8,6 +8,17 @@ use crate::wanted::Wanted;
 use near_search::{Entry, NearLabel, NearState};
 use std::alloc::{AllocError, Global};
 
+/// The most by which a vehicle may have earned more so that a single label covers it.
+#[derive(Clone, Copy)]
+struct Roomiest {
+    /// Below 0 where none covers it.
+    room: i64,
+    /// The label, where it is known.
+    entry: Option<Entry>,
+    /// Which of those it is that left room lately, if it is one.
+    hit: Option<usize>,
+}
+
 impl Lister<'_, '_> {
     /// How much more a vehicle may have earned so that labels cover all that its steps lead to, and
     /// no way home earns; `None` where they don't as it is.
@@ -66,9 +77,12 @@ impl Lister<'_, '_> {
     /// How much more a vehicle may have earned so that labels cover it; `None` where none do.
     fn room_of(&mut self, state: &NearState, most: i64) -> Result<Option<i64>, AllocError> {
         if most > 0 {
-            let best = self.best_single(state, most);
-            if best >= 0 {
-                return Ok(Some(best));
+            let best = self.roomiest(state, most);
+            if best.room >= most {
+                self.note(state.place, best)?;
+            }
+            if best.room >= 0 {
+                return Ok(Some(best.room));
             }
         }
         if self.covers(state)? {
@@ -78,55 +92,129 @@ impl Lister<'_, '_> {
         }
     }
 
+    /// Lets a label be one of those at a place that left room lately.
+    fn note(&mut self, place: usize, found: Roomiest) -> Result<(), AllocError> {
+        match (found.hit, found.entry) {
+            (Some(hit), _) => self.hits.move_forward(place, hit),
+            (None, Some(entry)) => self.hits.add(place, entry)?,
+            (None, None) => {}
+        }
+        Ok(())
+    }
+
     /// The most by which a vehicle may have earned more so that a single label covers it, where
-    /// `most` is enough; below 0 where none does.
-    fn best_single(&self, state: &NearState, most: i64) -> i64 {
-        let mut best = -1;
+    /// `most` is enough. Those that left room lately are tried first.
+    fn roomiest(&self, state: &NearState, most: i64) -> Roomiest {
+        let mut best = Roomiest {
+            room: -1,
+            entry: None,
+            hit: None,
+        };
         let Some(wanted) = Wanted::of(&self.labels, self.query.terms(), state) else {
             return best;
         };
+        best = roomiest_hit(
+            self.labels.all(),
+            &wanted,
+            self.hits.at(state.place),
+            best,
+            most,
+        );
         let groups = self.labels.groups(state.place);
         for group in groups.iter().take(wanted.group.saturating_add(1)).rev() {
-            best = best_in(self.labels.all(), &wanted, group, best, most);
-            if best >= most {
+            if best.room >= most {
                 break;
             }
+            best = roomiest_in(self.labels.all(), &wanted, group, best, most);
         }
         best
     }
 }
 
-/// The same of the labels of a group, where one is known.
-fn best_in(all: &[NearLabel], wanted: &Wanted<'_>, group: &[Entry], known: i64, most: i64) -> i64 {
+/// The same of labels that left room lately and may leave enough, where one is known.
+fn roomiest_hit(
+    all: &[NearLabel],
+    wanted: &Wanted<'_>,
+    hits: &[Entry],
+    known: Roomiest,
+    most: i64,
+) -> Roomiest {
     let mut best = known;
-    for entry in group {
-        if sum(i128::from(entry.cost), i128::from(best.max(0))) > wanted.cost || best >= most {
+    for (hit, entry) in hits.iter().enumerate() {
+        if best.room >= most {
             break;
         }
-        if wanted.admits(entry, wanted.top) {
-            if let Some(label) = wanted.fitting(all, entry) {
-                best = best.max(single_room(label, wanted));
+        if sum(i128::from(entry.cost), i128::from(most)) <= wanted.cost {
+            let room = room_by(all, wanted, entry, best.room);
+            if room > best.room {
+                best = Roomiest {
+                    room,
+                    entry: Some(*entry),
+                    hit: Some(hit),
+                };
             }
         }
     }
     best
 }
 
-/// By how much a vehicle may have earned more so that a label covers it; below 0 where it doesn't.
-fn single_room(label: &NearLabel, wanted: &Wanted<'_>) -> i64 {
-    let own = least_room(label, wanted, label.state.value.points());
-    if own < 0 {
-        return own;
+/// The same of the labels of a group, where one is known.
+fn roomiest_in(
+    all: &[NearLabel],
+    wanted: &Wanted<'_>,
+    group: &[Entry],
+    known: Roomiest,
+    most: i64,
+) -> Roomiest {
+    let mut best = known;
+    for entry in group {
+        let least = best.room.max(0);
+        if sum(i128::from(entry.cost), i128::from(least)) > wanted.cost || best.room >= most {
+            break;
+        }
+        let room = room_by(all, wanted, entry, best.room);
+        if room > best.room {
+            best = Roomiest {
+                room,
+                entry: Some(*entry),
+                hit: None,
+            };
+        }
     }
-    own.min(least_room(label, wanted, wanted.state.value.points()))
+    best
+}
+
+/// By how much a vehicle may have earned more so that the label of an entry covers it; `known` or
+/// less where that isn't more.
+fn room_by(all: &[NearLabel], wanted: &Wanted<'_>, entry: &Entry, known: i64) -> i64 {
+    if !wanted.admits(entry, wanted.top) {
+        return -1;
+    }
+    match wanted.fitting(all, entry) {
+        Some(label) => single_room(label, wanted, known),
+        None => -1,
+    }
+}
+
+/// By how much a vehicle may have earned more so that a label covers it, below 0 where it doesn't;
+/// `known` or less where that isn't more.
+fn single_room(label: &NearLabel, wanted: &Wanted<'_>, known: i64) -> i64 {
+    let its = least_room(label, wanted, wanted.state.value.points(), known);
+    if its <= known {
+        return its;
+    }
+    its.min(least_room(label, wanted, label.state.value.points(), known))
 }
 
 /// The same at the levels of points alone.
-fn least_room(label: &NearLabel, wanted: &Wanted<'_>, points: &[(u64, u64)]) -> i64 {
+fn least_room(label: &NearLabel, wanted: &Wanted<'_>, points: &[(u64, u64)], known: i64) -> i64 {
     let mut room = MOST_ROOM;
     for (level, _) in points {
         if *level >= wanted.first && *level <= wanted.top {
             room = room.min(room_there(label, wanted, *level));
+            if room <= known {
+                break;
+            }
         }
     }
     room
