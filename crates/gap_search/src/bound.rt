@@ -9,17 +9,16 @@ mod reach;
 mod routes;
 mod sections;
 
-use crate::clock::Ahead;
+use crate::clock::{GapClock, Until};
 use crate::first::FirstPlan;
 use crate::watcher::GapWatcher;
 use candidates::{candidates, candidates_of_none};
 pub(crate) use growing::{Root, grow_tree};
 use instance_reader::Instance;
-use near_branch::BranchClock;
 use near_completion::Ground;
 use near_prices::{NearPrices, PriceSearch};
-use pace::Pace;
 pub(crate) use pace::bound_milliseconds;
+use pace::{Pace, list_milliseconds};
 use question::question;
 use reach::section_of_nobody;
 use route_improve::Improved;
@@ -27,6 +26,9 @@ pub(crate) use routes::NearOrder;
 use routes::{dives, orders};
 use std::alloc::{AllocError, Global};
 use tree_text::BoundProof;
+
+/// So much of the time that is left for a proof prices may take until they are closed, in per cent.
+const CLOSING: u64 = 50;
 
 /// What a search for a bound found. Nothing is promised of it.
 #[derive(Drop)]
@@ -50,8 +52,9 @@ pub(crate) struct BoundFound {
 /// known, and closed labels are made for them. The only `Err` is want of memory.
 ///
 /// The clock stops the rounds of the search for prices but the first, some time before it is up,
-/// and the search for routes for plans. What makes a proof of the prices at hand goes on.
-pub(crate) fn search_bound<C: BranchClock, W: GapWatcher>(
+/// and the search for routes for plans. What makes a proof of the prices at hand ends some seconds
+/// behind it.
+pub(crate) fn search_bound<C: GapClock, W: GapWatcher>(
     alloc: Global,
     inst: &Instance,
     first: &FirstPlan,
@@ -64,17 +67,16 @@ pub(crate) fn search_bound<C: BranchClock, W: GapWatcher>(
             return Ok(only(alloc, candidates_of_none(alloc, inst, section)?));
         }
     }
-    let pace = Pace::of(ground.customers(), clock);
+    let list = list_milliseconds(ground.customers(), &first.plan);
+    let pace = Pace::of(list, clock);
     let asked = question(alloc, inst, &ground, first, pace)?;
     let mut search = PriceSearch::new(alloc, inst, &ground, asked)?;
     search.set_effort(pace.effort());
-    let mut ahead = Ahead {
-        milliseconds: pace.kept_back(ground.customers()),
-        clock,
-    };
-    let end = search.run(alloc, &mut ahead, watcher)?;
-    let found = search.finish(alloc, end)?;
-    let candidates = candidates(alloc, inst, &ground, &found, clock)?;
+    let kept = pace.kept_back(list);
+    let end = search.run(alloc, &mut Until::before(clock, kept), watcher)?;
+    let mut closing = Until::part_of_proof(clock, CLOSING);
+    let found = search.finish(alloc, end, &mut closing)?;
+    let candidates = candidates(alloc, inst, &ground, &found, list, clock)?;
     let orders = orders(alloc, &ground, &found.routes)?;
     let dives = dives(alloc, &ground, &mut search, clock)?;
     let NearPrices {

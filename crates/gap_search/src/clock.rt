@@ -12,6 +12,12 @@ pub trait GapClock: BranchClock + MoveClock {
     fn is_up_since(&mut self, milliseconds: u64) -> bool;
 }
 
+/// So many milliseconds behind the end of a clock a proof is to be through.
+const PROOF_BEHIND: u64 = 4_600;
+
+/// No time that is left is told to be longer, in milliseconds: some three months.
+const LONGEST: u64 = 1 << 33;
+
 /// When a part of a search ends.
 #[derive(Clone, Copy, Debug, PartialEq, Eq)]
 pub(crate) enum End {
@@ -34,16 +40,64 @@ impl End {
     }
 }
 
-/// A clock that is up so many milliseconds before another.
-#[derive(Drop)]
-pub(crate) struct Ahead<'c, C: BranchClock> {
-    pub(crate) clock: &'c mut C,
-    pub(crate) milliseconds: u64,
+/// The end so many milliseconds before a proof is to be through.
+fn before_proof(milliseconds: u64) -> End {
+    match milliseconds.checked_sub(PROOF_BEHIND) {
+        Some(before) => End::Before(before),
+        None => End::Behind(PROOF_BEHIND.saturating_sub(milliseconds)),
+    }
 }
 
-impl<'c, C: BranchClock> SearchClock for Ahead<'c, C> {
+/// In how many milliseconds a proof is to be through; `None` where that is told to be never.
+pub(crate) fn milliseconds_left<C: GapClock>(clock: &mut C) -> Option<u64> {
+    if !before_proof(LONGEST).is_reached(clock) {
+        return None;
+    }
+    let mut left: u64 = 0;
+    let mut step = LONGEST;
+    for _ in 0..u64::BITS {
+        step /= 2;
+        let further = left.saturating_add(step);
+        if !before_proof(further).is_reached(clock) {
+            left = further;
+        }
+    }
+    Some(left)
+}
+
+/// A clock that is up at an end by another.
+#[derive(Drop)]
+pub(crate) struct Until<'c, C: GapClock> {
+    clock: &'c mut C,
+    end: End,
+}
+
+impl<'c, C: GapClock> Until<'c, C> {
+    /// It is up so many milliseconds before the other.
+    pub(crate) fn before(clock: &'c mut C, milliseconds: u64) -> Self {
+        Until {
+            clock,
+            end: End::Before(milliseconds),
+        }
+    }
+
+    /// It is up once so many parts of a hundred are over of the time that is left until a proof is
+    /// to be through.
+    pub(crate) fn part_of_proof(clock: &'c mut C, percent: u64) -> Self {
+        let end = match milliseconds_left(clock) {
+            Some(left) => {
+                let part = left.saturating_mul(percent) / 100;
+                before_proof(left.saturating_sub(part))
+            }
+            None => End::Never,
+        };
+        Until { clock, end }
+    }
+}
+
+impl<'c, C: GapClock> SearchClock for Until<'c, C> {
     fn is_up(&mut self) -> bool {
-        self.clock.is_up_in(self.milliseconds)
+        self.end.is_reached(self.clock)
     }
 }
 

@@ -63,13 +63,24 @@ impl Lister<'_, '_> {
         Ok(())
     }
 
-    /// Lets labels cover a state: those there are, or one that stands for all of its layer from
-    /// which no way home earns, or its own.
+    /// The label that stands for a vehicle and others from which no way home earns.
+    fn tabled(&self, alloc: Global, state: &NearState) -> Result<Option<NearState>, AllocError> {
+        tabled(
+            alloc,
+            self.query,
+            self.steady.as_ref(),
+            self.never_loses,
+            state,
+        )
+    }
+
+    /// Lets labels cover a state: those there are, or one that stands for all at its place or of its
+    /// layer from which no way home earns, or its own.
     fn add(&mut self, alloc: Global, number: usize, state: NearState) -> Result<(), AllocError> {
         if self.covers(&state)? {
             return Ok(());
         }
-        if let Some(hopeless) = tabled(alloc, self.query, self.never_loses, &state)? {
+        if let Some(hopeless) = self.tabled(alloc, &state)? {
             self.put(hopeless, Origin::Table, true)?;
             if self.covers(&state)? {
                 return Ok(());

@@ -16,6 +16,7 @@ mod plan;
 mod room;
 mod section;
 mod sizes;
+mod steady;
 mod strengthening;
 mod tabled;
 mod task;

@@ -3,6 +3,7 @@
 use crate::hits::Hits;
 use crate::plan::ListPlan;
 use crate::sizes::is_small;
+use crate::steady::SteadyCosts;
 use dominance::LabelValue;
 use near_search::{Comparison, NearLabel, NearLabels, NearQuery, NearState, Origin};
 use std::alloc::{AllocError, Global};
@@ -14,6 +15,8 @@ pub(crate) struct Lister<'q, 'a> {
     pub(crate) labels: NearLabels,
     /// Those that left room lately.
     pub(crate) hits: Hits,
+    /// What ways home take whenever they end, where that is known.
+    pub(crate) steady: Option<SteadyCosts>,
     /// So many labels are too many.
     pub(crate) most_labels: usize,
     /// Whether no vehicle has earned less than nothing.
@@ -34,6 +37,7 @@ impl<'q, 'a> Lister<'q, 'a> {
             query,
             labels: NearLabels::new(alloc, query, Comparison::Exact)?,
             hits: Hits::new(alloc, query.ground().depot())?,
+            steady: SteadyCosts::new(alloc, query.ground(), query.terms())?,
             most_labels: plan.most_labels,
             never_loses,
             is_cut: false,

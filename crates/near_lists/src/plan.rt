@@ -29,6 +29,16 @@ impl ListPlan {
             strengthens: false,
         }
     }
+
+    /// A list by few layers, of few labels, which is short where no steps earn that lead back to a
+    /// place.
+    pub fn hasty() -> ListPlan {
+        ListPlan {
+            layers: 15,
+            most_labels: 20_000,
+            strengthens: false,
+        }
+    }
 }
 
 /// About so many labels are made for a careful list of so many customers, of whom each remembers a

@@ -37,6 +37,11 @@ pub(crate) fn weighted(weight: u32, time: i64) -> i128
     i128::from(weight) * i128::from(time)
 }
 
+/// The weighted cost of an arc.
+pub(crate) fn paid_for(weight: u32, cost: u64) -> i128 {
+    i128::from(weight) * i128::from(cost)
+}
+
 /// A weighted time less what is earned.
 pub(crate) fn owing(weighted: i128, earned: i64) -> i128
     requires { unsigned_abs weighted ≤ 2 ^ 95 }

@@ -1,7 +1,8 @@
-//! Labels that stand for all vehicles of a layer from which no way home earns. No clause rests on
-//! this.
+//! Labels that stand for all vehicles at a place, or in a layer there, from which no way home
+//! earns. No clause rests on this.
 
 use crate::sizes::{owing, weighted, with_rest};
+use crate::steady::SteadyCosts;
 use crate::values::line_from;
 use customer_sets::LargeSet;
 use near_completion::{HomeCost, Last, WayTable};
@@ -31,18 +32,22 @@ struct Common {
     early: u64,
 }
 
-/// The label that stands for all vehicles at a place in a layer from which no way home earns, where
-/// a vehicle is one of them: at a station after anybody, if it may be.
+/// The label that stands for all vehicles at a place from which no way home earns whenever it ends,
+/// where a vehicle is one of them; else that for those of a layer: at a station after anybody, if
+/// it may be.
 pub(crate) fn tabled(
     alloc: Global,
     query: &NearQuery<'_>,
+    steady: Option<&SteadyCosts>,
     never_loses: bool,
     state: &NearState,
 ) -> Result<Option<NearState>, AllocError> {
-    let Some(hopeless) = hopeless_of(query, never_loses, state) else {
-        return Ok(None);
+    let always = steady.and_then(|costs| steady_common(query, costs, never_loses, state));
+    let common = match always {
+        Some(common) => Some(common),
+        None => layer_common(query, never_loses, state),
     };
-    let Some(common) = hopeless.common() else {
+    let Some(common) = common else {
         return Ok(None);
     };
     let Some(value) = line_from(alloc, query.ground(), common.early)? else {
@@ -56,6 +61,62 @@ pub(crate) fn tabled(
         earned: common.earned,
         value,
     }))
+}
+
+/// What the label has that stands for all vehicles at a place, if no way home earns whenever it
+/// ends.
+fn steady_common(
+    query: &NearQuery<'_>,
+    steady: &SteadyCosts,
+    never_loses: bool,
+    state: &NearState,
+) -> Option<Common> {
+    let (terms, rest) = (query.terms(), steady.rest(state.place)?);
+    let lateness = query.lateness(&state.value)?;
+    let owed = owing(weighted(terms.weight(), lateness), state.earned);
+    let early = earliest(terms.weight(), never_loses, 0, rest)?;
+    let paid = weighted(terms.weight(), i64::try_from(early).ok()?);
+    if with_rest(owed, rest) < 0 || weighted(terms.weight(), lateness) < paid {
+        return None;
+    }
+    let earned = i64::try_from(with_rest(paid, rest)).ok()?;
+    let class = if query.ground().is_customer(state.place) {
+        state.class
+    } else {
+        terms.class_of(Last::Anybody)
+    };
+    Some(Common {
+        class,
+        memory: own_memory(query, state.place),
+        earned,
+        early,
+    })
+}
+
+/// What the label has that stands for the vehicle's layer, if no way home earns.
+fn layer_common(query: &NearQuery<'_>, never_loses: bool, state: &NearState) -> Option<Common> {
+    hopeless_of(query, never_loses, state)?.common()
+}
+
+/// A lateness from which no way home earns that takes so much beyond what it earns, `least` or
+/// later: where nobody has earned less than nothing, that from which none earns even so.
+fn earliest(weight: u32, never_loses: bool, least: u64, rest: i64) -> Option<u64> {
+    if !never_loses || rest >= 0 {
+        return Some(least);
+    }
+    if weight == 0 {
+        return None;
+    }
+    Some(least.max(rest.unsigned_abs().div_ceil(u64::from(weight))))
+}
+
+/// Nobody, or the customer at a place.
+fn own_memory(query: &NearQuery<'_>, place: usize) -> LargeSet {
+    if query.ground().is_customer(place) {
+        with(LargeSet::empty(), place)
+    } else {
+        LargeSet::empty()
+    }
 }
 
 /// What is asked of a vehicle; `None` where there is no whole table, or it is past its horizon.
@@ -116,26 +177,16 @@ impl Hopeless<'_> {
         self.table.rest(self.state.place, class, self.layer, memory)
     }
 
-    /// The least lateness of the layer; where nobody has earned less than nothing, that from which
-    /// no way home earns even so, if that is later.
+    /// The least lateness of the layer, or later.
     fn early(&self, rest: i64) -> Option<u64> {
         let least = self.table.latest(self.layer)?;
-        if !self.never_loses || rest >= 0 {
-            return Some(least);
-        }
-        let weight = u64::from(self.query.terms().weight());
-        if weight == 0 {
-            return None;
-        }
-        Some(least.max(rest.unsigned_abs().div_ceil(weight)))
+        let weight = self.query.terms().weight();
+        earliest(weight, self.never_loses, least, rest)
     }
 
     /// Whom the label remembers: nobody whom the least of ways doesn't pass by.
     fn memory(&self, class: usize, rest: HomeCost) -> Option<LargeSet> {
-        let mut memory = LargeSet::empty();
-        if self.query.ground().is_customer(self.state.place) {
-            memory = with(memory, self.state.place);
-        }
+        let memory = own_memory(self.query, self.state.place);
         let of_all = self.rest(class, LargeSet::empty())?;
         match rest.known {
             Some(known) if of_all.least != rest.least => Some(with(memory, known)),

@@ -8,7 +8,7 @@ use crate::watcher::PricesWatcher;
 use customer_sets::LargeSet;
 use instance_reader::Instance;
 use near_completion::Ground;
-use near_search::SearchClock;
+use near_search::{NoClock, SearchClock};
 use std::alloc::{AllocError, Global};
 
 /// So often prices near the optimum are tested.
@@ -42,11 +42,14 @@ pub struct NearPrices {
     pub prices: Vec<i64>,
     /// What entering each counted set earns.
     pub entry_prices: Vec<i64>,
+    /// What serving each customer earns by the floor of prices, by which no route earns.
+    pub floor: Vec<i64>,
     /// The near sets, by customer.
     pub near: Vec<LargeSet>,
     /// The sum of the prices, with what entries earn at the least.
     pub bound: i128,
-    /// Whether the last exact search was whole and found no route that earns.
+    /// Whether no near route earns by the prices, as far as the search knows. Not so where the
+    /// clock ended what closes them: they are lowered so far then as was known to be of use.
     pub is_closed: bool,
     /// For each customer the place of a route that takes no more than it earns, but for less than
     /// one unit for each time it serves him, if there is one.
@@ -73,7 +76,7 @@ pub struct ClosedPrices {
 }
 
 /// Finds prices. The clock stops rounds, but not what makes closed prices of those at hand, for
-/// which it takes a budget of labels. The only `Err` is want of memory.
+/// which a budget of labels is taken. The only `Err` is want of memory.
 pub fn find_prices<C: SearchClock, W: PricesWatcher>(
     alloc: Global,
     inst: &Instance,
@@ -84,49 +87,65 @@ pub fn find_prices<C: SearchClock, W: PricesWatcher>(
 ) -> Result<NearPrices, AllocError> {
     let mut search = PriceSearch::new(alloc, inst, ground, question)?;
     let end = search.run(alloc, clock, watcher)?;
-    search.finish(alloc, end)
+    search.finish(alloc, end, &mut NoClock)
 }
 
 impl PriceSearch<'_> {
-    /// The prices at the end of rounds, made whole.
-    pub fn finish(&mut self, alloc: Global, end: RoundsEnd) -> Result<NearPrices, AllocError> {
-        self.end(alloc, end)?;
-        self.answer(alloc, end)
+    /// The prices at the end of rounds, made whole, as far as the clock lets them be closed.
+    pub fn finish<C: SearchClock>(
+        &mut self,
+        alloc: Global,
+        end: RoundsEnd,
+        clock: &mut C,
+    ) -> Result<NearPrices, AllocError> {
+        let is_closed = self.end(alloc, end, clock)?;
+        self.answer(alloc, end, is_closed)
     }
 
-    /// Makes the prices whole at the end of rounds.
-    fn end(&mut self, alloc: Global, end: RoundsEnd) -> Result<(), AllocError> {
+    /// Makes the prices whole at the end of rounds. Whether they are closed; else the time is up.
+    fn end<C: SearchClock>(
+        &mut self,
+        alloc: Global,
+        end: RoundsEnd,
+        clock: &mut C,
+    ) -> Result<bool, AllocError> {
         let is_closed = match end {
             RoundsEnd::Closed => true,
-            RoundsEnd::Near => self.settle_last(alloc)?,
+            RoundsEnd::Near => self.settle_last(alloc, clock)?,
             RoundsEnd::Stopped => false,
         };
-        if !is_closed {
-            self.close(alloc)?;
-        }
-        Ok(())
+        Ok(is_closed || self.close(alloc, clock)?)
     }
 
     /// Settles the last prices. Whether no route earns by them.
-    fn settle_last(&mut self, alloc: Global) -> Result<bool, AllocError> {
+    fn settle_last<C: SearchClock>(
+        &mut self,
+        alloc: Global,
+        clock: &mut C,
+    ) -> Result<bool, AllocError> {
         let base = copy_of(alloc, self.pool.cover.prices())?;
-        self.settle(alloc, &base, TESTS, &mut Budget::of(TEST_LABELS))
+        self.settle(alloc, &base, TESTS, &mut Budget::of(TEST_LABELS), clock)
     }
 
     /// Closes the best prices so far: they are lowered toward the floor, and then raised, where
-    /// that helps; where the budget doesn't reach, those of the floor are taken.
-    fn close(&mut self, alloc: Global) -> Result<(), AllocError> {
+    /// that helps; where the budget doesn't reach, those of the floor are taken. Whether they are
+    /// closed; else the time is up.
+    fn close<C: SearchClock>(&mut self, alloc: Global, clock: &mut C) -> Result<bool, AllocError> {
         let mut best = if self.kept.is_any() {
             self.kept.prices.clone()?
         } else {
             copy_of(alloc, self.pool.cover.prices())?
         };
-        if self.scale(alloc, &mut best, &mut Budget::of(self.effort.closing))? {
-            self.raise(alloc, &mut best, self.raise_budget())?;
-        } else {
+        let mut budget = Budget::of(self.effort.closing);
+        let is_scaled = self.scale(alloc, &mut best, &mut budget, clock)?;
+        let is_closed = is_scaled || !clock.is_up();
+        if is_scaled {
+            self.raise(alloc, &mut best, self.raise_budget(), clock)?;
+        } else if is_closed {
             best = copy_of(alloc, &self.floor.prices)?;
         }
-        self.pricing.take_prices(alloc, &best)
+        self.pricing.take_prices(alloc, &best)?;
+        Ok(is_closed)
     }
 
     /// What it may take to raise prices: more where rounds took more.
@@ -141,7 +160,7 @@ impl PriceSearch<'_> {
         alloc: Global,
         end: RoundsEnd,
     ) -> Result<ClosedPrices, AllocError> {
-        self.end(alloc, end)?;
+        self.end(alloc, end, &mut NoClock)?;
         let mut found = ClosedPrices {
             prices: Vec::new(alloc),
             entry_prices: Vec::new(alloc),
@@ -157,13 +176,19 @@ impl PriceSearch<'_> {
     }
 
     /// What is answered, by the prices at hand.
-    fn answer(&self, alloc: Global, end: RoundsEnd) -> Result<NearPrices, AllocError> {
+    fn answer(
+        &self,
+        alloc: Global,
+        end: RoundsEnd,
+        is_closed: bool,
+    ) -> Result<NearPrices, AllocError> {
         let mut found = NearPrices {
             prices: Vec::new(alloc),
             entry_prices: Vec::new(alloc),
+            floor: copy_of(alloc, &self.floor.prices)?,
             near: Vec::new(alloc),
             bound: self.bound_of(&self.pricing.prices),
-            is_closed: true,
+            is_closed,
             tight: Vec::new(alloc),
             routes: Vec::with_capacity(alloc, self.pool.routes.len())?,
             end,

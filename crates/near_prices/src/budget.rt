@@ -8,7 +8,7 @@ use near_search::{Aim, Comparison, Order};
 pub struct PriceEffort {
     /// So many before the clock is asked for the first time.
     pub first: usize,
-    /// So many at the most to close prices where rounds were stopped.
+    /// So many at the most to close prices where rounds were stopped, unless the clock is up.
     pub closing: usize,
     /// So many to raise them then, at the least and at the most; a third of the work of the rounds
     /// in between.
@@ -48,6 +48,11 @@ impl Budget {
     /// Takes labels out that were made, or other work, in labels.
     pub(crate) fn spend(&mut self, labels: usize) {
         self.labels = self.labels.saturating_sub(labels);
+    }
+
+    /// Takes out all that are left, since the time is up.
+    pub(crate) fn end(&mut self) {
+        self.labels = 0;
     }
 
     /// How many are left.

@@ -5,7 +5,7 @@ use crate::budget::{Budget, aim_of};
 use crate::kept::Ratio;
 use crate::pricing::Grain;
 use crate::search::PriceSearch;
-use near_search::{Comparison, SearchEnd};
+use near_search::{Comparison, SearchClock, SearchEnd};
 use std::alloc::{AllocError, Global};
 
 /// So often prices are lowered at the most at one level of comparing labels.
@@ -25,18 +25,19 @@ const LEAST_LABELS: usize = 20_000;
 
 impl PriceSearch<'_> {
     /// Raises prices by which no route earns, as far as known routes let them, until no other route
-    /// earns by those either; where the budget doesn't reach, they are lowered again. Prices stay
-    /// that can't be made better so.
-    pub(crate) fn raise(
+    /// earns by those either; where budget and time don't reach, they are lowered again. Prices
+    /// stay that can't be made better so.
+    pub(crate) fn raise<C: SearchClock>(
         &mut self,
         alloc: Global,
         best: &mut Vec<i64>,
         budget: Budget,
+        clock: &mut C,
     ) -> Result<(), AllocError> {
         let (mut most, mut rest) = budget.parted();
-        let is_closed = self.settle(alloc, best, MOST_TESTS, &mut most)?;
+        let is_closed = self.settle(alloc, best, MOST_TESTS, &mut most, clock)?;
         let mut other = self.pricing.prices.clone()?;
-        let is_closed = is_closed || self.scale(alloc, &mut other, &mut rest)?;
+        let is_closed = is_closed || self.scale(alloc, &mut other, &mut rest, clock)?;
         if is_closed && self.bound_of(&other) > self.bound_of(best) {
             *best = other;
         }
@@ -44,13 +45,14 @@ impl PriceSearch<'_> {
     }
 
     /// Lowers prices toward the floor, all by the same part, until no near route earns by them, at
-    /// one level of comparing labels after the other. Whether none does; else the budget didn't
-    /// reach.
-    pub(crate) fn scale(
+    /// one level of comparing labels after the other. Whether none does; else the budget or the
+    /// time didn't reach.
+    pub(crate) fn scale<C: SearchClock>(
         &mut self,
         alloc: Global,
         prices: &mut [i64],
         budget: &mut Budget,
+        clock: &mut C,
     ) -> Result<bool, AllocError> {
         self.floor.lower(self.worst_known(prices), prices);
         for comparison in [
@@ -58,7 +60,7 @@ impl PriceSearch<'_> {
             Comparison::LevelsAlone,
             Comparison::Exact,
         ] {
-            if !self.scale_at(alloc, prices, comparison, budget)? {
+            if !self.scale_at(alloc, prices, comparison, budget, clock)? {
                 return Ok(false);
             }
         }
@@ -78,15 +80,16 @@ impl PriceSearch<'_> {
     }
 
     /// The same at one level.
-    fn scale_at(
+    fn scale_at<C: SearchClock>(
         &mut self,
         alloc: Global,
         prices: &mut [i64],
         comparison: Comparison,
         budget: &mut Budget,
+        clock: &mut C,
     ) -> Result<bool, AllocError> {
         for _ in 0..MOST_TIMES {
-            if budget.is_spent() {
+            if budget.is_spent() || clock.is_up() {
                 return Ok(false);
             }
             budget.spend(
@@ -94,7 +97,7 @@ impl PriceSearch<'_> {
                     .set_prices(alloc, prices, grain_for(comparison))?,
             );
             let labels = (budget.left() / 2).max(LEAST_LABELS);
-            let found = self.look(alloc, aim_of(comparison, ENOUGH, labels), budget)?;
+            let found = self.look(alloc, aim_of(comparison, ENOUGH, labels), budget, clock)?;
             if !found.routes.is_empty() {
                 let ratio = self.floor.worst_of(&self.pricing, &found);
                 self.floor.lower(ratio, prices);

@@ -5,7 +5,7 @@ use crate::budget::{Budget, aim_of};
 use crate::fitting::fitted;
 use crate::pricing::Grain;
 use crate::search::PriceSearch;
-use near_search::{Aim, Comparison, NearFound, NoClock, SearchEnd};
+use near_search::{Aim, Comparison, NearFound, SearchClock, SearchEnd};
 use std::alloc::{AllocError, Global};
 
 /// So many routes that earn are enough.
@@ -26,12 +26,13 @@ impl PriceSearch<'_> {
     /// Lets prices be such that no near route earns by them and known routes let none be raised: so
     /// often they are fitted and tested at the most, and what earns joins the routes that are
     /// known. Whether no route earns.
-    pub(crate) fn settle(
+    pub(crate) fn settle<C: SearchClock>(
         &mut self,
         alloc: Global,
         base: &[i64],
         tests: usize,
         budget: &mut Budget,
+        clock: &mut C,
     ) -> Result<bool, AllocError> {
         for _ in 0..tests {
             if budget.is_spent() {
@@ -39,7 +40,7 @@ impl PriceSearch<'_> {
             }
             let prices = fitted(alloc, &self.pool, base)?;
             budget.spend(self.pricing.set_prices(alloc, &prices, Grain::Fine)?);
-            match self.test(alloc, budget)? {
+            match self.test(alloc, budget, clock)? {
                 Tested::Closed => return Ok(true),
                 Tested::Earning => {}
                 Tested::Open => return Ok(false),
@@ -49,13 +50,23 @@ impl PriceSearch<'_> {
     }
 
     /// Tests the prices. Routes that earn join those that are known.
-    fn test(&mut self, alloc: Global, budget: &mut Budget) -> Result<Tested, AllocError> {
+    fn test<C: SearchClock>(
+        &mut self,
+        alloc: Global,
+        budget: &mut Budget,
+        clock: &mut C,
+    ) -> Result<Tested, AllocError> {
         for comparison in [
             Comparison::TimesAlone,
             Comparison::LevelsAlone,
             Comparison::Exact,
         ] {
-            let found = self.look(alloc, aim_of(comparison, ENOUGH, budget.left()), budget)?;
+            let found = self.look(
+                alloc,
+                aim_of(comparison, ENOUGH, budget.left()),
+                budget,
+                clock,
+            )?;
             if !found.routes.is_empty() {
                 self.learn(alloc, &found)?;
                 return Ok(Tested::Earning);
@@ -67,15 +78,19 @@ impl PriceSearch<'_> {
         Ok(Tested::Closed)
     }
 
-    /// Looks for routes that earn, at the cost of a budget.
-    pub(crate) fn look(
+    /// Looks for routes that earn, at the cost of a budget, which ends where the time is up.
+    pub(crate) fn look<C: SearchClock>(
         &self,
         alloc: Global,
         aim: Aim,
         budget: &mut Budget,
+        clock: &mut C,
     ) -> Result<NearFound, AllocError> {
-        let found = self.pricing.search(alloc, &aim, &mut NoClock)?;
+        let found = self.pricing.search(alloc, &aim, clock)?;
         budget.spend(found.labels);
+        if found.end == SearchEnd::Stopped {
+            budget.end();
+        }
         Ok(found)
     }
 

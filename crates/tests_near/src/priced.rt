@@ -59,7 +59,7 @@ fn found_on(alloc: Global, inst: &Instance) -> Result<(NearPrices, usize), Alloc
     let mut search = PriceSearch::new(alloc, inst, &ground, question(alloc, &ground)?)?;
     let _ = search.estimate(alloc, 1, &mut NoClock)?;
     let end = search.run(alloc, &mut NoClock, &mut Unwatched {})?;
-    let found = search.finish(alloc, end)?;
+    let found = search.finish(alloc, end, &mut NoClock)?;
     let plan = search.dive(alloc, 0, &mut NoClock)?;
     Ok((found, plan.len()))
 }

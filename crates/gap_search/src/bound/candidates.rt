@@ -1,11 +1,11 @@
 //! Proofs that may be accepted, of prices and closed labels. No clause rests on this.
 
 use super::sections::section_by;
+use crate::clock::GapClock;
 use crate::trips::fastest_plan;
 use customer_sets::{CustSet, LargeSet};
 use ev_list::Listed;
 use instance_reader::{Instance, MOST_CUSTOMERS};
-use near_branch::BranchClock;
 use near_completion::Ground;
 use near_lists::near_labels;
 use near_prices::{NearPrices, PricedRoute};
@@ -16,15 +16,16 @@ use std::alloc::{AllocError, Global};
 use tree_text::BoundProof;
 
 /// Proofs by these prices that may be accepted: a near proof, for up to 128 customers where each
-/// has a tight route, and a tree of one leaf.
-pub(crate) fn candidates<C: BranchClock>(
+/// has a tight route, and a tree of one leaf. A short list is thought to take so many milliseconds.
+pub(crate) fn candidates<C: GapClock>(
     alloc: Global,
     inst: &Instance,
     ground: &Ground,
     found: &NearPrices,
+    milliseconds: u64,
     clock: &mut C,
 ) -> Result<Vec<BoundProof>, AllocError> {
-    let Some(section) = section_by(alloc, inst, ground, found, clock)? else {
+    let Some(section) = section_by(alloc, inst, ground, found, milliseconds, clock)? else {
         return Ok(Vec::new(alloc));
     };
     let bound = Some(price_total(&section));

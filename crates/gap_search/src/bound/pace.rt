@@ -1,8 +1,8 @@
 //! How a search for a bound is cut to its time. No clause rests on this.
 
-use super::sections::list_milliseconds;
 use near_branch::BranchClock;
 use near_prices::PriceEffort;
+use route_improve::Improved;
 
 /// So many labels are made before the clock is asked.
 const FIRST_LABELS: usize = 400_000;
@@ -16,6 +16,32 @@ const HASTY_LABELS: usize = 300_000;
 /// A list takes so many times shorter where no near set grows.
 const SHORTER: u64 = 3;
 
+/// Where routes serve more customers in the mean, lists take longer: with twice as many four times
+/// as long.
+const PLAIN_ROUTE: u64 = 10;
+
+/// About so many milliseconds a short list of so many customers takes at the most, where routes are
+/// as long as those of a plan.
+pub(crate) fn list_milliseconds(customers: usize, held: &Improved) -> u64 {
+    let routes = match held {
+        Improved::Plan(plan) => plan.routes.len(),
+        Improved::Alone(_) => customers,
+    };
+    let length = (customers as u64) / (routes as u64).max(1);
+    let length = length.max(PLAIN_ROUTE);
+    let plain = plain_milliseconds(customers);
+    plain.saturating_mul(length).saturating_mul(length) / (PLAIN_ROUTE * PLAIN_ROUTE)
+}
+
+/// The same where routes are short.
+fn plain_milliseconds(customers: usize) -> u64 {
+    let customers = customers as u64;
+    customers
+        .saturating_mul(customers)
+        .saturating_mul(customers)
+        / 400
+}
+
 /// How a search for a bound is cut to its time.
 #[derive(Clone, Copy, Debug, PartialEq, Eq)]
 pub(crate) enum Pace {
@@ -28,9 +54,8 @@ pub(crate) enum Pace {
 }
 
 impl Pace {
-    /// That for so many customers, by the time that is left.
-    pub(crate) fn of<C: BranchClock>(customers: usize, clock: &mut C) -> Pace {
-        let list = list_milliseconds(customers);
+    /// That where a list takes so many milliseconds, by the time that is left.
+    pub(crate) fn of<C: BranchClock>(list: u64, clock: &mut C) -> Pace {
         if clock.is_up_in(list / SHORTER / 2) {
             Pace::Haste
         } else if clock.is_up_in(list.saturating_mul(3)) {
@@ -40,9 +65,8 @@ impl Pace {
         }
     }
 
-    /// So many milliseconds are kept back for a list of so many customers.
-    pub(crate) fn kept_back(self, customers: usize) -> u64 {
-        let list = list_milliseconds(customers);
+    /// So many milliseconds are kept back, where a list takes `list` if there is time for it.
+    pub(crate) fn kept_back(self, list: u64) -> u64 {
         match self {
             Pace::Whole => list,
             Pace::Short => list / SHORTER,
@@ -91,5 +115,5 @@ impl Pace {
 /// So many milliseconds a search for a bound for so many customers takes at the least, so that it
 /// is cut little.
 pub(crate) fn bound_milliseconds(customers: usize) -> u64 {
-    list_milliseconds(customers).saturating_mul(4)
+    plain_milliseconds(customers).saturating_mul(4)
 }

@@ -5,6 +5,7 @@ use crate::trips::fastest_plan;
 use instance_reader::Instance;
 use near_completion::{Follow, Ground, NearTerms};
 use near_lists::ListPlan;
+use near_search::NoClock;
 use near_tree::LeafSection;
 use std::alloc::{AllocError, Global};
 
@@ -29,7 +30,7 @@ pub(crate) fn section_of_nobody(
             most_labels: MOST_LABELS,
             ..ListPlan::careful()
         };
-        if let Some(section) = closed(alloc, inst, ground, &terms, &plan)? {
+        if let Some(section) = closed(alloc, inst, ground, &terms, &plan, &mut NoClock)? {
             return Ok(Some(section));
         }
         terms.set_price(customer, 0);
