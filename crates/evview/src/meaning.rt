@@ -9,7 +9,7 @@ use plain_words::{
 };
 use std::alloc::{AllocError, Global};
 use std::rt::Files;
-use view_words::Job;
+use view_words::{Job, ViewWords};
 
 /// What people are told behind a job that put a text: which word is wrong, or what its cause means.
 /// `words` stand behind the program's name, and `job` is the one that they name.
@@ -23,6 +23,9 @@ pub(crate) fn told_behind<R: Files>(
     let Some(job) = job else {
         let wrong = wrong_word(alloc, "evview", COMMANDS, words)?;
         return wrong_or_clock(alloc, wrong, words);
+    };
+    let Job::View(job) = job else {
+        return Ok(None);
     };
     let names = names_of(job);
     let sentence = match cause {
@@ -130,14 +133,14 @@ pub(crate) fn told_left(
     failed: Failed<'_>,
 ) -> Result<Option<String>, AllocError> {
     match (job, failed) {
-        (Some(_), Failed::Output) if cause.is_some() => Ok(None),
-        (Some(job), _) => left_in(alloc, &written_by(job), failed),
-        (None, _) => Ok(None),
+        (Some(Job::View(_)), Failed::Output) if cause.is_some() => Ok(None),
+        (Some(Job::View(job)), _) => left_in(alloc, &written_by(job), failed),
+        _ => Ok(None),
     }
 }
 
 /// The files that a job writes, in order.
-fn written_by(job: &Job) -> [Option<&str>; 4] {
+fn written_by(job: &ViewWords) -> [Option<&str>; 4] {
     [
         job.svg.as_ref().map(|name| name.as_str()),
         job.json.as_ref().map(|name| name.as_str()),
@@ -147,7 +150,7 @@ fn written_by(job: &Job) -> [Option<&str>; 4] {
 }
 
 /// What a job reads.
-fn names_of(job: &Job) -> JobNames<'_> {
+fn names_of(job: &ViewWords) -> JobNames<'_> {
     JobNames {
         instances: Instances::One(job.file.as_str()),
         limit: job.limit,

@@ -5,3 +5,4 @@ pub mod ViewFinds
 pub mod ViewLaw
 pub mod Shown
 pub mod Parts
+pub mod Performed

@@ -3,15 +3,15 @@
 ghost use Rattle.std.specs.Prelude.{◌≡◌, Some, option_map, string_bytes};
 ghost use Rattle.evview_run.specs.ViewAnswer.{IsOut};
 ghost use Rattle.job_frame.specs.Asks.{Asks};
-ghost use Rattle.view_words.specs.JobValue.{job_value};
+ghost use Rattle.view_words.specs.JobValue.{view_value};
 
 use ev_outside::{Shelf, ShelfFault};
 use job_frame::ask_file;
-use view_words::Job;
+use view_words::ViewWords;
 
 /// Asks of each file that is asked for whether it can be written, until one can't be.
-pub fn ask_files<S: Shelf>(job: &Job, shelf: &mut S) -> Result<(), ShelfFault>
-    ensures { Asks (IsOut (job_value job.now)) (S.state shelf.old) (S.state shelf.new) result }
+pub fn ask_files<S: Shelf>(job: &ViewWords, shelf: &mut S) -> Result<(), ShelfFault>
+    ensures { Asks (IsOut (view_value job.now)) (S.state shelf.old) (S.state shelf.new) result }
 {
     ask_named(&job.svg, shelf)?;
     ask_named(&job.json, shelf)?;

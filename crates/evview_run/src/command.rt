@@ -2,8 +2,7 @@
 
 ghost use Rattle.std.specs.Prelude.{◌≡◌, ◌≢◌, ◌⊎◌, [], false, IfSome, IsNone};
 ghost use Rattle.ev_outside.specs.Shelf.{CountsNeverFall};
-ghost use Rattle.evview_run.specs.Run.{TellsUsage, job_named};
-ghost use Rattle.evview_run.specs.ViewAnswer.{view_task};
+ghost use Rattle.evview_run.specs.Run.{TellsUsage, job_named, task_of};
 ghost use Rattle.job_frame.specs.Performs.{NothingFailed, Performs, PutsHeard, SparesFiles};
 ghost use Rattle.job_frame.specs.Task.{IsAnswered};
 ghost use Rattle.view_words.specs.JobValue.{IsJob, job_value};
@@ -13,8 +12,9 @@ use crate::view::view;
 use ev_outside::{Shelf, Sink};
 use job_ending::{LastCause, Program, finish};
 use job_frame::{CauseListener, Status};
+use job_telling::tell;
 use std::alloc::{AllocError, Global};
-use view_words::{Job, job_words, usage};
+use view_words::{Job, PROGRAM, job_words, usage};
 
 /// The program: its words after its name, the files and the output.
 ///
@@ -31,6 +31,9 @@ use view_words::{Job, job_words, usage};
 /// no customer stands twice, with `--fixed` that it can be driven and takes the time that PLAN
 /// tells.
 ///
+/// `--help` alone puts the usage text, and `--version` alone the name and the version
+/// ([`Status::Done`]).
+///
 /// The line of the first broken rule of the files and words is put ([`Status::Refused`]): of the
 /// instance, of the limit, of the level at the start, of the text of the plan, of the file of
 /// places, or that the plan has no such route. Other words put the usage text ([`Status::Words`]).
@@ -43,7 +46,7 @@ pub fn run<S: Shelf, K: Sink>(alloc: Global, words: &[String], shelf: &mut S, ou
         → TellsUsage (S.state shelf.old) (S.state shelf.new)
         (K.state out.old) (K.state out.new) result }
     ensures job { IfSome (job_named words.now) (λ job.
-        Performs (view_task job) (S.state shelf.old) (S.state shelf.new)
+        Performs (task_of job) (S.state shelf.old) (S.state shelf.new)
         (K.state out.old) (K.state out.new) result) }
     ensures stays { result ≢ Status.Fault
         → NothingFailed (S.state shelf.old) (S.state shelf.new)
@@ -56,7 +59,7 @@ pub fn run<S: Shelf, K: Sink>(alloc: Global, words: &[String], shelf: &mut S, ou
     ensures memory { K.takes_memory ≡ false → result ≡ Status.Memory
         → K.state out.new ≡ K.state out.old }
     ensures spares { IfSome (job_named words.now) (λ job.
-        SparesFiles (view_task job) S.writes_take_memory K.takes_memory
+        SparesFiles (task_of job) S.writes_take_memory K.takes_memory
         (S.state shelf.old).files (S.state shelf.new).files result) }
     ensures no_words { K.takes_memory ≡ false → words.now ≡ []
         → (result ≡ Status.Words) ⊎ (result ≡ Status.Fault) }
@@ -79,17 +82,16 @@ pub struct Evview<L: CauseListener<Cause> + Drop> {
 }
 
 impl<L: CauseListener<Cause> + Drop> Program for Evview<L> {
-    ghost use Rattle.evview_run.specs.Run.{job_named};
-    ghost use Rattle.evview_run.specs.ViewAnswer.{view_task};
+    ghost use Rattle.evview_run.specs.Run.{job_named, task_of};
     ghost use Rattle.view_words.specs.JobValue.{IsJob, job_value};
     ghost use Rattle.view_words.specs.Usage.{usage_text};
-    ghost use Rattle.view_words.specs.Words.{ViewPlan};
+    ghost use Rattle.view_words.specs.Words as words;
 
     type Job = Job;
 
     type Cause = Cause;
 
-    ghost Named = { ViewPlan };
+    ghost Named = { words.Job };
 
     ghost usage_text = { usage_text };
 
@@ -99,7 +101,7 @@ impl<L: CauseListener<Cause> + Drop> Program for Evview<L> {
 
     ghost IsJob = { IsJob };
 
-    ghost task_of = { view_task };
+    ghost task_of = { task_of };
 
     ghost heard = { λ program. L.heard program.listener };
 
@@ -126,7 +128,7 @@ impl<L: CauseListener<Cause> + Drop> Program for Evview<L> {
     }
 }
 
-/// The job. What it finds is written and put.
+/// A job. What it finds is written and put.
 fn perform<S: Shelf, K: Sink, L: CauseListener<Cause>>(
     alloc: Global,
     job: &Job,
@@ -136,10 +138,10 @@ fn perform<S: Shelf, K: Sink, L: CauseListener<Cause>>(
 ) -> Status
     requires { IsJob job.now }
     ensures words { result ≢ Status.Words }
-    ensures job { Performs (view_task (job_value job.now)) (S.state shelf.old) (S.state shelf.new)
+    ensures job { Performs (task_of (job_value job.now)) (S.state shelf.old) (S.state shelf.new)
         (K.state out.old) (K.state out.new) result }
     ensures heard { IsAnswered result
-        → PutsHeard (view_task (job_value job.now)) (S.state shelf.old).files
+        → PutsHeard (task_of (job_value job.now)) (S.state shelf.old).files
         (S.state shelf.new).files (K.state out.old).written (K.state out.new).written
         result (L.heard listener.new) }
     ensures stays { result ≢ Status.Fault
@@ -148,8 +150,11 @@ fn perform<S: Shelf, K: Sink, L: CauseListener<Cause>>(
     ensures falls { CountsNeverFall (S.state shelf.old) (S.state shelf.new) }
     ensures memory { K.takes_memory ≡ false → result ≡ Status.Memory
         → K.state out.new ≡ K.state out.old }
-    ensures spares { SparesFiles (view_task (job_value job.now)) S.writes_take_memory K.takes_memory
+    ensures spares { SparesFiles (task_of (job_value job.now)) S.writes_take_memory K.takes_memory
         (S.state shelf.old).files (S.state shelf.new).files result }
 {
-    finish(view(alloc, job, shelf), shelf, out, listener)
+    match job {
+        Job::View(job) => finish(view(alloc, job, shelf), shelf, out, listener),
+        Job::Tell(told) => finish(tell(alloc, *told, PROGRAM, usage()), shelf, out, listener),
+    }
 }

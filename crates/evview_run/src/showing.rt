@@ -16,7 +16,7 @@ ghost use Rattle.schedule_texts.specs.Pictures.{picture_text};
 ghost use Rattle.schedule_texts.specs.Spreadsheets.{csv_text};
 ghost use Rattle.schedule_texts.specs.Tables.{table_text};
 ghost use Rattle.view_words.specs.Clocks.{IsDayClock};
-ghost use Rattle.view_words.specs.JobValue.{job_value};
+ghost use Rattle.view_words.specs.JobValue.{view_value};
 
 use crate::cause::Cause;
 use crate::held::HeldPlans;
@@ -28,20 +28,20 @@ use schedule_texts::{
     Clock, schedule_csv, schedule_json, schedule_map, schedule_picture, schedule_table,
 };
 use std::alloc::{AllocError, Global};
-use view_words::{DayClock, Job};
+use view_words::{DayClock, ViewWords};
 
 /// What is found for a schedule, or for none: its tables, and the files that are asked for.
 pub(crate) fn show(
     alloc: Global,
     shown: Option<&Schedule>,
     places: &[Place],
-    job: &Job,
+    job: &ViewWords,
 ) -> Result<Found<Cause>, AllocError>
     requires timed { AreTimed (option_map (λ s. s.now) shown) }
     requires clock { IfSome job.now.clock IsDayClock }
     ensures status { IfOk result (λ f. f.answer.status ≡ Status.Done) }
     ensures files { IfOk result (λ f. map written_by f.files.items
-        ≡ files_of (job_value job.now) places.now (option_map (λ s. s.now) shown.entry)) }
+        ≡ files_of (view_value job.now) places.now (option_map (λ s. s.now) shown.entry)) }
     ensures text { IfOk result (λ f. f.answer.text.items
         ≡ table_text job.now.exact (clock_of job.now.clock) places.now
         (option_map (λ s. s.now) shown.entry)) }

@@ -7,7 +7,7 @@ ghost use Rattle.evview_run.specs.Held.{FitsHeld, HasHeld, HasStart, start_of};
 ghost use Rattle.job_frame.specs.Finds.{Finds, written_by};
 ghost use Rattle.job_frame.specs.Task.{AreReadUpTo};
 ghost use Rattle.job_frame.specs.Caps.{most_bytes};
-ghost use Rattle.view_words.specs.JobValue.{IsJob, job_value};
+ghost use Rattle.view_words.specs.JobValue.{IsViewJob, view_value};
 
 use crate::asking::ask_files;
 use crate::cause::Cause;
@@ -23,13 +23,18 @@ use plan_check::LargeFault;
 use report_lines::{push_number_line, push_numbered, push_time, push_word};
 use route_plan::FleetPlan;
 use std::alloc::{AllocError, Global};
-use view_words::Job;
+use view_words::ViewWords;
 
 /// What is found for the words: it is asked whether the files can be written, and the instance is
 /// read, then the plan, and the places where they are given; and then the plan is judged and shown.
-pub fn view<S: Shelf>(alloc: Global, job: &Job, shelf: &mut S) -> Result<Found<Cause>, ShelfFault>
-    requires { IsJob job.now }
-    ensures { Finds (view_task (job_value job.now)) (S.state shelf.old) (S.state shelf.new) result }
+pub fn view<S: Shelf>(
+    alloc: Global,
+    job: &ViewWords,
+    shelf: &mut S,
+) -> Result<Found<Cause>, ShelfFault>
+    requires { IsViewJob job.now }
+    ensures { Finds (view_task (view_value job.now))
+        (S.state shelf.old) (S.state shelf.new) result }
 {
     match ask_files(job, shelf) {
         Ok(()) => view_asked(alloc, job, shelf),
@@ -38,9 +43,14 @@ pub fn view<S: Shelf>(alloc: Global, job: &Job, shelf: &mut S) -> Result<Found<C
 }
 
 /// What is found behind the question whether the files can be written.
-fn view_asked<S: Shelf>(alloc: Global, job: &Job, shelf: &mut S) -> Result<Found<Cause>, ShelfFault>
-    requires { IsJob job.now }
-    ensures { Finds (view_task (job_value job.now)) (S.state shelf.old) (S.state shelf.new) result }
+fn view_asked<S: Shelf>(
+    alloc: Global,
+    job: &ViewWords,
+    shelf: &mut S,
+) -> Result<Found<Cause>, ShelfFault>
+    requires { IsViewJob job.now }
+    ensures { Finds (view_task (view_value job.now))
+        (S.state shelf.old) (S.state shelf.new) result }
 {
     let bytes = match read_file(alloc, job.file.as_str(), MOST_BYTES, shelf) {
         Ok(bytes) => bytes,
@@ -59,16 +69,16 @@ fn view_on<S: Shelf>(
     alloc: Global,
     inst: &Instance,
     start: u64,
-    job: &Job,
+    job: &ViewWords,
     shelf: &mut S,
 ) -> Result<Found<Cause>, ShelfFault>
-    requires job { IsJob job.now }
+    requires job { IsViewJob job.now }
     requires start { start ≡ start_of inst.now job.now.form }
     requires within { start ≤ inst.now.capacity }
     ensures { (bytes : List ℕ)
-        → AreReadUpTo most_bytes (S.state shelf.old).files (job_value job.now).file bytes
-        → HasStart (job_value job.now) bytes inst.now
-        → Finds (view_task (job_value job.now)) (S.state shelf.old) (S.state shelf.new) result }
+        → AreReadUpTo most_bytes (S.state shelf.old).files (view_value job.now).file bytes
+        → HasStart (view_value job.now) bytes inst.now
+        → Finds (view_task (view_value job.now)) (S.state shelf.old) (S.state shelf.new) result }
 {
     let bytes = match read_file(alloc, job.plan.as_str(), MOST_BYTES, shelf) {
         Ok(bytes) => bytes,
@@ -90,17 +100,17 @@ fn view_named<S: Shelf>(
     inst: &Instance,
     held: &HeldPlans,
     name: &str,
-    job: &Job,
+    job: &ViewWords,
     shelf: &mut S,
 ) -> Result<Found<Cause>, ShelfFault>
-    requires job { IsJob job.now }
+    requires job { IsViewJob job.now }
     requires held { FitsHeld inst.now job.now.form held.now }
     ensures { (bytes plan_bytes : List ℕ)
-        → AreReadUpTo most_bytes (S.state shelf.old).files (job_value job.now).file bytes
-        → AreReadUpTo most_bytes (S.state shelf.old).files (job_value job.now).plan plan_bytes
-        → HasHeld (job_value job.now) bytes plan_bytes inst.now held.now
-        → (job_value job.now).places ≡ Some name.now
-        → Finds (view_task (job_value job.now)) (S.state shelf.old) (S.state shelf.new) result }
+        → AreReadUpTo most_bytes (S.state shelf.old).files (view_value job.now).file bytes
+        → AreReadUpTo most_bytes (S.state shelf.old).files (view_value job.now).plan plan_bytes
+        → HasHeld (view_value job.now) bytes plan_bytes inst.now held.now
+        → (view_value job.now).places ≡ Some name.now
+        → Finds (view_task (view_value job.now)) (S.state shelf.old) (S.state shelf.new) result }
 {
     let bytes = match read_file(alloc, name, MOST_BYTES, shelf) {
         Ok(bytes) => bytes,
@@ -115,13 +125,13 @@ fn view_text(
     inst: &Instance,
     held: &HeldPlans,
     bytes: Option<&[u8]>,
-    job: &Job,
+    job: &ViewWords,
 ) -> Result<Found<Cause>, ShelfFault>
-    requires job { IsJob job.now }
+    requires job { IsViewJob job.now }
     requires held { FitsHeld inst.now job.now.form held.now }
     ensures answers { (file plan_bytes : List ℕ)
-        → HasHeld (job_value job.now) file plan_bytes inst.now held.now
-        → IfOk result (λ f. ViewAnswers (job_value job.now) file plan_bytes
+        → HasHeld (view_value job.now) file plan_bytes inst.now held.now
+        → IfOk result (λ f. ViewAnswers (view_value job.now) file plan_bytes
         (listed (option_map (λ b. b.now) bytes.entry))
         f.answer.status (map written_by f.files.items) f.answer.text.items) }
     ensures heard { IfOk result
@@ -214,14 +224,14 @@ fn view_plan(
     inst: &Instance,
     held: &HeldPlans,
     places: &[Place],
-    job: &Job,
+    job: &ViewWords,
 ) -> Result<Found<Cause>, AllocError>
-    requires job { IsJob job.now }
+    requires job { IsViewJob job.now }
     requires held { FitsHeld inst.now job.now.form held.now }
     ensures answers { (file plan_bytes : List ℕ) (more : List (List ℕ))
-        → HasHeld (job_value job.now) file plan_bytes inst.now held.now
-        → HasPlaces (needs_points (job_value job.now)) inst.now more places.now
-        → IfOk result (λ f. ViewAnswers (job_value job.now) file plan_bytes more
+        → HasHeld (view_value job.now) file plan_bytes inst.now held.now
+        → HasPlaces (needs_points (view_value job.now)) inst.now more places.now
+        → IfOk result (λ f. ViewAnswers (view_value job.now) file plan_bytes more
         f.answer.status (map written_by f.files.items) f.answer.text.items) }
     ensures heard { IfOk result
         (λ f. view_heard f.answer.status f.answer.text.items f.answer.cause) }
@@ -282,15 +292,15 @@ fn view_judged(
     inst: &Instance,
     held: &HeldPlans,
     places: &[Place],
-    job: &Job,
+    job: &ViewWords,
 ) -> Result<Found<Cause>, AllocError>
-    requires job { IsJob job.now }
+    requires job { IsViewJob job.now }
     requires held { FitsHeld inst.now job.now.form held.now }
     requires route { HasRoute job.now.route held.now.plan }
     ensures answers { (file plan_bytes : List ℕ) (more : List (List ℕ))
-        → HasHeld (job_value job.now) file plan_bytes inst.now held.now
-        → HasPlaces (needs_points (job_value job.now)) inst.now more places.now
-        → IfOk result (λ f. ViewAnswers (job_value job.now) file plan_bytes more
+        → HasHeld (view_value job.now) file plan_bytes inst.now held.now
+        → HasPlaces (needs_points (view_value job.now)) inst.now more places.now
+        → IfOk result (λ f. ViewAnswers (view_value job.now) file plan_bytes more
         f.answer.status (map written_by f.files.items) f.answer.text.items) }
     ensures heard { IfOk result
         (λ f. view_heard f.answer.status f.answer.text.items f.answer.cause) }
@@ -309,16 +319,16 @@ fn view_shown(
     inst: &Instance,
     held: &HeldPlans,
     places: &[Place],
-    job: &Job,
+    job: &ViewWords,
 ) -> Result<Found<Cause>, AllocError>
-    requires job { IsJob job.now }
+    requires job { IsViewJob job.now }
     requires held { FitsHeld inst.now job.now.form held.now }
     requires route { HasRoute job.now.route held.now.plan }
     requires showable { (cost : Option ℕ) × IsShowable job.now.form inst.now held.now cost }
     ensures answers { (file plan_bytes : List ℕ) (more : List (List ℕ))
-        → HasHeld (job_value job.now) file plan_bytes inst.now held.now
-        → HasPlaces (needs_points (job_value job.now)) inst.now more places.now
-        → IfOk result (λ f. ViewAnswers (job_value job.now) file plan_bytes more
+        → HasHeld (view_value job.now) file plan_bytes inst.now held.now
+        → HasPlaces (needs_points (view_value job.now)) inst.now more places.now
+        → IfOk result (λ f. ViewAnswers (view_value job.now) file plan_bytes more
         f.answer.status (map written_by f.files.items) f.answer.text.items) }
     ensures heard { IfOk result
         (λ f. view_heard f.answer.status f.answer.text.items f.answer.cause) }

@@ -1,8 +1,9 @@
 //! The words of the program.
 
-use crate::files::words_of;
+use crate::files::{run_with, shelf_with, words_of};
+use evview_run::Status;
 use std::alloc::Global;
-use view_words::{Job, PlanForm, job_words, usage};
+use view_words::{Job, PlanForm, ViewWords, job_words, usage};
 
 /// The name of a file, or a dash where there is none.
 fn name_or_dash(name: &Option<String>) -> &str {
@@ -27,7 +28,7 @@ fn told_form(alloc: Global, form: PlanForm) -> Option<String> {
 /// The job in short: its limit and its route, or 0 where there is none, which form the plan has,
 /// whether times are shown as they are scaled, the file with the names of places, and the files
 /// that are written.
-fn told(alloc: Global, job: &Job) -> Option<String> {
+fn told(alloc: Global, job: &ViewWords) -> Option<String> {
     let limit = job.limit.unwrap_or(0);
     let route = job.route.unwrap_or(0);
     let form = told_form(alloc, job.form)?;
@@ -50,7 +51,10 @@ fn told(alloc: Global, job: &Job) -> Option<String> {
 fn named(alloc: Global, line: &str) -> Option<String> {
     let words = words_of(alloc, line).ok()?;
     let job = job_words(alloc, words.as_slice()).ok()??;
-    told(alloc, &job)
+    match &job {
+        Job::View(job) => told(alloc, job),
+        Job::Tell(told) => format!(in alloc; "{told:?}").ok(),
+    }
 }
 
 #[test]
@@ -125,11 +129,30 @@ fn words_name_a_job_or_none(rt: HostRuntime) {
         ("A P --begin 07:30 --unit min/0", ""),
         ("A P --begin 07:30 --unit h/1000000001", ""),
         ("A P --seconds 1", ""),
-        ("--help", ""),
+        ("--help", "Help"),
+        ("--version", "Version"),
+        ("--help --help", ""),
+        ("A P --version", ""),
+        ("-- --help", ""),
+        ("--version=", ""),
     ] {
         let named = named(alloc, line);
         let told = named.as_ref().map(|text| text.as_str()).unwrap_or("");
         assert_eq!(rt; told, want, "{line}");
     }
     assert!(rt; usage().starts_with("evview FILE PLAN "));
+}
+
+#[test]
+fn usage_and_version_are_told(rt: HostRuntime) {
+    let alloc = rt.alloc();
+    // No call of the shelf is made: the first one would fail.
+    let mut shelf = shelf_with(alloc, "", "", &[0]).expect(&rt, "memory");
+    for &(line, put) in &[("--help", usage()), ("--version", "evview 0.1.0\n")] {
+        let ended = run_with(alloc, line, &mut shelf, &[]).expect(&rt, "memory");
+        assert_eq!(rt; ended.0, Status::Done, "{line}");
+        assert_eq!(rt; ended.1.as_slice(), put.as_bytes(), "{line}");
+    }
+    let ended = run_with(alloc, "--version", &mut shelf, &[0]).expect(&rt, "memory");
+    assert_eq!(rt; ended.0, Status::Fault);
 }

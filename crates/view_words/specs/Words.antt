@@ -1,11 +1,13 @@
 -- The job that the words of `evview` name: a function of what the command finds in them.
-use Rattle.std.specs.Prelude.{◌&&◌, ◌||◌, ℕ, Bool, false, is_none, is_some, List, [], ◌∷◌, Option, None, Some, codes, option_and_then, if◌then◌else◌}
+use Rattle.std.specs.Prelude.{◌&&◌, ◌||◌, ℕ, Bool, false, is_none, is_some, List, [], ◌∷◌, Option, None, Some, codes, option_and_then, option_map, if◌then◌else◌}
 use Rattle.std.specs.Option.{option_map_or}
 use Rattle.std.specs.Str.{bytes_eq}
 use Rattle.clap.specs.Words.{Row, Text, fault_of, first_of, matches_of}
 use Rattle.call_words.specs.Matches.{job_unless, limit_in}
 use Rattle.call_words.specs.Names.{are_different}
 use Rattle.call_words.specs.Numbers.{most_value, optional_number}
+use Rattle.job_telling.specs.Words.{told_by, told_or}
+use Rattle.job_telling.specs.declared.words.Told.{Told}
 use Rattle.view_words.specs.Clocks.{clock_of}
 use Rattle.view_words.specs.Command.{evview}
 use Rattle.view_words.specs.Forms.{form_of}
@@ -30,6 +32,11 @@ pub record ViewPlan : Type 0 where
   pub json : Option Text
   pub csv : Option Text
   pub map : Option Text
+
+-- of showing a plan, or of telling people of the program alone
+pub data Job : Type 0 where
+  Viewing : ViewPlan → Job
+  Telling : Told → Job
 
 -- the number of the route that is shown, where it is given; none where its value is no number of
 -- one
@@ -142,7 +149,12 @@ job_in rows =
 abbrev pub named : List Text → List Text
 named words = codes "evview" ∷ words
 
--- the job of the words, if they name one
-abbrev pub job_of : List Text → Option ViewPlan
-job_of words =
+-- the job of what the command finds in the words, if they name one
+abbrev pub command_job : List Text → Option ViewPlan
+command_job words =
     job_unless (fault_of evview (named words)) (job_in (matches_of evview (named words)))
+
+-- the job of the words, if they name one: they ask of the program alone, or for a plan to be shown
+abbrev pub job_of : List Text → Option Job
+job_of words =
+    told_or (λ told. Telling told) (told_by words) (option_map (λ job. Viewing job) (command_job words))

@@ -11,7 +11,7 @@ use clap::{Arg, ArgAction, ArgMatches, Command};
 use std::alloc::{AllocError, Global};
 
 /// The name of the program.
-pub(crate) const PROGRAM: &str = "evview";
+pub const PROGRAM: &str = "evview";
 
 /// The command and one more positional, which has to stand.
 fn with_word<'a>(

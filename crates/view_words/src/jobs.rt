@@ -3,11 +3,11 @@
 ghost use Rattle.std.specs.Prelude.{◌≡◌, IfOk, IfSome, option_map, string_bytes};
 ghost use Rattle.call_words.specs.Matches.{rows_in};
 ghost use Rattle.call_words.specs.Names.{are_different, is_listed};
-ghost use Rattle.view_words.specs.JobValue.{AnswersJob, IsJob, names_in};
+ghost use Rattle.view_words.specs.JobValue.{AnswersJob, IsViewJob, names_in};
 ghost use Rattle.view_words.specs.Clocks.{IsDayClock};
 ghost use Rattle.view_words.specs.Words.{charge_in, clock_in, flag_in, form_in, given_names, has_places, job_in, route_in, view_of};
 
-use crate::Job;
+use crate::ViewWords;
 use crate::clock::{DayClock, clock_of};
 use crate::form::{PlanForm, form_of};
 use call_words::{GREATEST_VALUE, first_of, limit_in, optional_number};
@@ -63,9 +63,9 @@ fn clock_in(matches: &ArgMatches<'_>) -> Option<Option<DayClock>>
 }
 
 /// The job of what the command finds.
-pub(crate) fn job_in(alloc: Global, matches: &ArgMatches<'_>) -> Result<Option<Job>, AllocError>
+pub(crate) fn job_in(alloc: Global, matches: &ArgMatches<'_>) -> Result<Option<ViewWords>, AllocError>
     ensures job { AnswersJob result (job_in (rows_in matches.now)) }
-    ensures is { IfOk result (λ job. IfSome job IsJob) }
+    ensures is { IfOk result (λ job. IfSome job IsViewJob) }
 {
     let (Some(file), Some(plan)) = (first_of(matches, "file"), first_of(matches, "plan")) else {
         return Ok(None);
@@ -79,9 +79,9 @@ fn view_job(
     file: &str,
     plan: &str,
     matches: &ArgMatches<'_>,
-) -> Result<Option<Job>, AllocError>
+) -> Result<Option<ViewWords>, AllocError>
     ensures job { AnswersJob result (view_of file.now plan.now (rows_in matches.now)) }
-    ensures is { IfOk result (λ job. IfSome job IsJob) }
+    ensures is { IfOk result (λ job. IfSome job IsViewJob) }
 {
     let (svg, json) = (first_of(matches, "svg"), first_of(matches, "json"));
     let (csv, places) = (first_of(matches, "csv"), first_of(matches, "places"));
@@ -98,7 +98,7 @@ fn view_job(
     let (Some(form), Some(clock)) = (form_in(matches), clock_in(matches)) else {
         return Ok(None);
     };
-    Ok(Some(Job {
+    Ok(Some(ViewWords {
         file: String::from_str(alloc, file)?,
         plan: String::from_str(alloc, plan)?,
         limit,

@@ -1,16 +1,23 @@
-use Rattle.evview_run.proofs.ViewLaw.{view_lawful}
-use Rattle.evview_run.specs.ViewAnswer.{view_task}
-use Rattle.job_ending.proofs.Finished.{hears_finished, performs_finished, spares_finished}
+use Rattle.evview_run.proofs.Performed.{finished, finished_heard}
+use Rattle.evview_run.specs.Run.{task_of}
+use Rattle.job_ending.proofs.Finished.{spares_finished}
 use Rattle.view_words.specs.JobValue.{job_value}
 use Rattle.evview_run.proofs.command.perform.Goals as goal
 
-pub returns-clause-job : goal.returns-clause-job
-returns-clause-job g c =
-    let job = job_value c.args.job.now in
-    performs_finished (view_task job) (view_lawful job) c.view.result c.view.ensures c.finish.ensures.words c.finish.ensures.finishes
+pub returns-in-View-clause-job : goal.returns-in-View-clause-job
+returns-in-View-clause-job g c = finished _ _ c.finish.ensures.words c.finish.ensures.finishes c.in-View.is c.view.ensures
 
-pub returns-clause-spares : goal.returns-clause-spares
-returns-clause-spares g c = spares_finished (view_task (job_value c.args.job.now)) c.view.ensures c.finish.ensures.spares
+pub returns-in-Tell-clause-job : goal.returns-in-Tell-clause-job
+returns-in-Tell-clause-job g c = finished _ _ c.finish-in-Tell.ensures.words c.finish-in-Tell.ensures.finishes c.in-Tell.is (c.tell.ensures _)
 
-pub returns-clause-heard : goal.returns-clause-heard
-returns-clause-heard g c = hears_finished (view_task (job_value c.args.job.now)) c.view.result c.view.ensures c.finish.ensures.finishes c.finish.ensures.heard
+pub returns-in-View-clause-heard : goal.returns-in-View-clause-heard
+returns-in-View-clause-heard g c = finished_heard _ _ c.finish.ensures.finishes c.finish.ensures.heard c.in-View.is c.view.ensures
+
+pub returns-in-Tell-clause-heard : goal.returns-in-Tell-clause-heard
+returns-in-Tell-clause-heard g c = finished_heard _ _ c.finish-in-Tell.ensures.finishes c.finish-in-Tell.ensures.heard c.in-Tell.is (c.tell.ensures _)
+
+pub returns-in-View-clause-spares : goal.returns-in-View-clause-spares
+returns-in-View-clause-spares g c = spares_finished (task_of (job_value c.args.job.now)) c.view.ensures c.finish.ensures.spares
+
+pub returns-in-Tell-clause-spares : goal.returns-in-Tell-clause-spares
+returns-in-Tell-clause-spares g c = spares_finished (task_of (job_value c.args.job.now)) (c.tell.ensures _) c.finish-in-Tell.ensures.spares

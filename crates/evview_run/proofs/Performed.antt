@@ -1,0 +1,44 @@
+-- The job that the words name is performed.
+use Rattle.std.proofs.Common.{◌≡◌, ◌≢◌, ℕ, IfOk, IfSome, List, Option, Result, Some, codes, subst, sym}
+use Rattle.ev_outside.specs.Shelf.{Files, ShelfState}
+use Rattle.ev_outside.specs.Sink.{SinkState}
+use Rattle.ev_outside.specs.declared.shelf.ShelfFault.{ShelfFault}
+use Rattle.evview_run.proofs.ViewLaw.{view_lawful}
+use Rattle.evview_run.specs.Run.{task_of}
+use Rattle.evview_run.specs.declared.cause.Cause.{Cause}
+use Rattle.job_ending.proofs.Finished.{hears_finished, performs_finished}
+use Rattle.job_ending.specs.Finishing.{Finishes}
+use Rattle.job_frame.specs.Finds.{Finds}
+use Rattle.job_frame.specs.Lawful.{IsLawful}
+use Rattle.job_frame.specs.Performs.{Performs, PutsHeard}
+use Rattle.job_frame.specs.Task.{IsAnswered}
+use Rattle.job_frame.specs.declared.found.Found.{Found}
+use Rattle.job_frame.specs.declared.status.Status.{Status}
+use Rattle.job_frame.specs.declared.status.Status.TheVariants as status
+use Rattle.job_telling.proofs.Lawful.{tell_lawful}
+use Rattle.view_words.specs.JobValue.{job_value}
+use Rattle.view_words.specs.Usage.{usage_text}
+use Rattle.view_words.specs.Words.{Job, Telling, Viewing}
+use Rattle.view_words.specs.declared.Job as values
+
+-- what each job proves of its task
+pub is_lawful : (job : Job) → IsLawful (task_of job)
+is_lawful (Viewing job) = view_lawful job
+is_lawful (Telling told) = tell_lawful (codes "evview") usage_text told
+
+-- ---- what is shown of a job's value holds of the job that has it
+
+-- what was found for the value of a job is written and put
+pub finished : {before between after : ShelfState} {old new : SinkState} {ended : Status} {found : Result (Found Cause) ShelfFault} (job of : values.Job) → ended ≢ status.Words
+    → Finishes found between after old new ended → job ≡ of → Finds (task_of (job_value of)) before between found → Performs (task_of (job_value job)) before after old new ended
+finished {before} {between} {after} {old} {new} {ended} {found} job of words finishes is finds =
+    subst (λ (j : values.Job). Performs (task_of (job_value j)) before after old new ended) (sym is)
+    (performs_finished (task_of (job_value of)) (is_lawful (job_value of)) found finds words finishes)
+
+-- and its cause is heard
+pub finished_heard : {before between after : ShelfState} {old new : SinkState} {ended : Status} {heard : Option Cause} {found : Result (Found Cause) ShelfFault} (job of : values.Job)
+    → Finishes found between after old new ended → IfOk found (λ f. IfSome f.answer.cause (λ cause. heard ≡ Some cause)) → job ≡ of → Finds (task_of (job_value of)) before between found
+    → IsAnswered ended → PutsHeard (task_of (job_value job)) before.files after.files old.written new.written ended heard
+finished_heard {before} {between} {after} {old} {new} {ended} {heard} {found} job of finishes told is finds =
+    subst (λ (j : values.Job). IsAnswered ended → PutsHeard (task_of (job_value j)) before.files after.files old.written new.written ended heard) (sym is)
+    (hears_finished (task_of (job_value of)) found finds finishes told)
