@@ -32,7 +32,9 @@ pub(crate) fn told_behind<R: Files>(
     let Some(job) = job else {
         return wrong_word(alloc, "evgap", COMMANDS, words);
     };
-    let names = names_of(job);
+    let Some(names) = names_of(job) else {
+        return Ok(None);
+    };
     match cause {
         Some(Cause::Refused(refusal)) => told_refusal(alloc, files, &names, refusal),
         Some(Cause::NoFleet) => told_reach(alloc, files, &names),
@@ -66,12 +68,12 @@ pub(crate) fn told_left(
     cause: Option<Cause>,
     failed: Failed<'_>,
 ) -> Result<Option<String>, AllocError> {
-    match (job, failed) {
-        (Some(job), Failed::Output) if is_behind_files(cause) => {
-            left_behind(alloc, &names_of(job), failed)
-        }
-        (_, Failed::Output) | (None, _) => Ok(None),
-        (Some(job), _) => left_behind(alloc, &names_of(job), failed),
+    let Some(names) = job.and_then(|job| names_of(job)) else {
+        return Ok(None);
+    };
+    match failed {
+        Failed::Output if !is_behind_files(cause) => Ok(None),
+        _ => left_behind(alloc, &names, failed),
     }
 }
 
@@ -107,10 +109,10 @@ fn rejected_proof(verdict: BoundVerdict) -> Option<Sentence> {
     }
 }
 
-/// What a job reads and writes.
-fn names_of(job: &Job) -> JobNames<'_> {
+/// What a job reads and writes; `None` where it is that people are told of the program alone.
+fn names_of(job: &Job) -> Option<JobNames<'_>> {
     match job {
-        Job::Plan(job) => JobNames {
+        Job::Plan(job) => Some(JobNames {
             instances: Instances::One(job.file.as_str()),
             limit: job.limit,
             route: None,
@@ -120,8 +122,8 @@ fn names_of(job: &Job) -> JobNames<'_> {
             writes: [Some(job.plan.as_str()), Some(job.proof.as_str())],
             has_search: true,
             judge: Some("evgap check"),
-        },
-        Job::Check(job) => JobNames {
+        }),
+        Job::Check(job) => Some(JobNames {
             instances: Instances::One(job.file.as_str()),
             limit: job.limit,
             route: None,
@@ -131,6 +133,7 @@ fn names_of(job: &Job) -> JobNames<'_> {
             writes: [None, None],
             has_search: false,
             judge: None,
-        },
+        }),
+        Job::Tell(_) => None,
     }
 }

@@ -1,5 +1,5 @@
 -- The job that the words name is performed.
-use Rattle.std.proofs.Common.{◌≡◌, ◌≢◌, ℕ, IfOk, IfSome, List, Option, Result, Some, subst, sym}
+use Rattle.std.proofs.Common.{◌≡◌, ◌≢◌, ℕ, IfOk, IfSome, List, Option, Result, Some, codes, subst, sym}
 use Rattle.ev_outside.specs.Shelf.{Files, ShelfState}
 use Rattle.ev_outside.specs.Sink.{SinkState}
 use Rattle.ev_outside.specs.declared.shelf.ShelfFault.{ShelfFault}
@@ -7,10 +7,12 @@ use Rattle.evgap_run.proofs.CheckLaw.{check_lawful}
 use Rattle.evgap_run.proofs.PlanLaw.{plan_lawful}
 use Rattle.evgap_run.specs.Run.{task_of}
 use Rattle.gap_words.specs.JobValue.{job_value}
-use Rattle.gap_words.specs.Words.{Checking, Job, Planning}
+use Rattle.gap_words.specs.Usage.{usage_text}
+use Rattle.gap_words.specs.Words.{Checking, Job, Planning, Telling}
 use Rattle.gap_words.specs.declared.Job as values
 use Rattle.job_ending.proofs.Finished.{hears_finished, performs_finished}
 use Rattle.job_ending.specs.Finishing.{Finishes}
+use Rattle.job_telling.proofs.Lawful.{tell_lawful}
 use Rattle.job_frame.specs.Lawful.{IsLawful}
 use Rattle.job_frame.specs.Finds.{Finds}
 use Rattle.job_frame.specs.Performs.{Performs, PutsHeard}
@@ -24,6 +26,7 @@ use Rattle.evgap_run.specs.declared.cause.Cause.{Cause}
 pub is_lawful : (job : Job) → IsLawful (task_of job)
 is_lawful (Planning job) = plan_lawful job
 is_lawful (Checking job) = check_lawful job
+is_lawful (Telling told) = tell_lawful (codes "evgap") usage_text told
 
 -- ---- what is shown of a job's value holds of the job that has it
 

@@ -13,9 +13,10 @@ use crate::clock::{JobClock, Never};
 use crate::plan::plan;
 use crate::watcher::{JobWatcher, Nobody};
 use ev_outside::{Shelf, Sink};
-use gap_words::{Job, job_words, usage};
+use gap_words::{Job, PROGRAM, job_words, usage};
 use job_ending::{Program, finish};
 use job_frame::Status;
+use job_telling::tell;
 use std::alloc::{AllocError, Global};
 
 /// The program: its words after its name, the files and the output.
@@ -32,10 +33,14 @@ use std::alloc::{AllocError, Global};
 /// ([`Status::Done`]), or the first rule that is broken, the plan's before the proof's
 /// ([`Status::Negative`]).
 ///
-/// Both put the line of the first broken rule of their files and words ([`Status::Refused`]). Other
-/// words put the usage text ([`Status::Words`]). After [`Status::Fault`] and [`Status::Memory`] a
-/// part of such a text may have been put. No file but PLAN and PROOF of `plan` is written, and only
-/// where no rule is broken. What it holds after a failed write isn't known.
+/// `--help` alone puts the usage text, and `--version` alone the name and the version
+/// ([`Status::Done`]).
+///
+/// `plan` and `check` put the line of the first broken rule of their files and words
+/// ([`Status::Refused`]). Other words put the usage text ([`Status::Words`]). After
+/// [`Status::Fault`] and [`Status::Memory`] a part of such a text may have been put. No file but
+/// PLAN and PROOF of `plan` is written, and only where no rule is broken. What it holds after a
+/// failed write isn't known.
 pub fn run<S: Shelf, K: Sink>(alloc: Global, words: &[String], shelf: &mut S, out: &mut K) -> Status
     ensures words { result ≡ Status.Words → IsNone (job_named words.now) }
     ensures usage { IsNone (job_named words.now)
@@ -161,5 +166,6 @@ where
     match job {
         Job::Plan(job) => finish(plan(alloc, job, shelf, clock, watcher), shelf, out, watcher),
         Job::Check(job) => finish(check(alloc, job, shelf), shelf, out, watcher),
+        Job::Tell(told) => finish(tell(alloc, *told, PROGRAM, usage()), shelf, out, watcher),
     }
 }

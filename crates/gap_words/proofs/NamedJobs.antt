@@ -5,14 +5,14 @@ use Rattle.clap.proofs.OnLiterals.{clap_on_literals}
 use Rattle.clap.specs.Walk.{texts}
 use Rattle.clap.specs.Words.{Row, Text}
 use Rattle.gap_words.specs.Command.{evgap}
-use Rattle.gap_words.specs.Words.{check_of, job_of, plan_of}
+use Rattle.gap_words.specs.Words.{check_of, command_job, plan_of}
 
 -- no words name no job: the word of the command is wanted
-empty_job : job_of [] ≡ None
+empty_job : command_job [] ≡ None
 unfolding evgap clap_on_literals
 empty_job = refl
 
-pub empty_words : (words : List (String Global)) (test : Bool) → test ≡ true → test ≡ (length words == 0) → None ≡ job_of (map string_bytes words)
+pub empty_words : (words : List (String Global)) (test : Bool) → test ≡ true → test ≡ (length words == 0) → None ≡ command_job (map string_bytes words)
 empty_words [] test is tests = sym empty_job
 empty_words (word ∷ words) test is tests = absurd (grind (arith, nat_tests, is, tests))
 

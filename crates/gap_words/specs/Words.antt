@@ -6,6 +6,8 @@ use Rattle.call_words.specs.Matches.{job_unless, limit_in, rest_in}
 use Rattle.call_words.specs.Names.{are_different}
 use Rattle.call_words.specs.Numbers.{most_value, number_of, optional_number}
 use Rattle.gap_words.specs.Command.{evgap}
+use Rattle.job_telling.specs.Words.{told_by, told_or}
+use Rattle.job_telling.specs.declared.words.Told.{Told}
 
 -- the job of planning a fleet with a close bound: the names of its files, the limit where one is
 -- given, how many seconds the search may take where they are given, the name of the file with the
@@ -33,6 +35,7 @@ pub record CheckGap : Type 0 where
 pub data Job : Type 0 where
   Planning : PlanGap → Job
   Checking : CheckGap → Job
+  Telling : Told → Job
 
 -- the number of seconds, where it is given; none where its value is no number of them
 abbrev pub seconds_in : List Row → Option (Option ℕ)
@@ -147,6 +150,11 @@ job_in rows =
 abbrev pub named : List Text → List Text
 named words = codes "evgap" ∷ words
 
--- the job of the words, if they name one
+-- the job of what the command finds in the words, if they name one
+abbrev pub command_job : List Text → Option Job
+command_job words =
+    job_unless (fault_of evgap (named words)) (job_in (matches_of evgap (named words)))
+
+-- the job of the words, if they name one: they ask of the program alone, or name a command
 abbrev pub job_of : List Text → Option Job
-job_of words = job_unless (fault_of evgap (named words)) (job_in (matches_of evgap (named words)))
+job_of words = told_or (λ told. Telling told) (told_by words) (command_job words)

@@ -11,7 +11,7 @@ use clap::{ArgMatches, Command};
 use std::alloc::{AllocError, Global};
 
 /// The name of the program.
-pub(crate) const PROGRAM: &str = "evgap";
+pub const PROGRAM: &str = "evgap";
 
 /// The command and its options.
 fn with_options<'a>(alloc: Global, command: Command<'a>) -> Result<Command<'a>, AllocError>

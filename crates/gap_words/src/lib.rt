@@ -4,13 +4,15 @@
 ghost use Rattle.std.specs.Prelude.{◌≡◌, [], None, Ok, IfOk, IfSome, map, option_map, string_bytes};
 ghost use Rattle.gap_words.specs.JobValue.{IsJob, job_value};
 ghost use Rattle.gap_words.specs.Usage.{usage_text};
-ghost use Rattle.gap_words.specs.Words.{job_of};
+ghost use Rattle.gap_words.specs.Words.{command_job, job_of};
 
 mod arguments;
 mod jobs;
 
-use arguments::{PROGRAM, found_in};
+pub use arguments::PROGRAM;
+use arguments::found_in;
 use call_words::named;
+use job_telling::{Told, told_by};
 use jobs::job_in;
 use std::alloc::{AllocError, Global};
 
@@ -50,9 +52,26 @@ pub enum Job {
     Plan(PlanWords),
     /// The plan of a file and the proof of another are judged.
     Check(CheckWords),
+    /// People are told of the program alone.
+    Tell(Told),
 }
 
-/// The job of the words, which stand behind the program's name, read by one `clap` command: `plan
+/// The job of the words, which stand behind the program's name: `--help` or `--version` alone, or
+/// what [`command_job`] reads. `None` comes exactly where they name none. No words at all are no
+/// job, and take no memory.
+pub fn job_words(alloc: Global, words: &[String]) -> Result<Option<Job>, AllocError>
+    ensures job { IfOk result
+        (λ job. option_map job_value job ≡ job_of (map string_bytes words.now)) }
+    ensures is { IfOk result (λ job. IfSome job IsJob) }
+    ensures no_words { words.now ≡ [] → result ≡ Ok None }
+{
+    match told_by(words) {
+        Some(told) => Ok(Some(Job::Tell(told))),
+        None => command_job(alloc, words),
+    }
+}
+
+/// The job of a command, read by one `clap` command: `plan
 /// FILE PLAN PROOF [--limit N] [--seconds N] [--start PLAN0] [--seed N] [--effort N] [--nodes N]`
 /// or `check FILE PLAN PROOF [--limit N]`. `None` comes exactly where the words are no such job.
 /// Without `--seed` the seed is 1.
@@ -62,9 +81,9 @@ pub enum Job {
 /// are written without leading zeros, and are at most 10^18, that of `--effort` at most 30, that of
 /// `--nodes` at least 1. The names of files are different texts. No words at all are no job, and
 /// take no memory.
-pub fn job_words(alloc: Global, words: &[String]) -> Result<Option<Job>, AllocError>
+fn command_job(alloc: Global, words: &[String]) -> Result<Option<Job>, AllocError>
     ensures job { IfOk result
-        (λ job. option_map job_value job ≡ job_of (map string_bytes words.now)) }
+        (λ job. option_map job_value job ≡ command_job (map string_bytes words.now)) }
     ensures is { IfOk result (λ job. IfSome job IsJob) }
     ensures no_words { words.now ≡ [] → result ≡ Ok None }
 {

@@ -1,6 +1,7 @@
 //! The words of the program.
 
-use crate::files::words_of;
+use crate::files::{run_with, shelf_with, words_of};
+use evgap_run::Status;
 use gap_words::{Job, job_words, usage};
 use std::alloc::Global;
 
@@ -26,6 +27,7 @@ fn named(alloc: Global, line: &str) -> Option<String> {
             let limit = words.limit.unwrap_or(0);
             format!(in alloc; "check {limit}").ok()
         }
+        Job::Tell(told) => format!(in alloc; "{told:?}").ok(),
     }
 }
 
@@ -67,11 +69,31 @@ fn words_name_a_job_or_none(rt: HostRuntime) {
         ("plan A P Q --nodes 2 --nodes 2", ""),
         ("plan A P Q R", ""),
         ("bound A P Q", ""),
-        ("--help", ""),
+        ("--help", "Help"),
+        ("--version", "Version"),
+        ("--help A", ""),
+        ("--version --version", ""),
+        ("plan A P Q --help", ""),
+        ("-- --help", ""),
+        ("--version=", ""),
     ] {
         let named = named(alloc, line);
         let told = named.as_ref().map(|text| text.as_str()).unwrap_or("");
         assert_eq!(rt; told, want, "{line}");
     }
     assert!(rt; usage().starts_with("evgap plan "));
+}
+
+#[test]
+fn usage_and_version_are_told(rt: HostRuntime) {
+    let alloc = rt.alloc();
+    // No call of the shelf is made: the first one would fail.
+    let mut shelf = shelf_with(alloc, "", "", "", &[0]).expect(&rt, "memory");
+    for &(line, put) in &[("--help", usage()), ("--version", "evgap 0.1.0\n")] {
+        let ended = run_with(alloc, line, &mut shelf, &[]).expect(&rt, "memory");
+        assert_eq!(rt; ended.0, Status::Done, "{line}");
+        assert_eq!(rt; ended.1.as_slice(), put.as_bytes(), "{line}");
+    }
+    let ended = run_with(alloc, "--version", &mut shelf, &[0]).expect(&rt, "memory");
+    assert_eq!(rt; ended.0, Status::Fault);
 }

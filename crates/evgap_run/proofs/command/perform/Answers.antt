@@ -21,3 +21,12 @@ returns-in-Plan-clause-spares g c = spares_finished (task_of (job_value c.args.j
 
 pub returns-in-Check-clause-spares : goal.returns-in-Check-clause-spares
 returns-in-Check-clause-spares g c = spares_finished (task_of (job_value c.args.job.now)) c.check.ensures c.finish-in-Check.ensures.spares
+
+pub returns-in-Tell-clause-job : goal.returns-in-Tell-clause-job
+returns-in-Tell-clause-job g c = finished _ _ c.finish-in-Tell.ensures.words c.finish-in-Tell.ensures.finishes c.in-Tell.is (c.tell.ensures _)
+
+pub returns-in-Tell-clause-heard : goal.returns-in-Tell-clause-heard
+returns-in-Tell-clause-heard g c = finished_heard _ _ c.finish-in-Tell.ensures.finishes c.finish-in-Tell.ensures.heard c.in-Tell.is (c.tell.ensures _)
+
+pub returns-in-Tell-clause-spares : goal.returns-in-Tell-clause-spares
+returns-in-Tell-clause-spares g c = spares_finished (task_of (job_value c.args.job.now)) (c.tell.ensures _) c.finish-in-Tell.ensures.spares

@@ -5,7 +5,7 @@ use Rattle.call_words.proofs.Refused.{no_job}
 use Rattle.gap_words.proofs.NamedJobs.{empty_words}
 use Rattle.gap_words.specs.Command.{evgap}
 use Rattle.gap_words.specs.Words.{job_in, named}
-use Rattle.gap_words.proofs.job_words.Goals as goal
+use Rattle.gap_words.proofs.command_job.Goals as goal
 
 pub returns-in-Ok-None-clause-job : goal.returns-in-Ok-None-clause-job
 returns-in-Ok-None-clause-job c =
