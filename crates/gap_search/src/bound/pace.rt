@@ -30,7 +30,8 @@ pub(crate) fn list_milliseconds(customers: usize, held: &Improved) -> u64 {
     let length = (customers as u64) / (routes as u64).max(1);
     let length = length.max(PLAIN_ROUTE);
     let plain = plain_milliseconds(customers);
-    plain.saturating_mul(length).saturating_mul(length) / (PLAIN_ROUTE * PLAIN_ROUTE)
+    let longer = plain.saturating_mul(length) / PLAIN_ROUTE;
+    longer.saturating_mul(length) / PLAIN_ROUTE
 }
 
 /// The same where routes are short.
