@@ -16,6 +16,8 @@ use Rattle.job_frame.specs.declared.found.Found.{Found}
 use Rattle.job_frame.specs.declared.status.Status.{Status}
 use Rattle.job_frame.specs.declared.status.Status.TheVariants as status
 use Rattle.job_telling.proofs.Lawful.{tell_lawful}
+use Rattle.job_telling.specs.ToldTask.{tell_task}
+use Rattle.job_telling.specs.declared.words.Told.{Told}
 use Rattle.view_words.specs.JobValue.{job_value}
 use Rattle.view_words.specs.Usage.{usage_text}
 use Rattle.view_words.specs.Words.{Job, Telling, Viewing}
@@ -42,3 +44,8 @@ pub finished_heard : {before between after : ShelfState} {old new : SinkState} {
 finished_heard {before} {between} {after} {old} {new} {ended} {heard} {found} job of finishes told is finds =
     subst (λ (j : values.Job). IsAnswered ended → PutsHeard (task_of (job_value j)) before.files after.files old.written new.written ended heard) (sym is)
     (hears_finished (task_of (job_value of)) found finds finishes told)
+
+-- what is told of the program, by its usage text
+pub told_so : {shelf : ShelfState} {found : Result (Found Cause) ShelfFault} (usage : List ℕ) (told : Told) → usage ≡ usage_text
+    → Finds (tell_task (codes "evview") usage told) shelf shelf found → Finds (tell_task (codes "evview") usage_text told) shelf shelf found
+told_so {shelf} {found} usage told is finds = subst (λ (text : List ℕ). Finds (tell_task (codes "evview") text told) shelf shelf found) is finds

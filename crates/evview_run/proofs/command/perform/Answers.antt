@@ -1,4 +1,4 @@
-use Rattle.evview_run.proofs.Performed.{finished, finished_heard}
+use Rattle.evview_run.proofs.Performed.{finished, finished_heard, told_so}
 use Rattle.evview_run.specs.Run.{task_of}
 use Rattle.job_ending.proofs.Finished.{spares_finished}
 use Rattle.view_words.specs.JobValue.{job_value}
@@ -8,16 +8,22 @@ pub returns-in-View-clause-job : goal.returns-in-View-clause-job
 returns-in-View-clause-job g c = finished _ _ c.finish.ensures.words c.finish.ensures.finishes c.in-View.is c.view.ensures
 
 pub returns-in-Tell-clause-job : goal.returns-in-Tell-clause-job
-returns-in-Tell-clause-job g c = finished _ _ c.finish-in-Tell.ensures.words c.finish-in-Tell.ensures.finishes c.in-Tell.is (c.tell.ensures _)
+returns-in-Tell-clause-job g c = finished _ _ c.finish-in-Tell.ensures.words c.finish-in-Tell.ensures.finishes c.in-Tell.is (told_so _ _ c.usage.ensures (c.tell.ensures (g.S.Shelf.state c.args.shelf.now)))
 
 pub returns-in-View-clause-heard : goal.returns-in-View-clause-heard
 returns-in-View-clause-heard g c = finished_heard _ _ c.finish.ensures.finishes c.finish.ensures.heard c.in-View.is c.view.ensures
 
 pub returns-in-Tell-clause-heard : goal.returns-in-Tell-clause-heard
-returns-in-Tell-clause-heard g c = finished_heard _ _ c.finish-in-Tell.ensures.finishes c.finish-in-Tell.ensures.heard c.in-Tell.is (c.tell.ensures _)
+returns-in-Tell-clause-heard g c = finished_heard _ _ c.finish-in-Tell.ensures.finishes c.finish-in-Tell.ensures.heard c.in-Tell.is (told_so _ _ c.usage.ensures (c.tell.ensures (g.S.Shelf.state c.args.shelf.now)))
 
 pub returns-in-View-clause-spares : goal.returns-in-View-clause-spares
 returns-in-View-clause-spares g c = spares_finished (task_of (job_value c.args.job.now)) c.view.ensures c.finish.ensures.spares
 
 pub returns-in-Tell-clause-spares : goal.returns-in-Tell-clause-spares
-returns-in-Tell-clause-spares g c = spares_finished (task_of (job_value c.args.job.now)) (c.tell.ensures _) c.finish-in-Tell.ensures.spares
+returns-in-Tell-clause-spares g c = spares_finished (task_of (job_value c.args.job.now)) (told_so _ _ c.usage.ensures (c.tell.ensures (g.S.Shelf.state c.args.shelf.now))) c.finish-in-Tell.ensures.spares
+
+pub finish-requires-in-Tell-clause-answered : goal.finish-requires-in-Tell-clause-answered
+finish-requires-in-Tell-clause-answered g c = (c.tell.ensures (g.S.Shelf.state c.args.shelf.now)).answered
+
+pub finish-requires-in-Tell-clause-different : goal.finish-requires-in-Tell-clause-different
+finish-requires-in-Tell-clause-different g c = (c.tell.ensures (g.S.Shelf.state c.args.shelf.now)).different
