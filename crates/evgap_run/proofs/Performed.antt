@@ -13,6 +13,8 @@ use Rattle.gap_words.specs.declared.Job as values
 use Rattle.job_ending.proofs.Finished.{hears_finished, performs_finished}
 use Rattle.job_ending.specs.Finishing.{Finishes}
 use Rattle.job_telling.proofs.Lawful.{tell_lawful}
+use Rattle.job_telling.specs.ToldTask.{tell_task}
+use Rattle.job_telling.specs.declared.words.Told.{Told}
 use Rattle.job_frame.specs.Lawful.{IsLawful}
 use Rattle.job_frame.specs.Finds.{Finds}
 use Rattle.job_frame.specs.Performs.{Performs, PutsHeard}
@@ -50,3 +52,8 @@ pub finished_heard : {before between after : ShelfState} {old new : SinkState} {
     → IsAnswered ended → PutsHeard (task_of (job_value job)) before.files after.files old.written new.written ended heard
 finished_heard {before} {between} {after} {old} {new} {ended} {heard} {found} job of finishes told is finds =
     value_hears job of is (hears_finished (task_of (job_value of)) found finds finishes told)
+
+-- what is told of the program, by its usage text
+pub told_so : {shelf : ShelfState} {found : Result (Found Cause) ShelfFault} (usage : List ℕ) (told : Told) → usage ≡ usage_text
+    → Finds (tell_task (codes "evgap") usage told) shelf shelf found → Finds (tell_task (codes "evgap") usage_text told) shelf shelf found
+told_so {shelf} {found} usage told is finds = subst (λ (text : List ℕ). Finds (tell_task (codes "evgap") text told) shelf shelf found) is finds
