@@ -5,8 +5,8 @@ use crate::fixed::{ONE, at, narrow, product, put, ratio, rounded};
 use crate::rows::{Row, Sense};
 use std::alloc::{AllocError, Global};
 
-/// No pivot of a rebuilt basis is smaller, in units of 2^-32: dividing by this one makes an error of
-/// rounding 2^14 times as great.
+/// No pivot of a rebuilt basis is smaller, in units of 2^-32: dividing by this one makes an error
+/// of rounding 2^14 times as great.
 const LEAST_PIVOT: i64 = 1 << 18;
 
 /// A column of a basis.

@@ -76,8 +76,8 @@ fn words_of_entry(wrong: EntryFault) -> &'static str {
     }
 }
 
-/// What is wrong with words that name no job: what was found, or else the form of the plan, or their
-/// clock, where they have words of one.
+/// What is wrong with words that name no job: what was found, or else the form of the plan, or
+/// their clock, where they have words of one.
 fn wrong_or_clock(
     alloc: Global,
     wrong: Option<String>,

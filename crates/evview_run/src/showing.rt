@@ -87,7 +87,8 @@ pub(crate) fn shown(
 
 /// The told time, where it isn't that of what is shown.
 pub(crate) fn untrue(told: Option<u64>, shown: Option<&Schedule>) -> Option<u64>
-    ensures { result ≡ untrue told (option_map (λ s. s.totals.time) (option_map (λ s. s.now) shown.entry)) }
+    ensures { result ≡ untrue told
+        (option_map (λ s. s.totals.time) (option_map (λ s. s.now) shown.entry)) }
 {
     let Some(told) = told else {
         return None;

@@ -101,7 +101,8 @@ plan_job_of file plan proof limit seconds start seed effort nodes = record {
   nodes = nodes;
 }
 
--- `plan FILE PLAN PROOF [--limit N] [--seconds N] [--start PLAN0] [--seed N] [--effort N] [--nodes N]`
+-- `plan FILE PLAN PROOF [--limit N] [--seconds N] [--start PLAN0] [--seed N] [--effort N]
+-- [--nodes N]`
 abbrev pub plan_with : Text → Text → Text → Option (Option ℕ) → Option (Option ℕ) → Option Text →
     Option ℕ → Option (Option ℕ) → Option (Option ℕ) → Option Job
 plan_with file plan proof (Some limit) (Some seconds) start (Some seed) (Some effort) (Some nodes) =

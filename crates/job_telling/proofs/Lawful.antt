@@ -1,10 +1,7 @@
 -- The job of telling of a program is found and lawful.
-use Rattle.std.proofs.Common.{◌≡◌, ◌∙◌, ℕ, List, [], Result, IfErr, IfOk, ap, refl, sym}
-use Rattle.ev_outside.specs.Shelf.{ShelfState}
-use Rattle.ev_outside.specs.declared.shelf.ShelfFault.{ShelfFault}
+use Rattle.std.proofs.Common.{◌∙◌, ℕ, List, ap, sym}
 use Rattle.job_frame.specs.Lawful.{IsLawful}
 use Rattle.job_frame.specs.Task.{Outcome}
-use Rattle.job_frame.specs.declared.status.Status.{Status}
 use Rattle.job_telling.specs.ToldTask.{tell_task}
 use Rattle.job_telling.specs.declared.words.Told.{Told}
 

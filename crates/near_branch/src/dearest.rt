@@ -5,8 +5,9 @@
 use instance_reader::Instance;
 use near_completion::{Arc, Ground};
 
-/// What no cheapest plan is reckoned to cost more than, in scaled time: on the ways to each customer
-/// and home a longest arc and a longest stay for each station, and no more than the limit allows.
+/// What no cheapest plan is reckoned to cost more than, in scaled time: on the ways to each
+/// customer and home a longest arc and a longest stay for each station, and no more than the limit
+/// allows.
 pub(crate) fn most_cost(inst: &Instance, ground: &Ground) -> u128 {
     let customers = ground.customers();
     let stations = ground.depot().saturating_sub(customers);

@@ -11,8 +11,8 @@ use near_prices::{
 use std::alloc::{AllocError, Global};
 use std::mem;
 
-/// About so many layers the tables have, as those of lists have, and a fourth of it where routes are
-/// looked for quickly.
+/// About so many layers the tables have, as those of lists have, and a fourth of it where routes
+/// are looked for quickly.
 const LAYERS: usize = 120;
 
 /// So many where nodes are only estimated.
@@ -24,8 +24,8 @@ const GROWTHS: usize = 60;
 /// What it costs to serve a customer without a route, where routes cost nothing.
 const HELP: u64 = 1 << 30;
 
-/// Routes are columns at once where a node is priced whose reduced cost is at most so many halves of
-/// the gap. Others wait until they earn, so that fewer are looked through at each pivot.
+/// Routes are columns at once where a node is priced whose reduced cost is at most so many halves
+/// of the gap. Others wait until they earn, so that fewer are looked through at each pivot.
 const FEW_HALVES: u64 = 1;
 
 /// So many where candidates are scored.

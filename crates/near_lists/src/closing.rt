@@ -74,8 +74,8 @@ impl Lister<'_, '_> {
         )
     }
 
-    /// Lets labels cover a state: those there are, or one that stands for all at its place or of its
-    /// layer from which no way home earns, or its own.
+    /// Lets labels cover a state: those there are, or one that stands for all at its place or of
+    /// its layer from which no way home earns, or its own.
     fn add(&mut self, alloc: Global, number: usize, state: NearState) -> Result<(), AllocError> {
         if self.covers(&state)? {
             return Ok(());

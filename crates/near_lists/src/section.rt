@@ -29,7 +29,7 @@ pub fn closed_section<C: SearchClock>(
     plan: &ListPlan,
     clock: &mut C,
 ) -> Result<Option<LeafSection>, AllocError> {
-    if !task.fits() {
+    if !task.fits() || clock.is_up() {
         return Ok(None);
     }
     let table = WayTable::new(alloc, task.ground, task.terms, plan.layers, false)?;

@@ -57,7 +57,8 @@ impl Rooms {
         Ok(())
     }
 
-    /// Lowers the price of a row, as far as that keeps a route from earning and the row may have it.
+    /// Lowers the price of a row, as far as that keeps a route from earning and the row may have
+    /// it.
     fn lower(&mut self, pool: &Pool, prices: &mut [i64], row: usize) {
         let price = at(prices, row);
         let rise = self.room_of(row).min(0).max(pool.least_rise(row, price));

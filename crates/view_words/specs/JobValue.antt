@@ -23,7 +23,8 @@ abbrev pub job_value : Job → words.Job
 job_value (View w) = words.Viewing (view_value w)
 job_value (Tell told) = words.Telling told
 
--- what is more of the words of showing a plan: the files that are written have different names, and the clock is one
+-- what is more of the words of showing a plan: the files that are written have different names, and
+-- the clock is one
 pub record IsViewJob (w : ViewWords) : Type 0 where
   pub different : are_different (written_names (view_value w)) ≡ true
   pub clock : IfSome w.clock IsDayClock

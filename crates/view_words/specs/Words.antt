@@ -16,9 +16,10 @@ use Rattle.view_words.specs.declared.form.PlanForm.{PlanForm}
 
 -- the job of showing a plan: the names of the files with the instance and the plan, the limit where
 -- one is given, the number of the one route that is shown where it is given, which form the plan
--- has, whether times are shown as they are scaled, the clock by which is told when something happens where one is given, the
--- name of the file with the names of places where it is given, and the names of the files into which
--- the pictures, the schedule, as JSON and as CSV, and a map are written, where they are given
+-- has, whether times are shown as they are scaled, the clock by which is told when something
+-- happens where one is given, the name of the file with the names of places where it is given, and
+-- the names of the files into which the pictures, the schedule, as JSON and as CSV, and a map are
+-- written, where they are given
 pub record ViewPlan : Type 0 where
   pub file : Text
   pub plan : Text
@@ -131,8 +132,9 @@ view_with file plan (Some limit) (Some route) (Some form) (Some clock) rows =
     (json_in rows) (csv_in rows) (map_in rows))
 view_with file plan limit route form clock rows = None
 
--- `FILE PLAN [--limit N] [--route N] [--partial] [--fixed [--charge N]] [--exact]
--- [--begin HH:MM --unit U] [--places FILE] [--svg OUT] [--json OUT] [--csv OUT] [--map OUT]`, where `--map` asks for `--places`
+-- `FILE PLAN [--limit N] [--route N] [--partial] [--fixed [--charge N]] [--exact] [--begin HH:MM
+-- --unit U] [--places FILE] [--svg OUT] [--json OUT] [--csv OUT] [--map OUT]`, where `--map` asks
+-- for `--places`
 abbrev pub view_of : Text → Text → List Row → Option ViewPlan
 view_of file plan rows =
     if are_different (all_names file plan rows) && has_places (map_in rows) (places_in rows)
@@ -157,4 +159,5 @@ command_job words =
 -- the job of the words, if they name one: they ask of the program alone, or for a plan to be shown
 abbrev pub job_of : List Text → Option Job
 job_of words =
-    told_or (λ told. Telling told) (told_by words) (option_map (λ job. Viewing job) (command_job words))
+    told_or (λ told. Telling told) (told_by words)
+    (option_map (λ job. Viewing job) (command_job words))

@@ -63,7 +63,10 @@ fn clock_in(matches: &ArgMatches<'_>) -> Option<Option<DayClock>>
 }
 
 /// The job of what the command finds.
-pub(crate) fn job_in(alloc: Global, matches: &ArgMatches<'_>) -> Result<Option<ViewWords>, AllocError>
+pub(crate) fn job_in(
+    alloc: Global,
+    matches: &ArgMatches<'_>,
+) -> Result<Option<ViewWords>, AllocError>
     ensures job { AnswersJob result (job_in (rows_in matches.now)) }
     ensures is { IfOk result (λ job. IfSome job IsViewJob) }
 {

@@ -20,9 +20,9 @@ use job_telling::{Told, told_by};
 use jobs::job_in;
 use std::alloc::{AllocError, Global};
 
-/// The words of the job that shows a plan: the file of the instance, another one with the plan, the limit on the
-/// time of each route in place of the instance's, in units of time, the number of the one route
-/// that is shown, counted from 0, which form the plan has, whether times are shown as
+/// The words of the job that shows a plan: the file of the instance, another one with the plan, the
+/// limit on the time of each route in place of the instance's, in units of time, the number of the
+/// one route that is shown, counted from 0, which form the plan has, whether times are shown as
 /// they are scaled, the clock by which is told when something happens, the file with the names of
 /// places, and the files into which the pictures, the schedule, as JSON and as CSV, and a map are
 /// written.
