@@ -10,11 +10,9 @@ mod links;
 mod paid;
 mod places;
 mod question;
-mod ranges;
 mod steps;
 
 pub use check::check_closed;
 pub use fault::ClosedFault;
 pub use paid::{margin, price_sum};
 pub use question::Question;
-pub use ranges::is_label_of;

@@ -6,7 +6,7 @@ ghost use Rattle.completion_bounds.specs.Tables.{IsNone};
 use crate::arcs::{arc_costs, least_cost, least_rate, least_time};
 use crate::legs::{Costs, Legs, all_legs};
 use crate::needs::levels_needed;
-use crate::rests::{Rest, all_rests, rest_at};
+use crate::rests::{HomeEarnings, all_rests, rest_at};
 use crate::terms::Terms;
 use customer_sets::CustSet;
 use instance_reader::Instance;
@@ -33,7 +33,7 @@ pub struct Completion {
     /// The arcs on, by node.
     legs: Vec<Legs>,
     /// What ways home earn, by node and by layer; no node where there is no table.
-    rests: Vec<Vec<Rest>>,
+    rests: Vec<Vec<HomeEarnings>>,
     /// The level with which a vehicle can go on from a node, by node.
     needs: Vec<u64>,
 }
@@ -176,7 +176,7 @@ impl Completion {
     }
 
     /// What ways home earn from a node, by layer, where there is a table.
-    pub fn rests(&self, node: usize) -> &[Rest] {
+    pub fn rests(&self, node: usize) -> &[HomeEarnings] {
         match self.rests.get(node) {
             Some(row) => row.as_slice(),
             None => &[],
@@ -186,11 +186,6 @@ impl Completion {
     /// The layer of a budget.
     pub fn layer(&self, budget: u64) -> u64 {
         budget.checked_div(self.step).unwrap_or(0)
-    }
-
-    /// The layer in which a vehicle of a layer is behind an arc, if that leaves it some budget.
-    pub fn layer_behind(&self, layer: u64, leg: &crate::legs::Leg) -> Option<u64> {
-        layer.checked_sub(leg.down)
     }
 
     /// The least scaled time, less what the level is worth, with which a vehicle is in a layer.

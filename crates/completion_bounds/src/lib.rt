@@ -15,5 +15,5 @@ mod terms;
 
 pub use completion::Completion;
 pub use legs::{End, Leg, Legs};
-pub use rests::Rest;
+pub use rests::HomeEarnings;
 pub use terms::{Terms, Turns};

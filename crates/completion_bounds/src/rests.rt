@@ -10,7 +10,7 @@ const STRANDED: i128 = -(1 << 92);
 
 /// The most that ways home earn: the prices of their customers, less their cost times the weight.
 #[derive(Clone, Copy, Debug, PartialEq, Eq)]
-pub struct Rest {
+pub struct HomeEarnings {
     pub best: i128,
     /// The number of the first customer of a way that earns most; `None` where it has none.
     pub first: Option<usize>,
@@ -18,10 +18,10 @@ pub struct Rest {
     pub second: i128,
 }
 
-impl Rest {
+impl HomeEarnings {
     /// No way.
-    fn stranded() -> Rest {
-        Rest {
+    fn stranded() -> HomeEarnings {
+        HomeEarnings {
             best: STRANDED,
             first: None,
             second: STRANDED,
@@ -65,14 +65,20 @@ impl Rest {
     }
 
     /// Reckons with the ways over an arc to a customer, who is served first.
-    fn offer_customer(&mut self, own: Option<usize>, leg: &Leg, customer: usize, after: &Rest) {
+    fn offer_customer(
+        &mut self,
+        own: Option<usize>,
+        leg: &Leg,
+        customer: usize,
+        after: &HomeEarnings,
+    ) {
         let is_back = own.is_some() && after.first == own && leg.is_remembered;
         let rest = if is_back { after.second } else { after.best };
         self.offer(Some(customer), leg.gain.saturating_add(rest));
     }
 
     /// Reckons with the ways over an arc to a station. No way goes back to the customer just left.
-    fn offer_station(&mut self, own: Option<usize>, leg: &Leg, after: &Rest) {
+    fn offer_station(&mut self, own: Option<usize>, leg: &Leg, after: &HomeEarnings) {
         let second = leg.gain.saturating_add(after.second);
         if own.is_none() || after.first != own {
             self.offer(after.first, leg.gain.saturating_add(after.best));
@@ -86,7 +92,7 @@ pub(crate) fn all_rests(
     alloc: Global,
     legs: &[Legs],
     layers: u64,
-) -> Result<Vec<Vec<Rest>>, AllocError> {
+) -> Result<Vec<Vec<HomeEarnings>>, AllocError> {
     let mut rests = Vec::new(alloc);
     for _ in 0..legs.len() {
         rests.push(Vec::new(alloc))?;
@@ -100,9 +106,9 @@ pub(crate) fn all_rests(
 }
 
 /// Appends a layer with the ways of the one before it.
-fn push_layer(rests: &mut Vec<Vec<Rest>>) -> Result<(), AllocError> {
+fn push_layer(rests: &mut Vec<Vec<HomeEarnings>>) -> Result<(), AllocError> {
     for row in rests.iter_mut() {
-        let before = row.last().copied().unwrap_or(Rest::stranded());
+        let before = row.last().copied().unwrap_or(HomeEarnings::stranded());
         row.push(before)?;
     }
     Ok(())
@@ -110,7 +116,7 @@ fn push_layer(rests: &mut Vec<Vec<Rest>>) -> Result<(), AllocError> {
 
 /// Reckons with the ways on from all stations, until none of them earns more. An arc between
 /// stations may stay in the layer; charging earns nothing.
-fn settle_stations(rests: &mut Vec<Vec<Rest>>, legs: &[Legs], layer: u64) {
+fn settle_stations(rests: &mut Vec<Vec<HomeEarnings>>, legs: &[Legs], layer: u64) {
     for _ in 0..legs.len() {
         if !raise_all(rests, legs, layer, true) {
             break;
@@ -120,7 +126,12 @@ fn settle_stations(rests: &mut Vec<Vec<Rest>>, legs: &[Legs], layer: u64) {
 
 /// Reckons with the ways on from all stations, or from all other nodes. Whether a node's ways earn
 /// more.
-fn raise_all(rests: &mut Vec<Vec<Rest>>, legs: &[Legs], layer: u64, are_stations: bool) -> bool {
+fn raise_all(
+    rests: &mut Vec<Vec<HomeEarnings>>,
+    legs: &[Legs],
+    layer: u64,
+    are_stations: bool,
+) -> bool {
     let mut is_raised = false;
     for (node, from) in legs.iter().enumerate() {
         if from.is_station == are_stations {
@@ -131,7 +142,7 @@ fn raise_all(rests: &mut Vec<Vec<Rest>>, legs: &[Legs], layer: u64, are_stations
 }
 
 /// Reckons with the ways on from a node. Whether they earn more.
-fn raise(rests: &mut Vec<Vec<Rest>>, from: &Legs, node: usize, layer: u64) -> bool {
+fn raise(rests: &mut Vec<Vec<HomeEarnings>>, from: &Legs, node: usize, layer: u64) -> bool {
     let Some(before) = rest_at(rests, node, layer) else {
         return false;
     };
@@ -148,7 +159,12 @@ fn raise(rests: &mut Vec<Vec<Rest>>, from: &Legs, node: usize, layer: u64) -> bo
 }
 
 /// What ways home earn from a node in a layer, by those already reckoned with.
-fn raised(rests: &[Vec<Rest>], from: &Legs, before: Rest, layer: u64) -> Rest {
+fn raised(
+    rests: &[Vec<HomeEarnings>],
+    from: &Legs,
+    before: HomeEarnings,
+    layer: u64,
+) -> HomeEarnings {
     let mut rest = before;
     for leg in &from.all {
         let Some(below) = layer.checked_sub(leg.down) else {
@@ -169,6 +185,10 @@ fn raised(rests: &[Vec<Rest>], from: &Legs, before: Rest, layer: u64) -> Rest {
 }
 
 /// What ways home earn from a node in a layer, if that is reckoned already.
-pub(crate) fn rest_at(rests: &[Vec<Rest>], node: usize, layer: u64) -> Option<Rest> {
+pub(crate) fn rest_at(
+    rests: &[Vec<HomeEarnings>],
+    node: usize,
+    layer: u64,
+) -> Option<HomeEarnings> {
     rests.get(node)?.get(layer as usize).copied()
 }

@@ -7,11 +7,9 @@ ghost use Rattle.customer_sets.specs.CustSet.{has, IsCustomerSet, IsWithin, with
 
 mod large_set;
 mod pairs;
-mod set;
 
 pub use large_set::LargeSet;
 pub use pairs::Pairs;
-pub use set::CustomerSet;
 use std::marker::Model;
 
 /// A set of customers, by their numbers, which are below 128.

@@ -24,7 +24,7 @@ use Rattle.ev_fleet.specs.Searched.{SearchedTree, fork, tip}
 use Rattle.ev_fleet.specs.Searching.{IsAdvanced, IsBegun, IsFirst, ShowsRoot, greater_at}
 use Rattle.ev_fleet.specs.Splitting.{IsSettled, taken_of}
 use Rattle.ev_fleet.specs.State.{IsFound, IsSearch, IsSearchAt, greater_of}
-use Rattle.ev_fleet.specs.declared.state.Search.{Search}
+use Rattle.ev_fleet.specs.declared.state.FleetSearch.{FleetSearch}
 use Rattle.ev_fleet.specs.Whole.{IsNoDearer}
 use Rattle.ev_fleet.proofs.SearchSteps.{no_dearer_by}
 use Rattle.branching.proofs.Elements.{node_set}
@@ -95,7 +95,7 @@ pub root_open : (n : ℕ) (tree : SearchTree) → IsRoot n tree → NoneIsOpen t
 root_open n tree root none = none 0 (record { node = first_node root.pairs; here = root.node; is = refl })
 
 -- the facts of the first step, over the tree and the sections that there were
-module _ (g : Network) (old new : Search) (r : Root) (first : IsFirst g old) (advanced : IsAdvanced g old new r) where
+module _ (g : Network) (old new : FleetSearch) (r : Root) (first : IsFirst g old) (advanced : IsAdvanced g old new r) where
   abbrev pub p : ForbiddenPairs
   p = first.root.pairs
 

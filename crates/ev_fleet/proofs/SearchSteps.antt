@@ -19,7 +19,7 @@ use Rattle.ev_fleet.specs.Searching.{HasOneMore, IsAdvanced, IsFurtherWithin, Is
 use Rattle.ev_fleet.specs.Splitting.{IsSettled, taken_of}
 use Rattle.ev_fleet.specs.State.{IsSearch, greater_of}
 use Rattle.ev_fleet.specs.Whole.{IsNoDearer, TakesShares}
-use Rattle.ev_fleet.specs.declared.state.Search.{Search}
+use Rattle.ev_fleet.specs.declared.state.FleetSearch.{FleetSearch}
 use Rattle.ev_fleet.specs.declared.taking.TakenNode.{TakenNode}
 use Rattle.ev_fleet.proofs.Bounds.{most_most}
 use Rattle.ev_fleet.proofs.Found.{found_of, node_section}
@@ -41,12 +41,12 @@ module _ (g : Network) (tree : SearchTree) (sections : List Section) (cost : Opt
       none some.0 (record { node = has.node; here = has.here; is = waits some.0 has.node has.here has.is.0 })
 
 -- what was found at the node
-pub no_dearer_by : (g : Network) (old new : Search) (r : Root) (advanced : IsAdvanced g old new r) → IsNoDearer g (cost_at new.held) advanced.section
+pub no_dearer_by : (g : Network) (old new : FleetSearch) (r : Root) (advanced : IsAdvanced g old new r) → IsNoDearer g (cost_at new.held) advanced.section
 no_dearer_by g old new r advanced =
     let own = (node_section g advanced.node.pairs advanced.section r advanced.found).pairs in
     no_dearer g (cost_at new.held) advanced.section r (subst (λ p. IsNodeBound g p (answer_of advanced.section r)) (sym own) advanced.found) advanced.taken
 
-pub advanced_search : (g : Network) (old new : Search) (r : Root) → IsSearching g old → IsPromising old.tree (cost_at old.held) → IsAdvanced g old new r → IsSearching g new
+pub advanced_search : (g : Network) (old new : FleetSearch) (r : Root) → IsSearching g old → IsPromising old.tree (cost_at old.held) → IsAdvanced g old new r → IsSearching g new
 advanced_search g old new r searching promising advanced =
     let some = promising.least.some in
     let has = some.1 in
@@ -72,7 +72,7 @@ advanced_search g old new r searching promising advanced =
       pool = advanced.pool;
     }
 
-pub one_more : (g : Network) (old new : Search) (r : Root) → IsAdvanced g old new r → HasOneMore old.sections.items new.sections.items
+pub one_more : (g : Network) (old new : FleetSearch) (r : Root) → IsAdvanced g old new r → HasOneMore old.sections.items new.sections.items
 one_more g old new r advanced = (advanced.section, advanced.sections)
 
 pub root_more : (g : Network) (old new : List Section) (r : Root) → HasOneMore old new → ShowsRoot g old r → ShowsRoot g new r
@@ -80,7 +80,7 @@ root_more g old new r one shows =
     subst (λ xs. ShowsRoot g xs r) (sym one.1) (section-more old one.0 0 (IsShownBy g r) shows)
 
 -- the parts of a step make it up
-pub advanced_by : (g : Network) (old new : Search) (taken : SearchTree) (t : TakenNode) (r : Root) (s : Section) (own : Option ℕ) (greater : ℕ × Option ℕ)
+pub advanced_by : (g : Network) (old new : FleetSearch) (taken : SearchTree) (t : TakenNode) (r : Root) (s : Section) (own : Option ℕ) (greater : ℕ × Option ℕ)
     → IsTakenNext old.tree t taken → IsNodeBound g t.pairs (answer_of s r) → IsBoundOf (priced_section s) own
     → new.sections.items ≡ old.sections.items ++ s ∷ [] → IsAtMost (cost_at new.held) (cost_at old.held) → MayHold g new.held → TakesShares g (shares_in r) (cost_at new.held) → IsPool g new.pool
     → greater ≡ greater_of (length old.sections.items) own t.section t.bound → IsSettled taken t.key greater.0 greater.1 (cost_at new.held) new.tree → IsAdvanced g old new r

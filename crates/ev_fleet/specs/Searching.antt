@@ -26,7 +26,7 @@ use Rattle.ev_fleet.specs.State.{IsSearch, greater_of}
 use Rattle.ev_fleet.specs.Whole.{IsNoDearer, TakesShares}
 use Rattle.ev_fleet.specs.declared.held.Held.{Held}
 use Rattle.ev_fleet.specs.declared.outcome.Outcome.{Outcome}
-use Rattle.ev_fleet.specs.declared.state.Search.{Search}
+use Rattle.ev_fleet.specs.declared.state.FleetSearch.{FleetSearch}
 use Rattle.ev_fleet.specs.declared.taking.TakenNode.{TakenNode}
 
 -- the plan that is held
@@ -54,7 +54,7 @@ abbrev pub greater_at : List Section → Option ℕ → Node → ℕ × Option �
 greater_at sections own node = greater_of (length sections) own node.section node.bound
 
 -- the next node was taken, its section was found and put behind the others, and the node was closed or split
-pub record IsAdvanced (g : Network) (old new : Search) (r : Root) : Type 0 where
+pub record IsAdvanced (g : Network) (old new : FleetSearch) (r : Root) : Type 0 where
   pub key : ℕ
   pub node : Node
   pub section : Section
@@ -72,7 +72,7 @@ pub record IsAdvanced (g : Network) (old new : Search) (r : Root) : Type 0 where
       (cost_at new.held) new.tree
 
 -- between two nodes
-pub record IsSearching (g : Network) (s : Search) : Type 0 where
+pub record IsSearching (g : Network) (s : FleetSearch) : Type 0 where
   pub search : IsSearch g s.tree s.sections.items (cost_at s.held)
   pub whole : All (IsNoDearer g (cost_at s.held)) s.sections.items
   pub held : MayHold g s.held
@@ -80,7 +80,7 @@ pub record IsSearching (g : Network) (s : Search) : Type 0 where
   pub pool : IsPool g s.pool
 
 -- before the first node
-pub record IsFirst (g : Network) (s : Search) : Type 0 where
+pub record IsFirst (g : Network) (s : FleetSearch) : Type 0 where
   pub root : IsRoot (customer_count g) s.tree
   pub none : s.sections.items ≡ []
   pub held : MayHold g s.held
@@ -97,7 +97,7 @@ abbrev pub ShowsRoot : Network → List Section → Root → Type 0
 ShowsRoot g sections r = HasSection sections 0 (IsShownBy g r)
 
 -- behind the first node
-pub record IsBegun (g : Network) (s : Search) (r : Root) : Type 0 where
+pub record IsBegun (g : Network) (s : FleetSearch) (r : Root) : Type 0 where
   pub searching : IsSearching g s
   pub root : ShowsRoot g s.sections.items r
   pub taken : TakesShares g (shares_in r) (cost_at s.held)
@@ -133,12 +133,12 @@ abbrev pub IsUsedUp : Option ℕ → ℕ → Type 0
 IsUsedUp budget nodes = (most : ℕ) × (budget ≡ Some most) × (most ≤ nodes)
 
 -- the budget is used up, or no open node has a bound below the cost
-abbrev pub MayEnd : Option ℕ → Search → Type 0
+abbrev pub MayEnd : Option ℕ → FleetSearch → Type 0
 MayEnd budget s =
     IsUsedUp budget (length s.sections.items) ⊎ IsDone s.tree.nodes (cost_at s.held)
 
 -- whatever the budget was with which the search has ended
-abbrev pub IsOutcomeOf : Network → Search → Outcome → Type 0
+abbrev pub IsOutcomeOf : Network → FleetSearch → Outcome → Type 0
 IsOutcomeOf g s o =
     (budget : Option ℕ) → IsWithin budget (length s.sections.items) → MayEnd budget s →
     IsOutcome g budget o

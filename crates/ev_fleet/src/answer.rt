@@ -14,7 +14,7 @@ use crate::held::Held;
 use crate::kept::know_sections;
 use crate::outcome::Outcome;
 use crate::section_bound::bound_of;
-use crate::state::Search;
+use crate::state::FleetSearch;
 use crate::taking::cost_of;
 use bound_certificate::{Certificate, Root, Section, TreeLine};
 use certificate_check::accepted_bounds_are_true;
@@ -27,7 +27,7 @@ use std::alloc::{AllocError, Global};
 pub(crate) fn outcome_of(
     alloc: Global,
     inst: &Instance,
-    search: Search,
+    search: FleetSearch,
     root: Root,
 ) -> Result<Outcome, AllocError>
     requires few { length (customer_nodes inst.now) ≤ most_customers }
@@ -38,7 +38,7 @@ pub(crate) fn outcome_of(
 {
     let _ = inst.nodes();
     accepted_bounds_are_true();
-    let Search {
+    let FleetSearch {
         tree,
         sections,
         held,

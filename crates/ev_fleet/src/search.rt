@@ -8,7 +8,7 @@ ghost use Rattle.ev_fleet.specs.Searching.{IsDone, IsFurtherWithin, IsPromising,
 
 use crate::answer::outcome_of;
 use crate::outcome::Outcome;
-use crate::state::{Search, begin, step};
+use crate::state::{FleetSearch, begin, step};
 use crate::taking::cost_of;
 use crate::watcher::{Nobody, Progress, Watcher};
 use instance_reader::Instance;
@@ -55,7 +55,7 @@ pub fn plan_fleet_watched<W: Watcher>(
 }
 
 /// How far the search is.
-fn progress_of(search: &Search) -> Progress
+fn progress_of(search: &FleetSearch) -> Progress
     ensures nodes { result.nodes ≡ length search.now.sections.items }
     ensures cost { result.cost ≡ cost_at search.now.held }
 {
@@ -68,7 +68,7 @@ fn progress_of(search: &Search) -> Progress
 }
 
 /// Whether an open node may lead to a cheaper plan, and another node is within the budget.
-fn goes_on(search: &Search, budget: Option<u64>) -> bool
+fn goes_on(search: &FleetSearch, budget: Option<u64>) -> bool
     ensures within { IsTrue result → IsFurtherWithin budget (length search.now.sections.items) }
     ensures promising { IsTrue result →
         IsPromising search.now.tree (cost_at search.now.held) }
@@ -78,7 +78,7 @@ fn goes_on(search: &Search, budget: Option<u64>) -> bool
 }
 
 /// Whether the bound of some open node is below the cost of the plan that is held.
-fn is_promising(search: &Search) -> bool
+fn is_promising(search: &FleetSearch) -> bool
     ensures promising { IsTrue result →
         IsPromising search.now.tree (cost_at search.now.held) }
     ensures done { result ≡ false →

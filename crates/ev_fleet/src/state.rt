@@ -29,7 +29,7 @@ const NODE_LOOKS: u64 = 4_000_000;
 
 /// A search between two nodes.
 #[derive(Drop)]
-pub(crate) struct Search {
+pub(crate) struct FleetSearch {
     pub(crate) tree: Tree,
     /// The sections of the nodes whose bound was found, in this order.
     pub(crate) sections: Vec<Section>,
@@ -42,7 +42,7 @@ pub(crate) struct Search {
 }
 
 /// A search of which the bound of the root was found, and what shows it.
-pub(crate) fn begin(alloc: Global, inst: &Instance) -> Result<(Search, Root), AllocError>
+pub(crate) fn begin(alloc: Global, inst: &Instance) -> Result<(FleetSearch, Root), AllocError>
     requires few { length (customer_nodes inst.now) ≤ most_customers }
     ensures { IfOk result (λ begun. IsBegun inst.now begun.0 begun.1) }
 {
@@ -52,13 +52,13 @@ pub(crate) fn begin(alloc: Global, inst: &Instance) -> Result<(Search, Root), Al
 }
 
 /// A search of which no bound was found yet. It holds the plan of own routes, if there is one.
-fn first_search(alloc: Global, inst: &Instance) -> Result<Search, AllocError>
+fn first_search(alloc: Global, inst: &Instance) -> Result<FleetSearch, AllocError>
     requires few { length (customer_nodes inst.now) ≤ most_customers }
     ensures { IfOk result (IsFirst inst.now) }
 {
     let mut pool = ColumnPool::new(alloc);
     let held = hold_own(alloc, inst, &mut pool)?;
-    Ok(Search {
+    Ok(FleetSearch {
         tree: Tree::new(alloc, inst.customers().len())?,
         sections: Vec::new(alloc),
         pool,
@@ -100,7 +100,11 @@ fn held_of(inst: &Instance, plan: Option<FleetPlan>) -> Option<Held>
 
 /// Takes the open node of least bound, finds its section, and closes or splits it. Some open node
 /// has a bound below the cost of the plan that is held, or none is held.
-pub(crate) fn step(alloc: Global, inst: &Instance, search: &mut Search) -> Result<(), AllocError>
+pub(crate) fn step(
+    alloc: Global,
+    inst: &Instance,
+    search: &mut FleetSearch,
+) -> Result<(), AllocError>
     requires few { length (customer_nodes inst.now) ≤ most_customers }
     requires searching { IsSearching inst.now search.old }
     requires promising { IsPromising search.old.tree (cost_at search.old.held) }
@@ -116,7 +120,7 @@ pub(crate) fn step(alloc: Global, inst: &Instance, search: &mut Search) -> Resul
 
 /// Takes the open node of least bound, finds its section, and closes or splits it. The answer is
 /// what shows the bound of this section.
-fn advance(alloc: Global, inst: &Instance, search: &mut Search) -> Result<Root, AllocError>
+fn advance(alloc: Global, inst: &Instance, search: &mut FleetSearch) -> Result<Root, AllocError>
     requires few { length (customer_nodes inst.now) ≤ most_customers }
     requires customers { search.old.tree.customers ≡ length (customer_nodes inst.now) }
     requires open { NoneIsOpen search.old.tree.nodes → ⊥ }
@@ -159,7 +163,7 @@ fn advance(alloc: Global, inst: &Instance, search: &mut Search) -> Result<Root, 
 
 /// The cost of the plan that is held where it was made cheaper by moves already: behind the first
 /// node.
-fn moved_cost(search: &Search) -> Option<u128> {
+fn moved_cost(search: &FleetSearch) -> Option<u128> {
     if search.sections.is_empty() {
         None
     } else {

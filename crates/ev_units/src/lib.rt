@@ -4,7 +4,7 @@
 
 ghost use Rattle.std.specs.Prelude.{◌≡◌, ◌<◌, ◌≤◌, ◌↔◌, IfNone, IfSome};
 ghost use Rattle.std.specs.Int.{IsGcd};
-ghost use Rattle.ev_units.specs.Units.{IsCeiling, IsFloor, IsLcm, IsLcmPast};
+ghost use Rattle.ev_units.specs.Units.{IsCeiling, IsLcm, IsLcmPast};
 
 /// The greatest common divisor of two numbers: the common divisor that each common divisor divides.
 /// It is 0 for two zeros, and for nothing else. Found by Euclid's algorithm.
@@ -38,14 +38,6 @@ pub fn lcm_below(a: u128, b: u128, limit: u128) -> Option<u128>
     } else {
         None
     }
-}
-
-/// The greatest whole number that is not above `a / b`, for a positive `b`.
-pub fn floor_div(a: i128, b: u64) -> i128
-    requires { 0 < b }
-    ensures { IsFloor a b result }
-{
-    a.div_euclid(i128::from(b))
 }
 
 /// The least whole number that is not below `a / b`, for a positive `b`.

@@ -195,13 +195,4 @@ impl Rings {
     {
         self.links.slots[i].next
     }
-
-    /// Whether the item stands in a list.
-    pub fn is_linked(&self, i: usize) -> bool
-        requires { i < self.now.items }
-        ensures linked { IsTrue result ↔ IsLinked self.now.lists i }
-        ensures disjoint { AreDisjoint self.now }
-    {
-        self.links.slots[i].list.is_some()
-    }
 }

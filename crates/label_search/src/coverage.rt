@@ -7,7 +7,7 @@ ghost use Rattle.label_search.specs.Steps.{IsInRange};
 ghost use Rattle.label_search.specs.Tree.{IsTree};
 
 use crate::found::Tree;
-use crate::groups::{BLOCK, Brief, Gap, Group, credit};
+use crate::groups::{BLOCK, Gap, Glance, Group, credit};
 use crate::resources::{Care, Resources};
 use crate::search::Search;
 use closed_lists::margin;
@@ -74,7 +74,7 @@ pub(crate) fn all_but(customers: usize, set: CustSet) -> [u64; 128] {
 impl<L: Drop> Asked<'_, L> {
     /// Whether a label has a level that is not below one, costs no more at its least time than so
     /// much credit leaves, and comes before a time, the key and the number.
-    fn is_met(&self, other: &Brief, credit: i128, time: u64, level: u64) -> bool {
+    fn is_met(&self, other: &Glance, credit: i128, time: u64, level: u64) -> bool {
         if other.credit < credit || u64::from(other.top) < level {
             return false;
         }
@@ -106,7 +106,7 @@ pub(crate) fn gap<R: Resources>(
     }
     Some(Gap {
         level,
-        compared: group.briefs.len(),
+        compared: group.glances.len(),
     })
 }
 
@@ -154,7 +154,7 @@ fn reach<R: Resources>(
     ensures ends { IfSome result (λ to. IsLevel (level_times asked.now.value.now) to) }
 {
     let ((group, first), left_out) = (others, asked.left_out);
-    let (begin, end) = (first / BLOCK, group.briefs.len().div_ceil(BLOCK));
+    let (begin, end) = (first / BLOCK, group.glances.len().div_ceil(BLOCK));
     for place in begin..end {
         let block = if resources.latest_first() {
             end.wrapping_sub(place).wrapping_add(begin).wrapping_sub(1)
@@ -196,13 +196,13 @@ fn reach_in<R: Resources>(
         };
         left &= !1u64.wrapping_shl(bit);
         let place = block.wrapping_mul(BLOCK).wrapping_add(bit as usize);
-        let Some(brief) = group.briefs.get(place) else {
+        let Some(glance) = group.glances.get(place) else {
             continue;
         };
-        if !asked.is_met(brief, credit, time, level) {
+        if !asked.is_met(glance, credit, time, level) {
             continue;
         }
-        if let Some(to) = reach_of(resources, tree, asked, brief, level) {
+        if let Some(to) = reach_of(resources, tree, asked, glance, level) {
             return Some(to);
         }
     }
@@ -214,7 +214,7 @@ fn reach_of<R: Resources>(
     resources: &R,
     tree: &Tree<R::Label>,
     asked: &Asked<'_, R::Label>,
-    brief: &Brief,
+    glance: &Glance,
     level: u64,
 ) -> Option<u64>
     requires small { unsigned_abs asked.now.earned ≤ 2 ^ 91 }
@@ -222,7 +222,7 @@ fn reach_of<R: Resources>(
     ensures up { IfSome result (λ to. level ≤ to) }
     ensures ends { IfSome result (λ to. IsLevel (level_times asked.now.value.now) to) }
 {
-    let own = tree.found.get(brief.number as usize)?;
+    let own = tree.found.get(glance.number as usize)?;
     if own.earned.unsigned_abs() > 1 << 91 {
         return None;
     }

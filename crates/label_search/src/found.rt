@@ -4,7 +4,7 @@ ghost use Rattle.std.specs.Prelude.{◌≡◌, ◌+◌, ◌<◌, ◌≤◌, ◌^
 ghost use Rattle.label_search.specs.Steps.{IsInRange};
 ghost use Rattle.label_search.specs.Tree.{HasOrigin, IsGrown, IsTree};
 
-use crate::groups::{Brief, Gap, Group, no_labels};
+use crate::groups::{Gap, Glance, Group, no_labels};
 use crate::resources::Resources;
 use std::alloc::{AllocError, Global};
 
@@ -72,8 +72,8 @@ pub(crate) fn push<R: Resources>(
     let group = resources.group(&label);
     let number = tree.found.len();
     let memory = resources.memory(&label);
-    let brief = Brief::of(resources.value(&label), resources.weight(), earned, number);
-    tree.groups[group].push(tree.customers, brief, memory)?;
+    let glance = Glance::of(resources.value(&label), resources.weight(), earned, number);
+    tree.groups[group].push(tree.customers, glance, memory)?;
     tree.found.push(Found {
         label,
         earned,

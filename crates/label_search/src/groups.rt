@@ -13,7 +13,7 @@ pub(crate) const BLOCK: usize = 64;
 /// What is read of a label whose customers let it make another one needless, since it mostly shows
 /// that the label doesn't.
 #[derive(Clone, Copy, Drop)]
-pub(crate) struct Brief {
+pub(crate) struct Glance {
     /// The least time of the label.
     pub(crate) key: u64,
     /// Its greatest level, or 0 where that is past 2^32.
@@ -24,13 +24,13 @@ pub(crate) struct Brief {
     pub(crate) credit: i128,
 }
 
-impl Brief {
+impl Glance {
     /// What is read of a label with a value, which has earned so much, and a number.
-    pub(crate) fn of(value: &PieceFn, weight: u64, earned: i128, number: usize) -> Brief {
+    pub(crate) fn of(value: &PieceFn, weight: u64, earned: i128, number: usize) -> Glance {
         let (_, key) = value.least();
         let points = value.points();
         let (top, _) = points[points.len() - 1];
-        Brief {
+        Glance {
             key,
             top: u32::try_from(top).unwrap_or(0),
             number: u32::try_from(number).unwrap_or(u32::MAX),
@@ -49,7 +49,7 @@ pub(crate) fn credit(weight: u64, time: u64, earned: i128) -> i128 {
 #[derive(Drop)]
 pub(crate) struct Group {
     /// What is read of the labels, by their place in the group.
-    pub(crate) briefs: Vec<Brief>,
+    pub(crate) glances: Vec<Glance>,
     /// For each block of 64 places one word a customer: whose labels remember him.
     knowers: Vec<u64>,
 }
@@ -58,7 +58,7 @@ impl Group {
     /// No label.
     pub(crate) fn new(alloc: Global) -> Group {
         Group {
-            briefs: Vec::new(alloc),
+            glances: Vec::new(alloc),
             knowers: Vec::new(alloc),
         }
     }
@@ -67,11 +67,11 @@ impl Group {
     pub(crate) fn push(
         &mut self,
         customers: usize,
-        brief: Brief,
+        glance: Glance,
         memory: CustSet,
     ) -> Result<(), AllocError> {
-        let place = self.briefs.len();
-        self.briefs.push(brief)?;
+        let place = self.glances.len();
+        self.glances.push(glance)?;
         self.know(customers, memory, place)
     }
 
@@ -107,7 +107,7 @@ impl Group {
 
     /// The labels of a block, as bits.
     fn standing(&self, block: usize) -> u64 {
-        let labels = self.briefs.len().saturating_sub(block.wrapping_mul(BLOCK));
+        let labels = self.glances.len().saturating_sub(block.wrapping_mul(BLOCK));
         if labels < BLOCK {
             !u64::MAX.wrapping_shl(labels as u32)
         } else {

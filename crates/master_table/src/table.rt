@@ -147,15 +147,6 @@ impl Table {
         weight as u64
     }
 
-    /// The weight of the helper row. It takes no memory.
-    pub fn helper_weight(&self) -> u128
-        ensures value { pos result ≡ (row_at self.now (size self.now + 1)).weight }
-        ensures positive { 0 < result }
-    {
-        let weight = self.rows[self.basis.len() + 1].weight;
-        weight as u128
-    }
-
     /// The number of customers. It takes no memory.
     pub fn rows(&self) -> usize
         ensures value { result ≡ size self.now }

@@ -51,12 +51,6 @@ impl Follow {
         self.customers
     }
 
-    /// Tells vehicles that served nobody from others, as each pair and each counted set does. Where
-    /// they aren't told apart, none of them goes home all the same.
-    pub fn tell_nobody(&mut self) {
-        self.tells_nobody = true;
-    }
-
     /// Forbids that the second comes next after the first.
     pub fn forbid(&mut self, from: Option<usize>, to: Option<usize>) {
         self.tells_nobody = true;

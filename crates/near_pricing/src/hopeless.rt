@@ -7,7 +7,7 @@ ghost use Rattle.instance_reader.specs.Instance.{customer_nodes, most_customers}
 ghost use Rattle.near_proof.specs.Ranges.{AreAmong, NearLabelFits};
 
 use crate::value::value_after;
-use completion_bounds::{Completion, Rest};
+use completion_bounds::{Completion, HomeEarnings};
 use customer_sets::CustSet;
 use instance_reader::Instance;
 use near_proof::NearLabel;
@@ -55,7 +55,7 @@ impl States {
 
 /// Labels that cover the states that a table leaves out, as far as the limit lets them be. The
 /// table is that of the instance, with the limit as its horizon and a weight of 0 or 1.
-pub fn hopeless_labels(
+pub(crate) fn hopeless_labels(
     alloc: Global,
     inst: &Instance,
     table: &Completion,
@@ -156,7 +156,7 @@ fn push_untold(
 }
 
 /// What the layer above says of all ways.
-fn best_of(above: Option<&Rest>) -> Option<i128> {
+fn best_of(above: Option<&HomeEarnings>) -> Option<i128> {
     match above {
         Some(above) => Some(above.best),
         None => None,
@@ -170,13 +170,13 @@ fn earliest(inst: &Instance, table: &Completion, layer: u64) -> i128 {
 }
 
 /// Whether ways that begin with another customer than the first one earn less.
-fn has_second(rest: &Rest) -> bool {
+fn has_second(rest: &HomeEarnings) -> bool {
     rest.first.is_some() && rest.second < rest.best
 }
 
 /// What the layer above says of ways that begin with another customer than the first one, where it
 /// has the same first one.
-fn second_above(rest: &Rest, above: Option<&Rest>) -> Option<i128> {
+fn second_above(rest: &HomeEarnings, above: Option<&HomeEarnings>) -> Option<i128> {
     let above = above?;
     if above.first == rest.first {
         Some(above.second)

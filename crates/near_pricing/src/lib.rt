@@ -20,5 +20,4 @@ mod table;
 mod value;
 
 pub use answer::near_price;
-pub use hopeless::hopeless_labels;
 pub use priced::{NearPriced, Prices};

@@ -167,9 +167,4 @@ impl NearLabels {
     pub fn group_of(&self, time: i64) -> usize {
         self.spread.group_of(time)
     }
-
-    /// How many groups there are.
-    pub fn group_count(&self) -> usize {
-        GROUPS
-    }
 }

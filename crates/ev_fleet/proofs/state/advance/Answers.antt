@@ -4,7 +4,7 @@ use Rattle.ev_fleet.specs.Bounds.{IsAtMost}
 use Rattle.ev_fleet.specs.Held.{cost_at}
 use Rattle.ev_fleet.specs.Splitting.{IsSettled}
 use Rattle.ev_fleet.specs.State.{greater_of}
-use Rattle.ev_fleet.specs.declared.state.Search.{Search}
+use Rattle.ev_fleet.specs.declared.state.FleetSearch.{FleetSearch}
 use Rattle.ev_fleet.proofs.SearchSteps.{advanced_by}
 use Rattle.ev_fleet.proofs.Decided.{decided_taken, top_reaches}
 use Rattle.ev_fleet.proofs.Found.{found_of, strong_sum}
@@ -33,7 +33,7 @@ settle-requires-clause-decided c = λ cannot.
 pub returns-clause-advanced : goal.returns-clause-advanced
 returns-clause-advanced c =
     let old = c.args.search.now in
-    let new : Search = record { tree = c.settle.new.tree; sections = c.push.new.self; pool = c.bound_pairs.new.pool; held = c.bound_pairs.new.held; open_nodes = c.open_behind-search.result } in
+    let new : FleetSearch = record { tree = c.settle.new.tree; sections = c.push.new.self; pool = c.bound_pairs.new.pool; held = c.bound_pairs.new.held; open_nodes = c.open_behind-search.result } in
     let t = c.take_next-taken.result in
     let own = c.bound_of-own.result in
     let greater = c.greater_of-name.result in
