@@ -5,7 +5,7 @@ use evgap_run::{
     MoveProgress, MoveWatcher, PricesProgress, PricesWatcher, RecreateProgress, RecreateWatcher,
     ScaleWatcher,
 };
-use job_listeners::Pace;
+use job_listeners::{Pace, PercentGap};
 use std::fmt::{self, Display, Formatter};
 use std::io::Eprint;
 use std::rt::Clock;
@@ -181,14 +181,11 @@ impl Display for HeldWords {
         let Some(bound) = bound else {
             return write!(f, ", plan held {cost}/{denominator}");
         };
+        let gap = PercentGap { cost, bound };
         write!(
             f,
-            ", bound {bound}/{denominator}, plan held {cost}/{denominator}"
-        )?;
-        match hundredths(cost, bound) {
-            Some(gap) => write!(f, ", gap {}.{:02} %", gap / 100, gap % 100),
-            None => Ok(()),
-        }
+            ", bound {bound}/{denominator}, plan held {cost}/{denominator}{gap}"
+        )
     }
 }
 
@@ -221,17 +218,5 @@ impl Display for TreeWords {
             denominator,
         };
         write!(f, "{held}")
-    }
-}
-
-/// By how much of the bound a cost is above it, in hundredths of a percent and rounded up; `None`
-/// for a bound of 0 and past 128 bits.
-fn hundredths(cost: u128, bound: u128) -> Option<u128> {
-    let apart = cost.saturating_sub(bound).checked_mul(10_000)?;
-    let gap = apart.checked_div(bound)?;
-    if gap.checked_mul(bound)? < apart {
-        gap.checked_add(1)
-    } else {
-        Some(gap)
     }
 }

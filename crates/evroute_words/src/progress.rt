@@ -1,6 +1,7 @@
 //! How far a search, a bound, an improvement or a fleet of several kinds is, in a line.
 
 use evroute_run::{MoveProgress, PriceProgress, Progress, RoundProgress};
+use job_listeners::PercentGap;
 use std::fmt::{self, Display, Formatter};
 
 /// How far a search is, with its times scaled by the denominator.
@@ -20,19 +21,6 @@ impl SearchLine {
             (None, cost) => cost,
         }
     }
-
-    /// By how much of its cost the plan that is held is above the bound, in hundredths of a percent
-    /// and rounded up, where a plan is held.
-    fn gap(&self) -> Option<u128> {
-        let cost = self.progress.cost?;
-        let apart = cost.saturating_sub(self.bound()?).checked_mul(10_000)?;
-        let gap = apart.checked_div(cost)?;
-        if gap.checked_mul(cost)? < apart {
-            gap.checked_add(1)
-        } else {
-            Some(gap)
-        }
-    }
 }
 
 impl Display for SearchLine {
@@ -46,12 +34,12 @@ impl Display for SearchLine {
         if let Some(bound) = self.bound() {
             write!(f, ", bound {bound}/{}", self.denominator)?;
         }
-        match self.progress.cost {
-            Some(cost) => write!(f, ", plan held {cost}/{}", self.denominator)?,
-            None => f.write_str(", no plan held")?,
-        }
-        match self.gap() {
-            Some(gap) => write!(f, ", gap {}.{:02} %", gap / 100, gap % 100),
+        let Some(cost) = self.progress.cost else {
+            return f.write_str(", no plan held");
+        };
+        write!(f, ", plan held {cost}/{}", self.denominator)?;
+        match self.bound() {
+            Some(bound) => write!(f, "{}", PercentGap { cost, bound }),
             None => Ok(()),
         }
     }

@@ -4,10 +4,12 @@
 //! Standard output stays as it is.
 #![tactic(auto)]
 
+mod gap;
 mod heard;
 mod pace;
 mod taken;
 
+pub use gap::PercentGap;
 pub use heard::HeardSink;
 pub use pace::{Pace, wants_progress};
 pub use taken::{OutOfMemory, PlainDiagnostics, most_memory};

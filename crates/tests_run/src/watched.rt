@@ -99,7 +99,7 @@ fn a_search_is_told_with_its_bound_and_its_gap(rt: HostRuntime) {
         (
             Some(17),
             Some(19),
-            ", bound 17/1, plan held 19/1, gap 10.53 %",
+            ", bound 17/1, plan held 19/1, gap 11.77 %",
         ),
         (
             Some(19),
@@ -228,7 +228,7 @@ fn a_watched_job_ends_as_any(rt: HostRuntime) {
     for &(line, want) in &[
         (
             "fleet A P Q --limit 11",
-            "8000 ms: evroute: nodes 1, open 2, bound 17/1, plan held 19/1, gap 10.53 %\n",
+            "8000 ms: evroute: nodes 1, open 2, bound 17/1, plan held 19/1, gap 11.77 %\n",
         ),
         (
             "bound A O --near 2 --limit 11",
