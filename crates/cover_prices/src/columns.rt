@@ -14,23 +14,12 @@ pub struct Service {
     pub count: i64,
 }
 
-/// Whether a column is taken.
-#[derive(Clone, Copy, Debug, PartialEq, Eq)]
-pub(crate) enum Standing {
-    /// It may be.
-    Active,
-    /// It waits until it earns.
-    Resting,
-    /// Never any more.
-    Banned,
-}
-
 /// A column: whom it serves, and what it costs.
 #[derive(Drop)]
 pub(crate) struct Column {
     pub(crate) services: Vec<Service>,
     pub(crate) cost: i64,
-    pub(crate) standing: Standing,
+    is_banned: bool,
 }
 
 impl Column {
@@ -45,7 +34,7 @@ impl Column {
         Ok(Column {
             services: own,
             cost: narrow(i128::from(cost)).min(MOST_COST),
-            standing: Standing::Active,
+            is_banned: false,
         })
     }
 
@@ -76,7 +65,7 @@ impl Column {
 
     /// Whether it may be taken.
     pub(crate) fn is_active(&self) -> bool {
-        self.standing == Standing::Active
+        !self.is_banned
     }
 
     /// What those services earn whose prices are above 0.
@@ -101,7 +90,7 @@ impl Column {
     /// Lets a column be as dear as helpers for all its services, and not be taken any more.
     pub(crate) fn ban(&mut self, dearest: i64) {
         self.cost = narrow(product(dearest, self.service_count())).min(MOST_COST);
-        self.standing = Standing::Banned;
+        self.is_banned = true;
     }
 }
 

@@ -1,6 +1,6 @@
 //! The master problem. No clause rests on this.
 
-use crate::columns::{Column, Service, Standing};
+use crate::columns::{Column, Service};
 use crate::fixed::product;
 use crate::repair::{fit, lower};
 use crate::rows::{Row, copied_rows, served_rows};
@@ -79,29 +79,7 @@ impl Cover {
         services: &[Service],
         cost: u64,
     ) -> Result<(), AllocError> {
-        self.add(alloc, services, cost, Standing::Active)
-    }
-
-    /// Puts a column behind the others that isn't taken before it is woken.
-    pub fn add_resting(
-        &mut self,
-        alloc: Global,
-        services: &[Service],
-        cost: u64,
-    ) -> Result<(), AllocError> {
-        self.add(alloc, services, cost, Standing::Resting)
-    }
-
-    /// Puts a column behind the others.
-    fn add(
-        &mut self,
-        alloc: Global,
-        services: &[Service],
-        cost: u64,
-        standing: Standing,
-    ) -> Result<(), AllocError> {
-        let mut column = Column::new(alloc, services, cost.saturating_mul(self.parts))?;
-        column.standing = standing;
+        let column = Column::new(alloc, services, cost.saturating_mul(self.parts))?;
         self.columns.push(column)?;
         self.amounts.push(0)?;
         self.volume.add_column()?;

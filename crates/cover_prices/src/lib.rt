@@ -16,10 +16,8 @@ mod rows;
 mod simplex;
 mod trial;
 mod volume;
-mod waking;
 
 pub use columns::Service;
 pub use cover::Cover;
 pub use rows::{Row, Sense};
 pub use trial::Trial;
-pub use waking::Choice;

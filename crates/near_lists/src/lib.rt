@@ -24,6 +24,6 @@ mod values;
 mod wanted;
 
 pub use near::near_labels;
-pub use plan::{ListPlan, guessed_labels};
+pub use plan::ListPlan;
 pub use section::closed_section;
 pub use task::ListTask;

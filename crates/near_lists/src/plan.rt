@@ -40,10 +40,3 @@ impl ListPlan {
         }
     }
 }
-
-/// About so many labels are made for a careful list of so many customers, of whom each remembers a
-/// few; half of them stay in it. Making them takes as long as an exact search takes for as many
-/// labels, and making them stronger twice as long again.
-pub fn guessed_labels(customers: usize) -> usize {
-    customers.saturating_mul(customers).saturating_mul(6)
-}

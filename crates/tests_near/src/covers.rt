@@ -1,6 +1,6 @@
 //! Prices and amounts of the master problem that covers, on problems whose optima are known.
 
-use cover_prices::{Choice, Cover, Row, Sense, Service};
+use cover_prices::{Cover, Row, Sense, Service};
 use std::alloc::{AllocError, Global};
 use std::process::Abort;
 
@@ -123,23 +123,4 @@ fn a_row_may_be_covered_exactly_or_so_often_at_most(rt: HostRuntime) {
     let (one, two) = THIRDS;
     let amounts = [two, two, two, one];
     assert_near(&rt, cover.amounts(), &amounts, 1 << 10);
-}
-
-#[test]
-fn a_column_rests_until_it_earns(rt: HostRuntime) {
-    let alloc = rt.alloc();
-    let mut cover = pairs(alloc, 4).expect(&rt, "memory");
-    for cost in [90_000, 130_000] {
-        cover
-            .add_resting(alloc, &[service(0, 1), service(1, 1), service(2, 1)], cost)
-            .expect(&rt, "memory");
-    }
-    cover.refine();
-    let choice = Choice { most: 9, spread: 1 };
-    cover.solve(alloc).expect(&rt, "memory");
-    assert_eq!(rt; cover.wake(alloc, choice).expect(&rt, "memory"), 1);
-    cover.solve(alloc).expect(&rt, "memory");
-    assert_near(&rt, &[sum_of(cover.prices())], &[130_000], 80);
-    assert_eq!(rt; cover.wake(alloc, choice).expect(&rt, "memory"), 0);
-    assert_eq!(rt; cover.rest_above(1_000), 3);
 }
