@@ -18,7 +18,7 @@ use Rattle.job_frame.specs.declared.found.Answer.{Answer}
 use Rattle.job_frame.specs.declared.found.Found.{Found}
 use Rattle.job_frame.specs.declared.status.Status.{Status}
 use Rattle.job_frame.specs.declared.status.Status.TheVariants as status
-use Rattle.plan_writer.specs.FixedText.{fixed_text}
+use Rattle.report_lines.specs.FixedText.{fixed_text}
 use Rattle.refusal_lines.specs.RefusalText.{refusal_text}
 use Rattle.refusal_lines.specs.declared.refusal.Refusal.{Refusal}
 use Rattle.route_proof.specs.ProofIn.{proof_in}

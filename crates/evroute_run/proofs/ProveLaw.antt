@@ -9,7 +9,7 @@ use Rattle.job_frame.specs.Task.{Outcome}
 use Rattle.job_frame.specs.Writes.{Written}
 use Rattle.job_frame.specs.declared.status.Status.{Status}
 use Rattle.job_frame.specs.declared.status.Status.TheVariants as status
-use Rattle.plan_writer.specs.FixedText.{fixed_text}
+use Rattle.report_lines.specs.FixedText.{fixed_text}
 use Rattle.route_plan.specs.declared.plan.RoutePlan.{RoutePlan}
 use Rattle.route_proof.specs.Closed.{IsTrue}
 use Rattle.evroute_run.proofs.FixedLaw.{caused, fixed_cause, fixed_each}

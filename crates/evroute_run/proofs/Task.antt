@@ -8,7 +8,7 @@ use Rattle.ev_model.specs.Route.{IsRoute}
 use Rattle.ev_model.specs.Time.{time_of}
 use Rattle.ev_model.specs.declared.Stop.{Stop}
 use Rattle.ev_text.proofs.Results.{Err-ne-Ok}
-use Rattle.plan_writer.specs.FixedText.{fixed_text}
+use Rattle.report_lines.specs.FixedText.{fixed_text}
 use Rattle.route_plan.proofs.Routes.{is_short}
 use Rattle.route_plan.proofs.Spelled.{reads_what_is_spelled}
 use Rattle.route_plan.specs.Limits.{most_route_nodes}

@@ -7,7 +7,7 @@ use Rattle.command_line.specs.Words.{FixedJob}
 use Rattle.command_line.specs.declared.Options.{Options}
 use Rattle.instance_reader.specs.Faults.{IsFirstFault}
 use Rattle.ev_model.specs.Fastest.{HasNoPlan, IsFastest}
-use Rattle.plan_writer.specs.FixedText.{fixed_text}
+use Rattle.report_lines.specs.FixedText.{fixed_text}
 use Rattle.refusal_lines.specs.RefusalText.{IsRule, refusal_text}
 use Rattle.refusal_lines.specs.declared.refusal.Refusal.{Refusal}
 use Rattle.refusal_lines.specs.declared.refusal.Refusal.TheVariants as refusal

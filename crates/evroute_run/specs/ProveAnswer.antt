@@ -7,7 +7,7 @@ use Rattle.command_line.specs.declared.Options.{Options}
 use Rattle.ev_model.specs.Network.{Network}
 use Rattle.ev_model.specs.Time.{time_of}
 use Rattle.ev_model.specs.declared.Stop.{Stop}
-use Rattle.plan_writer.specs.FixedText.{fixed_text}
+use Rattle.report_lines.specs.FixedText.{fixed_text}
 use Rattle.refusal_lines.specs.RefusalText.{IsRule, refusal_text}
 use Rattle.refusal_lines.specs.declared.refusal.Refusal.{Refusal}
 use Rattle.route_proof.specs.ProofTexts.{proof_text}

@@ -13,7 +13,7 @@ ghost use Rattle.evroute_run.specs.Run.{task_of};
 ghost use Rattle.job_frame.specs.Finds.{Finds};
 ghost use Rattle.evroute_causes.specs.Heard.{HearsRefusals};
 ghost use Rattle.job_frame.specs.Task.{IsAnswered};
-ghost use Rattle.plan_writer.specs.FixedText.{fixed_text};
+ghost use Rattle.report_lines.specs.FixedText.{fixed_text};
 
 use crate::trip::trip_of;
 use command_line::{FixedWords, Options};

@@ -12,7 +12,7 @@ ghost use Rattle.evroute_run.specs.ProveAnswer.{ProveAnswers, fixed_status, time
 ghost use Rattle.evroute_run.specs.Run.{task_of};
 ghost use Rattle.job_frame.specs.Finds.{Finds, written_by};
 ghost use Rattle.evroute_causes.specs.Heard.{HearsRefusals};
-ghost use Rattle.plan_writer.specs.FixedText.{fixed_text};
+ghost use Rattle.report_lines.specs.FixedText.{fixed_text};
 ghost use Rattle.route_proof.specs.ProofTexts.{proof_text};
 
 use crate::fixed::{infeasible, report_plan};

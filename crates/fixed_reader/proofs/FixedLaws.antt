@@ -11,7 +11,7 @@ use Rattle.ev_text.specs.declared.TextFault.{TextFault}
 use Rattle.ev_text.specs.declared.TextFault.TheVariants.{End}
 use Rattle.ev_text.proofs.WholeLaws.{whole-cut, whole-spells, whole-wrong}
 use Rattle.ev_text.proofs.Results.{Ok-injective}
-use Rattle.plan_writer.specs.FixedText.{fixed_text}
+use Rattle.report_lines.specs.FixedText.{fixed_text}
 use Rattle.route_plan.proofs.PlanRanges.{feasible_fits}
 use Rattle.route_plan.specs.Limits.{most_bytes}
 use Rattle.route_plan.specs.PlanReading.{or_bad, unless_too_long}

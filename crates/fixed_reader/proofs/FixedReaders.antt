@@ -11,7 +11,7 @@ use Rattle.ev_text.proofs.Grown.{Always}
 use Rattle.ev_text.proofs.Numbers.{Anything}
 use Rattle.ev_text.proofs.ReaderLaws.{IsReader, reader-number, reader-positive}
 use Rattle.ev_text.proofs.Records.{ReadsParts, parts-behind, parts-last, parts-none, parts-then, reads-record}
-use Rattle.plan_writer.specs.FixedText.{amount_text, fixed_text, stop_line, stop_lines}
+use Rattle.report_lines.specs.FixedText.{amount_text, fixed_text, stop_line, stop_lines}
 use Rattle.report_lines.specs.Lines.{time_text}
 use Rattle.route_plan.specs.Limits.{greatest_number}
 use Rattle.route_plan.specs.PlanTexts.{IsSmallStop}

@@ -5,7 +5,7 @@ use Rattle.ev_model.specs.declared.Stop.{Stop}
 use Rattle.ev_text.specs.Scans.{and_then, rest_of}
 use Rattle.ev_text.specs.declared.TextFault.{TextFault}
 use Rattle.ev_text.proofs.Loops.{in_front, in_front-none, in_front-twice}
-use Rattle.plan_writer.specs.FixedText.{stop_line}
+use Rattle.report_lines.specs.FixedText.{stop_line}
 use Rattle.route_plan.specs.PlanTexts.{IsSmallStop}
 use Rattle.fixed_reader.specs.FixedReading.{each_to_end, few_to_end, line_at}
 use Rattle.fixed_reader.proofs.FixedReaders.{has_word, reads-stop}

@@ -3,7 +3,7 @@ use Rattle.std.specs.Prelude.{◌≡◌, ℕ, ◌≤◌, List, Option, None, Som
 use Rattle.std.specs.List.{All}
 use Rattle.ev_model.specs.declared.Stop.{Stop}
 use Rattle.ev_text.specs.Texts.{Begins, IsTextOf}
-use Rattle.plan_writer.specs.FixedText.{fixed_text}
+use Rattle.report_lines.specs.FixedText.{fixed_text}
 use Rattle.route_plan.specs.Limits.{most_bytes}
 use Rattle.route_plan.specs.PlanTexts.{IsSmallStop}
 use Rattle.fixed_reader.specs.FixedReading.{greatest_time}

@@ -10,7 +10,7 @@ ghost use Rattle.ev_text.specs.declared.TextFault.{TextFault};
 ghost use Rattle.ev_text.specs.declared.TextFault.TheVariants.{End};
 ghost use Rattle.fixed_reader.specs.FixedReading.{fixed_in};
 ghost use Rattle.fixed_reader.specs.Spelled.{BeginsFixed, SpellsFixed};
-ghost use Rattle.plan_writer.specs.FixedText.{fixed_text};
+ghost use Rattle.report_lines.specs.FixedText.{fixed_text};
 ghost use Rattle.route_plan.specs.Limits.{most_bytes};
 ghost use Rattle.route_plan.specs.declared.text.plan_text.PlanText.TheVariants.{Bad, TooLong};
 

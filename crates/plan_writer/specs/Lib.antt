@@ -1,4 +1,3 @@
 pub mod CheckText
-pub mod FixedText
 pub mod FleetText
 pub mod MakeText

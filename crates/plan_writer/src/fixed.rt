@@ -2,7 +2,7 @@
 
 ghost use Rattle.std.specs.Prelude.{◌≡◌, ◌++◌, Some, OnOk, OnErr, option_map};
 ghost use Rattle.ev_text.specs.Scans.{IsPrefixOf};
-ghost use Rattle.plan_writer.specs.FixedText.{amount_text, fixed_text, stop_line, stop_lines};
+ghost use Rattle.report_lines.specs.FixedText.{amount_text, fixed_text, stop_line, stop_lines};
 
 use ev_model::Stop;
 use instance_reader::Instance;

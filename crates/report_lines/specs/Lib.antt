@@ -1,3 +1,4 @@
+pub mod FixedText
 pub mod Fractions
 pub mod Lines
 pub mod Walks

@@ -1,7 +1,7 @@
 use Rattle.std.proofs.Common.{◌∙◌, ◌++◌, List, Some, ap}
 use Rattle.ev_model.specs.Time.{time_of}
 use Rattle.ev_model.specs.declared.Stop.{Stop}
-use Rattle.plan_writer.specs.FixedText.{fixed_text}
+use Rattle.report_lines.specs.FixedText.{fixed_text}
 use Rattle.evroute_run.proofs.fixed.report_plan.Goals as goal
 
 pub returns-in-Ok-push_fixed-clause-text : goal.returns-in-Ok-push_fixed-clause-text

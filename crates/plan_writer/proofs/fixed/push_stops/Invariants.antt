@@ -1,6 +1,6 @@
 use Rattle.std.proofs.Common.{◌≡◌, ◌++◌, drop}
 use Rattle.ev_text.specs.Scans.{IsPrefixOf}
-use Rattle.plan_writer.specs.FixedText.{stop_lines}
+use Rattle.report_lines.specs.FixedText.{stop_lines}
 use Rattle.plan_writer.proofs.fixed.push_stops.Given as goal
 
 abbrev pub invariant-loop-stop : goal.invariant-loop-stop
